@@ -32,6 +32,7 @@ def parse_words():
                        help="leaves out vectors that rest on the profile, or on these choices of it: units, decks, %s" % ", ".join(PROFILE))
     words.add_argument("--only", default="", metavar="WORD", help="vectors whose name has this word")
     words.add_argument("--rule", default="", help="vectors of this rule")
+    words.add_argument("--every", type=int, default=1, metavar="N", help="of the vectors that are left each Nth one")
     words.add_argument("--junit", metavar="FILE", help="writes JUnit's XML")
     words.add_argument("--names", action="store_true", help="prints each vector and what came of it")
     words.add_argument("--quiet", action="store_true", help="prints the table alone")
@@ -75,7 +76,7 @@ def play_all(said, vectors):
 
 def main():
     said = parse_words()
-    vectors = [it for it in all_vectors(said.files) if said.only in it.name and (not said.rule or said.rule in it.rules)]
+    vectors = [it for it in all_vectors(said.files) if said.only in it.name and (not said.rule or said.rule in it.rules)][:: max(said.every, 1)]
     try:
         name, results = play_all(said, vectors)
     except (ValueError, OSError, Broke) as fault:

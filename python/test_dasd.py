@@ -1,19 +1,30 @@
 #!/usr/bin/env python3
-"""Tests of dasd.py, and the vectors of the folder that DASD_VECTORS names. DASD_LIBRARY names the library."""
+"""Tests of the module dasd, and the vectors of the folder that DASD_VECTORS names. DASD_LIBRARY names the library; where it does not, the
+module finds it."""
+
+from __future__ import annotations
+
 import glob
 import hashlib
 import os
-import pathlib
 import re
+import shutil
+import subprocess
+import sys
+import tempfile
 import threading
 import unittest
+from pathlib import Path
+from typing import Callable, Iterator, List, Optional, Sequence, Tuple, Union
 
 import dasd
+from dasd import _library
 
 READ_R0 = bytes.fromhex("1600020020000010")
 
 
-def made():
+def made() -> dasd.Subsystem:
+    """Channel 1 with a new 2314 at 190, and a channel address word that names 100."""
     disks = dasd.Subsystem(65536, 1)
     disks.attach_new(0x190, 2314, 2)
     disks.storage[0x48:0x4C] = bytes.fromhex("00000100")
@@ -21,15 +32,16 @@ def made():
 
 
 class Calls(unittest.TestCase):
-    def refused(self, name, call, *arguments):
+    def refused(self, name: str, call: Callable[..., object], *arguments: object) -> None:
+        """A call raises the Fault of this name."""
         with self.assertRaises(dasd.Fault) as caught:
             call(*arguments)
         self.assertEqual(caught.exception.name, name)
 
-    def test_versions(self):
+    def test_versions(self) -> None:
         self.assertEqual(".".join(map(str, dasd.library_version())), dasd.__version__)
 
-    def test_a_record_is_read(self):
+    def test_a_record_is_read(self) -> None:
         with made() as disks:
             disks.storage[0x100:0x108] = READ_R0
             self.assertEqual(disks.sio(0x190), 0)
@@ -42,7 +54,7 @@ class Calls(unittest.TestCase):
             self.assertEqual((disks.step(1, 10), disks.hio(0x190), disks.sio(0x390)), (0, 1, 3))
             self.assertIsNone(disks.reset(1))
 
-    def test_a_volume_goes_from_one_to_another(self):
+    def test_a_volume_goes_from_one_to_another(self) -> None:
         with made() as disks, dasd.Subsystem(4096, 0) as others:
             image, changes = disks.file(0x190)
             dasd.check(image)
@@ -56,7 +68,7 @@ class Calls(unittest.TestCase):
             others.detach(0x001)
             self.refused("NO_DRIVE", others.detach, 0x001)
 
-    def test_an_arm_moves(self):
+    def test_an_arm_moves(self) -> None:
         with made() as disks:
             disks.storage[0x100:0x108] = bytes.fromhex("0700020020000006")
             disks.storage[0x200:0x206] = bytes.fromhex("000000010003")
@@ -68,7 +80,7 @@ class Calls(unittest.TestCase):
             state = disks.channel(1)
             self.assertEqual((state["subchannel"], state["drives"]), (dasd.Subchannel.AVAILABLE, [(0x90, dasd.Arm.ARRIVED)]))
 
-    def test_refusals(self):
+    def test_refusals(self) -> None:
         with made() as disks:
             self.refused("OUTSIDE_STORAGE", disks.peek, 65536, 1)
             self.refused("OUTSIDE_STORAGE", disks.poke, 65535, b"ab")
@@ -88,7 +100,7 @@ class Calls(unittest.TestCase):
         self.refused("BAD_CHANNELS", dasd.Subsystem, 4096, 7)
         self.refused("BAD_CHANNELS", dasd.Subsystem, 4096)
 
-    def test_several_channels(self):
+    def test_several_channels(self) -> None:
         with dasd.Subsystem(65536, 1, 2) as disks:
             disks.attach_new(0x190, 2314, 2)
             disks.attach_new(0x290, 2311, 1)
@@ -106,14 +118,14 @@ class Calls(unittest.TestCase):
             self.assertIsNone(disks.reset(1))
             self.assertEqual((disks.tch(0x100), disks.tch(0x200)), (0, 2))
 
-    def test_two_threads(self):
-        def reads(bad):
+    def test_two_threads(self) -> None:
+        def reads(bad: List[bool]) -> None:
             with made() as disks:
                 disks.storage[0x100:0x108] = READ_R0
                 for _ in range(2000):
                     bad.append(disks.sio(0x190) != 0 or disks.run_on(1, 1000)[0] >= 1000 or disks.interrupt() != 0x190)
 
-        bad = []
+        bad: List[bool] = []
         threads = [threading.Thread(target=reads, args=[bad]) for _ in range(2)]
         for it in threads:
             it.start()
@@ -122,16 +134,65 @@ class Calls(unittest.TestCase):
         self.assertEqual((len(bad), any(bad)), (4000, False))
 
 
+class Places(unittest.TestCase):
+    """Where the library is looked for: what DASD_LIBRARY names, then beside the module, then by the loader's name."""
+
+    def found(self, folder: str, named: Optional[str]) -> str:
+        """Where the module in a folder looks, with this in DASD_LIBRARY."""
+        environment = {key: it for key, it in os.environ.items() if key != "DASD_LIBRARY"}
+        if named is not None:
+            environment["DASD_LIBRARY"] = named
+        asked = [sys.executable, "-c", "import _library; print(_library.place())"]
+        return subprocess.run(asked, cwd=folder, env=environment, check=True, capture_output=True, text=True).stdout.strip()
+
+    def test_places_in_their_order(self) -> None:
+        with tempfile.TemporaryDirectory() as folder:
+            shutil.copy(_library.__file__, folder)
+            self.assertEqual(self.found(folder, None), "libdasd.so.1")
+            carried = Path(folder).resolve() / "libdasd.so.1"
+            carried.touch()
+            self.assertEqual(self.found(folder, None), str(carried))
+            self.assertEqual(self.found(folder, "/there/libdasd.so"), "/there/libdasd.so")
+            self.assertEqual(self.found(folder, ""), str(carried))
+
+    def test_no_library_is_an_import_error(self) -> None:
+        environment = dict(os.environ, DASD_LIBRARY="/nowhere/libdasd.so.1", PYTHONPATH=str(Path(_library.__file__).parent.parent))
+        ended = subprocess.run([sys.executable, "-c", "import dasd"], env=environment, capture_output=True, text=True, check=False)
+        self.assertEqual((ended.returncode, "ImportError: libdasd is not to be had" in ended.stderr), (1, True))
+
+
 # The vectors: the lines are described in conformance/FORMAT.md.
+
+#: An event of a deck: its name and its operands.
+Event = Tuple[str, List[str]]
+#: A line of a vector: its word, and what stands behind it.
+Line = Tuple[str, str]
 
 DIGITS = "[0-9A-F]"
 GRAMMAR = {name: rf"({DIGITS}{{3}})" for name in ("SIO", "TIO", "HIO", "ARRIVE")}
 GRAMMAR.update({name: "" for name in ("TCH", "INT", "RESET")})
-GRAMMAR.update(STEP=r"(\d{1,5})", RUN=r"(\d{1,10})?", STORE=rf"({DIGITS}{{1,6}})((?: {DIGITS}+)+)", KEY=rf"({DIGITS}{{1,6}}) ({DIGITS})", SHOW=rf"({DIGITS}{{1,6}}) (\d{{1,5}})")
+GRAMMAR.update(
+    STEP=r"(\d{1,5})",
+    RUN=r"(\d{1,10})?",
+    STORE=rf"({DIGITS}{{1,6}})((?: {DIGITS}+)+)",
+    KEY=rf"({DIGITS}{{1,6}}) ({DIGITS})",
+    SHOW=rf"({DIGITS}{{1,6}}) (\d{{1,5}})",
+)
 
 
-def parse(line):
-    """the event of a line and its operands, None for a remark, or a text: why it is no line of a deck"""
+def is_in_range(name: str, operands: List[str]) -> bool:
+    """Whether the operands of an event, whose form is right, are what it takes."""
+    if name == "STEP":
+        return int(operands[0]) <= 65535
+    if name == "SHOW":
+        return 1 <= int(operands[1]) <= 32
+    if name == "RUN":
+        return 1 <= int(operands[0] or 1) < 1 << 32
+    return name != "STORE" or (len(operands[1]) % 2 == 0 and len(operands[1]) <= 256)
+
+
+def parse(line: bytes) -> Union[None, str, Event]:
+    """The event of a line, None for a remark, or a text: why it is no line of a deck."""
     line = line[:-1] if line.endswith(b"\r") else line
     if len(line) > 512:
         return "line too long"
@@ -141,26 +202,25 @@ def parse(line):
     if name not in GRAMMAR:
         return "unknown event"
     found = re.fullmatch(GRAMMAR[name], " ".join(words))
-    operands = found and [(it or "").replace(" ", "") for it in found.groups()]
-    if not found or name == "STEP" and int(operands[0]) > 65535 or name == "SHOW" and not 1 <= int(operands[1]) <= 32:
-        return "bad operand"
-    if name == "RUN" and not 1 <= int(operands[0] or 1) < 1 << 32:
-        return "bad operand"
-    if name == "STORE" and (len(operands[1]) % 2 or len(operands[1]) > 256):
+    operands = [(it or "").replace(" ", "") for it in found.groups()] if found else []
+    if not found or not is_in_range(name, operands):
         return "bad operand"
     return name, operands
 
 
-def csw(disks, whole=True):
+def csw(disks: dasd.Subsystem, whole: bool = True) -> str:
+    """The channel status word that stands in storage, or its status bytes alone."""
     halves = disks.peek(64, 8)
     return f"{halves[:4].hex()} {halves[4:].hex()}".upper() if whole else halves[4:6].hex().upper()
 
 
-def condition(disks, name, address, code):
+def condition(disks: dasd.Subsystem, name: str, address: int, code: int) -> str:
+    """An instruction's answer."""
     return f"{name} {address:03X} CC {code}" + (f" {csw(disks, name == 'TIO')}" if code == 1 else "")
 
 
-def kept(call, *arguments):
+def kept(call: Callable[..., None], *arguments: object) -> str:
+    """Whether a call was done, or met a byte outside storage."""
     try:
         call(*arguments)
         return "OK"
@@ -168,8 +228,20 @@ def kept(call, *arguments):
         return "OUTSIDE"
 
 
-def play(disks, number, name, words):
-    """the answer to an event"""
+def stored(disks: dasd.Subsystem, name: str, at: int, words: List[str]) -> str:
+    """The answer to an event that stores or shows."""
+    if name == "STORE":
+        return f"STORE {kept(disks.poke, at, bytes.fromhex(words[1]))}"
+    if name == "KEY":
+        return f"KEY {kept(disks.set_key, at, int(words[1], 16))}"
+    try:
+        return f"SHOW {at:06X} {disks.peek(at, int(words[1])).hex().upper()}"
+    except dasd.Fault:
+        return "SHOW OUTSIDE"
+
+
+def play(disks: dasd.Subsystem, number: int, name: str, words: List[str]) -> str:
+    """The answer to an event."""
     at = int(words[0] or "16777216", 10 if name in ("STEP", "RUN") else 16) if words else 0
     if name in ("SIO", "TIO", "HIO"):
         return condition(disks, name, at, getattr(disks, name.lower())(at))
@@ -186,52 +258,54 @@ def play(disks, number, name, words):
         return "INT NONE" if address is None else f"INT {address:03X} {csw(disks)}"
     if name == "RESET":
         return "RESET CLEAN" if disks.reset(number) is None else "RESET UNSAVED"
-    if name == "STORE":
-        return f"STORE {kept(disks.poke, at, bytes.fromhex(words[1]))}"
-    if name == "KEY":
-        return f"KEY {kept(disks.set_key, at, int(words[1], 16))}"
-    try:
-        return f"SHOW {at:06X} {disks.peek(at, int(words[1])).hex().upper()}"
-    except dasd.Fault:
-        return "SHOW OUTSIDE"
+    return stored(disks, name, at, words)
 
 
-def read(path):
-    """the vectors of a file: a name and lists of words and what stands behind them"""
-    with open(path, encoding="ascii") as it:
-        for text in it.read().split("\nvector ")[1:]:
-            name, *lines = [it for it in text.split("\n") if it and not it.startswith("#")]
-            yield name, [it[2:].partition(" ")[::2] for it in lines]
+def read(path: str) -> Iterator[Tuple[str, List[Line]]]:
+    """The vectors of a file: a name and its lines."""
+    for text in Path(path).read_text(encoding="ascii").split("\nvector ")[1:]:
+        name, *lines = [it for it in text.split("\n") if it and not it.startswith("#")]
+        yield name, [(word, rest) for word, _, rest in (it[2:].partition(" ") for it in lines)]
 
 
-def deck_of(lines):
-    """the events of a deck, or none and the fault of its text"""
+def deck_of(lines: List[Line]) -> Tuple[List[Event], Optional[str]]:
+    """The events of a deck, or none and the fault of its text."""
     spelled = [rest.encode() if word == ">" else bytes.fromhex(rest) for word, rest in lines if word in (">", ">hex", ">end")]
     events = [parse(it) for it in spelled]
     faults = [f"line {number}: {it}" for number, it in enumerate(events, 1) if isinstance(it, str)]
-    return ([], faults[0]) if faults else ([it for it in events if it], None)
+    return ([], faults[0]) if faults else ([it for it in events if isinstance(it, tuple)], None)
 
 
-def attach(disks, address, source, folder):
+def attach(disks: dasd.Subsystem, address: int, source: Sequence[str], folder: str) -> None:
+    """Attaches a new volume, or that of these files."""
     if source[0] == "new":
         disks.attach_new(address, int(source[1]), int(source[2]))
         return
-    disks.attach(address, *(pathlib.Path(folder, it).read_bytes() for it in source))
+    disks.attach(address, *(Path(folder, it).read_bytes() for it in source))
 
 
-def whole(disks, address):
-    """all files of a drive's volume, one behind the other"""
-    files = []
+def whole(disks: dasd.Subsystem, address: int) -> bytes:
+    """All files of a drive's volume, one behind the other."""
+    files: List[bytes] = []
     try:
         for place in range(9):
             files.append(disks.file(address, place)[0])
-    except dasd.Fault:
-        return b"".join(files)
+    except dasd.Fault as fault:
+        if fault.name != "NO_FILE":
+            raise
+    return b"".join(files)
 
 
-def comes_out(lines, folder):
-    """whether a vector's fault, answers and images come out as they must"""
+def image_is(disks: dasd.Subsystem, channel: int, line: str) -> bool:
+    """Whether a drive's volume has the digest that a line says."""
+    found = re.fullmatch(r"(\w+) sha256 (\w+)", line)
+    return found is not None and hashlib.sha256(whole(disks, channel << 8 | int(found[1], 16))).hexdigest() == found[2]
+
+
+def comes_out(lines: List[Line], folder: str) -> bool:
+    """Whether a vector's fault, answers and images come out as they must."""
     of = {word: [rest for it, rest in lines if it == word] for word, _ in lines}
+    wanted: List[Optional[str]] = [*of["fault"]] if "fault" in of else [None]
     number, (events, fault) = int(of["channel"][0]), deck_of(lines)
     with dasd.Subsystem(int(of["storage"][0]), number) as disks:
         for volume in of.get("volume", []):
@@ -239,13 +313,12 @@ def comes_out(lines, folder):
             attach(disks, number << 8 | int(unit, 16), source, folder)
         answers = [play(disks, number, *it) for it in events]
         disks.reset(number)
-        images = [re.fullmatch(r"(\w+) sha256 (\w+)", it).groups() for it in of.get("image", [])]
-        same = all(hashlib.sha256(whole(disks, number << 8 | int(unit, 16))).hexdigest() == wanted for unit, wanted in images)
-        return [fault] == of.get("fault", [None]) and answers == of.get("<", []) and same
+        same = all(image_is(disks, number, it) for it in of.get("image", []))
+        return [fault] == wanted and answers == of.get("<", []) and same
 
 
 class Vectors(unittest.TestCase):
-    def test_vectors(self):
+    def test_vectors(self) -> None:
         folder = os.environ.get("DASD_VECTORS")
         if not folder:
             self.skipTest("DASD_VECTORS names no folder")

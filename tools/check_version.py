@@ -1,8 +1,8 @@
 #!/usr/bin/env python3
 """Compares every copy of the version with the file VERSION, which is the one place where it stands.
 
-A copy is a line of a file that a pattern finds: the program's word for --version, the C header, packages, README.md and the newest heading of
-CHANGELOG.md. A file that has no such line is as wrong as one with another version; the folder of a language that is not there is left out.
+A copy is a line of a file that a pattern finds: the program's word for --version, the C header, packages, README.md, CITATION.cff and the newest
+heading of CHANGELOG.md. A file that has no such line is as wrong as one with another version; the folder of a language that is not there is left out.
 Prints each copy that is wrong; the last line is 'N copies of the version, M wrong', and the status 1 where M is not 0.
 """
 
@@ -17,10 +17,12 @@ COPIES = {
     "README.md": r"^Version (\S+)\.$",
     "CHANGELOG.md": r"^## (\S+)$",
     "crates/dasd_words/src/commands.rt": r'\.version\("([^"]*)"\)',
-    "crates/test_dasd_rows/stdin": r"^< dasd (\S+)$",
+    "rows/data/dasd.rows": r"^< dasd (\S+)$",
     "c/dasd.h": r'^#define DASD_VERSION "([^"]*)"$',
     "rust/Cargo.toml": r'^version = "([^"]*)"$',
-    "python/dasd.py": r'^__version__ = "([^"]*)"$',
+    "rust/dasd/Cargo.toml": r'^dasd-sys = \{ version = "=([^"]*)"',
+    "python/dasd/__init__.py": r'^__version__ = "([^"]*)"$',
+    "CITATION.cff": r'^version: "([^"]*)"$',
 }
 
 

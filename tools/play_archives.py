@@ -1,5 +1,5 @@
 #!/usr/bin/env python3
-"""Plays the commands of docs/ARCHIVES.md over a hundred volumes that it makes, and looks at the answers.
+"""Plays the commands of docs/ARCHIVES.md over a hundred volumes that it makes, and one that is too short, and looks at the answers.
 
 The program `dasd` is the word that is given, or else the built one of crates/dasd_cmd. The commands are those of the section on
 ten thousand volumes, as they stand there. It needs Debian's sqlite3, and ends with status 1 where an answer is another."""
@@ -10,6 +10,11 @@ import subprocess
 import sys
 import tempfile
 
+sys.dont_write_bytecode = True
+sys.path.insert(0, str(pathlib.Path(__file__).resolve().parent))
+
+from page_examples import blocks_of
+
 TOP = pathlib.Path(__file__).resolve().parent.parent
 PAGE = TOP / "docs/ARCHIVES.md"
 SECTION = "## Ten thousand volumes"
@@ -19,13 +24,9 @@ HEADER = 512
 
 
 def commands(page: str) -> list[str]:
-    """The indented blocks of the section, each one command of one or more lines, those for several hosts left out."""
-    blocks: list[str] = []
-    for paragraph in page.split(SECTION)[1].split("\n\n"):
-        lines = paragraph.strip("\n").split("\n")
-        if all(line.startswith("    ") for line in lines):
-            blocks.append("\n".join(line[4:] for line in lines))
-    return blocks
+    """The scripts of the section, but for its first, which makes the page's few packs: here others stand in their place."""
+    section = page.split(SECTION)[1].split("\n## ")[0]
+    return ["\n".join(it.lines) for it in blocks_of(SECTION, section) if it.word == "sh"][1:]
 
 
 def make_volume(dasd: str, path: pathlib.Path, number: int) -> None:
@@ -52,13 +53,14 @@ def shell(command: str, folder: pathlib.Path, dasd: str) -> str:
 
 
 def expected() -> dict[int, str]:
-    """The answers to the third, fourth and fifth command, worked out from how the volumes are made."""
+    """The answers to the commands that print something, by their places, worked out from how the volumes are made."""
     faulty = [number for number in range(VOLUMES) if number % 10 == 0]
     reserved = [number for number in range(VOLUMES) if number % 4 == 0]
     return {
-        2: "".join(sorted(f"packs/{number:03}.ckd|1\n" for number in faulty)),
-        3: f"reserved bytes|{len(reserved)}\nunreadable|{len(faulty)}\n",
-        4: "".join(sorted(f"packs/{number:03}.ckd\n" for number in range(VOLUMES))),
+        1: "packs/short.ckd.fault:dasd: wrong length\n",
+        3: "".join(sorted(f"packs/{number:03}.ckd|1\n" for number in faulty)),
+        4: f"reserved bytes|{len(reserved)}\nunreadable|{len(faulty)}\n",
+        5: "".join(sorted(f"packs/{number:03}.ckd\n" for number in range(VOLUMES))),
     }
 
 
@@ -71,6 +73,7 @@ def main() -> int:
         (folder / "packs").mkdir()
         for number in range(VOLUMES):
             make_volume(dasd, folder / f"packs/{number:03}.ckd", number)
+        (folder / "packs/short.ckd").write_bytes((folder / "packs/000.ckd").read_bytes()[:-1])
         answers = [shell(command, folder, dasd) for command in commands(PAGE.read_text(encoding="utf-8"))]
         for place, answer in expected().items():
             lines = sorted(line for line in answers[place].splitlines(keepends=True) if line.strip())

@@ -3,7 +3,7 @@
 
 Each row makes files, runs commands and says what they print, end with and leave: links, pipes, devices, modes, owners, full
 disks, broken pipes, odd names and files that are no images; kills, runs at once and traces in tools/real_runs.py, `dasd extract` in
-tools/real_extracts.py, and strict checks, dumps and comparisons in tools/real_archives.py. A row that needs root, a small file
+tools/real_extracts.py, strict checks, dumps and comparisons in tools/real_archives.py, findings in tools/real_findings.py, and lists in tools/real_lists.py. A row that needs root, a small file
 system of its own or a device, where these can't be had, is skipped, with a word.
 
 It runs crates/dasd_cmd/out/dasd_cmd, as `rt ci` or `rt run` leaves it; with --built FILE that program; with words behind, the
@@ -29,6 +29,8 @@ sys.path.insert(0, str(Path(__file__).resolve().parent))
 
 import real_archives
 import real_extracts
+import real_findings
+import real_lists
 import real_runs
 from scratch_files import ANSWERS, NOBODY, ROWS, WRITE, Scratch, Skipped, fault, header, is_held, row, same, volume, wrote
 
@@ -444,7 +446,7 @@ def main():
     if not program.is_file():
         sys.exit(f"real_files.py: there is no {program}: rt run in its crate builds it")
     played, wrong, skipped = 0, 0, 0
-    assert real_archives.ROWS is ROWS and real_extracts.ROWS is ROWS and real_runs.ROWS is ROWS
+    assert real_archives.ROWS is ROWS and real_extracts.ROWS is ROWS and real_findings.ROWS is ROWS and real_lists.ROWS is ROWS and real_runs.ROWS is ROWS
     for name, play in ROWS:
         if given.words and not any(word in name for word in given.words):
             continue

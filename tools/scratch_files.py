@@ -36,13 +36,15 @@ def row(play):
 # What volumes hold.
 
 
-def header(model, sequence=0, highest=0):
+def header(model: str, sequence: int = 0, highest: int = 0) -> bytes:
+    """The header of a file of an image."""
     fields = HEADS[model].to_bytes(4, "little") + SLOT[model].to_bytes(4, "little")
     kind = bytes([{"2311": 0x11, "2314": 0x14}[model], sequence]) + highest.to_bytes(2, "little")
     return (b"CKD_P370" + fields + kind).ljust(512, b"\0")
 
 
-def track(model, cylinder, head, records=b""):
+def track(model: str, cylinder: int, head: int, records: bytes = b"") -> bytes:
+    """The slot of a track with these records behind record 0."""
     at = cylinder.to_bytes(2, "big") + head.to_bytes(2, "big")
     spelled = b"\0" + at + at + bytes([0, 0, 0, 8]) + bytes(8) + records + b"\xff" * 8
     return spelled.ljust(SLOT[model], b"\0")

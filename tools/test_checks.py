@@ -123,11 +123,18 @@ class Checks(unittest.TestCase):
 class WrongBodies(unittest.TestCase):
     """What `sharpness.py` plants."""
 
+    def plant(self, folder, own):
+        """The names that were planted, in the order of their numbers, and those that were left out."""
+        planted = sharpness.Planted(Path(folder))
+        suite = sharpness.Suite(("low",), "low", own=own)
+        planted.plant(sharpness.edits_of(Path(folder), suite, ["low"]))
+        return list(planted.numbers), sorted(planted.left_out)
+
     def test_bodies_stand_beside_the_right_one(self):
         with tempfile.TemporaryDirectory() as folder:
             write(folder, BODIES)
             sharpness.TOP = Path(folder)
-            planted, left_out = sharpness.plant(Path(folder), ["low"], "suite")
+            planted, left_out = self.plant(folder, "suite")
             code = Path(folder, "crates/low/src/lib.rt").read_text(encoding="utf-8")
         bodies = [
             ("low/always_the_first", "least", "if one < other { one } else { one }"),
@@ -135,7 +142,7 @@ class WrongBodies(unittest.TestCase):
             ("low/most_is_least", "most", "if one < other { one } else { other }"),
             ("suite: always_the_second", "least", "if one < other { other } else { other }"),
         ]
-        self.assertEqual(list(planted.values()), [name for name, _, _ in bodies])
+        self.assertEqual(planted, [name for name, _, _ in bodies])
         self.assertEqual(left_out, ["low/another_definition", "low/method_of_a_trait", "suite: stale"])
         self.assertTrue(code.startswith("mod wrong_body;\nmod trait_of;\n"))
         for number, (_, function, body) in enumerate(bodies, 1):
@@ -151,8 +158,8 @@ class WrongBodies(unittest.TestCase):
         with tempfile.TemporaryDirectory() as folder:
             write(folder, BODIES)
             sharpness.TOP, sharpness.NO_RUN_SHOWS = Path(folder), {"low/greatest": "it is so"}
-            planted, left_out = sharpness.plant(Path(folder), ["low"], "another")
-        self.assertEqual(list(planted.values()), ["low/always_the_first", "low/most_is_least"])
+            planted, left_out = self.plant(folder, "another")
+        self.assertEqual(planted, ["low/always_the_first", "low/most_is_least"])
         self.assertIn("low/greatest", left_out)
 
 

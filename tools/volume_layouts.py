@@ -21,9 +21,10 @@ EXTENT = 10
 class Image:
     """An image in the layout CKD_P370 in memory: its tracks as home address and records, each an identifier, a key and data."""
 
-    def __init__(self, path: pathlib.Path):
+    def __init__(self, path: pathlib.Path, held: bytes | None = None):
+        """The image of this file; or, where it is given what the file is to hold, that."""
         self.path = path
-        self.bytes = bytearray(path.read_bytes())
+        self.bytes = bytearray(path.read_bytes() if held is None else held)
         assert self.bytes[:8] == b"CKD_P370"
         self.heads = int.from_bytes(self.bytes[8:12], "little")
         self.slot = int.from_bytes(self.bytes[12:16], "little")
@@ -256,8 +257,8 @@ def free_runs(image: Image) -> list[tuple[int, int]]:
     """The tracks that are no data set's, nor those of the label and of the volume table of contents."""
     used = {0}
     for place, _, data in control_blocks(image):
-        runs = [run_of(image, data[EXTENTS : EXTENTS + EXTENT])] if data[0] == 0xF4 else runs_of(image, place) if data[0] == 0xF1 else []
-        used.update(track for first, last in runs for track in range(first, last + 1))
+        taken = [run_of(image, data[EXTENTS : EXTENTS + EXTENT])] if data[0] == 0xF4 else runs_of(image, place) if data[0] == 0xF1 else []
+        used.update(track for first, last in taken for track in range(first, last + 1))
     runs: list[tuple[int, int]] = []
     for track in range((len(image.bytes) - HEADER) // image.slot):
         if track in used:

@@ -16,6 +16,8 @@ BLOCKS = {"2311": 16, "2314": 25}
 # The characteristics of a drive in a format 4 block: bytes of a track, overheads, tolerance, blocks of either kind on a track.
 DEVICE = {"2311": "0E29511414010219100A", "2314": "1C7E922D2D0102161911"}
 ORGANISATION = {"PS": b"\x40\0", "PO": b"\2\0"}
+# Record formats: fixed and variable length, both blocked.
+FORMAT = {"FB": 0x90, "VB": 0x50}
 DAYS = bytes([74, 1, 109, 99, 1, 109])
 
 
@@ -33,7 +35,7 @@ def extent(image: Image, number: int, run: tuple[int, int]) -> bytes:
 
 @dataclass
 class DataSet:
-    """A data set of blocked records of fixed length, made on day 365 of 1974 and kept until that of 1999."""
+    """A data set of blocked records, made on day 365 of 1974 and kept until that of 1999."""
 
     name: str
     organisation: str
@@ -41,12 +43,14 @@ class DataSet:
     block_length: int
     runs: list[tuple[int, int]]
     last: tuple[int, int]
+    form: str = "FB"
 
     def blocks(self, image: Image, serial: str, number: int) -> list[tuple[bytes, bytes]]:
         """Its control blocks: that of format 1, which stands as the record of this number, and one of format 3 behind it if need be."""
         extents = [extent(image, *it) for it in enumerate(self.runs)]
         block = b"\xf1" + ebcdic(serial, 6) + b"\0\1" + DAYS + bytes([len(extents), 0, 0]) + ebcdic("SCRIPT", 13) + bytes(7)
-        block += ORGANISATION[self.organisation] + b"\x90\0" + self.block_length.to_bytes(2, "big") + self.record_length.to_bytes(2, "big")
+        block += ORGANISATION[self.organisation] + bytes([FORMAT[self.form], 0])
+        block += self.block_length.to_bytes(2, "big") + self.record_length.to_bytes(2, "big")
         block = block.ljust(54, b"\0") + self.last[0].to_bytes(2, "big") + bytes([self.last[1]]) + bytes(4)
         block += b"".join(extents[:3]).ljust(30, b"\0")
         if len(extents) <= 3:
@@ -56,9 +60,9 @@ class DataSet:
         return [(ebcdic(self.name, 44), block + b"\0\0\0\1" + bytes([number + 1])), further]
 
 
-def put_label(image: Image, model: str, serial: str, sets: list[DataSet]) -> None:
+def put_label(image: Image, model: str, serial: str, sets: list[DataSet], owner: str = "SCRIPT") -> None:
     """The volume label as record 3 of track 0, and on track 1 the blocks of formats 4 and 5, those of data sets, and free ones."""
-    volume = ebcdic(f"VOL1{serial}", 11) + b"\0\0\0\1\1" + ebcdic("", 21) + ebcdic("    SCRIPT", 14)
+    volume = ebcdic(f"VOL1{serial}", 11) + b"\0\0\0\1\1" + ebcdic("", 21) + ebcdic(f"    {owner}", 14)
     loader = [(ebcdic("IPL1", 4), bytes(24)), (ebcdic("IPL2", 4), bytes(144))]
     fill(image, [*loader, (ebcdic("VOL1", 4), volume.ljust(80, b"\x40"))], 0)
     blocks: list[tuple[bytes, bytes]] = []

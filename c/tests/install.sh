@@ -1,17 +1,26 @@
 #!/bin/sh
-# install.sh MAKE CC ARCHIVE HEAP: installs into an empty folder, by PREFIX and by DESTDIR; builds the emulator outside the repository with
-# what pkg-config says of it, with the shared library and with the static one; and takes all of it away again.
+# install.sh MAKE CC: installs what was built into an empty folder, by PREFIX and by DESTDIR, where no `rt` works and none may be called;
+# builds the emulator outside the repository with what pkg-config says of it, with the shared library and with the static one; and takes
+# all of it away again.
 set -eu
-make=$1 cc=$2 archive=$3 heap=$4
+make=$1 cc=$2
 here=$(cd "$(dirname "$0")/.." && pwd)
 work=$(mktemp -d)
 trap 'rm -rf "$work"' EXIT
 
+# An `rt` that leaves a mark stands first on the path.
+mkdir "$work/bin"
+printf '#!/bin/sh\ntouch "%s"\nexit 1\n' "$work/rt_was_called" > "$work/bin/rt"
+chmod +x "$work/bin/rt"
+built=$(sha256sum "$here/libdasd.a" "$here"/libdasd.so.*)
+
 install_with() {
-    "$make" -s --no-print-directory -C "$here" "$@" ARCHIVE="$archive" HEAP="$heap" PROVED=none
+    PATH=$work/bin:$PATH "$make" -s --no-print-directory -C "$here" "$@"
 }
 
 install_with install PREFIX="$work/usr"
+test ! -e "$work/rt_was_called"
+test "$built" = "$(sha256sum "$here/libdasd.a" "$here"/libdasd.so.*)"
 cp "$here"/examples/*.c "$here"/examples/*.h "$work/"
 cd "$work"
 if command -v pkg-config >/dev/null; then
@@ -36,3 +45,14 @@ test -z "$(find "$work/usr" -type f -o -type l)"
 install_with install PREFIX=/usr DESTDIR="$work/package"
 test -f "$work/package/usr/include/dasd.h"
 grep -q '^prefix=/usr$' "$work/package/usr/lib/pkgconfig/dasd.pc"
+test ! -e "$work/rt_was_called"
+
+# Where nothing is built, nothing is installed, and it says so.
+mkdir "$work/empty"
+cp "$here/Makefile" "$here/dasd.h" "$work/empty/"
+if "$make" -s -C "$work/empty" install PREFIX="$work/none" 2> "$work/why"; then
+    echo "install.sh: something was installed of nothing" >&2
+    exit 1
+fi
+grep -q 'nothing is built' "$work/why"
+test ! -e "$work/none"

@@ -1,5 +1,8 @@
 """Lists by chance: volumes and decks that a seed makes, always the same ones."""
+from __future__ import annotations
+
 import random
+from typing import Callable, Dict, List, Sequence, Tuple
 
 from .decks import Event
 from .program import CC, CD, PCI, SKIP, SLI
@@ -11,22 +14,25 @@ SEARCHES = (0x31, 0x51, 0x71, 0xB1, 0x29, 0x49, 0x69, 0xA9, 0x39, 0xB9)
 READS = (0x06, 0x0E, 0x1E, 0x12, 0x1A, 0x16, 0x02, 0x86, 0x8E, 0x9E, 0x92, 0x9A, 0x96)
 WRITES = (0x05, 0x0D, 0x1D, 0x15, 0x19)
 CONTROLS = (0x07, 0x0B, 0x1B, 0x13, 0x1F, 0x03, 0x04)
+Words = List[bytes]
+Operands = List[Tuple[int, bytes]]
+Phrase = Callable[[Words, Operands, Volume, List[int]], None]
 
 
 class Chance:
     """What a seed makes. With `plain` each program runs to its end and is asked for at once, and no bits ask for more; with
     `seek_first` each begins with a Seek; without `odd` every track is readable."""
 
-    def __init__(self, seed, plain=False, seek_first=False, odd=True):
+    def __init__(self, seed: int, plain: bool = False, seek_first: bool = False, odd: bool = True) -> None:
         self.dice, self.plain, self.seek_first, self.odd = random.Random("list %d" % seed), plain, seek_first, odd
         self.seed = seed
 
-    def vector(self):
+    def vector(self) -> Vector:
         """The list, as a vector without answers."""
         units = self.dice.sample(range(0x80, 0xA0), self.dice.choice((1, 1, 2, 3)))
         made = {unit: self.volume() for unit in units}
         vector = Vector("seed-%d" % self.seed, "chance", volumes=[(unit, "made") for unit in units], made=made)
-        events = []
+        events: List[Event] = []
         for _ in range(self.dice.randint(1, 3)):
             events += self.program(0x100 | self.dice.choice(units), made, units)
         vector.deck = "".join(it.line() + "\n" for it in events).encode("ascii")
@@ -34,7 +40,7 @@ class Chance:
 
     # --- volumes ---
 
-    def volume(self):
+    def volume(self) -> Volume:
         volume = Volume.new(self.dice.choice(("2311", "2314")), self.dice.choice((1, 1, 2)))
         for cylinder in range(volume.cylinders):
             for head in self.dice.sample(range(volume.model.heads), 4) + [0, 1]:
@@ -48,19 +54,19 @@ class Chance:
             volume.slots[self.dice.randrange(len(volume.slots))] = bytes(5) + bytes([0, 0, 0, 0, 1, 0, 255, 255]).ljust(volume.slot_size - 5, b"\1")
         return volume
 
-    def record(self, cylinder, head, number):
+    def record(self, cylinder: int, head: int, number: int) -> Record:
         if self.dice.random() < 0.05:
             number = self.dice.randint(0, 9)
         key = self.some(self.dice.choice((1, 2, 4, 4))) if self.dice.random() < 0.5 else b""
         return Record(address(cylinder, head) + bytes([number]), key, self.some(self.dice.choice((0, 1, 8, 20, 40, 100))))
 
-    def some(self, length):
+    def some(self, length: int) -> bytes:
         """So many bytes, few of them different, so that searches find something."""
         return bytes(self.dice.choice((0x00, 0x7F, 0xC1, 0xC1, 0xC2)) for _ in range(length))
 
     # --- programs ---
 
-    def program(self, unit, made, units):
+    def program(self, unit: int, made: Dict[int, Volume], units: List[int]) -> List[Event]:
         """A program's words and operands, its start, and what comes behind it."""
         self.at = DATA
         volume = made[unit & 0xFF]
@@ -73,15 +79,15 @@ class Chance:
         events += [Event("STEP", number=65535), Event("INT")] if self.plain else self.turmoil(unit, units)
         return events + self.sense(unit)
 
-    def sense(self, unit):
+    def sense(self, unit: int) -> List[Event]:
         """A Sense program, and what of storage may have changed."""
         shows = [Event("SHOW", address=at, number=32) for at in range(DATA, self.at, 0x80)]
         ask = [Event("STORE", address=SENSE_AT, data=bytes.fromhex("0400071000000006")), Event("STORE", address=0x48, data=SENSE_AT.to_bytes(4, "big"))]
         return shows + ask + [Event("SIO", unit=unit), Event("STEP", number=65535), Event("INT"), Event("SHOW", address=0x710, number=6)]
 
-    def turmoil(self, unit, units):
+    def turmoil(self, unit: int, units: List[int]) -> List[Event]:
         """Events in any order while the program runs."""
-        events = []
+        events: List[Event] = []
         for _ in range(self.dice.randint(0, 8)):
             other = 0x100 | self.dice.choice(units)
             steps = [Event("STEP", number=self.dice.choice((0, 1, 1, 2, 7, 20, 300))), Event("STEP", number=self.dice.randint(1, 60))]
@@ -91,15 +97,18 @@ class Chance:
             events.append(self.dice.choice(self.dice.choice((steps, steps, looks, looks, changes) if self.dice.random() < 0.5 else (steps, looks))))
         return events + [Event("STEP", number=65535), Event("INT"), Event("ARRIVE", unit=unit), Event("INT"), Event("KEY", address=DATA, number=0)]
 
-    def chain(self, volume, where):
+    def chain(self, volume: Volume, where: List[int]) -> Tuple[Words, Operands]:
         """Words of a chain, and operands by address."""
-        words, operands = [], []
+        words: Words = []
+        operands: Operands = []
         if self.seek_first or self.dice.random() < 0.7:
             self.add(words, operands, 0x07, bytes(2) + address(*where), 6, CC)
         if self.dice.random() < 0.5:
             self.add(words, operands, 0x1F, bytes([self.dice.choice((0x00, 0x80, 0xC0, 0xC0, 0xC0, 0x18, 0xFF))]), 1, CC)
         for _ in range(self.dice.randint(1, 5)):
-            phrase = self.dice.choice((self.one_command, self.one_command, self.search, self.update, self.update, self.format, self.format, self.new_track))
+            phrases: Tuple[Phrase, ...] = (
+                self.one_command, self.one_command, self.search, self.update, self.update, self.format, self.format, self.new_track)
+            phrase = self.dice.choice(phrases)
             phrase(words, operands, volume, where)
         last = bytearray(words[-1])
         last[4] &= ~(CC | CD)
@@ -108,49 +117,49 @@ class Chance:
             words.append(bytes.fromhex("0300000020000001"))
         return words, operands
 
-    def command(self, words, operands, volume, where, code):
+    def command(self, words: Words, operands: Operands, volume: Volume, where: List[int], code: int) -> None:
         self.add(words, operands, code, *self.operand(code, volume, where), self.flags())
 
-    def one_command(self, words, operands, volume, where):
+    def one_command(self, words: Words, operands: Operands, volume: Volume, where: List[int]) -> None:
         self.command(words, operands, volume, where, self.dice.choice((*SEARCHES, *READS, *WRITES, *CONTROLS)))
 
-    def search(self, words, operands, volume, where, codes=SEARCHES):
+    def search(self, words: Words, operands: Operands, volume: Volume, where: List[int], codes: Sequence[int] = SEARCHES) -> None:
         """A search, and mostly a transfer back to it."""
         again = WORDS + 8 * len(words)
         self.command(words, operands, volume, where, self.dice.choice(codes))
         if self.dice.random() < 0.9:
             words.append(b"\x08" + again.to_bytes(3, "big") + bytes(4))
 
-    def update(self, words, operands, volume, where):
+    def update(self, words: Words, operands: Operands, volume: Volume, where: List[int]) -> None:
         """A record is found, and its data, or key and data, written."""
         self.search(words, operands, volume, where, (0x31, 0x31, 0xB1, 0x29))
         self.command(words, operands, volume, where, self.dice.choice((0x05, 0x05, 0x0D)))
 
-    def format(self, words, operands, volume, where):
+    def format(self, words: Words, operands: Operands, volume: Volume, where: List[int]) -> None:
         """A record is found, and one or more are written behind it."""
         self.search(words, operands, volume, where, (0x31, 0x31, 0xB1, 0x29))
         for _ in range(self.dice.choice((1, 1, 2, 3))):
             self.command(words, operands, volume, where, 0x1D)
 
-    def new_track(self, words, operands, volume, where):
+    def new_track(self, words: Words, operands: Operands, volume: Volume, where: List[int]) -> None:
         """The home address is written or found, and record 0 behind it, and others."""
         self.command(words, operands, volume, where, self.dice.choice((0x19, 0x39)))
         for code in (0x15, 0x1D, 0x1D)[:self.dice.randint(0, 3)]:
             self.command(words, operands, volume, where, code)
 
-    def add(self, words, operands, code, data, length, flags):
+    def add(self, words: Words, operands: Operands, code: int, data: bytes, length: int, flags: int) -> None:
         """A word with its operand's bytes at the next place of its own."""
         words.append(bytes([code]) + self.at.to_bytes(3, "big") + bytes([flags, 0]) + length.to_bytes(2, "big"))
         operands.append((self.at, data[:128]))
         self.at += 0x80 * (1 + max(length, len(data)) // 0x80)
 
-    def flags(self):
+    def flags(self) -> int:
         flags = CC
         for flag, often in ((SLI, 0.7), (CD, 0.03), (SKIP, 0.03), (PCI, 0 if self.plain else 0.05)):
             flags |= flag if self.dice.random() < often else 0
         return flags
 
-    def operand(self, code, volume, where):
+    def operand(self, code: int, volume: Volume, where: List[int]) -> Tuple[bytes, int]:
         """Bytes that a command takes, and its count, mostly right."""
         track = read_slot(volume.slots[volume.place(*where)])
         records = track.records if track else []
@@ -178,9 +187,9 @@ class Chance:
             return b"", max(1, self.dice.choice((5, 6, 8, len(record.data), 8 + len(record.key) + len(record.data), 100)) + slip)
         return data, max(1, len(data) + slip)
 
-    def new_record(self, where, low):
+    def new_record(self, where: List[int], low: int) -> bytes:
         """Count, key and data of a record to be formatted; now and then one that is too long."""
-        record = self.record(*where, 0 if low == 0x15 else self.dice.randint(1, 9))
+        record = self.record(where[0], where[1], 0 if low == 0x15 else self.dice.randint(1, 9))
         if self.dice.random() < 0.1:
             record.data = self.some(100)
             return record.count()[:6] + (7000).to_bytes(2, "big") + record.key + record.data

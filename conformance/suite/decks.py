@@ -1,6 +1,9 @@
 """Decks: lists of events in text, one a line, and the faults of a text that is none."""
+from __future__ import annotations
+
 import re
 from dataclasses import dataclass
+from typing import List, Optional
 
 LONGEST_LINE = 512
 LONGEST_DECK = 1 << 20
@@ -21,7 +24,7 @@ class Event:
     number: int = 0
     data: bytes = b""
 
-    def line(self):
+    def line(self) -> str:
         """The event's line in a deck."""
         if self.name in ("SIO", "TIO", "HIO", "ARRIVE"):
             return "%s %03X" % (self.name, self.unit)
@@ -40,41 +43,48 @@ class DeckFault(ValueError):
     """The first line that is no event, and why."""
 
 
-def of_unit(name, words):
+def of_unit(name: str, words: List[bytes]) -> Optional[Event]:
     if len(words) == 1 and UNIT.match(words[0]):
         return Event(name, unit=int(words[0], 16))
+    return None
 
 
-def of_number(name, words):
+def of_number(name: str, words: List[bytes]) -> Optional[Event]:
     if len(words) == 1 and NUMBER.match(words[0]) and int(words[0]) <= 65535:
         return Event(name, number=int(words[0]))
+    return None
 
 
-def of_run(name, words):
+def of_run(name: str, words: List[bytes]) -> Optional[Event]:
     if not words:
         return Event(name, number=1 << 24)
     if len(words) == 1 and LONG_NUMBER.match(words[0]) and 1 <= int(words[0]) < 1 << 32:
         return Event(name, number=int(words[0]))
+    return None
 
 
-def of_store(name, words):
+def of_store(name: str, words: List[bytes]) -> Optional[Event]:
     if len(words) > 1 and ADDRESS.match(words[0]) and DIGITS.match(b"".join(words[1:])):
         return Event(name, address=int(words[0], 16), data=bytes.fromhex(b"".join(words[1:]).decode()))
+    return None
 
 
-def of_key(name, words):
+def of_key(name: str, words: List[bytes]) -> Optional[Event]:
     if len(words) == 2 and ADDRESS.match(words[0]) and KEY.match(words[1]):
         return Event(name, address=int(words[0], 16), number=int(words[1], 16))
+    return None
 
 
-def of_show(name, words):
+def of_show(name: str, words: List[bytes]) -> Optional[Event]:
     if len(words) == 2 and ADDRESS.match(words[0]) and NUMBER.match(words[1]) and 1 <= int(words[1]) <= 32:
         return Event(name, address=int(words[0], 16), number=int(words[1]))
+    return None
 
 
-def of_nothing(name, words):
+def of_nothing(name: str, words: List[bytes]) -> Optional[Event]:
     if not words:
         return Event(name)
+    return None
 
 
 EVENTS = {
@@ -83,7 +93,7 @@ EVENTS = {
 }
 
 
-def parse_line(line):
+def parse_line(line: bytes) -> Optional[Event]:
     """The event of a line; None where it is a remark or empty. Raises DeckFault with the reason alone."""
     line = line[:-1] if line.endswith(b"\r") else line
     if len(line) > LONGEST_LINE:
@@ -100,7 +110,7 @@ def parse_line(line):
     return event
 
 
-def parse(text):
+def parse(text: bytes) -> List[Event]:
     """The events of a deck's bytes. Raises DeckFault, whose text names the line."""
     lines = text.split(b"\n")
     events = []

@@ -3,9 +3,17 @@
 The rules are those of the component descriptions of the 2841 with the 2311 (GA26-5988) and of the 2314 (GA26-3599), and of this
 suite's profile where they leave a choice. It is written to be read and to be broken on purpose, not to be fast.
 """
-from dataclasses import dataclass, replace
+from __future__ import annotations
 
-from .volumes import Record, Track, address
+from dataclasses import dataclass, replace
+from typing import List, Optional, Sequence, Tuple
+
+from .volumes import Record, Track, Volume, address
+
+# a record and a part of it
+Place = Tuple[int, int]
+# a kind and a record
+Credit = Optional[Tuple[str, Optional[int]]]
 
 CHANNEL_END, DEVICE_END, UNIT_CHECK, UNIT_EXCEPTION, MODIFIER, BUSY = 0x08, 0x04, 0x02, 0x01, 0x40, 0x10
 
@@ -66,7 +74,7 @@ class Profile:
     no_pci_on_rejection: bool = True
     zeros_behind: bool = True
 
-    def without(self, name):
+    def without(self, name: str) -> Profile:
         return replace(self, **{name: False})
 
 
@@ -78,42 +86,61 @@ class Ending:
 
 
 class Drive:
-    def __init__(self, volume, profile=None):
+    def __init__(self, volume: Volume, profile: Optional[Profile] = None) -> None:
         self.volume, self.profile = volume, profile or Profile()
         self.cylinder = self.head = 0
         self.sense = 0
-        self.read_last = (None, None)
+        self.read_last: Tuple[Optional[bytes], Optional[Track]] = (None, None)
+        # the command: its name, with none where none is open; what passed of it, the area that it found, and what it gives
+        self.name, self.multi_track, self.moved = "", False, bytearray()
+        self.found: Optional[Place] = None
+        self.given: Optional[bytes] = None
+        self.credit: Credit = None
+        self.used: Credit = None
         self.begin_program()
 
     # --- state over a program ---
 
-    def begin_program(self):
+    def begin_program(self) -> None:
         self.position, self.mask, self.mask_set, self.credit, self.laps = INDEX, 0, False, None, 0
-        self.name = None
+        self.name = ""
 
-    def track(self):
+    def track(self) -> Optional[Track]:
         """The track under the arm; None where it can't be read. It is read again only where the slot is another."""
         slot = self.volume.slots[self.volume.place(self.cylinder, self.head)]
         if self.read_last[0] is not slot:
             self.read_last = (slot, self.volume.track(self.cylinder, self.head))
         return self.read_last[1]
 
-    def tell(self, cause):
+    def readable(self) -> Track:
+        """The track under the arm, where it must be one that can be read."""
+        track = self.track()
+        if track is None:
+            raise ValueError("the track can't be read")
+        return track
+
+    def area_found(self) -> Place:
+        """The area that was found, where there must be one."""
+        if self.found is None:
+            raise ValueError("no area is found")
+        return self.found
+
+    def tell(self, cause: str) -> None:
         bits = SENSE[cause]
         if not self.profile.sense_bits and bits in (0x8004, 0x8010, 0x0802, 0x8100):
             bits = {0x8004: 0x0004, 0x8010: 0x0010, 0x0802: 0x0002, 0x8100: 0x0100}[bits]
         self.sense |= bits
 
-    def sense_bytes(self):
+    def sense_bytes(self) -> bytes:
         return self.sense.to_bytes(2, "big") + bytes(4)
 
     # --- begin ---
 
-    def begin(self, code):
+    def begin(self, code: int) -> str:
         """'rejected', 'immediate' or 'started'."""
         low = code & 0x7F
         known = COMMANDS.get(code) or (COMMANDS[low] if code > 0x7F and COMMANDS.get(low, ("", False))[1] else None)
-        self.name, self.multi_track, self.moved, self.found, self.given = known[0] if known else None, code > 0x7F, bytearray(), None, None
+        self.name, self.multi_track, self.moved, self.found, self.given = known[0] if known else "", code > 0x7F, bytearray(), None, None
         credit, self.credit, self.used = self.credit, None, self.credit
         if self.name != "sense" and (self.profile.sense_is_cleared or self.name not in ("no-operation", "set-file-mask")):
             self.sense = 0
@@ -121,15 +148,15 @@ class Drive:
         if cause:
             self.tell(cause)
             return "rejected"
-        if not (self.name or "").startswith("search") and self.profile.laps_over_searches:
+        if not self.name.startswith("search") and self.profile.laps_over_searches:
             self.laps = 0
         if self.name in ("recalibrate", "read-ipl"):
             self.move(0, 0)
         return "immediate" if self.name in IMMEDIATE else "started"
 
-    def refusal(self, credit):
+    def refusal(self, credit: Credit) -> Optional[str]:
         """Why the command is refused as it begins: the first cause in this order; None where it is not."""
-        if self.name is None:
+        if not self.name:
             return "invalid command"
         if self.name in NO_WRITE[self.mask & 0xC0]:
             return "write not allowed"
@@ -142,7 +169,7 @@ class Drive:
             return "out of sequence"
         return None
 
-    def has_credit(self, credit):
+    def has_credit(self, credit: Credit) -> bool:
         """Whether the command before it lets a write go on. A credit is a kind and a record."""
         kind = credit[0] if credit else None
         if self.name == "write-r0":
@@ -155,12 +182,12 @@ class Drive:
             return kind == "equal id"
         return True
 
-    def move(self, cylinder, head):
+    def move(self, cylinder: int, head: int) -> None:
         self.cylinder, self.head, self.position, self.laps = cylinder, head, INDEX, 0
 
     # --- look ---
 
-    def kind(self):
+    def kind(self) -> Optional[str]:
         """What the command looks for; None where it looks for nothing."""
         name = self.name
         if name.startswith("search-id"):
@@ -169,7 +196,7 @@ class Drive:
             name = "search-key"
         return LOOKS.get(name)
 
-    def look(self):
+    def look(self) -> str:
         """'found', 'passed' or 'ended', with the ending noted. Commands that look for nothing have found it."""
         kind = self.kind()
         if kind is None or self.found is not None:
@@ -183,11 +210,11 @@ class Drive:
             return "found"
         return self.pass_index()
 
-    def area(self, kind, track):
+    def area(self, kind: str, track: Optional[Track]) -> Optional[Place]:
         """The next area of a kind behind the position; None where there is none on this turn."""
         if kind == "home":
             return HOME if self.position == INDEX else None
-        records, (at, part) = track.records, self.position
+        records, (at, part) = track.records if track else [], self.position
         later = range(max(at + 1, 1), len(records))
         if kind == "r0":
             return (0, 0) if records and at < 0 else None
@@ -201,12 +228,14 @@ class Drive:
                 return (here, 1)
             return next(((i, 1) for i in later if records[i].key), None)
         if kind == "key and data":
-            return (here, 1) if here is not None else next(((i, 1) for i in later), None)
+            if here is not None:
+                return (here, 1)
+            return next(((i, 1) for i in later), None)
         if at >= 0 and part < 2:
             return (at, 2)
         return next(((i, 2) for i in later), None)
 
-    def pass_index(self):
+    def pass_index(self) -> str:
         self.position = INDEX
         if self.multi_track:
             if self.mask & 0x18 == 0x18:
@@ -218,22 +247,22 @@ class Drive:
         self.laps += 1
         return self.fail("no record found") if self.laps >= 2 else "passed"
 
-    def fail(self, cause):
+    def fail(self, cause: str) -> str:
         self.tell(cause)
-        self.name = None
+        self.name = ""
         return "ended"
 
     # --- bytes ---
 
-    def bytes_of(self, parts):
+    def bytes_of(self, parts: Sequence[str]) -> bytes:
         """The bytes of the area that was found."""
         if self.found == HOME:
             track = self.track()
             return track.home if track else bytes(5)
-        record = self.track().records[self.found[0]]
+        record = self.readable().records[self.area_found()[0]]
         return b"".join({"count": record.count(), "key": record.key, "data": record.data, "id": record.identifier}[it] for it in parts)
 
-    def gives(self):
+    def gives(self) -> Optional[bytes]:
         """The bytes that a read or Sense gives, once they are found; None for a command that takes bytes."""
         if self.name not in ("sense", *READS):
             return None
@@ -241,7 +270,7 @@ class Drive:
             self.given = self.sense_bytes() if self.name == "sense" else self.bytes_of(READS[self.name])
         return self.given
 
-    def length(self):
+    def length(self) -> int:
         """How many bytes the command has or wants in all, by those that moved."""
         name = self.name
         given = self.gives()
@@ -258,23 +287,23 @@ class Drive:
         if name == "write-ha":
             return 5
         if name in ("write-data", "write-key-and-data"):
-            record = self.track().records[self.credited()]
+            record = self.readable().records[self.credited()]
             return len(record.data) + (len(record.key) if name == "write-key-and-data" else 0)
         if len(self.moved) < 8 or not self.fits():
             return 8
         return 8 + self.moved[5] + int.from_bytes(self.moved[6:8], "big")
 
-    def credited(self):
+    def credited(self) -> int:
         """The record of the credit under which a write goes."""
         if self.used and self.used[1] is not None:
             return self.used[1]
-        return min(max(self.position[0], 0), len(self.track().records) - 1)
+        return min(max(self.position[0], 0), len(self.readable().records) - 1)
 
-    def kept(self):
+    def kept(self) -> List[Record]:
         """The records that a formatting write keeps before the new one."""
-        return self.track().records[:self.credited() + 1] if self.name == "write-ckd" else []
+        return self.readable().records[:self.credited() + 1] if self.name == "write-ckd" else []
 
-    def fits(self):
+    def fits(self) -> bool:
         model, key, data = self.volume.model, self.moved[5], int.from_bytes(self.moved[6:8], "big")
         if not self.profile.charges:
             return sum(len(it.key) + len(it.data) for it in self.kept()) + key + data <= model.capacity
@@ -286,10 +315,10 @@ class Drive:
 
     # --- close ---
 
-    def close(self):
+    def close(self) -> Ending:
         """Closes the open command by the bytes that moved, and says what it comes to."""
         name, got = self.name, bytes(self.moved)
-        if name is None:
+        if not name:
             return Ending(CHANNEL_END | DEVICE_END | UNIT_CHECK)
         if name in IMMEDIATE:
             return Ending(CHANNEL_END, True) if name == "recalibrate" else Ending(CHANNEL_END | DEVICE_END)
@@ -307,7 +336,7 @@ class Drive:
             return self.close_write(got)
         return self.close_read()
 
-    def close_seek(self, got):
+    def close_seek(self, got: bytes) -> Ending:
         if not got:
             return Ending(CHANNEL_END | DEVICE_END)
         if len(got) < 6:
@@ -324,11 +353,11 @@ class Drive:
         self.move(cylinder, head)
         return Ending(CHANNEL_END, True)
 
-    def close_search(self, got):
+    def close_search(self, got: bytes) -> Ending:
         parts = ("id",) if "-id-" in self.name else ("key",)
         area = self.bytes_of(parts)[1:] if self.name == "search-ha" else self.bytes_of(parts)
         theirs = area[:len(got)]
-        self.position = self.found
+        self.position = self.area_found()
         wanted = {"equal-or-high": theirs >= got, "high": theirs > got}
         equal = not self.name.endswith("high")
         satisfied = bool(got) and (theirs == got if equal else wanted["equal-or-high" if self.name.endswith("equal-or-high") else "high"])
@@ -336,28 +365,28 @@ class Drive:
             return Ending(CHANNEL_END | DEVICE_END)
         if equal and len(got) == len(area):
             kind = "equal home" if self.name == "search-ha" else "equal id" if "-id-" in self.name else "equal key"
-            self.credit = (kind, None if self.found == HOME else self.found[0])
+            self.credit = (kind, None if self.found == HOME else self.area_found()[0])
         return Ending(CHANNEL_END | DEVICE_END | MODIFIER)
 
-    def close_read(self):
+    def close_read(self) -> Ending:
         status = CHANNEL_END | DEVICE_END
         if self.name == "sense":
             return Ending(status)
-        at = self.found
+        at = self.area_found()
         if self.name == "read-count":
             self.position = (at[0], 0)
             return Ending(status)
         self.position = HOME if at == HOME else (at[0], 2)
-        if self.name != "read-ha" and not self.track().records[at[0]].data:
+        if self.name != "read-ha" and not self.readable().records[at[0]].data:
             status |= UNIT_EXCEPTION
         return Ending(status)
 
-    def close_write(self, got):
+    def close_write(self, got: bytes) -> Ending:
         if self.name == "write-ha":
             return self.close_home(got)
         if self.name in ("write-r0", "write-ckd"):
             return self.close_format(got)
-        track, at = self.track(), self.credited()
+        track, at = self.readable(), self.credited()
         record = track.records[at]
         if got:
             old = record.key + record.data if self.name == "write-key-and-data" else record.data
@@ -370,7 +399,7 @@ class Drive:
         self.position = (at, 2)
         return Ending(CHANNEL_END | DEVICE_END | (0 if record.data else UNIT_EXCEPTION))
 
-    def close_home(self, got):
+    def close_home(self, got: bytes) -> Ending:
         if got and len(got) < 5:
             return self.checked("cut short")
         if got and got != b"\0" + address(self.cylinder, self.head):
@@ -381,7 +410,7 @@ class Drive:
             self.credit = ("wrote home", None)
         return Ending(CHANNEL_END | DEVICE_END)
 
-    def close_format(self, got):
+    def close_format(self, got: bytes) -> Ending:
         if not got:
             return Ending(CHANNEL_END | DEVICE_END)
         if len(got) < 8:
@@ -390,14 +419,14 @@ class Drive:
             return self.checked("does not fit")
         key, data = got[5], int.from_bytes(got[6:8], "big")
         body = got[8:].ljust(key + data, b"\0")
-        track = self.track()
+        track = self.readable()
         track.records = self.kept() + [Record(got[:5], body[:key], body[key:])]
         self.save(track)
         at = len(track.records) - 1
         self.position, self.credit = (at, 2), ("wrote record", at)
         return Ending(CHANNEL_END | DEVICE_END)
 
-    def save(self, track):
+    def save(self, track: Track) -> None:
         place = self.volume.place(self.cylinder, self.head)
         behind = b"" if self.profile.zeros_behind else self.volume.slots[place]
         self.volume.write(self.cylinder, self.head, track)
@@ -405,6 +434,6 @@ class Drive:
         if behind:
             self.volume.slots[place] = self.volume.slots[place][:spelled] + behind[spelled:]
 
-    def checked(self, cause):
+    def checked(self, cause: str) -> Ending:
         self.tell(cause)
         return Ending(CHANNEL_END | DEVICE_END | UNIT_CHECK)

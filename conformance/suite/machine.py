@@ -2,8 +2,14 @@
 
 Rules: IBM System/360 Principles of Operation (GA22-6821), input/output instructions and interruptions.
 """
+from __future__ import annotations
+
+from typing import Iterable, Optional, Tuple
+
+from .decks import Event
 from .drive import BUSY, DEVICE_END, Drive, Profile
 from .program import PCI_STATUS, Csw, Program, Storage
+from .volumes import Volume
 
 FREE, MOVING, ARRIVED = "free", "moving", "arrived"
 # a program that has not ended then runs for ever
@@ -11,7 +17,7 @@ MOST_UNITS = 1 << 17
 
 
 class Unit:
-    def __init__(self, volume, profile):
+    def __init__(self, volume: Volume, profile: Profile) -> None:
         self.drive, self.arm = Drive(volume, profile), FREE
 
 
@@ -22,38 +28,41 @@ class Machine:
     as it begins to move: what an emulator does that has neither units nor arrivals.
     """
 
-    def __init__(self, channel, storage, volumes, profile=None, own_clock=None, own_arms=False):
+    def __init__(self, channel: int, storage: int, volumes: Iterable[Tuple[int, Volume]], profile: Optional[Profile] = None,
+                 own_clock: Optional[str] = None, own_arms: bool = False) -> None:
         self.number, self.storage = channel, Storage(storage)
         self.units = {unit: Unit(volume, profile or Profile()) for unit, volume in volumes}
-        self.program = self.working = self.pending = None
+        self.program: Optional[Program] = None
+        self.working: Optional[int] = None
+        self.pending: Optional[Tuple[int, Csw]] = None
         self.own_clock, self.own_arms, self.runs_for_ever = own_clock, own_arms, False
 
-    def unit_of(self, address):
+    def unit_of(self, address: int) -> Optional[Unit]:
         """The unit at an address; None where it is not attached."""
         return self.units.get(address & 0xFF)
 
-    def is_here(self, address):
+    def is_here(self, address: int) -> bool:
         return address >> 8 == self.number
 
-    def store_status(self, unit, channel):
+    def store_status(self, unit: int, channel: int) -> str:
         self.storage.bytes[0x44:0x46] = bytes([unit, channel])
         return "%02X%02X" % (unit, channel)
 
-    def store_csw(self, csw):
+    def store_csw(self, csw: Csw) -> str:
         self.storage.bytes[0x40:0x48] = csw.to_bytes()
         text = csw.to_bytes().hex().upper()
         return text[:8] + " " + text[8:]
 
-    def play(self, event):
+    def play(self, event: Event) -> str:
         """Does an event, and returns its answer's line."""
-        return getattr(self, "do_" + event.name.lower())(event)
+        return str(getattr(self, "do_" + event.name.lower())(event))
 
     # --- instructions ---
 
-    def do_sio(self, event):
+    def do_sio(self, event: Event) -> str:
         return "SIO %03X CC %s" % (event.unit, self.start(event.unit))
 
-    def start(self, address):
+    def start(self, address: int) -> str:
         unit = self.unit_of(address)
         if not self.is_here(address):
             return "3"
@@ -71,7 +80,7 @@ class Machine:
             return "1 " + self.store_status(0, 0x20)
         if program.started == "rejected":
             return "1 " + self.store_status(2, PCI_STATUS if program.marked and not unit.drive.profile.no_pci_on_rejection else 0)
-        if program.started == "immediate":
+        if program.started == "immediate" and program.ending:
             self.leave(unit, program)
             return "1 " + self.store_status(program.ending.unit, program.ending.channel)
         self.program, self.working = program, address & 0xFF
@@ -79,14 +88,14 @@ class Machine:
             self.advance(MOST_UNITS)
         return "0"
 
-    def leave(self, unit, program):
+    def leave(self, unit: Unit, program: Program) -> None:
         """What a program that is over leaves of its unit's arm."""
         unit.arm = (ARRIVED if self.own_arms else MOVING) if program.motion else FREE
 
-    def do_tio(self, event):
+    def do_tio(self, event: Event) -> str:
         return "TIO %03X CC %s" % (event.unit, self.test(event.unit))
 
-    def test(self, address):
+    def test(self, address: int) -> str:
         unit = self.unit_of(address)
         if not self.is_here(address):
             return "3"
@@ -106,10 +115,10 @@ class Machine:
             return "1 " + self.store_csw(Csw(unit=DEVICE_END))
         return "0"
 
-    def do_hio(self, event):
+    def do_hio(self, event: Event) -> str:
         return "HIO %03X CC %s" % (event.unit, self.halt(event.unit))
 
-    def halt(self, address):
+    def halt(self, address: int) -> str:
         if not self.is_here(address):
             return "3"
         if self.working is not None:
@@ -119,48 +128,55 @@ class Machine:
             return "0"
         return "3" if self.unit_of(address) is None else "1 " + self.store_status(0, 0)
 
-    def cut(self, pends):
-        self.program.cut()
+    def cut(self, pends: bool) -> None:
+        self.running()[1].cut()
         self.over(pends)
 
-    def over(self, pends=True):
+    def running(self) -> Tuple[int, Program]:
+        """The unit whose program runs, and the program."""
+        if self.working is None or self.program is None:
+            raise ValueError("no program runs")
+        return self.working, self.program
+
+    def over(self, pends: bool = True) -> None:
         """The program is over: its ending pends, or is lost."""
-        unit = self.units[self.working]
-        self.leave(unit, self.program)
-        self.pending = (self.working, self.program.ending) if pends else None
+        number, program = self.running()
+        self.leave(self.units[number], program)
+        self.pending = (number, program.ending or Csw()) if pends else None
         self.program = self.working = None
 
-    def do_tch(self, event):
+    def do_tch(self, event: Event) -> str:
         return "TCH CC %d" % (2 if self.working is not None else 1 if self.pending else 0)
 
     # --- beside them ---
 
-    def do_step(self, event):
+    def do_step(self, event: Event) -> str:
         return "%s %d" % (event.name, self.advance(event.number))
 
     do_run = do_step
 
-    def advance(self, number):
+    def advance(self, number: int) -> int:
         done = 0
         limit = MOST_UNITS if self.own_clock else number
         while self.working is not None and done < limit:
-            self.program.unit()
+            program = self.running()[1]
+            program.unit()
             done += 1
-            if self.program.ending:
+            if program.ending:
                 self.over()
         self.runs_for_ever = self.runs_for_ever or bool(self.own_clock) and self.working is not None
         return done
 
-    def do_arrive(self, event):
+    def do_arrive(self, event: Event) -> str:
         unit = self.unit_of(event.unit) if self.is_here(event.unit) else None
-        moved = unit is not None and unit.arm == MOVING
-        if moved:
-            unit.arm = ARRIVED
-        return "ARRIVE %03X %s" % (event.unit, "YES" if moved else "NO")
+        if unit is None or unit.arm != MOVING:
+            return "ARRIVE %03X NO" % event.unit
+        unit.arm = ARRIVED
+        return "ARRIVE %03X YES" % event.unit
 
-    def do_int(self, event):
+    def do_int(self, event: Event) -> str:
         if self.working is not None:
-            csw = self.program.take_mark()
+            csw = self.running()[1].take_mark()
             return "INT NONE" if csw is None else self.interruption(self.working, csw)
         if self.pending:
             (unit, csw), self.pending = self.pending, None
@@ -171,10 +187,10 @@ class Machine:
                 return self.interruption(address, Csw(unit=DEVICE_END))
         return "INT NONE"
 
-    def interruption(self, unit, csw):
+    def interruption(self, unit: int, csw: Csw) -> str:
         return "INT %03X %s" % (self.number << 8 | unit, self.store_csw(csw))
 
-    def do_reset(self, event=None):
+    def do_reset(self, event: Optional[Event] = None) -> str:
         if self.working is not None:
             self.cut(pends=False)
         self.pending = None
@@ -182,19 +198,19 @@ class Machine:
             unit.arm, unit.drive.sense = FREE, 0
         return "RESET CLEAN"
 
-    def do_store(self, event):
+    def do_store(self, event: Event) -> str:
         if not self.storage.holds(event.address, len(event.data)):
             return "STORE OUTSIDE"
         self.storage.bytes[event.address:event.address + len(event.data)] = event.data
         return "STORE OK"
 
-    def do_key(self, event):
+    def do_key(self, event: Event) -> str:
         if not self.storage.holds(event.address):
             return "KEY OUTSIDE"
         self.storage.keys[event.address // 2048] = event.number
         return "KEY OK"
 
-    def do_show(self, event):
+    def do_show(self, event: Event) -> str:
         if not self.storage.holds(event.address, event.number):
             return "SHOW OUTSIDE"
         return "SHOW %06X %s" % (event.address, self.storage.bytes[event.address:event.address + event.number].hex().upper())

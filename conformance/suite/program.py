@@ -3,9 +3,12 @@
 A unit is the fetch of a channel command word, an index that passes, a byte that moves, or the end of a command. Rules: IBM
 System/360 Principles of Operation (GA22-6821), input/output operations.
 """
-from dataclasses import dataclass
+from __future__ import annotations
 
-from .drive import CHANNEL_END, DEVICE_END, IMMEDIATE, MODIFIER, UNIT_CHECK, UNIT_EXCEPTION, Ending
+from dataclasses import dataclass
+from typing import Optional
+
+from .drive import CHANNEL_END, DEVICE_END, IMMEDIATE, MODIFIER, UNIT_CHECK, UNIT_EXCEPTION, Drive, Ending
 
 CD, CC, SLI, SKIP, PCI = 0x80, 0x40, 0x20, 0x10, 0x08
 PROGRAM_CHECK, PROTECTION_CHECK, INCORRECT_LENGTH, PCI_STATUS = 0x20, 0x10, 0x40, 0x80
@@ -19,20 +22,20 @@ class Csw:
     channel: int = 0
     count: int = 0
 
-    def to_bytes(self):
+    def to_bytes(self) -> bytes:
         return bytes([self.key << 4]) + (self.address % (1 << 24)).to_bytes(3, "big") + bytes([self.unit, self.channel]) + self.count.to_bytes(2, "big")
 
 
 class Storage:
     """Main storage: bytes, and a key for each block of 2,048."""
 
-    def __init__(self, size):
+    def __init__(self, size: int) -> None:
         self.bytes, self.keys = bytearray(size), bytearray(size // 2048)
 
-    def holds(self, at, length=1):
+    def holds(self, at: int, length: int = 1) -> bool:
         return at + length <= len(self.bytes)
 
-    def fault(self, at, key, storing):
+    def fault(self, at: int, key: int, storing: bool) -> int:
         """Why a byte may not move: the channel status bit of the check, or 0."""
         if not self.holds(at):
             return PROGRAM_CHECK
@@ -42,17 +45,18 @@ class Storage:
 class Program:
     """A program that was started. `started` says what Start I/O made of it: 'bad', 'rejected', 'immediate' or 'accepted'."""
 
-    def __init__(self, storage, drive):
+    def __init__(self, storage: Storage, drive: Drive) -> None:
         self.storage, self.drive, self.profile = storage, drive, drive.profile
         word = storage.bytes[0x48:0x4C]
         self.key, self.next = word[0] >> 4, int.from_bytes(word[1:4], "big")
         self.last, self.code, self.flags, self.data, self.left = self.next, 0, 0, 0, 0
-        self.open, self.was_transfer, self.marked, self.ending, self.skips = False, False, False, None, False
+        self.open, self.was_transfer, self.marked, self.skips = False, False, False, False
+        self.ending: Optional[Csw] = None
         self.motion = False
         drive.begin_program()
         self.started = "bad" if word[0] & 15 or self.next & 7 else self.start()
 
-    def start(self):
+    def start(self) -> str:
         if self.fetch_fault(first=True):
             return "bad"
         begun = self.take_word()
@@ -66,7 +70,7 @@ class Program:
 
     # --- fetch ---
 
-    def fetch_fault(self, first=False, chained_data=False):
+    def fetch_fault(self, first: bool = False, chained_data: bool = False) -> bool:
         """Fetches the next word into `word`; whether that is a program check."""
         self.last = self.next
         if self.next & 7 or not self.storage.holds(self.next, 8):
@@ -81,7 +85,7 @@ class Program:
             return True
         return False
 
-    def take_word(self):
+    def take_word(self) -> str:
         """Takes the word that was fetched, and begins its command where none is open: 'rejected', 'immediate', 'started', 'data'."""
         word = self.word
         self.next += 8
@@ -94,13 +98,13 @@ class Program:
         self.open = begun == "started"
         return begun
 
-    def chains(self):
+    def chains(self) -> bool:
         """Whether the word asks for command chaining."""
         if self.flags & CD and self.drive.name in IMMEDIATE and not self.profile.immediate_data_chain:
             return bool(self.flags & CC)
         return self.flags & (CC | CD) == CC
 
-    def fetch(self):
+    def fetch(self) -> None:
         if self.fetch_fault(chained_data=self.open):
             ending = self.drive.close() if self.open else Ending(CHANNEL_END | DEVICE_END)
             return self.end(ending.status, PROGRAM_CHECK, ending.motion)
@@ -117,7 +121,7 @@ class Program:
         elif not self.profile.bytes_one_by_one:
             self.check_area()
 
-    def check_area(self):
+    def check_area(self) -> None:
         """The other choice of a profile: the whole area is looked at as its word is fetched."""
         storing = self.drive.gives() is not None if self.drive.kind() is None else self.drive.name.startswith("read")
         if self.flags & SKIP and storing:
@@ -129,14 +133,14 @@ class Program:
 
     # --- units ---
 
-    def needs_word(self):
+    def needs_word(self) -> bool:
         if not self.open or self.was_transfer:
             return True
         if self.flags & CD and self.left == 0:
             return self.profile.data_chain_at_once or len(self.drive.moved) < self.drive.length()
         return False
 
-    def unit(self):
+    def unit(self) -> None:
         """Does one unit."""
         drive = self.drive
         if self.needs_word():
@@ -150,10 +154,10 @@ class Program:
             return self.move_byte()
         self.end_command()
 
-    def length_of_check(self):
+    def length_of_check(self) -> int:
         return 0 if self.profile.length_not_with_check else INCORRECT_LENGTH
 
-    def move_byte(self):
+    def move_byte(self) -> None:
         given = self.drive.gives()
         if not (given is not None and self.flags & SKIP):
             fault = self.storage.fault(self.data, self.key, given is not None)
@@ -164,7 +168,7 @@ class Program:
         self.drive.moved.append(given[len(self.drive.moved)] if given is not None else self.storage.bytes[self.data])
         self.data, self.left = self.data + 1, self.left - 1
 
-    def end_command(self):
+    def end_command(self) -> None:
         moved, length = len(self.drive.moved), self.drive.length()
         ending = self.drive.close()
         self.open = False
@@ -176,7 +180,7 @@ class Program:
             return
         self.end(ending.status, INCORRECT_LENGTH if wrong else 0, ending.motion)
 
-    def end(self, status, channel, motion=False):
+    def end(self, status: int, channel: int, motion: bool = False) -> None:
         """Ends the program: its channel status word stands in `ending`, and whether the arm moves in `motion`."""
         channel |= PCI_STATUS if self.marked else 0
         if motion and status & (UNIT_CHECK | DEVICE_END):
@@ -184,18 +188,18 @@ class Program:
         self.marked, self.motion, self.open = False, motion, False
         self.ending = self.now(status, channel)
 
-    def now(self, unit, channel):
+    def now(self, unit: int, channel: int) -> Csw:
         """The channel status word as it stands."""
         return Csw(self.key, self.last + 8, unit, channel, self.left)
 
-    def cut(self):
+    def cut(self) -> None:
         """Closes what is open as if its count had run out, and ends the program."""
         if self.open and (self.drive.moved or not self.profile.cut_looks_no_further and self.drive.look() == "found"):
             ending = self.drive.close()
             return self.end(ending.status, 0, ending.motion)
         self.end(CHANNEL_END | DEVICE_END, 0)
 
-    def take_mark(self):
+    def take_mark(self) -> Optional[Csw]:
         """The channel status word of a program-controlled interruption; None where none is asked for."""
         if self.marked:
             self.marked = False

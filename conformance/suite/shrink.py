@@ -1,10 +1,16 @@
 """A failing list is made short: events and records that it does not need are taken away while it still fails."""
-from dataclasses import replace
+from __future__ import annotations
 
+from dataclasses import replace
+from typing import Callable, List, TypeVar
+
+from .vectors import Vector
 from .volumes import new_track
 
+T = TypeVar("T")
 
-def shorter_list(items, fails):
+
+def shorter_list(items: List[T], fails: Callable[[List[T]], bool]) -> List[T]:
     """The items without those that are not needed for `fails(items)`: first half of them, then ever smaller parts."""
     size = max(1, len(items) // 2)
     while True:
@@ -20,11 +26,11 @@ def shorter_list(items, fails):
         size = max(1, size // 2)
 
 
-def with_lines(vector, lines):
+def with_lines(vector: Vector, lines: List[bytes]) -> Vector:
     return replace(vector, deck=b"".join(it + b"\n" for it in lines))
 
 
-def shrink(vector, fails):
+def shrink(vector: Vector, fails: Callable[[Vector], bool]) -> Vector:
     """The vector made short; fails(vector) says whether it still shows what it is to show."""
     lines = shorter_list(vector.deck.split(b"\n")[:-1], lambda it: fails(with_lines(vector, it)))
     vector = with_lines(vector, lines)
@@ -37,7 +43,7 @@ def shrink(vector, fails):
     return vector
 
 
-def shrink_volume(vector, unit, fails):
+def shrink_volume(vector: Vector, unit: int, fails: Callable[[Vector], bool]) -> Vector:
     """Makes tracks fresh again, and takes records away, of a volume that stands in no file."""
     volume = vector.made.get(unit)
     if volume is None:

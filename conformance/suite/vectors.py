@@ -1,9 +1,11 @@
 """Vectors: read from their text, and compared with what an emulator did. FORMAT.md has the lines."""
+from __future__ import annotations
+
 import hashlib
 import os
 import re
 from dataclasses import dataclass, field
-from typing import Dict, List, Optional, Tuple
+from typing import Collection, Dict, List, Optional, Sequence, Tuple
 
 from .volumes import Volume, tidied
 
@@ -37,7 +39,7 @@ class Vector:
         """The volumes as they are before the deck runs, by unit, in the order of attachment."""
         return {unit: self.made[unit].copy() if unit in self.made else self.volume(what) for unit, what in self.volumes}
 
-    def volume(self, what):
+    def volume(self, what: str) -> Volume:
         words = what.split()
         if words[0] == "new":
             return Volume.new(words[1], int(words[2]))
@@ -59,7 +61,7 @@ class BadVector(ValueError):
     """A line of a file of vectors says nothing."""
 
 
-def read_vectors(path):
+def read_vectors(path: str) -> List[Vector]:
     """The vectors of a file."""
     group = os.path.splitext(os.path.basename(path))[0]
     out = []
@@ -73,7 +75,7 @@ def read_vectors(path):
     return out
 
 
-def read_line(vector, line):
+def read_line(vector: Vector, line: str) -> bool:
     """Takes a line of a vector; whether it says something."""
     word, _, rest = line.partition(" ")
     if word == ">":
@@ -106,14 +108,14 @@ def read_line(vector, line):
     return True
 
 
-def all_vectors(paths=()):
+def all_vectors(paths: Sequence[str] = ()) -> List[Vector]:
     """The vectors of these files; of none, all of the suite, group by group."""
     if not paths:
         paths = [os.path.join(FOLDER, it) for it in sorted(os.listdir(FOLDER)) if it.endswith(".vectors")]
     return [it for path in paths for it in read_vectors(path)]
 
 
-def digest(volume):
+def digest(volume: Volume) -> str:
     return hashlib.sha256(volume.bytes()).hexdigest()
 
 
@@ -122,7 +124,7 @@ ARRIVED = re.compile(r"(ARRIVE \w{3}) (YES|NO)$")
 SENSE_SHOWN = re.compile(r"(SHOW 000710 [0-9A-F]{4})[0-9A-F]{8}$")
 
 
-def softened(line, lacks):
+def softened(line: str, lacks: Collection[str]) -> str:
     """An answer without what an emulator that lacks something can't say."""
     if "steps" in lacks:
         line = STEPPED.sub(r"\1", line)
@@ -133,7 +135,7 @@ def softened(line, lacks):
     return line
 
 
-def difference(vector, outcome, lacks=()):
+def difference(vector: Vector, outcome: Outcome, lacks: Collection[str] = ()) -> Optional[str]:
     """How what an emulator did differs from the vector; None where it does not."""
     if outcome.broke:
         return outcome.broke
@@ -146,7 +148,7 @@ def difference(vector, outcome, lacks=()):
     return image_difference(vector, outcome, lacks)
 
 
-def image_difference(vector, outcome, lacks):
+def image_difference(vector: Vector, outcome: Outcome, lacks: Collection[str]) -> Optional[str]:
     """The same of the volumes that are left."""
     before = vector.before()
     after = {unit: tidied(it, before[unit]) if "zeros" in lacks else it for unit, it in outcome.after.items()}
@@ -166,7 +168,7 @@ def image_difference(vector, outcome, lacks):
     return None
 
 
-def changed_tracks(before, after):
+def changed_tracks(before: Volume, after: Volume) -> str:
     """Which tracks of an image a run changed, in words."""
     if len(before.slots) != len(after.slots):
         return ": it has %d tracks, and had %d" % (len(after.slots), len(before.slots))

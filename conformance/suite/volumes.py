@@ -3,11 +3,19 @@
 A track is a home address of five bytes and a list of records. A slot spells it: the home address, each record as identifier
 (CC, HH, R), key length, data length, key and data, then eight bytes FF; what stands behind them is no part of the track.
 """
+from __future__ import annotations
+
+import os
 from dataclasses import dataclass, field
-from typing import List, Optional
+from typing import Dict, Iterator, List, Optional, Sequence, Tuple, Union
 
 HEADER = 512
 END = b"\xff" * 8
+PathLike = Union[str, "os.PathLike[str]"]
+# a cylinder and a head
+Address = Tuple[int, int]
+# the type, in a class that has a function of this name
+Bytes = bytes
 
 
 @dataclass(frozen=True)
@@ -20,18 +28,18 @@ class Model:
     slot: int
     gap: int
     key_gap: int
-    scale: tuple
+    scale: Tuple[int, int]
 
-    def charge(self, key, data):
+    def charge(self, key: int, data: int) -> int:
         """What a record that is not the last takes of the capacity."""
         by, of = self.scale
         return self.gap + (self.key_gap if key else 0) + (key + data) * by // of
 
-    def last_charge(self, key, data):
+    def last_charge(self, key: int, data: int) -> int:
         """What the last record takes."""
         return key + data + (self.key_gap if key else 0)
 
-    def r0_charge(self, key, data):
+    def r0_charge(self, key: int, data: int) -> int:
         """What record 0 takes: its usual eight bytes are free."""
         return max(0, self.charge(key, data) - self.charge(0, 8))
 
@@ -48,11 +56,11 @@ class Record:
     key: bytes
     data: bytes
 
-    def count(self):
+    def count(self) -> bytes:
         """The count area, eight bytes."""
         return self.identifier + bytes([len(self.key)]) + len(self.data).to_bytes(2, "big")
 
-    def spelled(self):
+    def spelled(self) -> bytes:
         return self.count() + self.key + self.data
 
 
@@ -61,12 +69,12 @@ class Track:
     home: bytes
     records: List[Record] = field(default_factory=list)
 
-    def spelled(self):
+    def spelled(self) -> bytes:
         """The bytes up to and with the end mark."""
         return self.home + b"".join(it.spelled() for it in self.records) + END
 
 
-def read_slot(slot) -> Optional[Track]:
+def read_slot(slot: bytes) -> Optional[Track]:
     """The track that a slot spells; None where it spells none."""
     if len(slot) < 5:
         return None
@@ -84,23 +92,23 @@ def read_slot(slot) -> Optional[Track]:
     return None
 
 
-def tidy_slot(slot):
+def tidy_slot(slot: bytes) -> bytes:
     """The slot with zeros behind its end mark; one that spells no track stays."""
     track = read_slot(slot)
     return bytes(slot) if track is None else track.spelled().ljust(len(slot), b"\0")
 
 
-def address(cylinder, head):
+def address(cylinder: int, head: int) -> bytes:
     return cylinder.to_bytes(2, "big") + head.to_bytes(2, "big")
 
 
-def new_track(cylinder, head):
+def new_track(cylinder: int, head: int) -> Track:
     """A home address, and record 0 with eight zero bytes."""
     own = address(cylinder, head)
     return Track(b"\0" + own, [Record(own + b"\0", b"", bytes(8))])
 
 
-def header_of(model, slot=None, sequence=0, highest=0):
+def header_of(model: Model, slot: Optional[int] = None, sequence: int = 0, highest: int = 0) -> bytes:
     """The 512 bytes before the slots of a file."""
     numbers = model.heads.to_bytes(4, "little") + (slot or model.slot).to_bytes(4, "little")
     head = b"CKD_P370" + numbers + bytes([model.code, sequence]) + highest.to_bytes(2, "little")
@@ -114,19 +122,22 @@ class BadImage(ValueError):
 class Volume:
     """A volume: its model and its slots, in the order of its tracks, and the headers of its files."""
 
-    def __init__(self, model, headers, slots, tracks_in):
+    def __init__(self, model: Model, headers: List[bytes], slots: List[bytes], tracks_in: List[int]) -> None:
         self.model, self.headers, self.slots, self.tracks_in = model, headers, slots, tracks_in
 
     @classmethod
-    def new(cls, name, cylinders):
+    def new(cls, name: str, cylinders: int) -> Volume:
         model = MODELS[name]
         slots = [new_track(c, h).spelled().ljust(model.slot, b"\0") for c in range(cylinders) for h in range(model.heads)]
         return cls(model, [header_of(model)], slots, [len(slots)])
 
     @classmethod
-    def read(cls, files):
+    def read(cls, files: Sequence[bytes]) -> Volume:
         """The volume of the files of one image, in order."""
-        headers, slots, tracks_in = [], [], []
+        headers: List[Bytes] = []
+        slots: List[Bytes] = []
+        tracks_in: List[int] = []
+        model: Optional[Model] = None
         for data in files:
             head = bytes(data[:HEADER])
             model = next((it for it in MODELS.values() if len(head) > 16 and it.code == head[16]), None)
@@ -139,10 +150,12 @@ class Volume:
             headers.append(head)
             slots += own
             tracks_in.append(len(own))
+        if model is None:
+            raise BadImage("no file")
         return cls(model, headers, slots, tracks_in)
 
     @classmethod
-    def load(cls, paths):
+    def load(cls, paths: Sequence[PathLike]) -> Volume:
         """The volume of the files at these paths, in order."""
         files = []
         for path in paths:
@@ -151,39 +164,40 @@ class Volume:
         return cls.read(files)
 
     @property
-    def cylinders(self):
+    def cylinders(self) -> int:
         return len(self.slots) // self.model.heads
 
     @property
-    def slot_size(self):
+    def slot_size(self) -> int:
         return len(self.slots[0])
 
-    def place(self, cylinder, head):
+    def place(self, cylinder: int, head: int) -> int:
         return cylinder * self.model.heads + head
 
-    def track(self, cylinder, head):
+    def track(self, cylinder: int, head: int) -> Optional[Track]:
         return read_slot(self.slots[self.place(cylinder, head)])
 
-    def write(self, cylinder, head, track):
+    def write(self, cylinder: int, head: int, track: Track) -> None:
         """Puts a track, with zeros behind its end mark."""
         spelled = track.spelled()
         if len(spelled) > self.slot_size:
             raise BadImage("a track of %d bytes in a slot of %d" % (len(spelled), self.slot_size))
         self.slots[self.place(cylinder, head)] = spelled.ljust(self.slot_size, b"\0")
 
-    def files(self):
+    def files(self) -> List[Bytes]:
         """The bytes of each file."""
-        out, at = [], 0
+        out: List[Bytes] = []
+        at = 0
         for head, number in zip(self.headers, self.tracks_in):
             out.append(head + b"".join(self.slots[at:at + number]))
             at += number
         return out
 
-    def bytes(self):
+    def bytes(self) -> Bytes:
         """All files one after another: what a vector's hash is taken of."""
         return b"".join(self.files())
 
-    def split(self, *firsts):
+    def split(self, *firsts: int) -> Volume:
         """The same volume in several files, of which each after the first begins with one of these cylinders."""
         bounds = [0, *firsts, self.cylinders]
         headers, tracks_in = [], []
@@ -193,11 +207,11 @@ class Volume:
             tracks_in.append((stop - start) * self.model.heads)
         return Volume(self.model, headers, list(self.slots), tracks_in)
 
-    def copy(self):
+    def copy(self) -> Volume:
         return Volume(self.model, list(self.headers), list(self.slots), list(self.tracks_in))
 
 
-def tidied(volume, before):
+def tidied(volume: Volume, before: Volume) -> Volume:
     """A copy in which the slots that differ from before have zeros behind their end marks."""
     out = volume.copy()
     if len(before.slots) == len(out.slots):
@@ -207,21 +221,21 @@ def tidied(volume, before):
 
 # --- volumes in words ---
 
-def parse_bytes(words):
+def parse_bytes(words: str) -> bytes:
     """Bytes by parts that are joined by '+': `C1*80` repeats, `'TEXT'` is EBCDIC, other digits are the bytes."""
-    out = b""
+    out = []
     for part in words.split("+"):
         text, _, times = part.partition("*")
         one = text[1:-1].encode("cp037") if text[:1] == "'" and text[-1:] == "'" else bytes.fromhex(text)
-        out += one * (int(times) if times else 1)
-    return out
+        out.append(one * int(times) if times else one)
+    return b"".join(out)
 
 
 class BadDescription(ValueError):
     """A line of a description says nothing; the text names the line."""
 
 
-def parse_description(text):
+def parse_description(text: str) -> Volume:
     """The volume that a description says. Its lines:
 
       model 2311            2311 or 2314
@@ -234,11 +248,11 @@ def parse_description(text):
       record 0 data 00*8    an identifier's number of this track, or ten digits of a whole identifier; `key X` before `data Y`
       raw FF*20             the slot's first bytes as they are, whatever they spell; zeros follow
     """
-    said, tracks, raw, fresh, at = {"cylinders": "1"}, {}, {}, {}, None
-    for number, line in enumerate(text.split("\n"), 1):
-        words = line.split("#")[0].split()
-        if not words:
-            continue
+    said, at = {"cylinders": "1"}, (-1, -1)
+    tracks: Dict[Address, Track] = {}
+    raw: Dict[Address, bytes] = {}
+    fresh: Dict[Address, Record] = {}
+    for number, words in described(text):
         try:
             if words[0] in ("model", "cylinders", "slot", "split"):
                 said[words[0]] = " ".join(words[1:])
@@ -257,11 +271,19 @@ def parse_description(text):
             else:
                 raise ValueError
         except (ValueError, KeyError, IndexError):
-            raise BadDescription("line %d: what is this? %s" % (number, line.strip())) from None
+            raise BadDescription("line %d: what is this? %s" % (number, " ".join(words))) from None
     return build(said, tracks, raw)
 
 
-def put_record(track, at, words, fresh):
+def described(text: str) -> Iterator[Tuple[int, List[str]]]:
+    """The words of each line of a description that has some, without its remark, behind the line's number."""
+    for number, line in enumerate(text.split("\n"), 1):
+        words = line.split("#")[0].split()
+        if words:
+            yield number, words
+
+
+def put_record(track: Track, at: Address, words: List[str], fresh: Record) -> None:
     """Adds the record of a description's line; a first record 0 stands in place of the fresh one."""
     name, parts = words[1], dict(zip(words[2::2], words[3::2]))
     identifier = bytes.fromhex(name) if len(name) == 10 else address(*at) + bytes([int(name)])
@@ -274,7 +296,7 @@ def put_record(track, at, words, fresh):
         track.records.append(record)
 
 
-def build(said, tracks, raw):
+def build(said: Dict[str, str], tracks: Dict[Address, Track], raw: Dict[Address, bytes]) -> Volume:
     """The volume of what a description said."""
     model = MODELS[said["model"]]
     size = int(said.get("slot", model.slot))

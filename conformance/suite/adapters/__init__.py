@@ -3,26 +3,31 @@
 An adapter has a `name`, a set `lacks` of what its emulator can't do (the names of `needs` lines), and a call `play(vector)` that
 gives an Outcome. It never raises for what an emulator does wrong; that is an Outcome with `broke`.
 """
+from __future__ import annotations
+
+from typing import FrozenSet
+
+from ..vectors import Outcome, Vector
 
 
 class Emulator:
     name = "?"
-    lacks = frozenset()
+    lacks: FrozenSet[str] = frozenset()
 
-    def play(self, vector):
+    def play(self, vector: Vector) -> Outcome:
         raise NotImplementedError
 
-    def close(self):
+    def close(self) -> None:
         """Ends what the adapter started."""
 
-    def __enter__(self):
+    def __enter__(self) -> Emulator:
         return self
 
-    def __exit__(self, *_):
+    def __exit__(self, *_: object) -> None:
         self.close()
 
 
-def make(spec):
+def make(spec: str) -> Emulator:
     """The emulator that a word names: `model`, `dasd=COMMAND`, `dasd-traced=COMMAND`, `protocol=COMMAND`, `library=FILE`, `hercules` or `hercules=PROGRAM`."""
     kind, _, rest = spec.partition("=")
     if kind == "model":

@@ -1,18 +1,23 @@
 """The model of the suite as an emulator, whole or told to go otherwise."""
+from __future__ import annotations
+
+from typing import Collection, Optional
+
 from ..decks import DeckFault, parse
+from ..drive import Profile
 from ..machine import Machine
-from ..vectors import Outcome
+from ..vectors import Outcome, Vector
 from . import Emulator
 
 
 class ModelEmulator(Emulator):
     name = "the suite's model"
 
-    def __init__(self, profile=None, lacks=(), storage=None, clock="step"):
+    def __init__(self, profile: Optional[Profile] = None, lacks: Collection[str] = (), storage: Optional[int] = None, clock: str = "step") -> None:
         self.profile, self.lacks, self.storage = profile, frozenset(lacks), storage
         self.clock = clock if "steps" in self.lacks else None
 
-    def play(self, vector):
+    def play(self, vector: Vector) -> Outcome:
         volumes = vector.before()
         try:
             events = parse(vector.deck)

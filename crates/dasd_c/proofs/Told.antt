@@ -1,5 +1,11 @@
 -- What a call at one of several channels does, told in other words.
-use Rattle.std.proofs.Common.{◌≡◌, subst, ℕ, Option, Some, None}
+use Rattle.std.proofs.Common.{◌≡◌, ap, arith, refl, sym, ◌∙◌, subst, ℕ, Option, Some, None}
+use Rattle.std.specs.Prelude.{ℤ, pos}
+use Rattle.s360_events.specs.Seen.{condition_seen}
+use Rattle.s360_events.specs.declared.conditions.Condition.{Condition}
+use Rattle.s360_events.specs.declared.conditions.Condition.TheVariants as condition
+use Rattle.s360_laws.specs.Events.{Answer}
+use Rattle.dasd_c.specs.Codes.{code_of}
 use Rattle.s360_channel.specs.Channel.{ChannelState}
 use Rattle.s360_channels.specs.Channels.{ChannelsState, OnChannel, OnFound, channel_at}
 
@@ -11,6 +17,8 @@ module _ (How Other : ChannelState → ChannelState → Type 0) (Missing Lacking
     after = h.after;
     finds = record { last = h.finds.last; how = does _ _ h.finds.how; storage = h.finds.storage; channel = h.finds.channel };
     others_stay = h.others_stay;
+    bytes = h.bytes;
+    keys = h.keys;
   }
 
   pub told : OnChannel number How Missing old new → OnChannel number Other Lacking old new
@@ -32,3 +40,15 @@ module _ {A : Type 0} (To : Option A → ChannelState → ChannelState → Type 
   nobody Other Lacking r is none lacks h =
       told (To None) Other (◌≡◌ {A = Option A} None None) Lacking number old new (λ c d h. absurd (none c d h)) (λ e. lacks)
       (subst (λ (r : Option A). OnChannel number (To r) (r ≡ None) old new) is h)
+
+-- C is told 3 where condition code 3 was answered, and nowhere else.
+abbrev size_of : ℤ → ℕ
+size_of (pos n) = n
+size_of z = 0
+
+module _ {A : Type 0} (seen : A → Answer) (stored : (a : A) → code_of (seen a) ≡ pos 1) where
+  pub is_three : (r : Condition A) → code_of (condition_seen seen r) ≡ pos 3 → r ≡ condition.Three
+  is_three condition.Zero h = absurd (omega (arith, ap size_of h))
+  is_three (condition.Stored a) h = absurd (omega (arith, ap size_of (sym (stored a) ∙ h)))
+  is_three condition.Two h = absurd (omega (arith, ap size_of h))
+  is_three condition.Three h = refl

@@ -6,7 +6,7 @@ use Rattle.s360_laws.specs.Events as machine
 use Rattle.s360_laws.specs.Machine.{part_of}
 use Rattle.s360_channel.specs.Channel.{ChannelState}
 use Rattle.s360_channel.specs.Views.{key_in}
-use Rattle.s360_channels.specs.Asked.{TestsAt}
+use Rattle.s360_channels.specs.Asked.{TestsAt, is_attached}
 use Rattle.s360_channels.specs.Channels.{ChannelsState, OnChannel, Quietly, AtMost, Runs, Stores, channel_at}
 use Rattle.s360_channels.specs.Interrupting.{IsPending, TakesFirst}
 use Rattle.s360_channels.specs.Turns.{Steps}
@@ -42,6 +42,10 @@ pub record TellsOf (number : ℕ) (event : machine.Event) (missing : machine.Ans
   pub answer : machine.Answer
   pub told : code ≡ code_of answer
   pub does : OnChannel number (AtMost 1 event answer) (answer ≡ missing) old new
+
+-- Condition code 3 of an instruction tells that no drive is attached under its address.
+abbrev pub TellsMissing : (address : ℕ) → (code : ℤ) → ChannelsState → Type 0
+TellsMissing address code s = code ≡ pos 3 → is_attached address s ≡ false
 
 -- Test Channel, of the channel with a number.
 pub record TellsTest (number : ℕ) (code : ℤ) (s : ChannelsState) : Type 0 where

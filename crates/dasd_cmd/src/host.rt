@@ -144,6 +144,11 @@ fn is_locked(locked: &[Locked], known: &Metadata) -> bool {
     locked.iter().any(|held| held.device == known.dev() && held.node == known.ino())
 }
 
+// Whether a file was locked by this path, which then was another one than the path leads to now.
+fn was_locked_by(locked: &[Locked], path: &str) -> bool {
+    locked.iter().any(|held| held.path.as_str() == path)
+}
+
 // The file that a path leads to, if there is one.
 fn node_at(host: &HostRuntime, path: &str) -> Option<Node> {
     let known = fs::metadata(host, path).ok()?;
@@ -242,6 +247,9 @@ fn find_old(
     }
     let _may_write = OpenOptions::new().write(true).open(host, target.as_str())?;
     if !is_locked(held.as_slice(), &known) {
+        if was_locked_by(held.as_slice(), path) {
+            return Err(wrong("another program has replaced it"));
+        }
         keep(held, host.alloc(), path, &file, &known)?;
     }
     Ok(Some(Old {

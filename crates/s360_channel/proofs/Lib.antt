@@ -16,3 +16,4 @@ pub mod Finishing
 pub mod Removing
 pub mod Images
 pub mod Fronts
+pub mod Slots

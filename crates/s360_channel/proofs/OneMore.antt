@@ -16,7 +16,7 @@ pub record Drove (m : Machine) (events : List Event) (given : List Answer) (old 
   pub inputs : List Input
   pub are_these : map (λ i. i.0) inputs ≡ events
   pub faults : failures_of new ≡ failures_of old + faults_in inputs
-  pub met : AllMet inputs given old new
+  pub met : AllMet m inputs given old new
   pub same_answers : given ≡ answers inputs m
   pub stands : StandsFor new (after_all inputs m)
   pub reported : AllReported inputs m
@@ -72,20 +72,21 @@ reported_one_more [] i m h r = (r, tt)
 reported_one_more (e ∷ es) i m h r = (h.0, reported_one_more es i (react e.0 e.1 m).1 h.1 r)
 
 -- it names the channel before, between and behind, since it joins what was met and one event more
-met_one_more : (es : List Input) (given : List Answer) (old mid new : ChannelState) (i : Input) (a : Answer)
-    → AllMet es given old mid → IsMet i.1 a mid new → CallsAtMost (most_calls i.0 a) mid new → AllMet (es ++ i ∷ []) (given ++ a ∷ []) old new
-met_one_more [] [] old mid new i a h k l = (new, subst (λ old. IsMet i.1 a old new) h k, subst (λ old. CallsAtMost (most_calls i.0 a) old new) h l, refl)
-met_one_more [] (b ∷ given) old mid new i a h k l = absurd h
-met_one_more (e ∷ es) [] old mid new i a h k l = absurd h
-met_one_more (e ∷ es) (b ∷ given) old mid new i a h k l = (h.0, h.1, h.2, met_one_more es given h.0 mid new i a h.3 k l)
+met_one_more : (m : Machine) (es : List Input) (given : List Answer) (old mid new : ChannelState) (i : Input) (a : Answer)
+    → AllMet m es given old mid → IsMet i.1 a mid new → CallsAtMost (most_calls i.0 a) mid new → StandsFor new (react i.0 i.1 (after_all es m)).1
+    → AllMet m (es ++ i ∷ []) (given ++ a ∷ []) old new
+met_one_more m [] [] old mid new i a h k l s = (new, subst (λ old. IsMet i.1 a old new) h k, subst (λ old. CallsAtMost (most_calls i.0 a) old new) h l, s, refl)
+met_one_more m [] (b ∷ given) old mid new i a h k l s = absurd h
+met_one_more m (e ∷ es) [] old mid new i a h k l s = absurd h
+met_one_more m (e ∷ es) (b ∷ given) old mid new i a h k l s = (h.0, h.1, h.2, h.3, met_one_more (react e.0 e.1 m).1 es given h.0 mid new i a h.4 k l s)
 
 -- what stays at each call stays along the list
 along : {A : Type 0} (f : AttachedState → A) → ((most : ℕ) (old new : ChannelState) → CallsAtMost most old new → map f new.drives ≡ map f old.drives)
-    → (es : List Input) (given : List Answer) (old new : ChannelState) → AllMet es given old new → map f new.drives ≡ map f old.drives
-along f kept [] [] old new h = ap (λ (c : ChannelState). map f c.drives) h
-along f kept [] (b ∷ given) old new h = absurd h
-along f kept (e ∷ es) [] old new h = absurd h
-along f kept (e ∷ es) (b ∷ given) old new h = along f kept es given h.0 new h.3 ∙ kept _ _ _ h.2
+    → (m : Machine) (es : List Input) (given : List Answer) (old new : ChannelState) → AllMet m es given old new → map f new.drives ≡ map f old.drives
+along f kept m [] [] old new h = ap (λ (c : ChannelState). map f c.drives) h
+along f kept m [] (b ∷ given) old new h = absurd h
+along f kept m (e ∷ es) [] old new h = absurd h
+along f kept m (e ∷ es) (b ∷ given) old new h = along f kept (react e.0 e.1 m).1 es given h.0 new h.4 ∙ kept _ _ _ h.2
 
 -- it names the channel before, between and behind, since it joins a list of events and one more
 does_one_more : (m : Machine) (events : List Event) (given : List Answer) (old mid new : ChannelState) (d : Drove m events given old mid) (e : Event) (a : Answer)
@@ -96,7 +97,7 @@ does_one_more m events given old mid new d e a does calls =
       inputs = d.inputs ++ i ∷ [];
       are_these = map-append (λ (i : Input). i.0) d.inputs (i ∷ []) ∙ ap (λ l. l ++ e ∷ []) d.are_these;
       faults = omega (arith, d.faults, met_counts does.fault a mid new does.met, faults_one_more d.inputs e does.fault);
-      met = met_one_more d.inputs given old mid new i a d.met does.met calls;
+      met = met_one_more m d.inputs given old mid new i a d.met does.met calls does.stands;
       same_answers = ap (λ l. l ++ a ∷ []) d.same_answers ∙ ap (λ b. answers d.inputs m ++ b ∷ []) does.answers ∙ sym (answers_one_more d.inputs i m);
       stands = subst (StandsFor new) (sym (after_one_more d.inputs i m)) does.stands;
       reported = reported_one_more d.inputs i m d.reported does.reports;
@@ -137,8 +138,8 @@ drove_follows m events given old new stands d = record {
   are_these = d.are_these;
   faults = d.faults;
   met = d.met;
-  lasting = along (λ u. u.drive.image.lasting) (λ most a b c. c.lasting) d.inputs given old new d.met;
-  geometries = along (λ u. u.drive.image.geometry) (λ most a b c. c.geometries) d.inputs given old new d.met;
+  lasting = along (λ u. u.drive.image.lasting) (λ most a b c. c.lasting) m d.inputs given old new d.met;
+  geometries = along (λ u. u.drive.image.geometry) (λ most a b c. c.geometries) m d.inputs given old new d.met;
   same_answers = d.same_answers;
   stands = d.stands;
   reported = d.reported;

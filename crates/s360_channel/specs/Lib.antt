@@ -4,6 +4,7 @@ pub mod Lists
 pub mod Views
 pub mod DriveCalls
 pub mod Packs
+pub mod Slots
 pub mod Shares
 pub mod Finishes
 pub mod Attaches

@@ -21,13 +21,13 @@ AllReported (e ∷ es) m = Reports e.0 m e.1 × AllReported es (react e.0 e.1 m)
 
 -- Event by event: the channel goes through states between which its stores met the fault that the event comes with, and no
 -- other; were called no more often than the event may; and kept each image's geometry, and its files' headers and stores.
-abbrev pub AllMet : List Input → List Answer → (old new : ChannelState) → Type 0
-AllMet [] [] old new = new ≡ old
-AllMet [] (a ∷ rest) old new = ⊥
-AllMet (e ∷ es) [] old new = ⊥
-AllMet (e ∷ es) (a ∷ rest) old new =
+abbrev pub AllMet : Machine → List Input → List Answer → (old new : ChannelState) → Type 0
+AllMet m [] [] old new = new ≡ old
+AllMet m [] (a ∷ rest) old new = ⊥
+AllMet m (e ∷ es) [] old new = ⊥
+AllMet m (e ∷ es) (a ∷ rest) old new =
     (between : ChannelState) × IsMet e.1 a old between × CallsAtMost (most_calls e.0 a) old between
-    × AllMet es rest between new
+    × StandsFor between (react e.0 e.1 m).1 × AllMet (react e.0 e.1 m).1 es rest between new
 
 -- What is so where no store fails: the answers are those of the events without faults; and whenever no program runs, storage
 -- and drives are those of the accepted programs run one after another, each cut at its counted unit.
@@ -43,7 +43,7 @@ pub record Follows (m : Machine) (events : List Event) (answers : List Answer) (
   pub inputs : List Input
   pub are_these : map (λ i. i.0) inputs ≡ events
   pub faults : failures_of new ≡ failures_of old + faults_in inputs
-  pub met : AllMet inputs answers old new
+  pub met : AllMet m inputs answers old new
   pub lasting : map (λ u. u.drive.image.lasting) new.drives ≡ map (λ u. u.drive.image.lasting) old.drives
   pub geometries : map (λ u. u.drive.image.geometry) new.drives ≡ map (λ u. u.drive.image.geometry) old.drives
   pub same_answers : answers ≡ machine.answers inputs m

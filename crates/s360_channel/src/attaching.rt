@@ -14,7 +14,7 @@ impl<S: ImageStore> Channel<S> {
     /// Attaches a drive that holds this image, under this low byte of an address: its arm is at rest, at cylinder 0 and head
     /// 0, with zero sense bytes. It may be called at any time, also while a program runs; nothing else changes.
     ///
-    /// It takes room in the list of drives, and then all the memory that the drive ever needs.
+    /// It takes all the memory that the drive ever needs.
     ///
     /// # Errors
     ///

@@ -73,7 +73,7 @@ impl<S: ImageStore> Channel<S> {
         if number > 6 {
             return Err((NewFault::BadNumber, storage));
         }
-        let drives = Drives::new(storage.allocator());
+        let drives = Drives::new();
         Ok(Channel {
             number,
             storage,

@@ -1,6 +1,7 @@
 //! The drives of a channel, in the order in which they were attached.
 
-ghost use Rattle.std.specs.Prelude.{◌≡◌, ◌<◌, ◌≤◌, ◌+◌, ◌++◌, ◌∷◌, [], map, length, slice_get, position, option_map, Some, filter, vec_len, vec_capacity, IfOk, OnOk, OnErr, IfErr};
+ghost use Rattle.std.specs.Prelude.{◌≡◌, ◌<◌, ◌≤◌, ◌+◌, ◌++◌, ◌∷◌, [], map, length, slice_get, position, option_map, Some, filter, IfOk, OnOk, OnErr, IfErr};
+ghost use Rattle.std.specs.List.{remove};
 ghost use Rattle.ckd_drive.specs.Work.{new_drive};
 ghost use Rattle.s360_program.specs.Advances.{Rests};
 ghost use Rattle.s360_program.specs.Stands.{Stands};
@@ -9,10 +10,12 @@ ghost use Rattle.s360_channel.specs.Channel.{is_at, device_of, new_attached, All
 ghost use Rattle.s360_channel.specs.Finishes.{images_of};
 ghost use Rattle.s360_channel.specs.DriveCalls.{DriveChanges, DriveIs, Starts, AdvancesAt, CutsAt, ArmChanges, OnlyDrive, TakesFirst, Removes, ExchangesPack, MayExchange, RestsAt, at_rest_attached};
 ghost use Rattle.s360_channel.specs.Packs.{fits_drive, is_same_model};
+ghost use Rattle.s360_channel.specs.Slots.{present, is_held};
 ghost use Rattle.s360_channel.specs.Views.{drives_seen, drive_seen};
 
 use crate::attached_drive::AttachedDrive;
 use crate::view::DriveView;
+use arrayvec::ArrayVec;
 use ckd_drive::Drive;
 use ckd_image::{Image, ImageStore};
 use ckd_track::{DriveModel, Geometry};
@@ -22,30 +25,32 @@ use s360_words::{Csw, Storage};
 use std::alloc::{AllocError, Global};
 use std::marker::Model;
 
-/// Up to eight drives, named by their places in the order of attachment.
+/// Up to eight drives, named by their places in the order of attachment. Each place of the list up to its length has one: a
+/// blank, which a list of a fixed capacity needs, stands only behind them.
 #[derive(Drop)]
 pub(crate) struct Drives<S: ImageStore> {
-    list: Vec<AttachedDrive<S>>,
+    list: ArrayVec<Option<AttachedDrive<S>>, 8>,
 }
 
 impl<S: ImageStore> Model for Drives<S> {
-    ghost use Rattle.std.specs.Prelude.{List, length, ◌≤◌};
+    ghost use Rattle.std.specs.Prelude.{List};
     ghost use Rattle.s360_channel.specs.Channel.{AttachedState};
+    ghost use Rattle.s360_channel.specs.Slots.{present, AllHeld};
 
     ghost Value = { List AttachedState };
 
-    ghost view = { λ u. u.list.items };
+    ghost view = { λ u. present u.list.items };
 
-    ghost invariant = { λ u. length u.list.items ≤ 8 };
+    ghost invariant = { λ u. AllHeld 8 u.list.items };
 }
 
 impl<S: ImageStore> Drives<S> {
-    /// No drives. It takes no memory.
-    pub(crate) fn new(alloc: Global) -> Drives<S>
+    /// No drives.
+    pub(crate) fn new() -> Drives<S>
         ensures { result ≡ [] }
     {
         Drives {
-            list: Vec::new(alloc),
+            list: ArrayVec::new(),
         }
     }
 
@@ -57,7 +62,7 @@ impl<S: ImageStore> Drives<S> {
         self.list.len()
     }
 
-    /// Adds one over an image, behind the others. Its room in the list is taken before the drive is made.
+    /// Adds one over an image, behind the others.
     pub(crate) fn attach(
         &mut self,
         alloc: Global,
@@ -69,19 +74,44 @@ impl<S: ImageStore> Drives<S> {
         ensures stays { OnErr result (self.new ≡ self.old) }
         ensures handed_back { IfErr result (λ e. e.1 ≡ image) }
     {
-        if let Err(fault) = self.list.reserve(1) {
-            return Err((fault, image));
-        }
         let drive = drive_of(alloc, image)?;
-        push(
-            &mut self.list,
-            AttachedDrive {
-                device,
-                arm: Arm::AtRest,
-                drive,
-            },
-        );
+        self.push(AttachedDrive {
+            device,
+            arm: Arm::AtRest,
+            drive,
+        });
         Ok(())
+    }
+
+    // One drive more.
+    fn push(&mut self, attached: AttachedDrive<S>)
+        requires { length self.old < 8 }
+        ensures { self.new ≡ self.old ++ attached ∷ [] }
+    {
+        self.list.push(Some(attached));
+    }
+
+    // The one at a place.
+    fn at(&self, place: usize) -> &AttachedDrive<S>
+        requires { place < length self.now }
+        ensures { Some result.now ≡ slice_get self.now place }
+    {
+        match &self.list.as_slice()[place] {
+            Some(attached) => attached,
+            None => unreachable!(),
+        }
+    }
+
+    // Takes the one at a place out.
+    fn take(&mut self, place: usize) -> AttachedDrive<S>
+        requires { place < length self.old }
+        ensures was { Some result ≡ slice_get self.old place }
+        ensures becomes { self.new ≡ remove self.old place }
+    {
+        match self.list.remove(place) {
+            Some(attached) => attached,
+            None => unreachable!(),
+        }
     }
 
     /// Takes the drive at a place out, and gives its image back.
@@ -89,7 +119,7 @@ impl<S: ImageStore> Drives<S> {
         requires { DriveIs place Rests self.old }
         ensures { Removes place result self.old self.new }
     {
-        Box::into_inner(self.list.remove(place).drive).into_image()
+        Box::into_inner(self.take(place).drive).into_image()
     }
 
     /// Whether a pack of this geometry fits the drive at a place.
@@ -100,7 +130,7 @@ impl<S: ImageStore> Drives<S> {
         ensures image { Some result ≡ option_map (λ u. fits_drive u.drive.image.geometry geometry)
             (slice_get self.now place) }
     {
-        let held = self.list[place].drive.geometry();
+        let held = self.at(place).drive.geometry();
         is_same_model(held.model, geometry.model) && held.track_size == geometry.track_size
     }
 
@@ -109,16 +139,17 @@ impl<S: ImageStore> Drives<S> {
         requires { DriveIs place (MayExchange image.geometry.track_size) self.old }
         ensures { ExchangesPack place image result self.old self.new }
     {
-        self.list[place].drive.exchange(image)
+        match &mut self.list.as_mut_slice()[place] {
+            Some(attached) => attached.drive.exchange(image),
+            None => unreachable!(),
+        }
     }
 
     /// The place of the drive with this address, if it is attached.
     pub(crate) fn place_of(&self, device: u8) -> Option<usize>
         ensures { result ≡ position (is_at device) self.now }
     {
-        self.list
-            .iter()
-            .position(|attached| attached.device == device)
+        place_of(self.list.as_slice(), device)
     }
 
     /// The low byte of the address of the drive at a place.
@@ -126,7 +157,7 @@ impl<S: ImageStore> Drives<S> {
         requires { place < length self.now }
         ensures { Some result ≡ option_map (λ u. u.device) (slice_get self.now place) }
     {
-        self.list[place].device
+        self.at(place).device
     }
 
     /// What the arm of the drive at a place does.
@@ -134,7 +165,7 @@ impl<S: ImageStore> Drives<S> {
         requires { place < length self.now }
         ensures { Some result ≡ option_map (λ u. u.arm) (slice_get self.now place) }
     {
-        self.list[place].arm
+        self.at(place).arm
     }
 
     /// The drive at a place.
@@ -142,7 +173,7 @@ impl<S: ImageStore> Drives<S> {
         requires { place < length self.now }
         ensures { Some result.now ≡ option_map (λ u. u.drive) (slice_get self.now place) }
     {
-        &self.list[place].drive
+        &self.at(place).drive
     }
 
     /// What is known of the drive at a place.
@@ -150,7 +181,7 @@ impl<S: ImageStore> Drives<S> {
         requires { place < length self.now }
         ensures { Some result ≡ option_map (λ u. drive_seen (device_of u)) (slice_get self.now place) }
     {
-        let attached = &self.list[place];
+        let attached = self.at(place);
         let geometry = attached.drive.geometry();
         DriveView {
             model: geometry.model,
@@ -167,7 +198,10 @@ impl<S: ImageStore> Drives<S> {
         requires { place < length self.old }
         ensures { ArmChanges place arm self.old self.new }
     {
-        self.list[place].arm = arm;
+        match &mut self.list.as_mut_slice()[place] {
+            Some(attached) => attached.arm = arm,
+            None => unreachable!(),
+        }
     }
 
     /// The lowest address of a drive whose arm has arrived.
@@ -182,7 +216,10 @@ impl<S: ImageStore> Drives<S> {
         requires { DriveIs place Rests self.old }
         ensures { DriveChanges place (Starts caw storage.now result) self.old self.new }
     {
-        start(&mut self.list[place], caw, storage)
+        match &mut self.list.as_mut_slice()[place] {
+            Some(attached) => start(attached, caw, storage),
+            None => unreachable!(),
+        }
     }
 
     /// The program that runs at a place does so many units, unless it ends before.
@@ -197,7 +234,10 @@ impl<S: ImageStore> Drives<S> {
         ensures { DriveChanges place (AdvancesAt running.old storage.old units result running.new storage.new) self.old
             self.new }
     {
-        advance(&mut self.list[place], running, units, storage)
+        match &mut self.list.as_mut_slice()[place] {
+            Some(attached) => advance(attached, running, units, storage),
+            None => unreachable!(),
+        }
     }
 
     /// The program that runs at a place is cut.
@@ -205,15 +245,32 @@ impl<S: ImageStore> Drives<S> {
         requires { DriveIs place (Stands running) self.old }
         ensures { DriveChanges place (CutsAt running result) self.old self.new }
     {
-        cut(&mut self.list[place], running)
+        match &mut self.list.as_mut_slice()[place] {
+            Some(attached) => cut(attached, running),
+            None => unreachable!(),
+        }
     }
 
     /// All arms are at rest, and all sense bytes zero.
+    #[tactic(auto, using(crate::proofs::Fronts::front_length, crate::proofs::Fronts::front_all))]
     pub(crate) fn reset(&mut self)
         requires { AllRest self.old }
         ensures { self.new ≡ map at_rest_attached self.old }
     {
-        reset_all(self.list.as_mut_slice());
+        for place in 0..self.len() {
+            self.reset_at(place);
+        }
+    }
+
+    // The same of the one at a place.
+    fn reset_at(&mut self, place: usize)
+        requires { DriveIs place Rests self.old }
+        ensures { RestsAt place self.old self.new }
+    {
+        match &mut self.list.as_mut_slice()[place] {
+            Some(attached) => reset(attached),
+            None => unreachable!(),
+        }
     }
 
     /// The low byte of each one's address, and its arm.
@@ -239,10 +296,10 @@ impl<S: ImageStore> Drives<S> {
     fn shown_at(&self, place: usize) -> Option<(u8, Arm)>
         ensures { result ≡ option_map (λ u. (u.device, u.arm)) (slice_get self.now place) }
     {
-        if place >= self.list.len() {
+        if place >= self.len() {
             return None;
         }
-        let attached = &self.list[place];
+        let attached = self.at(place);
         Some((attached.device, attached.arm))
     }
 
@@ -252,17 +309,36 @@ impl<S: ImageStore> Drives<S> {
         ensures images { result ≡ images_of self }
         ensures volumes { map (λ u. u.drive.image.slots) self ≡ map (λ u. u.drive.state.volume.slots) self }
     {
-        let Drives { mut list } = self;
+        // what is known of their number
+        let _count = self.len();
+        let mut drives = self;
         [
-            take_first(&mut list),
-            take_first(&mut list),
-            take_first(&mut list),
-            take_first(&mut list),
-            take_first(&mut list),
-            take_first(&mut list),
-            take_first(&mut list),
-            take_first(&mut list),
+            drives.take_first(),
+            drives.take_first(),
+            drives.take_first(),
+            drives.take_first(),
+            drives.take_first(),
+            drives.take_first(),
+            drives.take_first(),
+            drives.take_first(),
         ]
+    }
+
+    // Takes the first drive out, if there is one: its address and its image.
+    fn take_first(&mut self) -> Option<(u8, Image<S>)>
+        requires { AllRest self.old }
+        ensures taken { TakesFirst self.old self.new result }
+        ensures rests { AllRest self.new }
+    {
+        if self.len() == 0 {
+            return None;
+        }
+        let AttachedDrive {
+            device,
+            arm: _,
+            drive,
+        } = self.take(0);
+        Some((device, Box::into_inner(drive).into_image()))
     }
 }
 
@@ -291,29 +367,20 @@ fn is_same_model(held: DriveModel, other: DriveModel) -> bool
     }
 }
 
-// One drive more, for which there is room.
-fn push<S: ImageStore>(list: &mut Vec<AttachedDrive<S>>, attached: AttachedDrive<S>)
-    requires { vec_len list.old < vec_capacity list.old }
-    ensures { list.new.items ≡ list.old.items ++ attached ∷ [] }
+// The place that holds the drive with this address, if one does.
+fn place_of<S: ImageStore>(drives: &[Option<AttachedDrive<S>>], device: u8) -> Option<usize>
+    ensures { result ≡ position (is_held device) drives.now }
 {
-    list.push(attached).unwrap();
-}
-
-// Takes the first drive out, if there is one: its address and its image.
-fn take_first<S: ImageStore>(list: &mut Vec<AttachedDrive<S>>) -> Option<(u8, Image<S>)>
-    requires { AllRest list.old.items }
-    ensures taken { TakesFirst list.old.items list.new.items result }
-    ensures rests { AllRest list.new.items }
-{
-    if list.is_empty() {
-        return None;
-    }
-    let AttachedDrive {
-        device,
-        arm: _,
-        drive,
-    } = list.remove(0);
-    Some((device, Box::into_inner(drive).into_image()))
+    drives.iter().position(
+        |slot: &Option<AttachedDrive<S>>| -> bool
+            ensures { result ≡ is_held device slot.now }
+        {
+            match slot {
+                Some(attached) => attached.device == device,
+                None => false,
+            }
+        },
+    )
 }
 
 // A drive does the first unit of a program.
@@ -349,38 +416,26 @@ fn cut<S: ImageStore>(
     running.cut(&mut *attached.drive)
 }
 
-// The arms are at rest, and all sense bytes zero.
-#[tactic(auto, using(crate::proofs::Fronts::front_length, crate::proofs::Fronts::front_all))]
-fn reset_all<S: ImageStore>(drives: &mut [AttachedDrive<S>])
-    requires { AllRest drives.old }
-    ensures { drives.new ≡ map at_rest_attached drives.old }
+// The arm is at rest, and all sense bytes zero.
+fn reset<S: ImageStore>(attached: &mut AttachedDrive<S>)
+    requires { Rests attached.old.drive }
+    ensures { attached.new ≡ at_rest_attached attached.old }
 {
-    for place in 0..drives.len() {
-        reset_at(drives, place);
-    }
-}
-
-// The same of the one at a place.
-fn reset_at<S: ImageStore>(drives: &mut [AttachedDrive<S>], place: usize)
-    requires { DriveIs place Rests drives.old }
-    ensures { RestsAt place drives.old drives.new }
-{
-    let attached = &mut drives[place];
     attached.arm = Arm::AtRest;
     attached.drive.clear_sense();
 }
 
 // The lowest address of a drive whose arm has arrived.
-fn lowest_arrived<S: ImageStore>(drives: &[AttachedDrive<S>]) -> Option<u8>
-    ensures { result ≡ lowest (filter has_arrived (map device_of drives.now)) }
+fn lowest_arrived<S: ImageStore>(drives: &[Option<AttachedDrive<S>>]) -> Option<u8>
+    ensures { result ≡ lowest (filter has_arrived (map device_of (present drives.now))) }
 {
-    let [attached, others @ ..] = drives else {
+    let [slot, others @ ..] = drives else {
         return None;
     };
     let behind = lowest_arrived(others);
-    match attached.arm {
-        Arm::Arrived => Some(lower(attached.device, behind)),
-        Arm::AtRest | Arm::InMotion => behind,
+    match slot {
+        Some(attached) if attached.arm == Arm::Arrived => Some(lower(attached.device, behind)),
+        _ => behind,
     }
 }
 

@@ -12,10 +12,11 @@ use Rattle.s360_channels.specs.Asked.{ShowsAt}
 use Rattle.s360_channels.specs.Channels.{AllFit, ChannelsState, Fits, OnChannel, OnFound, channel_at}
 use Rattle.s360_channels.specs.Inside.{Exchanged, exchanged_at, exchanged_with, lent, lent_to, of_parts}
 use Rattle.s360_channels.specs.declared.lending.Lending.{Lending}
-use Rattle.s360_channels.proofs.At.{fit_set, fits_at}
+use Rattle.s360_channels.proofs.At.{fit_set, fits_at, own_number}
+use Rattle.s360_channels.proofs.Fitting.{StillFits}
 
 -- the channel with a number, in a list in which it was put
-is_set : (cs : List (Option ChannelState)) (n : ℕ) (c : ChannelState) (x : Option ChannelState) → slice_index_or cs n None ≡ Some c → slice_index_or (slice_set cs n x) n None ≡ x
+pub is_set : (cs : List (Option ChannelState)) (n : ℕ) (c : ChannelState) (x : Option ChannelState) → slice_index_or cs n None ≡ Some c → slice_index_or (slice_set cs n x) n None ≡ x
 is_set [] n c x e = none_is_some e
 is_set (d ∷ cs) zero c x e = refl
 is_set (d ∷ cs) (suc n) c x e = is_set cs n c x e
@@ -46,37 +47,42 @@ module _ (cs : List (Option ChannelState)) (n : ℕ) (c : ChannelState) (there :
       let f = fits_at (length s.bytes) cs n c fit there in
       let size = ap (λ (t : Storage). length t.bytes) x.gives ∙ f.as_large in
       subst (λ k. AllFit k (slice_set cs n (Some c'))) (sym size)
-      (fit_set (length s.bytes) cs n c' fit (record { is_channel = x.stands f.is_channel; as_large = ap (λ (d : ChannelState). length d.storage.bytes) x.found }))
+      (fit_set (length s.bytes) cs n c' fit (ap (λ (d : ChannelState). d.number) x.found ∙ own_number (length s.bytes) cs n c fit there) (record { is_channel = x.stands f.is_channel; as_large = ap (λ (d : ChannelState). length d.storage.bytes) x.found }))
 
 module _ (number : ℕ) (How : ChannelState → ChannelState → Type 0) (Missing : Type 0) where
   somebody_to : (s : Storage) (cs : List (Option ChannelState)) (c c' : ChannelState) → slice_index_or cs number None ≡ Some c → How c c'
+      → length c'.storage.bytes ≡ length c.storage.bytes → length c'.storage.keys ≡ length c.storage.keys
       → OnChannel number How Missing (exchanged_with (Some c) number s cs) (exchanged_with (Some c') number s (slice_set cs number (Some c')))
-  somebody_to s cs c c' e how =
+  somebody_to s cs c c' e how bytes keys =
       subst (λ o. OnFound o number How Missing (exchanged_with (Some c) number s cs) (exchanged_with (Some c') number s (slice_set cs number (Some c')))) (sym (is_set cs number c (Some (with_storage c s)) e))
       (record {
         after = with_storage c' s;
         finds = record { last = c'; how = how; storage = refl; channel = refl };
         others_stay = set_twice cs number (Some c') (Some (with_storage c' s)) ∙ sym (set_twice cs number (Some (with_storage c s)) (Some (with_storage c' s)));
+        bytes = bytes;
+        keys = keys;
       })
 
   -- A call for the channel that has the storage.
   calls_somebody : (before : ChannelsState) (l : Lending) (cs : List (Option ChannelState)) (c c' : ChannelState) → lent l cs ≡ before → l.holder ≡ Some number
-      → slice_index_or cs number None ≡ Some c → How c c' → OnChannel number How Missing before (lent l (slice_set cs number (Some c')))
-  calls_somebody before l cs c c' same holds e how =
+      → slice_index_or cs number None ≡ Some c → How c c' → length c'.storage.bytes ≡ length c.storage.bytes → length c'.storage.keys ≡ length c.storage.keys
+      → OnChannel number How Missing before (lent l (slice_set cs number (Some c')))
+  calls_somebody before l cs c c' same holds e how bytes keys =
       subst (λ t. OnChannel number How Missing t (lent l (slice_set cs number (Some c')))) same
       (subst (λ h. OnChannel number How Missing (lent_to h l.kept cs) (lent_to h l.kept (slice_set cs number (Some c')))) (sym holds)
       (subst (λ o. OnChannel number How Missing (exchanged_with o number l.kept cs) (exchanged_at number l.kept (slice_set cs number (Some c')))) (sym e)
       (subst (λ o. OnChannel number How Missing (exchanged_with (Some c) number l.kept cs) (exchanged_with o number l.kept (slice_set cs number (Some c')))) (sym (is_set cs number c (Some c') e))
-      (somebody_to l.kept cs c c' e how))))
+      (somebody_to l.kept cs c c' e how bytes keys))))
 
 -- The channels fit behind a call too, which is what the code does to the channel with a number.
-pub calls_there : (number : ℕ) (How : ChannelState → ChannelState → Type 0) → ((old new : ChannelState) → How old new → IsChannel old → Fits (length old.storage.bytes) new) → (Missing : Type 0) (before : ChannelsState) (l : Lending)
+pub calls_there : (number : ℕ) (How : ChannelState → ChannelState → Type 0) → ((old new : ChannelState) → How old new → IsChannel old → StillFits old new) → (Missing : Type 0) (before : ChannelsState) (l : Lending)
     (cs : List (Option ChannelState)) (c c' : ChannelState) → lent l cs ≡ before → l.holder ≡ Some number → AllFit (length l.kept.bytes) cs → slice_index_or cs number None ≡ Some c → How c c'
     → OnChannel number How Missing before (lent l (slice_set cs number (Some c'))) × AllFit (length l.kept.bytes) (slice_set cs number (Some c'))
 calls_there number How fits Missing before l cs c c' same holds fit e how =
-    let f = fits_at (length l.kept.bytes) cs number c fit e in (
-      calls_somebody number How Missing before l cs c c' same holds e how,
-      fit_set (length l.kept.bytes) cs number c' fit (subst (λ k. Fits k c') f.as_large (fits c c' how f.is_channel)),
+    let f = fits_at (length l.kept.bytes) cs number c fit e in
+    let still = fits c c' how f.is_channel in (
+      calls_somebody number How Missing before l cs c c' same holds e how still.fits.as_large still.keys,
+      fit_set (length l.kept.bytes) cs number c' fit (still.number ∙ own_number (length l.kept.bytes) cs number c fit e) (subst (λ k. Fits k c') f.as_large still.fits),
     )
 
 -- A channel is the same in what the channels are, but for its storage.

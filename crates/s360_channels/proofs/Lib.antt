@@ -1,4 +1,5 @@
-pub mod MachineSizes
+pub mod Keys
+pub mod Staying
 pub mod Fitting
 pub mod At
 pub mod Added
@@ -6,3 +7,5 @@ pub mod Asking
 pub mod Leaving
 pub mod Taking
 pub mod Holding
+pub mod Missing
+pub mod Several

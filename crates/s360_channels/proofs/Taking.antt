@@ -7,7 +7,7 @@ use Rattle.s360_laws.specs.Events.{Reset, WasReset}
 use Rattle.s360_laws.specs.Machine.{Machine}
 use Rattle.s360_channel.specs.Channel.{ChannelState, IsChannel, StandsFor}
 use Rattle.s360_channel.specs.Finishes.{Finishes}
-use Rattle.s360_channels.specs.Channels.{AllFit}
+use Rattle.s360_channels.specs.Channels.{AllFit, AllFitFrom}
 use Rattle.s360_channels.specs.Ending.{Ends, Parts, RemovesFound}
 use Rattle.s360_channels.specs.Inside.{ServesEnd, of_parts}
 use Rattle.s360_channels.proofs.Fitting.{does_size}
@@ -19,18 +19,18 @@ finished_size c t images unsaved k h =
     let f = h k.machine k.stands in
     ap (λ (s : Storage). length s.bytes) f.same_storage ∙ does_size Reset (WasReset unsaved) k.machine c f.last k.stands f.reset
 
-fit_unset : (size : ℕ) (cs : List (Option ChannelState)) (number : ℕ) → AllFit size cs → AllFit size (slice_set cs number None)
-fit_unset size [] number h = tt
-fit_unset size (None ∷ cs) zero h = h
-fit_unset size (Some c ∷ cs) zero h = h.1
-fit_unset size (None ∷ cs) (suc number) h = fit_unset size cs number h
-fit_unset size (Some c ∷ cs) (suc number) h = (h.0, fit_unset size cs number h.1)
+fit_unset : (first size : ℕ) (cs : List (Option ChannelState)) (place : ℕ) → AllFitFrom first size cs → AllFitFrom first size (slice_set cs place None)
+fit_unset first size [] place h = tt
+fit_unset first size (None ∷ cs) zero h = h
+fit_unset first size (Some c ∷ cs) zero h = h.2
+fit_unset first size (None ∷ cs) (suc place) h = fit_unset (suc first) size cs place h
+fit_unset first size (Some c ∷ cs) (suc place) h = (h.0, h.1, fit_unset (suc first) size cs place h.2)
 
 module _ (number : ℕ) (s : Storage) (cs : List (Option ChannelState)) (fit : AllFit (length s.bytes) cs) where
   pub ends_somebody : (c : ChannelState) (parts : Parts) (t : Storage) → slice_index_or cs number None ≡ Some c → Ends c s parts t → length t.bytes ≡ length s.bytes
       → ServesEnd number (Some parts) (of_parts s cs) (of_parts t (slice_set cs number None))
   ends_somebody c parts t e h size = record {
     removes = subst (λ x. RemovesFound x number (Some parts) (of_parts s cs) (of_parts t (slice_set cs number None))) (sym e) (record { ends = h; others_stay = refl });
-    fit = fit_unset (length s.bytes) cs number fit;
+    fit = fit_unset 0 (length s.bytes) cs number fit;
     size = size;
   }

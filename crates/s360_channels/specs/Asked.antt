@@ -1,20 +1,31 @@
--- What is asked of a channel over the shared storage: what Test Channel answers, whether an interruption would be taken, what it, its
+-- What is asked of a channel over the shared storage: whether a drive is attached, what Test Channel answers, whether an interruption would be taken, what it, its
 -- program and its drives are shown as.
-use Rattle.std.specs.Prelude.{◌≡◌, ℕ, Bool, false, Option, Some, None, option_map}
+use Rattle.std.specs.Prelude.{◌≡◌, ◌/◌, ◌%◌, ℕ, Bool, false, Option, Some, None, option_map}
 use Rattle.s360_words.specs.Storage.{Storage}
 use Rattle.ckd_drive.specs.Work.{DriveState}
 use Rattle.ckd_image.specs.Image.{ImageState}
 use Rattle.s360_laws.specs.Events.{Answer, WithCode, Tch}
 use Rattle.s360_laws.specs.Machine.{Machine}
 use Rattle.s360_laws.specs.declared.condition.ConditionCode.TheVariants.{Three}
+use Rattle.s360_channel.specs.Attaches.{is_taken}
 use Rattle.s360_channel.specs.Calls.{DoesQuietly}
 use Rattle.s360_channel.specs.Channel.{ChannelState, StandsFor, device_of}
 use Rattle.s360_channel.specs.Shares.{with_storage}
 use Rattle.s360_channel.specs.Views.{attached_with, drive_seen, interrupts, view_of}
 use Rattle.s360_channel.specs.Watched.{ShowsDriveAtWork, ShowsProgram}
+use Rattle.s360_channels.specs.Channels.{ChannelsState, channel_at}
 use Rattle.s360_channel.specs.declared.view.DriveView.{DriveView}
 use Rattle.s360_channel.specs.declared.view.View.{View}
 use Rattle.s360_channel.specs.declared.view.Watched.{Watched}
+
+-- whether a channel has a drive with this low byte of its address
+abbrev pub has_drive : (device : ℕ) → Option ChannelState → Bool
+has_drive device None = false
+has_drive device (Some c) = is_taken device c
+
+-- whether a drive is attached under an address, at the channel of its high byte
+abbrev pub is_attached : (address : ℕ) → ChannelsState → Bool
+is_attached address s = has_drive (address % 256) (channel_at (address / 256) s)
 
 abbrev pub Tests : Answer → Storage → ChannelState → Type 0
 Tests answer s c = (m : Machine) → StandsFor (with_storage c s) m → DoesQuietly Tch m answer (with_storage c s)

@@ -1,5 +1,5 @@
 -- Several channels over one main storage, and what their calls do.
-use Rattle.std.specs.Prelude.{◌≡◌, ◌*◌, ◌≤◌, ℕ, length, List, [], ◌∷◌, Option, Some, None, slice_index_or, slice_set, Bool, if◌then◌else◌}
+use Rattle.std.specs.Prelude.{◌≡◌, ◌*◌, ◌≤◌, ℕ, suc, length, List, [], ◌∷◌, Option, Some, None, slice_index_or, slice_set, Bool, if◌then◌else◌}
 use Rattle.s360_words.specs.Storage.{Storage, Change, changed, is_within}
 use Rattle.s360_laws.specs.Events.{Event, Answer, StepBy, Stepped, WasReset}
 use Rattle.s360_laws.specs.Events as machine
@@ -26,10 +26,15 @@ pub record Fits (size : ℕ) (c : ChannelState) : Type 0 where
   pub is_channel : IsChannel c
   pub as_large : length c.storage.bytes ≡ size
 
+-- From a number on each channel has the number of its place, and fits.
+abbrev pub AllFitFrom : (number size : ℕ) → List (Option ChannelState) → Type 0
+AllFitFrom number size [] = Unit {0}
+AllFitFrom number size (None ∷ cs) = AllFitFrom (suc number) size cs
+AllFitFrom number size (Some c ∷ cs) = (c.number ≡ number) × Fits size c × AllFitFrom (suc number) size cs
+
+-- So do all.
 abbrev pub AllFit : (size : ℕ) → List (Option ChannelState) → Type 0
-AllFit size [] = Unit {0}
-AllFit size (None ∷ cs) = AllFit size cs
-AllFit size (Some c ∷ cs) = Fits size c × AllFit size cs
+AllFit size cs = AllFitFrom 0 size cs
 
 -- What a call does to a channel that finds a storage: this was done over that storage, which is what the call gives back.
 pub record Finds (How : ChannelState → ChannelState → Type 0) (before : ChannelState) (s : Storage)
@@ -40,12 +45,14 @@ pub record Finds (How : ChannelState → ChannelState → Type 0) (before : Chan
   pub channel : after ≡ with_storage last before.storage
 
 -- And to all of them: the channel with this number did it over the shared storage, which has all that the channel stored;
--- every other channel stays. Where there is no such channel, this is answered and nothing changes.
+-- every other channel stays, and storage is as large as it was. Where there is no such channel, this is answered and nothing changes.
 pub record Calls (number : ℕ) (How : ChannelState → ChannelState → Type 0) (before : ChannelState)
     (old new : ChannelsState) : Type 0 where
   pub after : ChannelState
   pub finds : Finds How before old.storage after new.storage
   pub others_stay : new.channels ≡ slice_set old.channels number (Some after)
+  pub bytes : length new.storage.bytes ≡ length old.storage.bytes
+  pub keys : length new.storage.keys ≡ length old.storage.keys
 
 abbrev pub OnFound : Option ChannelState → (number : ℕ) → (How : ChannelState → ChannelState → Type 0)
     → (Missing : Type 0) → (old new : ChannelsState) → Type 0

@@ -19,6 +19,7 @@ pub record Serves (How : ChannelState → ChannelState → Type 0) (c : ChannelS
   pub finds : Finds How c s c' s'
   pub fits : Fits (length s.bytes) c'
   pub size : length s'.bytes ≡ length s.bytes
+  pub keys : length s'.keys ≡ length s.keys
 
 abbrev pub of_parts : Storage → List (Option ChannelState) → ChannelsState
 of_parts s cs = record { storage = s; channels = cs }

@@ -5,4 +5,5 @@ pub mod Asked
 pub mod Interrupting
 pub mod Turns
 pub mod Packs
+pub mod Several
 pub mod Ending

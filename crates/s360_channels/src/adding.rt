@@ -100,6 +100,7 @@ fn attach_at<S: ImageStore>(
     ensures handed_back { IfErr result (λ e. e.1 ≡ image) }
     ensures stays { OnErr result (channel.new ≡ channel.old) }
     ensures fits { (size : ℕ) → Fits size channel.old → Fits size channel.new }
+    ensures number { channel.new.number ≡ channel.old.number }
 {
     match channel.attach(alloc, device, image) {
         Ok(()) => Ok(()),

@@ -6,7 +6,7 @@ ghost use Rattle.s360_events.specs.Seen.{answer_seen};
 ghost use Rattle.s360_events.specs.declared.answers.Answer.TheVariants as answer;
 ghost use Rattle.s360_events.specs.declared.conditions.Condition.TheVariants.{Three};
 ghost use Rattle.s360_channels.specs.Adding.{AttachesAt, IsFree, RefusedAs, WhyNot, new_channel};
-ghost use Rattle.s360_channels.specs.Asked.{InterruptsAt, TestsAt};
+ghost use Rattle.s360_channels.specs.Asked.{InterruptsAt, TestsAt, is_attached};
 ghost use Rattle.s360_channels.specs.Channels.{OnChannel, Quietly, AtMost, RunsTo, ResetsTo, channel_at};
 
 use crate::faults::{AddFault, AttachFault};
@@ -59,8 +59,9 @@ impl<S: ImageStore> Channels<S> {
     /// Start I/O at an input/output address, at the channel of its high byte; 3 where there is none. It makes no call of a store
     /// ('Start I/O').
     pub fn sio(&mut self, address: u16) -> Condition<Status>
-        ensures { OnChannel (address / 256) (Quietly (machine.Sio address) (answer_seen (answer.Sio address result)))
+        ensures does { OnChannel (address / 256) (Quietly (machine.Sio address) (answer_seen (answer.Sio address result)))
             (result ≡ Three) self.old self.new }
+        ensures missing { result ≡ Three → is_attached address self.old ≡ false }
     {
         numbers::sio(&mut self.list, &mut self.lending, address)
     }
@@ -68,8 +69,9 @@ impl<S: ImageStore> Channels<S> {
     /// Test I/O at an input/output address, at the channel of its high byte; 3 where there is none. It makes no call of a store
     /// ('Test I/O').
     pub fn tio(&mut self, address: u16) -> Condition<Csw>
-        ensures { OnChannel (address / 256) (Quietly (machine.Tio address) (answer_seen (answer.Tio address result)))
+        ensures does { OnChannel (address / 256) (Quietly (machine.Tio address) (answer_seen (answer.Tio address result)))
             (result ≡ Three) self.old self.new }
+        ensures missing { result ≡ Three → is_attached address self.old ≡ false }
     {
         numbers::tio(&mut self.list, &mut self.lending, address)
     }
@@ -77,8 +79,9 @@ impl<S: ImageStore> Channels<S> {
     /// Halt I/O at an input/output address, at the channel of its high byte; 3 where there is none. It makes at most one call of
     /// a store ('Halt I/O').
     pub fn hio(&mut self, address: u16) -> Condition<Status>
-        ensures { OnChannel (address / 256) (AtMost 1 (machine.Hio address) (answer_seen (answer.Hio address result)))
+        ensures does { OnChannel (address / 256) (AtMost 1 (machine.Hio address) (answer_seen (answer.Hio address result)))
             (result ≡ Three) self.old self.new }
+        ensures missing { result ≡ Three → is_attached address self.old ≡ false }
     {
         numbers::hio(&mut self.list, &mut self.lending, address)
     }

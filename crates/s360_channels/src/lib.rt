@@ -7,6 +7,7 @@ mod ending;
 mod faults;
 mod found;
 mod interrupting;
+pub mod laws;
 mod lending;
 mod numbers;
 mod packs;

@@ -6,7 +6,7 @@ ghost use Rattle.s360_laws.specs.Events as machine;
 ghost use Rattle.s360_events.specs.Seen.{answer_seen};
 ghost use Rattle.s360_events.specs.declared.answers.Answer.TheVariants as answer;
 ghost use Rattle.s360_events.specs.declared.conditions.Condition.TheVariants.{Three};
-ghost use Rattle.s360_channels.specs.Asked.{InterruptsAt, ShowsAt, ShowsDriveAtWorkAt, ShowsProgramAt, TestsAt, drive_at, image_at};
+ghost use Rattle.s360_channels.specs.Asked.{InterruptsAt, ShowsAt, ShowsDriveAtWorkAt, ShowsProgramAt, TestsAt, drive_at, image_at, is_attached};
 ghost use Rattle.s360_channels.specs.Channels.{AllFit, OnChannel, Quietly, AtMost, RunsTo, ResetsTo};
 ghost use Rattle.s360_channels.specs.Inside.{lent};
 ghost use Rattle.s360_channels.specs.Turns.{StepsTo};
@@ -28,6 +28,7 @@ pub(crate) fn sio<S: ImageStore>(
     requires { AllFit (length lending.old.kept.bytes) channels.old }
     ensures calls { OnChannel (address / 256) (Quietly (machine.Sio address) (answer_seen (answer.Sio address result)))
         (result ≡ Three) (lent lending.old channels.old) (lent lending.new channels.new) }
+    ensures missing { result ≡ Three → is_attached address (lent lending.old channels.old) ≡ false }
     ensures fit { AllFit (length lending.new.kept.bytes) channels.new }
 {
     let number = (address / 256) as usize;
@@ -50,6 +51,7 @@ pub(crate) fn tio<S: ImageStore>(
     requires { AllFit (length lending.old.kept.bytes) channels.old }
     ensures calls { OnChannel (address / 256) (Quietly (machine.Tio address) (answer_seen (answer.Tio address result)))
         (result ≡ Three) (lent lending.old channels.old) (lent lending.new channels.new) }
+    ensures missing { result ≡ Three → is_attached address (lent lending.old channels.old) ≡ false }
     ensures fit { AllFit (length lending.new.kept.bytes) channels.new }
 {
     let number = (address / 256) as usize;
@@ -72,6 +74,7 @@ pub(crate) fn hio<S: ImageStore>(
     requires { AllFit (length lending.old.kept.bytes) channels.old }
     ensures calls { OnChannel (address / 256) (AtMost 1 (machine.Hio address) (answer_seen (answer.Hio address result)))
         (result ≡ Three) (lent lending.old channels.old) (lent lending.new channels.new) }
+    ensures missing { result ≡ Three → is_attached address (lent lending.old channels.old) ≡ false }
     ensures fit { AllFit (length lending.new.kept.bytes) channels.new }
 {
     let number = (address / 256) as usize;

@@ -93,6 +93,7 @@ fn detach<S: ImageStore>(
     ensures channel_stays { OnErr result (channel.new ≡ channel.old) }
     ensures storage_stays { OnErr result (storage.new ≡ storage.old) }
     ensures fits { Fits (length storage.old.bytes) channel.new }
+    ensures number { channel.new.number ≡ channel.old.number }
     ensures size { length storage.new.bytes ≡ length storage.old.bytes }
 {
     lending::exchange(channel, storage);
@@ -147,6 +148,7 @@ fn exchange<S: ImageStore>(
     ensures channel_stays { OnErr result (channel.new ≡ channel.old) }
     ensures storage_stays { OnErr result (storage.new ≡ storage.old) }
     ensures fits { Fits (length storage.old.bytes) channel.new }
+    ensures number { channel.new.number ≡ channel.old.number }
     ensures size { length storage.new.bytes ≡ length storage.old.bytes }
 {
     lending::exchange(channel, storage);

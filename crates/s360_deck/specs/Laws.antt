@@ -1,4 +1,4 @@
--- What a deck that has run promises, taken out of it: for every machine that its channel stood for.
+-- What a deck that has run promises of its events, taken out of it: for every machine that its channel stood for.
 use Rattle.std.specs.Prelude.{◌≡◌, ◌+◌, List, map, false}
 use Rattle.counted_io.specs.Streams.{Stream}
 use Rattle.s360_laws.specs.Events.{Input}
@@ -7,7 +7,6 @@ use Rattle.s360_laws.specs.History.{world_of, history, all_acts}
 use Rattle.s360_laws.specs.Machine as machine
 use Rattle.s360_laws.specs.Machine.{Machine, after_all, exchanges, plain, is_working}
 use Rattle.s360_events.specs.Seen.{event_seen, answer_seen}
-use Rattle.s360_events.specs.declared.events.Event.{Event}
 use Rattle.s360_events.specs.declared.answers.Answer.{Answer}
 use Rattle.s360_channel.specs.Channel.{ChannelState, StandsFor, failures_of}
 use Rattle.s360_channel.specs.Lists.{AllReported, faults_in}
@@ -16,22 +15,23 @@ use Rattle.s360_deck.specs.CountedRuns.{HasRun}
 -- the answers are the machine's, each event with the fault that it met, and the headline holds of the list
 abbrev pub RunsKeepHeadline : Type 0
 RunsKeepHeadline = (before after : Stream) (old new : ChannelState) (answers : List Answer) (m : Machine)
-    → HasRun before after old new answers → StandsFor old m
-    → (inputs : List Input) × (map answer_seen answers ≡ machine.answers inputs m) × Headline m inputs
+    → (h : HasRun before after old new answers) → StandsFor old m
+    → (inputs : List Input) × (map (λ i. i.0) inputs ≡ map event_seen h.events)
+    × (map answer_seen answers ≡ machine.answers inputs m) × Headline m inputs
 
 -- where no store failed and no program runs, storage and drives are those of the accepted programs run one after another, each cut
 -- at its counted unit
 abbrev pub RunsAreSerial : Type 0
 RunsAreSerial = (before after : Stream) (old new : ChannelState) (answers : List Answer) (m : Machine)
-    → HasRun before after old new answers → StandsFor old m
+    → (h : HasRun before after old new answers) → StandsFor old m
     → failures_of new ≡ failures_of old
-    → (events : List Event) × (map answer_seen answers ≡ machine.answers (plain (map event_seen events)) m)
-    × (is_working (after_all (plain (map event_seen events)) m).subchannel ≡ false
-    → world_of (after_all (plain (map event_seen events)) m)
-    ≡ history (world_of m) (all_acts m (exchanges (plain (map event_seen events)) m)))
+    → let events = plain (map event_seen h.events) in (map answer_seen answers ≡ machine.answers events m)
+    × (is_working (after_all events m).subchannel ≡ false
+    → world_of (after_all events m) ≡ history (world_of m) (all_acts m (exchanges events m)))
 
 -- there are as many faults as calls of the stores failed, and each is reported by the event that met it and by no other
 abbrev pub RunsReportFaults : Type 0
 RunsReportFaults = (before after : Stream) (old new : ChannelState) (answers : List Answer) (m : Machine)
-    → HasRun before after old new answers → StandsFor old m
-    → (inputs : List Input) × (failures_of new ≡ failures_of old + faults_in inputs) × AllReported inputs m
+    → (h : HasRun before after old new answers) → StandsFor old m
+    → (inputs : List Input) × (map (λ i. i.0) inputs ≡ map event_seen h.events)
+    × (failures_of new ≡ failures_of old + faults_in inputs) × AllReported inputs m

@@ -1,5 +1,17 @@
-//! The calls of `dasd.h` as they stand there; the header says what each asks and leaves. The crate `dasd` is a safe way to them.
+//! The calls of `dasd.h` as they stand there: selector channels with IBM 2311 and 2314 drives for emulators of the System/360. The
+//! crate `dasd` is a safe way to them.
+//!
+//! Below zero a call answers a number of `enum dasd_fault`: it was refused, and nothing has changed. An instruction answers its
+//! condition code, 0 to 3. A handle is in one call at a time, and is not copied while it holds something. Pointers lead to values of
+//! their types, or to so many bytes, which do not overlap; none lies in main storage or in a volume's file.
+//!
+//! # Where the library comes from
+//!
+//! `build.rs` links the static library of the folder that `DASD_LIB_DIR` names. Else, where this crate carries the library as assembly
+//! text for the target, as a published one does for x86-64 and AArch64 Linux, it is assembled by the C compiler (`CC_<target>`,
+//! `TARGET_CC`, `CC`, or `cc`). Else it is the library that pkg-config knows, or that the linker finds.
 #![no_std]
+#![warn(missing_docs)]
 #![allow(non_camel_case_types)]
 
 use core::ffi::c_void;
@@ -7,104 +19,169 @@ use core::ffi::c_void;
 /// The number of the binary interface that these declarations are.
 pub const DASD_INTERFACE: u32 = 1;
 
+/// What a call answers that was done and has nothing to say.
 pub const DASD_DONE: i32 = 0;
 
-/// The handle. All zero it holds nothing.
+/// The handle. All zero it holds nothing. Its fields are the library's.
 #[repr(C)]
 #[derive(Debug)]
 pub struct dasd {
+    /// What marks a handle that holds something.
     pub stamp: u64,
+    /// What it holds.
     pub place: *mut c_void,
 }
 
+/// The bytes of a file, to be read.
 #[repr(C)]
 #[derive(Clone, Copy, Debug)]
 pub struct dasd_bytes {
+    /// Where they begin; not null, even where there are none.
     pub at: *const u8,
+    /// How many they are.
     pub len: usize,
 }
 
+/// A file of a volume, to be saved.
 #[repr(C)]
 #[derive(Clone, Copy, Debug)]
 pub struct dasd_file {
+    /// Where its bytes begin.
     pub at: *const u8,
+    /// How many they are.
     pub len: usize,
+    /// Another number after each write to the file, also of bytes that stood there already.
     pub changes: u64,
 }
 
+/// Main storage.
 #[repr(C)]
 #[derive(Clone, Copy, Debug)]
 pub struct dasd_storage {
+    /// Where its bytes begin.
     pub at: *mut u8,
+    /// How many they are.
     pub len: usize,
 }
 
+/// What is known of a drive without a channel program.
 #[repr(C)]
 #[derive(Clone, Copy, Debug, Default)]
 pub struct dasd_drive {
+    /// 2311 or 2314.
     pub model: u16,
+    /// How many cylinders its volume has.
     pub cylinders: u16,
+    /// Where its arm is or, in motion, goes.
     pub cylinder: u16,
+    /// The head that is selected.
     pub head: u16,
+    /// What the arm does: 0, it is at rest; 1, it moves; 2, it has arrived, and its device end is to be stored.
     pub arm: u8,
+    /// The sense bytes; they stay.
     pub sense: [u8; 6],
+    /// 0.
     pub reserved: u8,
 }
 
+/// What came of [`dasd_run_on`].
 #[repr(C)]
 #[derive(Clone, Copy, Debug, Default)]
 pub struct dasd_run {
+    /// How many units were done.
     pub units: u32,
+    /// What the channel does behind them: 0, it is available; 1, its program goes on; 2, its program has ended.
     pub subchannel: u8,
+    /// The low byte of the address whose program that is; 0 where the channel is available.
     pub device: u8,
+    /// 1: a word of the program asked for an interruption that is not yet taken.
     pub asked: u8,
+    /// 0.
     pub reserved: u8,
 }
 
+/// A track that was written and could not be saved.
 #[repr(C)]
 #[derive(Clone, Copy, Debug, Default)]
 pub struct dasd_track {
+    /// The address of its drive.
     pub address: u16,
+    /// Its cylinder.
     pub cylinder: u16,
+    /// Its head.
     pub head: u16,
 }
 
+/// A channel, as it is shown.
 #[repr(C)]
 #[derive(Clone, Copy, Debug, Default)]
 pub struct dasd_state {
+    /// 0, it is available; 1, a program runs; 2, it ended, and its channel status word pends.
     pub subchannel: u8,
+    /// The low byte of the address whose program runs or ended; else 0.
     pub device: u8,
+    /// 1: a word of the program asked for an interruption that is not yet taken.
     pub asked: u8,
+    /// How many drives are attached.
     pub drives: u8,
+    /// The low bytes of their addresses, in the order of attachment; behind them 0.
     pub units: [u8; 8],
+    /// What the arm of each does, as in [`dasd_drive`].
     pub arms: [u8; 8],
 }
 
 extern "C" {
+    /// The version of the library: major, minor and patch, in 16 bits, 8 and 8.
     pub fn dasd_version() -> u32;
+    /// The number of the library's binary interface, [`DASD_INTERFACE`] where it fits these declarations.
     pub fn dasd_interface() -> u32;
+    /// Makes main storage of so many zero bytes, and the channels of this set, the bits of a system mask, over it.
     pub fn dasd_new(d: *mut dasd, storage_bytes: u32, channels: u8) -> i32;
+    /// Frees all that the handle holds, its volumes too, whether they were saved or not.
     pub fn dasd_free(d: *mut dasd) -> i32;
+    /// Whether these files, one to eight in their order, are an image. It needs no handle.
     pub fn dasd_check(files: *const dasd_bytes, count: usize) -> i32;
+    /// Attaches a drive under an address, with the volume that these files hold. They are copied.
     pub fn dasd_attach(d: *mut dasd, address: u16, files: *const dasd_bytes, count: usize) -> i32;
+    /// Attaches a drive with a new volume of so many cylinders of this model, 2311 or 2314.
     pub fn dasd_attach_new(d: *mut dasd, address: u16, model: u16, cylinders: u16) -> i32;
+    /// Takes a drive off its channel, and frees its volume.
     pub fn dasd_detach(d: *mut dasd, address: u16) -> i32;
+    /// Shows a file of a drive's volume, 0 for its first, where no program runs on the drive's channel. Its bytes stand there until the
+    /// next [`dasd_step`], [`dasd_run_on`], [`dasd_hio`] or [`dasd_reset`] of that channel, [`dasd_detach`] or [`dasd_free`].
     pub fn dasd_show_file(d: *mut dasd, address: u16, file: u8, shown: *mut dasd_file) -> i32;
+    /// Shows a drive.
     pub fn dasd_show_drive(d: *mut dasd, address: u16, shown: *mut dasd_drive) -> i32;
+    /// Start I/O.
     pub fn dasd_sio(d: *mut dasd, address: u16) -> i32;
+    /// Test I/O.
     pub fn dasd_tio(d: *mut dasd, address: u16) -> i32;
+    /// Halt I/O.
     pub fn dasd_hio(d: *mut dasd, address: u16) -> i32;
+    /// Test Channel, of the channel of an address.
     pub fn dasd_tch(d: *mut dasd, address: u16) -> i32;
+    /// Lets the program that runs on a channel do so many units at most, and says how many it did.
     pub fn dasd_step(d: *mut dasd, channel: u8, units: u32, done: *mut u32) -> i32;
+    /// The same, with what the channel does behind it.
     pub fn dasd_run_on(d: *mut dasd, channel: u8, units: u32, ran: *mut dasd_run) -> i32;
+    /// The arm of the drive at an address has arrived: 1, if it moved; 0, if it did not, or there is no such drive.
     pub fn dasd_arrive(d: *mut dasd, address: u16) -> i32;
+    /// Whether [`dasd_interrupt`] would take an interruption from one of these channels now: 1 or 0.
     pub fn dasd_is_pending(d: *mut dasd, channels: u8) -> i32;
+    /// Takes an interruption from the channel with the lowest number in this set that has one: 1, and its address; 0, there is none.
     pub fn dasd_interrupt(d: *mut dasd, channels: u8, address: *mut u16) -> i32;
+    /// Resets a channel and its drives, and no other: 1, where a track that was written could not be saved, which `unsaved` names; else 0.
     pub fn dasd_reset(d: *mut dasd, channel: u8, unsaved: *mut dasd_track) -> i32;
+    /// Shows a channel.
     pub fn dasd_show_channel(d: *mut dasd, channel: u8, shown: *mut dasd_state) -> i32;
+    /// Shows where main storage lies. Between two calls its bytes are the caller's; they stay where they are until [`dasd_free`].
     pub fn dasd_show_storage(d: *mut dasd, shown: *mut dasd_storage) -> i32;
+    /// Copies bytes of storage from an address on.
     pub fn dasd_peek(d: *mut dasd, at: u32, into: *mut u8, len: usize) -> i32;
+    /// Stores bytes from an address on.
     pub fn dasd_poke(d: *mut dasd, at: u32, bytes: *const u8, len: usize) -> i32;
+    /// The storage key, 0 to 15, of the block of 2,048 bytes that has this address.
     pub fn dasd_key(d: *mut dasd, at: u32) -> i32;
+    /// Sets it.
     pub fn dasd_set_key(d: *mut dasd, at: u32, key: u8) -> i32;
 }

@@ -15,13 +15,17 @@
 //! assert_eq!((from, csw.status.unit), (drive, 0x0C));
 //! # Ok::<(), dasd::Fault>(())
 //! ```
+//!
+//! The library comes with `dasd-sys`, whose page says how it is linked. What of it is proved stands in its repository; this crate is
+//! tested.
+#![warn(missing_docs)]
 
-mod subsystem;
 mod events;
+mod subsystem;
 mod fault;
 mod words;
 
-pub use crate::subsystem::{check, version, Subsystem, DriveView, File, RunOn, View};
+pub use crate::subsystem::{check, version, DriveView, File, RunOn, Subsystem, View};
 pub use crate::events::{Answer, Event};
 pub use crate::fault::Fault;
 pub use crate::words::{Address, Arm, ChannelSet, Condition, Csw, DriveModel, Status, SubchannelView};

@@ -21,6 +21,7 @@ unsafe impl Send for Subsystem {}
 /// A file of a volume, lent to be saved.
 #[derive(Clone, Copy, Debug)]
 pub struct File<'a> {
+    /// Its bytes.
     pub bytes: &'a [u8],
     /// Another number after each write, also of bytes that stood there already.
     pub changes: u64,
@@ -29,18 +30,24 @@ pub struct File<'a> {
 /// What is known of a drive without a channel program.
 #[derive(Clone, Copy, Debug, PartialEq, Eq)]
 pub struct DriveView {
+    /// Its model.
     pub model: DriveModel,
+    /// How many cylinders its volume has.
     pub cylinders: u16,
     /// Where the arm is or, in motion, goes.
     pub cylinder: u16,
+    /// The head that is selected.
     pub head: u16,
+    /// What the arm does.
     pub arm: Arm,
+    /// The sense bytes; they stay.
     pub sense: [u8; 6],
 }
 
 /// A channel, as it is shown.
 #[derive(Clone, Debug, PartialEq, Eq)]
 pub struct View {
+    /// What the channel does.
     pub subchannel: SubchannelView,
     /// The low byte of each drive's address and its arm, in the order of attachment.
     pub drives: Vec<(u8, Arm)>,
@@ -197,7 +204,8 @@ impl Subsystem {
         unsafe { sys::dasd_is_pending(&mut self.handle, channels.0) == 1 }
     }
 
-    /// Takes an interruption from the first channel, by number, of this set that has one: its address, and the channel status word that is stored.
+    /// Takes an interruption from the first channel, by number, of this set that has one: its address, and the channel status word that is
+    /// stored.
     pub fn interrupt(&mut self, channels: ChannelSet) -> Option<(Address, Csw)> {
         let mut address = 0;
         let taken = unsafe { sys::dasd_interrupt(&mut self.handle, channels.0, &mut address) == 1 };

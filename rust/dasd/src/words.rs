@@ -27,16 +27,21 @@ impl fmt::Display for Address {
 /// Unit status and channel status, as Start I/O and Halt I/O store them (Principles of Operation, 'Channel Status Word').
 #[derive(Clone, Copy, Debug, PartialEq, Eq, Hash)]
 pub struct Status {
+    /// The unit's: attention, status modifier, control unit end, busy, channel end, device end, unit check, unit exception, from bit 0 on.
     pub unit: u8,
+    /// The channel's: program-controlled interruption, incorrect length, program check, protection check, channel data check, channel
+    /// control check, interface control check, chaining check, from bit 0 on.
     pub channel: u8,
 }
 
 /// A channel status word, as it stands at 64.
 #[derive(Clone, Copy, Debug, PartialEq, Eq, Hash)]
 pub struct Csw {
+    /// The storage key of the channel program.
     pub key: u8,
     /// The address behind the last channel command word that was used.
     pub address: u32,
+    /// Unit status and channel status.
     pub status: Status,
     /// The residual count.
     pub count: u16,
@@ -103,15 +108,20 @@ impl ChannelSet {
 /// The model of a drive.
 #[derive(Clone, Copy, Debug, PartialEq, Eq, Hash)]
 pub enum DriveModel {
+    /// An IBM 2311: 10 heads.
     D2311,
+    /// A drive of an IBM 2314: 20 heads.
     D2314,
 }
 
 /// What a drive's arm does between programs.
 #[derive(Clone, Copy, Debug, PartialEq, Eq, Hash)]
 pub enum Arm {
+    /// It is at rest.
     AtRest,
+    /// It moves to the cylinder that a program's last seek named.
     InMotion,
+    /// It has arrived, and its device end is to be stored.
     Arrived,
 }
 

@@ -1,19 +1,24 @@
-use Rattle.std.proofs.Common.{rules, ◌≡◌, ◌∙◌, ◌/◌, ap, w32}
+use Rattle.std.proofs.Common.{rules, ◌≡◌, ◌∙◌, ◌/◌, ap, refl, sym, w32}
 use Rattle.std.proofs.lemmas.Int.{to_z-of_z}
 use Rattle.s360_events.specs.Seen.{condition_seen, status_seen}
 use Rattle.s360_events.specs.declared.conditions.Condition.TheVariants as condition
 use Rattle.s360_laws.specs.Events.{Hio, WithCode}
 use Rattle.s360_laws.specs.declared.condition.ConditionCode.TheVariants.{Three}
 use Rattle.s360_channels.specs.Channels.{AtMost}
-use Rattle.dasd_c.proofs.Told.{told}
+use Rattle.dasd_c.proofs.Told.{is_three, told}
 use Rattle.dasd_c.proofs.instructions.hio.Goals as goal
 
 -- C is told the number of the channel's answer
 pub returns : goal.returns
 returns c =
-    let a = condition_seen status_seen c.hio.result in let how = AtMost 1 (Hio c.args.address) a in record {
-      answer = a;
-      told = to_z-of_z w32 c.of_status.result (search rules) ∙ c.of_status.ensures;
-      does = told how how (c.hio.result ≡ condition.Three) (a ≡ WithCode Three) (c.args.address / 256) c.args.channels.now c.hio.new.self
-          (λ b d h. h) (λ e. ap (condition_seen status_seen) e) c.hio.ensures;
-    }
+    let a = condition_seen status_seen c.hio.result in
+    let how = AtMost 1 (Hio c.args.address) a in
+    let code = to_z-of_z w32 c.of_status.result (search rules) ∙ c.of_status.ensures in (
+      record {
+        answer = a;
+        told = code;
+        does = told how how (c.hio.result ≡ condition.Three) (a ≡ WithCode Three) (c.args.address / 256) c.args.channels.now c.hio.new.self
+            (λ b d h. h) (λ e. ap (condition_seen status_seen) e) c.hio.ensures.does;
+      },
+      λ three. c.hio.ensures.missing (is_three status_seen (λ s. refl) c.hio.result (sym code ∙ three)),
+    )

@@ -1,4 +1,4 @@
-use Rattle.std.proofs.Common.{ℕ, ◌+◌, ◌*◌, sym, subst, ap, ◌∙◌}
+use Rattle.std.proofs.Common.{ℕ, ◌+◌, ◌*◌, sym, subst, ap, ◌∙◌, arith}
 use Rattle.std.proofs.lemmas.Option.{slice_get_within}
 use Rattle.std.specs.Prelude.{option_map}
 use Rattle.s360_program.specs.Stands.{Stands}
@@ -9,9 +9,11 @@ use Rattle.s360_channel.proofs.Places.{inside}
 use Rattle.s360_channel.proofs.ending.lose_program.Goals as goal
 
 pub device-device-requires : goal.device-device-requires
-device-device-requires g c =
-    let d : DriveIs c.in-Working.place (Stands c.in-Working.running) c.args.drives.now = rw (sym c.replace.ensures.value ∙ c.in-Working.is) at c.requires in
-    slice_get_within c.args.drives.now c.in-Working.place d.attached d.is_there
+device-device-requires g c = (
+  omega arith,
+  let d : DriveIs c.in-Working.place (Stands c.in-Working.running) c.args.drives.now = rw (sym c.replace.ensures.value ∙ c.in-Working.is) at c.requires in
+      slice_get_within c.args.drives.now c.in-Working.place d.attached d.is_there,
+)
 
 pub returns-in-Working-clause-lost : goal.returns-in-Working-clause-lost
 returns-in-Working-clause-lost g c =

@@ -1,4 +1,4 @@
-use Rattle.std.proofs.Common.{◌∙◌, refl, sym}
+use Rattle.std.proofs.Common.{◌∙◌, refl, sym, arith}
 use Rattle.s360_laws.specs.declared.arm.Arm.TheVariants.{InMotion, AtRest, Arrived}
 use Rattle.s360_channel.proofs.Asked.{arrive_other, arrive_none, arrive_still, arrive_moves}
 use Rattle.s360_channel.proofs.Started.{armed_images, within}
@@ -11,10 +11,10 @@ pub returns-in_default-clause-does : goal.returns-in_default-clause-does
 returns-in_default-clause-does g c = λ s sub m st. arrive_none c.args.address c.args.number s sub c.args.drives.now m st c.if-address-number.false (sym c.place_of.ensures ∙ c.in_default.is)
 
 pub arm-requires : goal.arm-requires
-arm-requires g c = within _ c.args.drives.now c.in-Some.place (sym c.in-Some.ensures)
+arm-requires g c = (omega arith, within _ c.args.drives.now c.in-Some.place (sym c.in-Some.ensures))
 
 pub set_arm-requires : goal.set_arm-requires
-set_arm-requires g c = within _ c.args.drives.now c.in-Some.place (sym c.in-Some.ensures)
+set_arm-requires g c = (omega arith, within _ c.args.drives.now c.in-Some.place (sym c.in-Some.ensures))
 
 pub returns-in-InMotion-clause-does : goal.returns-in-InMotion-clause-does
 returns-in-InMotion-clause-does g c = λ s sub m st.

@@ -1,8 +1,9 @@
+use Rattle.std.proofs.Common.{arith}
 use Rattle.s360_channel.proofs.Asked.{interrupt_idle, interrupt_pending, interrupt_working, place_within}
 use Rattle.s360_channel.proofs.interrupting.interrupt.Goals as goal
 
 pub device-device-requires : goal.device-device-requires
-device-device-requires g c = place_within c.args.number c.args.storage.now c.in-Working.place c.in-Working.running c.args.drives.now (rw c.in-Working.is at c.requires)
+device-device-requires g c = (omega arith, place_within c.args.number c.args.storage.now c.in-Working.place c.in-Working.running c.args.drives.now (rw c.in-Working.is at c.requires))
 
 pub returns-in-Idle-clause-does : goal.returns-in-Idle-clause-does
 returns-in-Idle-clause-does g c = λ m st.

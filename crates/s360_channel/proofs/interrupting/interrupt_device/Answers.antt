@@ -1,4 +1,4 @@
-use Rattle.std.proofs.Common.{◌∙◌, sym, ap, ◌+◌, ◌*◌}
+use Rattle.std.proofs.Common.{◌∙◌, sym, ap, ◌+◌, ◌*◌, arith}
 use Rattle.s360_words.specs.Storage.{changed, csw_stored}
 use Rattle.s360_channel.proofs.Started.{armed_images, within, never_lost, interrupt_arrived}
 use Rattle.s360_channel.proofs.interrupting.interrupt_device.Goals as goal
@@ -7,7 +7,7 @@ pub returns-in_err-place-clause-does : goal.returns-in_err-place-clause-does
 returns-in_err-place-clause-does g c = λ rest distinct. absurd (never_lost c.in_ok-device.device c.args.drives.now (sym c.lowest_arrived.ensures ∙ c.in_ok-device.was) (sym c.place_of.ensures ∙ c.in_err-place.was))
 
 pub set_arm-requires : goal.set_arm-requires
-set_arm-requires g c = within c.in_ok-device.device c.args.drives.now c.in_ok-place.place (sym c.place_of.ensures ∙ c.in_ok-place.was)
+set_arm-requires g c = (omega arith, within c.in_ok-device.device c.args.drives.now c.in_ok-place.place (sym c.place_of.ensures ∙ c.in_ok-place.was))
 
 pub returns-clause-does : goal.returns-clause-does
 returns-clause-does g c = λ rest distinct.

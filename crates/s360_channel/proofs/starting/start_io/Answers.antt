@@ -1,4 +1,4 @@
-use Rattle.std.proofs.Common.{◌∙◌, refl, sym}
+use Rattle.std.proofs.Common.{◌∙◌, refl, sym, arith}
 use Rattle.s360_channel.proofs.Asked.{start_other, start_busy, start_none, start_at, rests_there}
 use Rattle.s360_channel.proofs.starting.start_io.Goals as goal
 
@@ -16,7 +16,7 @@ returns-in_default-place_of-clause-does g c = λ m st.
     rw c.in-Idle.is (start_none c.args.address c.args.number c.args.storage.now c.args.drives.now m (rw c.in-Idle.is at st) c.if-address-number.false (sym c.place_of.ensures ∙ c.in_default-place_of.is))
 
 pub start_device-requires : goal.start_device-requires
-start_device-requires g c = record { idle = c.in-Idle.is; rests = rests_there _ c.args.number c.args.storage.now c.args.drives.now c.in-Some.place (rw c.in-Idle.is at c.requires) (sym c.in-Some.ensures) }
+start_device-requires g c = (omega arith, (c.in-Idle.is, rests_there _ c.args.number c.args.storage.now c.args.drives.now c.in-Some.place (rw c.in-Idle.is at c.requires) (sym c.in-Some.ensures)))
 
 pub returns-clause-does : goal.returns-clause-does
 returns-clause-does g c = λ m st.

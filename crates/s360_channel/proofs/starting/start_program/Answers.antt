@@ -1,4 +1,4 @@
-use Rattle.std.proofs.Common.{◌<◌, ◌∙◌, ap, length}
+use Rattle.std.proofs.Common.{◌<◌, ◌∙◌, ap, length, arith}
 use Rattle.std.proofs.lemmas.Option.{slice_get_within}
 use Rattle.std.specs.Prelude.{slice_get}
 use Rattle.s360_channel.proofs.Places.{get_set}
@@ -6,10 +6,12 @@ use Rattle.s360_channel.proofs.Started.{starts_bad, starts_rejected, starts_imme
 use Rattle.s360_channel.proofs.starting.start_program.Goals as goal
 
 pub set_arm-requires : goal.set_arm-requires
-set_arm-requires g c =
-    let e = c.start.ensures in
-    let h : c.args.place < length c.start.new.self = slice_get_within c.start.new.self c.args.place _ (ap (λ us. slice_get us c.args.place) e.becomes ∙ get_set c.args.drives.now c.args.place e.attached _ e.was) in
-    h
+set_arm-requires g c = (
+  omega arith,
+  let e = c.start.ensures in
+      let h : c.args.place < length c.start.new.self = slice_get_within c.start.new.self c.args.place _ (ap (λ us. slice_get us c.args.place) e.becomes ∙ get_set c.args.drives.now c.args.place e.attached _ e.was) in
+      h,
+)
 
 pub returns-in-Bad-clause-does : goal.returns-in-Bad-clause-does
 returns-in-Bad-clause-does g c = λ attached there number rest distinct.

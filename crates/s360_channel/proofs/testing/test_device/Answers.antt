@@ -1,4 +1,4 @@
-use Rattle.std.proofs.Common.{◌∙◌, sym, ap}
+use Rattle.std.proofs.Common.{◌∙◌, sym, ap, arith}
 use Rattle.s360_words.specs.Storage.{changed, csw_stored}
 use Rattle.s360_events.specs.declared.conditions.Condition.TheVariants.{Stored}
 use Rattle.s360_channel.proofs.Started.{armed_images, within, test_none, test_in_motion, test_arrived, test_at_rest}
@@ -8,7 +8,7 @@ pub returns-in_default-clause-does : goal.returns-in_default-clause-does
 returns-in_default-clause-does g c = λ number rest distinct. test_none c.args.device number c.args.storage.now c.args.drives.now rest distinct (sym c.place_of.ensures ∙ c.in_default.is)
 
 pub set_arm-requires : goal.set_arm-requires
-set_arm-requires g c = within c.args.device c.args.drives.now c.in-Some.place (sym c.in-Some.ensures)
+set_arm-requires g c = (omega arith, within c.args.device c.args.drives.now c.in-Some.place (sym c.in-Some.ensures))
 
 pub returns-in-InMotion-clause-does : goal.returns-in-InMotion-clause-does
 returns-in-InMotion-clause-does g c = λ number rest distinct.

@@ -1,4 +1,4 @@
-use Rattle.std.proofs.Common.{◌∙◌, ap, length, subst, sym}
+use Rattle.std.proofs.Common.{◌∙◌, ap, length, subst, sym, arith}
 use Rattle.s360_words.specs.Storage.{Storage}
 use Rattle.s360_laws.specs.Machine.{Machine}
 use Rattle.s360_channel.specs.Channel.{ChannelState, StandsFor}
@@ -8,7 +8,7 @@ use Rattle.s360_channels.proofs.Taking.{finished_size}
 use Rattle.s360_channels.proofs.ending.end.Goals as goal
 
 pub exchange-requires : goal.exchange-requires
-exchange-requires g c = sym c.requires.as_large
+exchange-requires g c = (omega arith, sym c.requires.as_large)
 
 pub returns : goal.returns
 returns g c = record {

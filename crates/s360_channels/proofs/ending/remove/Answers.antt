@@ -1,11 +1,11 @@
-use Rattle.std.proofs.Common.{rules, ◌∙◌, subst, sym, Some}
+use Rattle.std.proofs.Common.{rules, ◌∙◌, subst, sym, Some, arith}
 use Rattle.s360_channels.specs.Inside.{ServesEnd, of_parts}
 use Rattle.s360_channels.proofs.At.{fits_at}
 use Rattle.s360_channels.proofs.Taking.{ends_somebody}
 use Rattle.s360_channels.proofs.ending.remove.Goals as goal
 
 pub end-requires : goal.end-requires
-end-requires g c = (search rules, fits_at _ c.args.channels.now c.args.number c.in-Some.channel c.requires (sym c.take_channel.ensures.channel ∙ c.in-Some.is))
+end-requires g c = (omega arith, (search rules, fits_at _ c.args.channels.now c.args.number c.in-Some.channel c.requires (sym c.take_channel.ensures.channel ∙ c.in-Some.is)))
 
 pub returns-in-Some : goal.returns-in-Some
 returns-in-Some g c =

@@ -1,22 +1,24 @@
-use Rattle.std.proofs.Common.{rules, ap, length, subst, sym}
+use Rattle.std.proofs.Common.{rules, ap, length, subst, sym, arith}
 use Rattle.s360_words.specs.Storage.{Storage}
+use Rattle.s360_channel.specs.Channel.{ChannelState}
 use Rattle.s360_channel.specs.Packs.{Detaches}
 use Rattle.s360_channels.specs.Channels.{Fits}
 use Rattle.s360_channels.specs.Packs.{Keeps, TakesOff}
-use Rattle.s360_channels.proofs.Fitting.{serves}
+use Rattle.s360_channels.proofs.Fitting.{same_number, serves}
 use Rattle.s360_channels.proofs.Leaving.{channel_again, goes_back_if, storage_again, takes_off_fits}
 use Rattle.s360_channels.proofs.packs.detach.Goals as goal
 
 pub exchange-requires : goal.exchange-requires
-exchange-requires g c = sym c.requires.as_large
+exchange-requires g c = (omega arith, sym c.requires.as_large)
 
 pub exchange-requires-2 : goal.exchange-requires-2
-exchange-requires-2 g c = goes_back_if (λ image m old new. Detaches c.args.device m image old new) (takes_off_fits c.args.device) c.detach-detached.result _ _ _ _ _ c.requires c.exchange.ensures c.detach-detached.ensures.detached c.detach-detached.ensures.stays
+exchange-requires-2 g c = (omega arith, goes_back_if (λ image m old new. Detaches c.args.device m image old new) (takes_off_fits c.args.device) c.detach-detached.result _ _ _ _ _ c.requires c.exchange.ensures c.detach-detached.ensures.detached c.detach-detached.ensures.stays)
 
 pub returns-in-Ok : goal.returns-in-Ok
 returns-in-Ok g c =
     let v = serves (TakesOff c.args.device c.in-Ok.image) (takes_off_fits c.args.device c.in-Ok.image) _ _ _ _ _ _ _ c.requires c.exchange.ensures c.in-Ok.ensures.detached c.exchange-2.ensures in
-    record { detached = v; refused = search rules; channel_stays = search rules; storage_stays = search rules; fits = v.fits; size = v.size }
+    let number = same_number (TakesOff c.args.device c.in-Ok.image) (takes_off_fits c.args.device c.in-Ok.image) _ _ _ _ _ _ _ c.requires c.exchange.ensures c.in-Ok.ensures.detached c.exchange-2.ensures in
+    record { detached = v; refused = search rules; channel_stays = search rules; storage_stays = search rules; fits = v.fits; number = number; size = v.size }
 
 pub returns-in-Err : goal.returns-in-Err
 returns-in-Err g c =
@@ -28,5 +30,6 @@ returns-in-Err g c =
       channel_stays = same;
       storage_stays = kept;
       fits = subst (Fits (length c.args.storage.now.bytes)) (sym same) c.requires;
+      number = ap (λ (d : ChannelState). d.number) same;
       size = ap (λ (s : Storage). length s.bytes) kept;
     }

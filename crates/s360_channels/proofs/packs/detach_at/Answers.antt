@@ -1,10 +1,10 @@
-use Rattle.std.proofs.Common.{rules, tests, ◌/◌, ◌%◌}
+use Rattle.std.proofs.Common.{rules, tests, ◌/◌, ◌%◌, ◌∙◌, arith}
 use Rattle.s360_channels.specs.Packs.{TakesOff}
-use Rattle.s360_channels.proofs.At.{fit_set, fits_at, ok_then, somebody, there}
+use Rattle.s360_channels.proofs.At.{fit_set, fits_at, ok_then, own_number, somebody, there}
 use Rattle.s360_channels.proofs.packs.detach_at.Goals as goal
 
 pub detach-requires : goal.detach-requires
-detach-requires g c = fits_at _ c.args.channels.now (c.args.address / 256) c.in-Some.channel c.requires (there c.args.channels.now (c.args.address / 256) c.index-channels-number.result c.in-Some.channel (search (rules, tests)) c.in-Some.is)
+detach-requires g c = (omega arith, fits_at _ c.args.channels.now (c.args.address / 256) c.in-Some.channel c.requires (there c.args.channels.now (c.args.address / 256) c.index-channels-number.result c.in-Some.channel (search (rules, tests)) c.in-Some.is))
 
 pub returns-in-Some-clause-detached : goal.returns-in-Some-clause-detached
 returns-in-Some-clause-detached g c =
@@ -13,4 +13,6 @@ returns-in-Some-clause-detached g c =
     c.detach.ensures.detached
 
 pub returns-in-Some-clause-fit : goal.returns-in-Some-clause-fit
-returns-in-Some-clause-fit g c = fit_set _ c.args.channels.now (c.args.address / 256) c.detach.new.channel c.requires c.detach.ensures.fits
+returns-in-Some-clause-fit g c =
+    let e = there c.args.channels.now (c.args.address / 256) c.index-channels-number.result c.in-Some.channel (search (rules, tests)) c.in-Some.is in
+    fit_set _ c.args.channels.now (c.args.address / 256) c.detach.new.channel c.requires (c.detach.ensures.number ∙ own_number _ c.args.channels.now (c.args.address / 256) c.in-Some.channel c.requires e) c.detach.ensures.fits

@@ -1,4 +1,4 @@
-use Rattle.std.proofs.Common.{rules, ◌≡◌, ◌*◌, refl, Bool, Option, Some, None}
+use Rattle.std.proofs.Common.{rules, ◌≡◌, ◌*◌, refl, Bool, Option, Some, None, arith}
 use Rattle.s360_words.specs.declared.words.Csw.{Csw}
 use Rattle.s360_laws.specs.Events.{StepBy, Stepped}
 use Rattle.s360_channel.specs.DriveCalls.{AdvancesAt}
@@ -15,10 +15,10 @@ returns-in_default g c =
     record { does = d.0; most = search rules; calls = d.1 }
 
 pub advance-advance-requires : goal.advance-advance-requires
-advance-advance-requires g c = there _ c.self.invariant.machine c.in-Working.place c.in-Working.running c.in-Working.is c.self.invariant.stands
+advance-advance-requires g c = (omega arith, there _ c.self.invariant.machine c.in-Working.place c.in-Working.running c.in-Working.is c.self.invariant.stands)
 
 pub end_program-requires : goal.end_program-requires
-end_program-requires g c = still_there c.in-Working.place (AdvancesAt c.in-Working.running c.self.inside.storage c.args.units c.advance-advance.result c.advance-advance.new.running c.advance-advance.new.storage) _ _ c.advance-advance.ensures
+end_program-requires g c = (omega arith, still_there c.in-Working.place (AdvancesAt c.in-Working.running c.self.inside.storage c.args.units c.advance-advance.result c.advance-advance.new.running c.advance-advance.new.storage) _ _ c.advance-advance.ensures)
 
 pub invariant_of-self-in-Some : goal.invariant_of-self-in-Some
 invariant_of-self-in-Some g c =

@@ -1,10 +1,10 @@
-use Rattle.std.proofs.Common.{◌∙◌, sym}
+use Rattle.std.proofs.Common.{◌∙◌, sym, arith}
 use Rattle.s360_channel.specs.Channel.{ChannelState, attached}
 use Rattle.s360_channel.proofs.Changing.{stands_push, may_attach, has_place}
 use Rattle.s360_channel.proofs.channel.Channel.attach.Goals as goal
 
 pub attach-requires : goal.attach-requires
-attach-requires g c = has_place c.len.result _ c.len.ensures.count c.if-len-eq8.false c.self.invariant.stands.few
+attach-requires g c = (omega arith, has_place c.len.result _ c.len.ensures.count c.if-len-eq8.false c.self.invariant.stands.few)
 
 pub invariant_of-self : goal.invariant_of-self
 invariant_of-self g c =

@@ -1,13 +1,15 @@
-use Rattle.std.proofs.Common.{subst}
+use Rattle.std.proofs.Common.{subst, arith}
 use Rattle.s360_channel.specs.Channel.{ChannelState}
 use Rattle.s360_channel.specs.Packs.{Detaches, without_device}
 use Rattle.s360_channel.proofs.Removing.{detaches, rests_free}
 use Rattle.s360_channel.proofs.channel.Channel.detach.Goals as goal
 
 pub remove-requires : goal.remove-requires
-remove-requires g c =
-    let this : ChannelState = record { number = c.self.inside.number; storage = c.self.inside.storage; subchannel = c.self.inside.subchannel; drives = c.self.inside.drives } in
-    rests_free this c.self.invariant.machine c.self.invariant.stands c.args.device c.in_ok-place.place (rw (← c.self.view_is) at c.in_ok-place.ensures.free)
+remove-requires g c = (
+  omega arith,
+  let this : ChannelState = record { number = c.self.inside.number; storage = c.self.inside.storage; subchannel = c.self.inside.subchannel; drives = c.self.inside.drives } in
+      rests_free this c.self.invariant.machine c.self.invariant.stands c.args.device c.in_ok-place.place (rw (← c.self.view_is) at c.in_ok-place.ensures.free),
+)
 
 pub invariant_of-self : goal.invariant_of-self
 invariant_of-self g c =

@@ -1,4 +1,4 @@
-use Rattle.std.proofs.Common.{subst, true, false}
+use Rattle.std.proofs.Common.{subst, true, false, arith}
 use Rattle.s360_channel.specs.Channel.{ChannelState}
 use Rattle.s360_channel.specs.Packs.{Exchanges, with_pack}
 use Rattle.s360_channel.proofs.Removing.{exchanges, fits_is, may_exchange, is_free}
@@ -12,10 +12,12 @@ returns-then-not-fits-clause-refused g c m h =
     (is_free this m s c.args.device c.in-Ok.place f, fits_is this m s c.args.device c.in-Ok.place f c.args.image false c.geometry.result c.geometry.ensures.geometry c.if-not-fits.ensures.volume)
 
 pub exchange-requires : goal.exchange-requires
-exchange-requires g c =
-    let this : ChannelState = record { number = c.self.inside.number; storage = c.self.inside.storage; subchannel = c.self.inside.subchannel; drives = c.self.inside.drives } in
-    let f = rw (← c.self.view_is) at c.in-Ok.ensures.free in
-    may_exchange this c.self.invariant.machine c.self.invariant.stands c.args.device c.in-Ok.place f c.args.image c.geometry.result c.geometry.ensures.geometry c.if-not-fits.ensures.image
+exchange-requires g c = (
+  omega arith,
+  let this : ChannelState = record { number = c.self.inside.number; storage = c.self.inside.storage; subchannel = c.self.inside.subchannel; drives = c.self.inside.drives } in
+      let f = rw (← c.self.view_is) at c.in-Ok.ensures.free in
+      may_exchange this c.self.invariant.machine c.self.invariant.stands c.args.device c.in-Ok.place f c.args.image c.geometry.result c.geometry.ensures.geometry c.if-not-fits.ensures.image,
+)
 
 pub invariant_of-self : goal.invariant_of-self
 invariant_of-self g c =

@@ -1,4 +1,4 @@
-use Rattle.std.proofs.Common.{refl}
+use Rattle.std.proofs.Common.{refl, arith}
 use Rattle.s360_laws.specs.Events.{Hio, WithCode}
 use Rattle.s360_laws.specs.declared.condition.ConditionCode.TheVariants.{Two}
 use Rattle.s360_events.specs.Seen.{condition_seen, status_seen}
@@ -17,7 +17,7 @@ invariant_of-self g c = (whole_does (Hio c.args.address) (condition_seen status_
     (λ m s. halts_idle _ m c.args.address s c.if-address-self.false c.in-Idle.is c.halt_device.result c.halt_device.new.storage c.halt_device.ensures.answer c.halt_device.ensures.storage)).2
 
 pub cut_program-requires : goal.cut_program-requires
-cut_program-requires g c = cut_allowed _ c.self.invariant.machine c.self.invariant.stands
+cut_program-requires g c = (omega arith, cut_allowed _ c.self.invariant.machine c.self.invariant.stands)
 
 pub invariant_of-self-in-Working : goal.invariant_of-self-in-Working
 invariant_of-self-in-Working g c = (whole_does (Hio c.args.address) (WithCode Two) 1 _ c.args.self.now _ c.self.view_is c.self.invariant

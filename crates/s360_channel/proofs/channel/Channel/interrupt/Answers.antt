@@ -1,8 +1,9 @@
+use Rattle.std.proofs.Common.{arith}
 use Rattle.s360_channel.proofs.Asked.{stays}
 use Rattle.s360_channel.proofs.channel.Channel.interrupt.Goals as goal
 
 pub interrupt-requires : goal.interrupt-requires
-interrupt-requires g c = record { machine = c.self.invariant.machine; stands = c.self.invariant.stands }
+interrupt-requires g c = (omega arith, record { machine = c.self.invariant.machine; stands = c.self.invariant.stands })
 
 pub invariant_of-self : goal.invariant_of-self
 invariant_of-self g c = stays _ c.self.invariant.machine _ _ (c.interrupt.ensures.does c.self.invariant.machine c.self.invariant.stands)

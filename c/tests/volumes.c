@@ -1,0 +1,338 @@
+/* volumes.c - volumes in as many files as there may be, drives in every place of a channel, and interruptions of all channels: what bounds
+ * the loops of the library. Built with -DHEAP and heap.c in place of the library's own way to memory, it also refuses memory. */
+#include <stdint.h>
+#include <stdio.h>
+#include <stdlib.h>
+#include <string.h>
+
+#include "../dasd.h"
+#include "storage.h"
+#include "tests.h"
+
+#ifdef HEAP
+extern long heap_refuse_at, heap_live;
+#endif
+
+enum { HEADER = 512, CYLINDER = 10 * 4096, SEQUENCE = 17, HIGHEST_CYLINDER = 18, FILES = 8, ALL = 0xFE };
+
+static uint8_t bytes[FILES][HEADER + 2 * CYLINDER];
+static dasd_bytes files[FILES + 1];
+
+/* A new volume of a 2311 with nine cylinders, two of them in the first of eight files; and behind them the first once more. In a header
+ * stand which file of the image it is, from 1, and the highest cylinder in it, which is 0 in the last. */
+static void split(void) {
+    dasd d = DASD_NOTHING;
+    dasd_file whole;
+    CHECK(dasd_new(&d, 4096, DASD_CHANNEL(0)) == DASD_DONE && dasd_attach_new(&d, 0, 2311, FILES + 1) == DASD_DONE);
+    CHECK(dasd_show_file(&d, 0, 0, &whole) == DASD_DONE && whole.len == HEADER + (FILES + 1) * CYLINDER);
+    for (size_t i = 0; i < FILES; i++) {
+        size_t first = i ? i + 1 : 0, len = (i ? 1 : 2) * CYLINDER;
+        memcpy(bytes[i], whole.at, HEADER);
+        memcpy(bytes[i] + HEADER, whole.at + HEADER + first * CYLINDER, len);
+        bytes[i][SEQUENCE] = (uint8_t)(i + 1);
+        bytes[i][HIGHEST_CYLINDER] = (uint8_t)(i + 1 < FILES ? i + 1 : 0);
+        files[i] = (dasd_bytes){bytes[i], HEADER + len};
+    }
+    files[FILES] = files[0];
+    CHECK(dasd_free(&d) == DASD_DONE);
+}
+
+/* Runs the program at 100 to its end, whose status is channel end and device end, and takes its interruption. */
+static void runs(dasd *d, uint16_t address) {
+    dasd_run ran;
+    uint16_t from = 0;
+    CHECK(dasd_sio(d, address) == 0 && dasd_run_on(d, (uint8_t)(address >> 8), 1000000, &ran) == DASD_DONE && ran.subchannel == DASD_ENDED);
+    CHECK(dasd_interrupt(d, ALL, &from) == 1 && from == address && shows(d, 0x44, "0C000000"));
+}
+
+/* Seeks a cylinder, searches for the record of this number on its first track, and does `then`, the command word behind that. */
+static void at_record(dasd *d, uint8_t cylinder, uint8_t record, const char *then) {
+    const uint8_t place[6] = {0, 0, 0, cylinder, 0, 0}, identifier[5] = {0, cylinder, 0, 0, record};
+    store(d, 0x100, "07000200 40000006 31000208 40000005 08000108 00000000");
+    store(d, 0x118, then);
+    CHECK(dasd_poke(d, 0x200, place, sizeof place) == DASD_DONE && dasd_poke(d, 0x208, identifier, sizeof identifier) == DASD_DONE);
+    runs(d, 0x190);
+}
+
+/* Each file takes the write to its own cylinder, and no other changes; all that was written is read again. */
+static void eight_files(void) {
+    dasd d = DASD_NOTHING;
+    dasd_file before[FILES], after;
+    CHECK(dasd_new(&d, 4096, DASD_CHANNEL(1)) == DASD_DONE && dasd_attach(&d, 0x190, files, FILES) == DASD_DONE);
+    store(&d, 0x48, "00000100");
+    for (uint8_t c = 0; c <= FILES; c++) {
+        const uint8_t record_1[9] = {0, c, 0, 0, 1, 0, 0, 1, (uint8_t)(0xC1 + c)};
+        for (uint8_t i = 0; i < FILES; i++) CHECK(dasd_show_file(&d, 0x190, i, &before[i]) == DASD_DONE && before[i].len == files[i].len);
+        CHECK(dasd_poke(&d, 0x210, record_1, sizeof record_1) == DASD_DONE);
+        at_record(&d, c, 0, "1D000210 20000009"); /* Write Count, Key and Data */
+        for (uint8_t i = 0; i < FILES; i++)
+            CHECK(dasd_show_file(&d, 0x190, i, &after) == DASD_DONE && (after.changes != before[i].changes) == (i == (c ? c - 1 : 0)));
+    }
+    for (uint8_t c = 0; c <= FILES; c++) {
+        uint8_t got = 0;
+        at_record(&d, c, 1, "06000300 20000001"); /* Read Data */
+        CHECK(dasd_peek(&d, 0x300, &got, 1) == DASD_DONE && got == 0xC1 + c);
+    }
+    CHECK(dasd_show_file(&d, 0x190, FILES, &after) == DASD_NO_FILE);
+    CHECK(dasd_detach(&d, 0x190) == DASD_DONE && dasd_attach(&d, 0x190, files, FILES) == DASD_DONE);
+    CHECK(dasd_free(&d) == DASD_DONE);
+}
+
+/* Files that are no image: some of its files, two of them changed for each other, one too many, and an empty file wherever it stands:
+ * one that is shorter than a header has not the length of an image. */
+static void no_image(void) {
+    static const uint8_t empty[1];
+    dasd d = DASD_NOTHING;
+    CHECK(dasd_new(&d, 4096, DASD_CHANNEL(1)) == DASD_DONE);
+    CHECK(dasd_check(files, FILES) == DASD_DONE && dasd_check(files, FILES + 1) == DASD_TOO_MANY_FILES);
+    CHECK(dasd_attach(&d, 0x190, files, FILES + 1) == DASD_TOO_MANY_FILES);
+    for (size_t i = 0; i < FILES; i++) {
+        dasd_bytes some[FILES];
+        memcpy(some, files, sizeof some);
+        if (i > 0) CHECK(dasd_check(some, i) == DASD_SPLIT && dasd_attach(&d, 0x190, some, i) == DASD_SPLIT);
+        some[i] = files[(i + 1) % FILES];
+        CHECK(dasd_check(some, FILES) == DASD_SPLIT && dasd_attach(&d, 0x190, some, FILES) == DASD_SPLIT);
+        some[i] = (dasd_bytes){empty, 0};
+        CHECK(dasd_check(some, FILES) == DASD_LENGTH && dasd_attach(&d, 0x190, some, FILES) == DASD_LENGTH);
+        CHECK(dasd_check(some + i, 1) == DASD_LENGTH);
+        some[i] = (dasd_bytes){bytes[i], files[i].len - 1};
+        CHECK(dasd_check(some, FILES) == DASD_LENGTH && dasd_attach(&d, 0x190, some, FILES) == DASD_LENGTH);
+    }
+    CHECK(dasd_tio(&d, 0x190) == 3 && dasd_free(&d) == DASD_DONE);
+}
+
+/* Files whose headers do not belong together, or are of no image: a byte of a header is replaced, and put back. */
+static void other_headers(void) {
+    enum { FORMAT = 4, TRACK_SIZE_HIGH = 13, TRACK_SIZE_THIRD = 14 };
+    static const struct {
+        size_t file, at;
+        uint8_t byte;
+        int32_t code;
+        const char *what;
+    } rows[] = {
+        {0, FORMAT, 'S', DASD_COMPRESSED, "a shadow file, CKD_S370"},
+        {0, FORMAT, 'X', DASD_NOT_CKD_P370, "CKD_X370"},
+        {7, FORMAT, 'S', DASD_COMPRESSED, "a shadow file, as the last"},
+        {0, TRACK_SIZE_THIRD, 1, DASD_TRACK_SIZE, "tracks of more than 65,536 bytes"},
+        {1, TRACK_SIZE_HIGH, 0x12, DASD_SPLIT, "a second file with larger tracks"},
+        {7, TRACK_SIZE_HIGH, 0x12, DASD_SPLIT, "a last file with larger tracks"},
+        {1, HIGHEST_CYLINDER, 1, DASD_SPLIT, "a second file that ends where the first does"},
+        {1, HIGHEST_CYLINDER, 0, DASD_SPLIT, "a second file that says it is the last"},
+        {7, HIGHEST_CYLINDER, 8, DASD_SPLIT, "a last file that says another follows"},
+        {1, SEQUENCE, 3, DASD_SPLIT, "a second file that says it is the third"},
+    };
+    for (size_t i = 0; i < sizeof rows / sizeof *rows; i++) {
+        uint8_t *at = &bytes[rows[i].file][rows[i].at], before = *at;
+        *at = rows[i].byte;
+        if (dasd_check(files, FILES) != rows[i].code) CHECK(!rows[i].what);
+        *at = before;
+    }
+    CHECK(dasd_check(files + 1, 1) == DASD_SPLIT && dasd_check(files, FILES) == DASD_DONE);
+}
+
+/* A second, and a last file of the other model. */
+static void other_model(void) {
+    static uint8_t other[HEADER + 20 * 7680];
+    dasd d = DASD_NOTHING;
+    dasd_file drive_2314;
+    CHECK(dasd_new(&d, 4096, DASD_CHANNEL(1)) == DASD_DONE && dasd_attach_new(&d, 0x190, 2314, 1) == DASD_DONE);
+    CHECK(dasd_show_file(&d, 0x190, 0, &drive_2314) == DASD_DONE && drive_2314.len == sizeof other);
+    memcpy(other, drive_2314.at, sizeof other);
+    for (size_t i = 1; i < FILES; i += 6) {
+        dasd_bytes some[FILES];
+        memcpy(some, files, sizeof some);
+        some[i] = (dasd_bytes){other, sizeof other};
+        other[SEQUENCE] = bytes[i][SEQUENCE];
+        other[HIGHEST_CYLINDER] = bytes[i][HIGHEST_CYLINDER];
+        CHECK(dasd_check(some, FILES) == DASD_SPLIT);
+    }
+    CHECK(dasd_free(&d) == DASD_DONE);
+}
+
+/* Eight drives on a channel: a program at each is cut by Halt I/O and by a reset, and what it wrote before is in the file. */
+static void every_place(void) {
+    dasd d = DASD_NOTHING;
+    dasd_state v;
+    dasd_track unsaved;
+    dasd_file before, after;
+    uint16_t from;
+    uint32_t done;
+    CHECK(dasd_new(&d, 4096, DASD_CHANNEL(1)) == DASD_DONE);
+    for (uint16_t unit = 0; unit < 8; unit++) CHECK(dasd_attach_new(&d, (uint16_t)(0x190 + unit), unit % 2 ? 2311 : 2314, 1) == DASD_DONE);
+    store(&d, 0x48, "00000100");
+    /* Search Identifier Equal of record 0, Write Count, Key and Data, and No-Operation for ever */
+    store(&d, 0x100, "31000202 40000005 08000100 00000000 1D000210 60000009 03000000 60000001 08000118 00000000");
+    store(&d, 0x210, "00000000 01 00 0001 C1");
+    for (uint16_t unit = 0; unit < 8; unit++) {
+        uint16_t address = (uint16_t)(0x190 + unit);
+        CHECK(dasd_show_file(&d, address, 0, &before) == DASD_DONE && dasd_sio(&d, address) == 0);
+        CHECK(dasd_step(&d, 1, 200, &done) == DASD_DONE && done == 200 && dasd_tch(&d, 0x100) == 2);
+        CHECK(dasd_show_channel(&d, 1, &v) == DASD_DONE && v.subchannel == DASD_WORKING && v.device == (address & 255) && v.drives == 8);
+        CHECK(dasd_hio(&d, address) == 2 && dasd_interrupt(&d, ALL, &from) == 1 && from == address);
+        CHECK(dasd_show_file(&d, address, 0, &after) == DASD_DONE && after.changes != before.changes);
+        CHECK(dasd_sio(&d, address) == 0 && dasd_step(&d, 1, 200, &done) == DASD_DONE && dasd_reset(&d, 1, &unsaved) == 0);
+        CHECK(dasd_tch(&d, 0x100) == 0 && dasd_interrupt(&d, ALL, &from) == 0);
+    }
+    for (uint16_t unit = 8; unit-- > 0;) CHECK(dasd_detach(&d, (uint16_t)(0x190 + unit)) == DASD_DONE);
+    CHECK(dasd_show_channel(&d, 1, &v) == DASD_DONE && v.drives == 0 && dasd_tio(&d, 0x190) == 3 && dasd_free(&d) == DASD_DONE);
+}
+
+/* A drive is taken off while another's program runs, its ending pends, and its device end is owed; and drives in any order. */
+static void taken_off(void) {
+    dasd d = DASD_NOTHING;
+    dasd_state v;
+    dasd_run ran;
+    uint32_t done;
+    uint16_t from;
+    CHECK(dasd_new(&d, 4096, DASD_CHANNEL(1) | DASD_CHANNEL(2)) == DASD_DONE && dasd_detach(&d, 0x290) == DASD_NO_DRIVE);
+    for (uint16_t unit = 0; unit < 8; unit++) CHECK(dasd_attach_new(&d, (uint16_t)(0x190 + unit), 2311, 2) == DASD_DONE);
+    store(&d, 0x48, "00000100");
+    store(&d, 0x100, "03000000 60000001 08000100 00000000"); /* No-Operation for ever */
+    CHECK(dasd_sio(&d, 0x192) == 0 && dasd_step(&d, 1, 5, &done) == DASD_DONE && done == 5);
+    CHECK(dasd_detach(&d, 0x192) == DASD_PROGRAM_RUNS && dasd_detach(&d, 0x193) == DASD_DONE);
+    CHECK(dasd_step(&d, 1, 5, &done) == DASD_DONE && done == 5 && dasd_tch(&d, 0x100) == 2 && dasd_hio(&d, 0x192) == 2);
+    CHECK(dasd_detach(&d, 0x192) == DASD_ENDING_PENDS && dasd_detach(&d, 0x191) == DASD_DONE);
+    CHECK(dasd_interrupt(&d, ALL, &from) == 1 && from == 0x192);
+    store(&d, 0x100, "07000200 20000006"); /* Seek to cylinder 1 */
+    store(&d, 0x200, "0000 0001 0000");
+    CHECK(dasd_sio(&d, 0x195) == 0 && dasd_run_on(&d, 1, 100, &ran) == DASD_DONE && ran.subchannel == DASD_ENDED);
+    CHECK(dasd_interrupt(&d, ALL, &from) == 1 && from == 0x195 && shows(&d, 0x44, "08000000"));
+    CHECK(dasd_detach(&d, 0x195) == DASD_DEVICE_END_OWED && dasd_detach(&d, 0x190) == DASD_DONE && dasd_detach(&d, 0x196) == DASD_DONE);
+    CHECK(dasd_show_channel(&d, 1, &v) == DASD_DONE && v.drives == 4);
+    CHECK(v.units[0] == 0x92 && v.units[1] == 0x94 && v.units[2] == 0x95 && v.units[3] == 0x97 && v.arms[2] == DASD_IN_MOTION);
+    CHECK(dasd_arrive(&d, 0x195) == 1 && dasd_detach(&d, 0x195) == DASD_DEVICE_END_OWED);
+    CHECK(dasd_interrupt(&d, ALL, &from) == 1 && from == 0x195 && shows(&d, 0x44, "04000000"));
+    for (uint16_t unit = 2; unit < 8; unit++)
+        CHECK(dasd_detach(&d, (uint16_t)(0x190 + unit)) == (unit == 3 || unit == 6 ? DASD_NO_DRIVE : DASD_DONE));
+    CHECK(dasd_detach(&d, 0x192) == DASD_NO_DRIVE && dasd_free(&d) == DASD_DONE);
+}
+
+/* Channels above 6 are nowhere: each call for one says so, and nothing is done. */
+static void above_the_channels(void) {
+    static const uint16_t addresses[] = {0x700, 0x790, 0x800, 0xFF90};
+    dasd d = DASD_NOTHING;
+    dasd_file file;
+    dasd_drive drive;
+    dasd_state state;
+    dasd_run ran;
+    dasd_track track;
+    uint32_t done;
+    CHECK(dasd_new(&d, 4096, ALL) == DASD_DONE && dasd_attach_new(&d, 0x090, 2311, 1) == DASD_DONE);
+    for (size_t i = 0; i < sizeof addresses / sizeof *addresses; i++) {
+        const uint16_t at = addresses[i];
+        const uint8_t channel = (uint8_t)(at >> 8);
+        CHECK(dasd_sio(&d, at) == 3 && dasd_tio(&d, at) == 3 && dasd_hio(&d, at) == 3 && dasd_tch(&d, at) == 3 && dasd_arrive(&d, at) == 0);
+        CHECK(dasd_attach(&d, at, files, FILES) == DASD_NO_CHANNEL && dasd_attach_new(&d, at, 2311, 1) == DASD_NO_CHANNEL);
+        CHECK(dasd_detach(&d, at) == DASD_NO_CHANNEL && dasd_show_file(&d, at, 0, &file) == DASD_NO_CHANNEL);
+        CHECK(dasd_show_drive(&d, at, &drive) == DASD_NO_CHANNEL && dasd_show_channel(&d, channel, &state) == DASD_NO_CHANNEL);
+        CHECK(dasd_step(&d, channel, 1, &done) == DASD_NO_CHANNEL && dasd_run_on(&d, channel, 1, &ran) == DASD_NO_CHANNEL);
+        CHECK(dasd_reset(&d, channel, &track) == DASD_NO_CHANNEL);
+    }
+    CHECK(dasd_tio(&d, 0x090) == 0 && dasd_free(&d) == DASD_DONE);
+}
+
+/* Starts the program at 100 under storage key 1, lets it end, and checks what its channel status word has behind the key and address. */
+static void under_key_1(dasd *d, const char *csw) {
+    dasd_run ran;
+    uint16_t from;
+    store(d, 0x48, "10000100");
+    CHECK(dasd_sio(d, 0x190) == 0 && dasd_run_on(d, 1, 1000, &ran) == DASD_DONE && ran.subchannel == DASD_ENDED);
+    CHECK(dasd_interrupt(d, ALL, &from) == 1 && from == 0x190 && shows(d, 0x40, csw));
+}
+
+/* A record of 80 bytes is read across the end of a block of 2,048, in one run: where the keys of both blocks are the program's, all of it;
+ * where the second's is another, 40 bytes, and a protection check with 40 left; and behind the end of storage nothing, with a program
+ * check (Principles of Operation, Storage protection; Definition of storage area). */
+static void two_blocks(void) {
+    static const char *const read = "31000240 40000005 08000100 00000000 06000FD8 20000050";
+    dasd d = DASD_NOTHING;
+    const uint8_t none[80] = {0};
+    uint8_t record[88] = {0, 0, 0, 0, 1, 0, 0, 80}, got[80];
+    CHECK(dasd_new(&d, 8192, DASD_CHANNEL(1)) == DASD_DONE && dasd_attach_new(&d, 0x190, 2311, 1) == DASD_DONE);
+    for (size_t i = 0; i < 80; i++) record[8 + i] = (uint8_t)(0x41 + i);
+    CHECK(dasd_poke(&d, 0x300, record, sizeof record) == DASD_DONE);
+    /* Search Identifier Equal of record 0, Write Count, Key and Data */
+    store(&d, 0x100, "31000200 40000005 08000100 00000000 1D000300 20000058");
+    under_key_1(&d, "10000118 0C000000");
+    store(&d, 0x240, "0000000001");
+    store(&d, 0x100, read); /* Search Identifier Equal of record 1, Read Data to FD8 */
+    CHECK(dasd_set_key(&d, 0x800, 1) == DASD_DONE && dasd_set_key(&d, 0x1000, 1) == DASD_DONE);
+    under_key_1(&d, "10000118 0C000000");
+    CHECK(dasd_peek(&d, 0xFD8, got, sizeof got) == DASD_DONE && !memcmp(got, record + 8, sizeof got));
+    CHECK(dasd_poke(&d, 0xFD8, none, sizeof none) == DASD_DONE && dasd_set_key(&d, 0x1000, 2) == DASD_DONE);
+    under_key_1(&d, "10000118 0C100028");
+    CHECK(dasd_peek(&d, 0xFD8, got, sizeof got) == DASD_DONE && !memcmp(got, record + 8, 40) && !memcmp(got + 40, none, 40));
+    store(&d, 0x110, "06002000");
+    under_key_1(&d, "10000118 0C200050");
+    CHECK(dasd_free(&d) == DASD_DONE);
+}
+
+/* An interruption of each channel pends: under every mask the lowest channel that is in it gives its own. */
+static void every_mask(void) {
+    dasd d = DASD_NOTHING;
+    dasd_run ran;
+    CHECK(dasd_new(&d, 4096, ALL) == DASD_DONE);
+    store(&d, 0x48, "00000100");
+    store(&d, 0x100, "16000200 20000010"); /* Read R0 */
+    for (uint16_t channel = 0; channel < 7; channel++) CHECK(dasd_attach_new(&d, (uint16_t)(channel << 8 | 0x90), 2311, 1) == DASD_DONE);
+    int is_pending[7] = {0};
+    for (unsigned mask = 2; mask <= ALL; mask += 2) {
+        uint16_t from = 0, lowest = 0;
+        for (uint16_t channel = 0; channel < 7; channel++) {
+            if (is_pending[channel]) continue;
+            CHECK(dasd_sio(&d, (uint16_t)(channel << 8 | 0x90)) == 0);
+            CHECK(dasd_run_on(&d, (uint8_t)channel, 1000, &ran) == DASD_DONE && ran.subchannel == DASD_ENDED);
+            is_pending[channel] = 1;
+        }
+        while (!(mask & (0x80u >> lowest))) lowest++;
+        CHECK(dasd_is_pending(&d, (uint8_t)mask) == 1 && dasd_interrupt(&d, (uint8_t)mask, &from) == 1);
+        CHECK(from == (lowest << 8 | 0x90) && shows(&d, 0x44, "0C000000"));
+        is_pending[lowest] = 0;
+        CHECK(dasd_is_pending(&d, (uint8_t)(0x80 >> lowest)) == 0);
+    }
+    CHECK(dasd_free(&d) == DASD_DONE);
+}
+
+#ifdef HEAP
+/* Each taking of memory of a call is refused in turn: nothing was done, and no more is held than before but for `room` blocks, which a list
+ * of drives keeps for the next time. In the end the call goes through. */
+#define REFUSED_IN_TURN(call, room)                                                     \
+    do {                                                                                \
+        int32_t told = DASD_NO_MEMORY;                                                  \
+        for (long n = 1, held = heap_live; told == DASD_NO_MEMORY; n++) {               \
+            heap_refuse_at = n;                                                         \
+            told = (call);                                                              \
+            if (told == DASD_NO_MEMORY) CHECK(heap_live - held <= (room) && ++refused); \
+        }                                                                               \
+        heap_refuse_at = 0;                                                             \
+        CHECK(told == DASD_DONE);                                                       \
+    } while (0)
+
+static void refused_memory(void) {
+    dasd d = DASD_NOTHING;
+    int refused = 0;
+    REFUSED_IN_TURN(dasd_check(files, FILES), 0);
+    REFUSED_IN_TURN(dasd_new(&d, 4096, ALL), 0);
+    for (uint16_t channel = 0; channel < 7; channel++) REFUSED_IN_TURN(dasd_attach(&d, (uint16_t)(channel << 8 | 0x90), files, FILES), 1);
+    for (uint16_t unit = 0; unit < 7; unit++) REFUSED_IN_TURN(dasd_attach_new(&d, unit, 2314, 1), 1);
+    CHECK(dasd_detach(&d, 0x690) == DASD_DONE && dasd_free(&d) == DASD_DONE && heap_live == 0);
+    printf("memory was refused %d times\n", refused);
+}
+#endif
+
+int main(void) {
+    split();
+    eight_files();
+    no_image();
+    other_headers();
+    other_model();
+    every_place();
+    taken_off();
+    above_the_channels();
+    two_blocks();
+    every_mask();
+#ifdef HEAP
+    refused_memory();
+#endif
+    return failures ? EXIT_FAILURE : EXIT_SUCCESS;
+}

@@ -1,0 +1,99 @@
+# bash completion for dasd. Made by tools/make_completions.py of the words of `dasd --help`.
+
+# Puts the files, or with -d the folders, that begin with the word into COMPREPLY.
+_dasd_files() {
+    compopt -o filenames 2> /dev/null
+    mapfile -t COMPREPLY < <(compgen "${1:--f}" -- "$word")
+}
+
+# Puts those of these words that begin with the word into COMPREPLY.
+_dasd_words() {
+    mapfile -t COMPREPLY < <(compgen -W "$*" -- "$word")
+}
+
+_dasd() {
+    local word=${COMP_WORDS[COMP_CWORD]} before=${COMP_WORDS[COMP_CWORD - 1]} command=${COMP_WORDS[1]}
+    COMPREPLY=()
+    if [ "$COMP_CWORD" -eq 1 ]; then
+        _dasd_words format list check dump compare vtoc extract explain run help -h --help -V --version
+        return
+    fi
+    case $command:$before in
+    format:--model)
+        _dasd_words 2311 2314
+        return
+        ;;
+    format:--cylinders)
+        return
+        ;;
+    list:--cylinder)
+        return
+        ;;
+    extract:--to)
+        _dasd_files
+        return
+        ;;
+    extract:--all)
+        _dasd_files -d
+        return
+        ;;
+    run:--storage)
+        return
+        ;;
+    run:--channel)
+        return
+        ;;
+    run:--deck)
+        _dasd_files
+        return
+        ;;
+    run:--trace-to)
+        _dasd_files
+        return
+        ;;
+    esac
+    case $command in
+    help)
+        [ "$COMP_CWORD" -eq 2 ] && _dasd_words format list check dump compare vtoc extract explain run help
+        ;;
+    format)
+        if [[ $word == -* ]]; then _dasd_words --model --cylinders --no-replace --verbose -h --help; return; fi
+        _dasd_files
+        ;;
+    list)
+        if [[ $word == -* ]]; then _dasd_words --cylinder --used --json --verbose -h --help; return; fi
+        _dasd_files
+        ;;
+    check)
+        if [[ $word == -* ]]; then _dasd_words --strict --json --verbose -h --help; return; fi
+        _dasd_files
+        ;;
+    dump)
+        if [[ $word == -* ]]; then _dasd_words --json --verbose -h --help; return; fi
+        _dasd_files
+        ;;
+    compare)
+        if [[ $word == -* ]]; then _dasd_words --tracks --json --verbose -h --help; return; fi
+        _dasd_files
+        ;;
+    vtoc)
+        if [[ $word == -* ]]; then _dasd_words --json --verbose -h --help; return; fi
+        _dasd_files
+        ;;
+    extract)
+        if [[ $word == -* ]]; then _dasd_words --to --all --text --json --verbose -h --help; return; fi
+        _dasd_files
+        ;;
+    explain)
+        if [[ $word == -* ]]; then _dasd_words --verbose -h --help; return; fi
+        [ "$COMP_CWORD" -eq 2 ] && _dasd_words csw sense ccw
+        ;;
+    run)
+        if [[ $word == -* ]]; then _dasd_words --storage --channel --deck --trace --trace-to --verbose -h --help; return; fi
+        if [ "$word" = = ]; then word='' before='='; fi
+        [ "$before" = = ] && _dasd_files
+        ;;
+    esac
+}
+
+complete -F _dasd dasd

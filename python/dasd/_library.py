@@ -1,0 +1,144 @@
+"""The calls of `dasd.h` by ctypes: the structs that they take, and the library itself, which is found and loaded here."""
+
+from __future__ import annotations
+
+import ctypes
+import os
+from pathlib import Path
+from typing import Any, Dict, List, Type
+
+#: The number of the binary interface that these declarations are.
+INTERFACE = 1
+
+
+class Handle(ctypes.Structure):
+    """What a caller holds of a subsystem; all zero it holds nothing."""
+
+    _fields_ = [("stamp", ctypes.c_uint64), ("place", ctypes.c_void_p)]
+
+
+class Bytes(ctypes.Structure):
+    """The bytes of a file, to be read."""
+
+    _fields_ = [("at", ctypes.c_char_p), ("len", ctypes.c_size_t)]
+
+
+class File(ctypes.Structure):
+    """A file of a volume, as it is shown."""
+
+    _fields_ = [("at", ctypes.c_void_p), ("len", ctypes.c_size_t), ("changes", ctypes.c_uint64)]
+
+
+class Storage(ctypes.Structure):
+    """Where main storage lies."""
+
+    _fields_ = [("at", ctypes.c_void_p), ("len", ctypes.c_size_t)]
+
+
+class Ran(ctypes.Structure):
+    """What came of a run."""
+
+    _fields_ = [
+        ("units", ctypes.c_uint32),
+        ("subchannel", ctypes.c_uint8),
+        ("device", ctypes.c_uint8),
+        ("asked", ctypes.c_uint8),
+        ("reserved", ctypes.c_uint8),
+    ]
+
+
+class Track(ctypes.Structure):
+    """A track that was written and could not be saved."""
+
+    _fields_ = [("address", ctypes.c_uint16), ("cylinder", ctypes.c_uint16), ("head", ctypes.c_uint16)]
+
+
+class Drive(ctypes.Structure):
+    """What is known of a drive without a channel program."""
+
+    _fields_ = [
+        ("model", ctypes.c_uint16),
+        ("cylinders", ctypes.c_uint16),
+        ("cylinder", ctypes.c_uint16),
+        ("head", ctypes.c_uint16),
+        ("arm", ctypes.c_uint8),
+        ("sense", ctypes.c_uint8 * 6),
+        ("reserved", ctypes.c_uint8),
+    ]
+
+
+class State(ctypes.Structure):
+    """A channel, as it is shown."""
+
+    _fields_ = [
+        ("subchannel", ctypes.c_uint8),
+        ("device", ctypes.c_uint8),
+        ("asked", ctypes.c_uint8),
+        ("drives", ctypes.c_uint8),
+        ("units", ctypes.c_uint8 * 8),
+        ("arms", ctypes.c_uint8 * 8),
+    ]
+
+
+def _to(of: Type[ctypes.Structure]) -> Any:
+    return ctypes.POINTER(of)
+
+
+_U8, _U16, _U32, _SIZE = ctypes.c_uint8, ctypes.c_uint16, ctypes.c_uint32, ctypes.c_size_t
+
+# The calls that take a handle: their arguments behind it.
+_CALLS: Dict[str, List[Any]] = {
+    "new": [_U32, _U8],
+    "free": [],
+    "attach": [_U16, _to(Bytes), _SIZE],
+    "attach_new": [_U16, _U16, _U16],
+    "detach": [_U16],
+    "show_file": [_U16, _U8, _to(File)],
+    "show_drive": [_U16, _to(Drive)],
+    "sio": [_U16],
+    "tio": [_U16],
+    "hio": [_U16],
+    "tch": [_U16],
+    "step": [_U8, _U32, ctypes.POINTER(_U32)],
+    "run_on": [_U8, _U32, _to(Ran)],
+    "arrive": [_U16],
+    "is_pending": [_U8],
+    "interrupt": [_U8, ctypes.POINTER(_U16)],
+    "reset": [_U8, _to(Track)],
+    "show_channel": [_U8, _to(State)],
+    "show_storage": [_to(Storage)],
+    "peek": [_U32, ctypes.c_char_p, _SIZE],
+    "poke": [_U32, ctypes.c_char_p, _SIZE],
+    "key": [_U32],
+    "set_key": [_U32, _U8],
+}
+
+
+def place() -> str:
+    """Where the library is: what DASD_LIBRARY names, or the file beside this one, or else the name by which the loader knows it."""
+    named = os.environ.get("DASD_LIBRARY")
+    if named:
+        return named
+    name = f"libdasd.so.{INTERFACE}"
+    carried = Path(__file__).resolve().parent / name
+    return str(carried) if carried.exists() else name
+
+
+def load() -> ctypes.CDLL:
+    """The library, with its calls declared. An ImportError says where it was looked for, or that it has another interface."""
+    at = place()
+    try:
+        library = ctypes.CDLL(at)
+    except OSError as why:
+        raise ImportError(f"libdasd is not to be had ({why}): DASD_LIBRARY names its file, or the system's loader has to know it") from why
+    for name, arguments in _CALLS.items():
+        call = getattr(library, "dasd_" + name)
+        call.argtypes, call.restype = [_to(Handle), *arguments], ctypes.c_int32
+    library.dasd_check.argtypes, library.dasd_check.restype = [_to(Bytes), _SIZE], ctypes.c_int32
+    for name in ("version", "interface"):
+        call = getattr(library, "dasd_" + name)
+        call.argtypes, call.restype = [], _U32
+    found = library.dasd_interface()
+    if found != INTERFACE:
+        raise ImportError(f"{at} has interface {found}, and this module is for {INTERFACE}")
+    return library

@@ -1,0 +1,134 @@
+// A library that is loaded before a program (LD_PRELOAD), and lets some of its calls fail, as no real file does. The environment says
+// which; a number that is not there lets none fail.
+//
+// FAIL_OUTPUT   behind so many bytes a write to standard output fails
+// FAIL_FLUSH    with any value, the first write to standard output is made, and is told as one that failed; each later one fails
+// FAIL_NAME     the path of a file, as it is opened
+// FAIL_FILE     behind so many bytes a write to that file fails
+// FAIL_PUT      the name of a file, without folders, in whose place no file can be put
+// FAIL_READ     the read with this number, of those at a place in a file, fails, and each later one
+// FAIL_READS    the path of a file to which each such read adds a byte
+
+#define _GNU_SOURCE
+#include <dlfcn.h>
+#include <errno.h>
+#include <fcntl.h>
+#include <stdarg.h>
+#include <stdio.h>
+#include <stdlib.h>
+#include <string.h>
+#include <sys/types.h>
+#include <unistd.h>
+
+static ssize_t (*next_write)(int, const void *, size_t);
+static ssize_t (*next_pread)(int, void *, size_t, off_t);
+static int (*next_open)(const char *, int, ...);
+static int (*next_close)(int);
+static int (*next_rename)(const char *, const char *);
+static int (*next_link)(const char *, const char *);
+
+static size_t output_room;
+static size_t file_room;
+static unsigned long failing_read;
+static unsigned long reads;
+static int failing_file = -1;
+static int log_file = -1;
+
+static unsigned long number(const char *name, unsigned long otherwise) {
+    const char *text = getenv(name);
+    return text == NULL ? otherwise : strtoul(text, NULL, 10);
+}
+
+__attribute__((constructor)) static void begin(void) {
+    *(void **)&next_write = dlsym(RTLD_NEXT, "write");
+    *(void **)&next_pread = dlsym(RTLD_NEXT, "pread");
+    *(void **)&next_open = dlsym(RTLD_NEXT, "open");
+    *(void **)&next_close = dlsym(RTLD_NEXT, "close");
+    *(void **)&next_rename = dlsym(RTLD_NEXT, "rename");
+    *(void **)&next_link = dlsym(RTLD_NEXT, "link");
+    output_room = number("FAIL_OUTPUT", (size_t)-1);
+    file_room = number("FAIL_FILE", (size_t)-1);
+    failing_read = number("FAIL_READ", 0);
+    const char *path = getenv("FAIL_READS");
+    log_file = path == NULL ? -1 : next_open(path, O_WRONLY | O_CREAT | O_APPEND, 0600);
+}
+
+static ssize_t failed(void) {
+    errno = EIO;
+    return -1;
+}
+
+// Writes what there is room for.
+static ssize_t write_into(size_t *room, int to, const void *bytes, size_t length) {
+    size_t count = length < *room ? length : *room;
+    if (count == 0 && length > 0) {
+        return failed();
+    }
+    ssize_t written = next_write(to, bytes, count);
+    if (written > 0 && *room != (size_t)-1) {
+        *room -= (size_t)written;
+    }
+    return written;
+}
+
+ssize_t write(int to, const void *bytes, size_t length) {
+    if (to == STDOUT_FILENO && getenv("FAIL_FLUSH") != NULL) {
+        if (output_room > 0 && next_write(to, bytes, length) >= 0) {
+            output_room = 0;
+        }
+        return failed();
+    }
+    if (to == STDOUT_FILENO) {
+        return write_into(&output_room, to, bytes, length);
+    }
+    if (to == failing_file) {
+        return write_into(&file_room, to, bytes, length);
+    }
+    return next_write(to, bytes, length);
+}
+
+ssize_t pread(int from, void *into, size_t length, off_t at) {
+    reads += 1;
+    if (log_file >= 0 && next_write(log_file, "r", 1) != 1) {
+        _exit(3);
+    }
+    return failing_read > 0 && reads >= failing_read ? failed() : next_pread(from, into, length, at);
+}
+
+int open(const char *path, int flags, ...) {
+    mode_t mode = 0;
+    if (flags & O_CREAT) {
+        va_list words;
+        va_start(words, flags);
+        mode = va_arg(words, mode_t);
+        va_end(words);
+    }
+    int opened = next_open(path, flags, mode);
+    const char *name = getenv("FAIL_NAME");
+    if (name != NULL && strcmp(name, path) == 0) {
+        failing_file = opened;
+    }
+    return opened;
+}
+
+int close(int opened) {
+    if (opened == failing_file) {
+        failing_file = -1;
+    }
+    return next_close(opened);
+}
+
+// Whether nothing can be put in the place of this path.
+static int is_barred(const char *path) {
+    const char *name = getenv("FAIL_PUT");
+    const char *folder = strrchr(path, '/');
+    return name != NULL && strcmp(name, folder == NULL ? path : folder + 1) == 0;
+}
+
+int rename(const char *from, const char *to) {
+    return is_barred(to) ? (int)failed() : next_rename(from, to);
+}
+
+int link(const char *from, const char *to) {
+    return is_barred(to) ? (int)failed() : next_link(from, to);
+}

@@ -1,0 +1,1 @@
+"""Plays rows at a stage."""

@@ -1,0 +1,47 @@
+"""Programs that are cut behind each of their units, by a halt and by a reset, with other events between the last units before the cut, and
+once between all of them; each list of events is compared with its serial list at a fresh channel.
+
+A row is a deck that stores a program, behind a remark that says what it is. The arm of another drive is on its way meanwhile."""
+from __future__ import annotations
+
+from functools import partial
+from typing import Iterator
+
+from .disks import channel_over
+from .serial import compare_with_serial
+from .stage import Stage
+from .text import Block, Case, Wrong, read_blocks
+
+# a program that does not end is cut behind so many units at most
+MOST_UNITS = 250
+BEFORE = ["STORE 48 000003F8", "STORE 3F8 1300000000000001", "SIO 191", "STORE 48 00000400"]
+BETWEEN = ["STEP 1", "TCH", "TIO 191", "ARRIVE 191"]
+# so many units before a cut are done one by one, with other events between
+LAST = 3
+CUTS = {"halted": ["HIO 190", "INT"], "reset": ["RESET"]}
+
+
+def begun(block: Block) -> list[str]:
+    """The events of a row's deck with those before it, and the start of its program."""
+    return BEFORE + [it for it in block.lines if not it.startswith("*")] + ["SIO 190"]
+
+
+def cut_at_each_unit(block: Block, cut: str, stage: Stage) -> None:
+    """Cuts a program behind each of its units, that of the start among them."""
+    set_up = partial(channel_over, drives=2)
+    set_up(stage)
+    done = stage.ask_all(begun(block) + ["STEP %d" % MOST_UNITS])[-1]
+    most = int(done.split()[1])
+    compare_with_serial(stage, set_up, begun(block) + BETWEEN * most + CUTS[cut])
+    for units in range(most + 1):
+        last = min(LAST, units)
+        try:
+            compare_with_serial(stage, set_up, begun(block) + ["STEP %d" % (units - last)] + BETWEEN * last + CUTS[cut])
+        except Wrong as wrong:
+            raise Wrong("behind %d units: %s" % (units, wrong.line), wrong.wanted, wrong.came) from None
+
+
+def cases() -> Iterator[Case]:
+    for block in read_blocks("cut_programs.rows"):
+        for cut in CUTS:
+            yield Case("%s, %s" % (block.name[2:], cut), partial(cut_at_each_unit, block, cut))

@@ -1,0 +1,52 @@
+"""What is printed of rows that come out wrong, by a stage that answers OK to everything, by one that ends, and by one that is silent."""
+from __future__ import annotations
+
+import os
+import subprocess
+import sys
+import tempfile
+import unittest
+from pathlib import Path
+
+TOP = Path(__file__).resolve().parent.parent.parent
+AGREES = "import sys\nfor line in sys.stdin:\n    print('OK', flush=True)\n"
+ENDS = "import sys\nsys.stdin.readline()\n"
+IS_SILENT = "import sys\nsys.stdin.read()\n"
+
+
+class Play(unittest.TestCase):
+    """The command rows/play.py over stages that are no stages."""
+
+    def play(self, program: str) -> tuple[int, str]:
+        """Plays one row at a program of Python; the status, and what is printed."""
+        with tempfile.TemporaryDirectory() as folder:
+            stage = Path(folder) / "stage"
+            stage.write_text("#!%s\n%s" % (sys.executable, program))
+            os.chmod(stage, 0o755)
+            words = [sys.executable, str(TOP / "rows" / "play.py"), str(stage), "--seconds", "2", "--only", "charge 2311 0 80", "tracks"]
+            ran = subprocess.run(words, capture_output=True, text=True, timeout=60, check=False)
+        return ran.returncode, ran.stdout.replace(str(stage), "STAGE")
+
+    def test_wrong_row(self) -> None:
+        """The line, what it wants, what came, and the command that plays it alone."""
+        status, printed = self.play(AGREES)
+        self.assertEqual(1, status)
+        self.assertEqual(printed.splitlines()[:5], [
+            "tracks: charge 2311 0 80",
+            "    at:     < CHARGE 144 LAST 80 FIRST 75",
+            "    wanted: CHARGE 144 LAST 80 FIRST 75",
+            "    got:    OK",
+            "    alone:  rows/play.py STAGE --show --only 'charge 2311 0 80' tracks",
+        ])
+        self.assertEqual("1 rows played, 1 wrong", printed.splitlines()[-1])
+
+    def test_stage_that_ends_or_is_silent(self) -> None:
+        """It is told at which line."""
+        at = "at CHARGE 2311 0 80"
+        for program, told in ((ENDS, "the stage ended %s" % at), (IS_SILENT, "the stage was silent for 2 s %s" % at)):
+            status, printed = self.play(program)
+            self.assertEqual((1, True), (status, told in printed), printed)
+
+
+if __name__ == "__main__":
+    unittest.main()

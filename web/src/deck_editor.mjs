@@ -1,0 +1,253 @@
+// @ts-check
+// The deck: written with help, and shown with its answers once it was run. What is wrong in a line, the forms of events, and what a channel
+// command word means are the words of `dasd`.
+
+import { button, find, linesOf, make } from './dom.mjs';
+import { WordBuilder } from './word_builder.mjs';
+
+/** @typedef {{number: number, text: string, event: number | null}} DeckLine a line of a deck, and which event it is, if any */
+/**
+ * @typedef {{explain: (kind: string, digits: string) => Promise<string>, fault: (line: string) => Promise<string>, forms: () => Promise<string>,
+ *   go: (event: number) => void, run: () => void}} Hooks */
+
+const PATIENCE = 180;
+/** What stands there to begin with. */
+const FIRST = `* Reads the volume label: key and data of record 3 on cylinder 0, head 0.
+STORE 48 00000400
+STORE 400 0700050040000006 3100050240000005 0800040800000000 0E00060000000054
+STORE 500 00000000000003
+SIO 190
+RUN
+INT
+SHOW 600 32
+SHOW 620 32
+`;
+const MOST_WORDS = 12;
+
+/**
+ * The lines of a deck, with the events that stand in them.
+ * @param {string} text
+ * @param {{number: number}[]} events each with its line
+ * @returns {DeckLine[]}
+ */
+export function deckLines(text, events) {
+  const at = new Map(events.map((it, event) => [it.number, event]));
+  return linesOf(text).map((line, number) => ({ number, text: line, event: at.get(number) ?? null }));
+}
+
+/**
+ * Whether a line is to be looked at: an empty one and one that begins with an asterisk are no events.
+ * @param {string} line
+ */
+const isEvent = line => line.trim() !== '' && !line.trimStart().startsWith('*');
+
+/** The pane of the deck. */
+export class DeckEditor {
+  /** @param {Hooks} hooks */
+  constructor(hooks) {
+    this.hooks = hooks;
+    this.gutter = make('div', { class: 'gutter mono', 'aria-hidden': 'true' });
+    this.field = /** @type {HTMLTextAreaElement} */ (make('textarea', {
+      id: 'text',
+      spellcheck: 'false',
+      autocapitalize: 'off',
+      autocomplete: 'off',
+      'aria-label': 'The deck, an event a line',
+      'aria-describedby': 'deck-help',
+      wrap: 'off'
+    }));
+    this.help = make('div', { class: 'help', id: 'deck-help', role: 'status' });
+    this.events = find('events');
+    /** @type {Map<number, string>} what is wrong, by the numbers of lines */
+    this.faults = new Map();
+    this.asked = 0;
+    const builder = new WordBuilder({ explain: hooks.explain, insert: digits => this.#insert(digits) });
+    find('editor').replaceChildren(make('div', { class: 'field' }, this.gutter, this.field), this.help, builder.root);
+    this.#listen();
+    this.write(FIRST);
+  }
+
+  #listen() {
+    /** @type {ReturnType<typeof setTimeout> | undefined} */
+    let later;
+    const soon = () => {
+      clearTimeout(later);
+      later = setTimeout(() => this.#look(), PATIENCE);
+    };
+    this.field.addEventListener('input', () => {
+      this.#number();
+      soon();
+    });
+    this.field.addEventListener('scroll', () => { this.gutter.scrollTop = this.field.scrollTop; });
+    for (const it of ['keyup', 'click', 'focus']) this.field.addEventListener(it, soon);
+    this.field.addEventListener('keydown', event => {
+      if (event.key !== 'Enter' || !(event.ctrlKey || event.metaKey)) return;
+      event.preventDefault();
+      this.hooks.run();
+    });
+    this.events.addEventListener('click', event => {
+      const it = /** @type {HTMLElement} */ (event.target).closest('[data-event]');
+      if (it instanceof HTMLElement) this.hooks.go(Number(it.dataset.event));
+    });
+  }
+
+  get text() { return this.field.value; }
+
+  /** @param {string} text */
+  write(text) {
+    this.field.value = text;
+    this.faults.clear();
+    this.#number();
+    this.#look();
+    this.edit();
+  }
+
+  /** Shows the deck to be written, and not its answers. */
+  edit() {
+    find('deck').classList.add('writing');
+    find('editor').hidden = false;
+    this.events.hidden = true;
+    find('edit').hidden = true;
+    find('run').hidden = false;
+  }
+
+  #number() {
+    const lines = this.field.value.split('\n');
+    this.gutter.replaceChildren(
+      ...lines.map((_, at) => make('span', { class: this.faults.has(at) ? 'wrong' : null, title: this.faults.get(at) }, at + 1)));
+    this.gutter.scrollTop = this.field.scrollTop;
+  }
+
+  /**
+   * Puts digits where the cursor stands.
+   * @param {string} digits
+   */
+  #insert(digits) {
+    const { selectionStart: from, value } = this.field, before = value.slice(0, from);
+    const space = before && !/\s$/.test(before) ? ' ' : '';
+    this.field.setRangeText(space + digits, from, this.field.selectionEnd, 'end');
+    this.field.focus();
+    this.field.dispatchEvent(new Event('input'));
+  }
+
+  // What is wrong in each line, and what helps with the one that the cursor is in.
+  async #look() {
+    const asked = ++this.asked, lines = linesOf(this.field.value);
+    const told = await Promise.all(lines.map(it => (isEvent(it) ? this.hooks.fault(it) : '')));
+    if (asked !== this.asked) return;
+    this.faults = new Map([...told.entries()].filter(([, fault]) => fault));
+    this.#number();
+    const at = this.field.value.slice(0, this.field.selectionStart).split('\n').length - 1;
+    const help = await this.#helpFor(lines[at] ?? '', at);
+    if (asked === this.asked) this.help.replaceChildren(...help);
+  }
+
+  /**
+   * @param {string} line
+   * @param {number} at
+   * @returns {Promise<Node[]>}
+   */
+  async #helpFor(line, at) {
+    const forms = formsOf(await this.hooks.forms()), [name = '', ...words] = line.trim().toUpperCase().split(/\s+/);
+    const fault = this.faults.get(at), parts = fault ? [make('p', { class: 'bad' }, `Line ${at + 1}: ${fault}`)] : [];
+    const others = [...this.faults].filter(([number]) => number !== at);
+    if (others.length)
+      parts.push(make(
+        'p', { class: 'soft' }, `Also wrong: ${others.slice(0, 8).map(([number, text]) => `line ${number + 1}, ${text}`).join('; ')}`));
+    const form = forms.find(it => it.name === name);
+    if (form) parts.push(make('p', { class: 'form' }, form.form), make('p', { class: 'soft' }, `${form.about}. Answer: ${form.answer}`));
+    if (name === 'STORE') parts.push(...await this.#wordsOf(words));
+    if (form) return parts;
+    const fitting = forms.filter(it => it.name.startsWith(name) && !line.startsWith('*')), shown = fitting.length ? fitting : forms;
+    const choices = make('div', { class: 'choices', role: 'group', 'aria-label': 'Events' },
+      ...shown.map(it => button(it.name, () => this.#complete(it.name), { title: `${it.form}: ${it.about}` })));
+    return [
+      ...parts,
+      make(
+        'p', { class: 'soft' }, name ? 'Events:' : 'An event a line; a line that begins with * is a remark. Ctrl and Enter run the deck.'),
+      choices
+    ];
+  }
+
+  /**
+   * What a STORE puts into storage, read as channel command words where it can be one.
+   * @param {string[]} words
+   */
+  async #wordsOf([address = '', ...digits]) {
+    const all = digits.join(''), at = parseInt(address, 16);
+    if (!/^([0-9A-F]{16})+$/.test(all) || at % 8 || at < 0x50) return [];
+    const each = (all.match(/.{16}/g) ?? []).slice(0, MOST_WORDS);
+    const texts = await Promise.all(each.map(it => this.hooks.explain('ccw', it)));
+    return texts.map(
+      (text, number) => make(
+        'p', {}, make('span', { class: 'form' }, `${(at + 8 * number).toString(16).toUpperCase().padStart(6, '0')} `), shortened(text)));
+  }
+
+  /**
+   * Writes the name of an event in the place of the one that was begun.
+   * @param {string} name
+   */
+  #complete(name) {
+    const { value, selectionStart } = this.field, from = value.lastIndexOf('\n', selectionStart - 1) + 1;
+    const begun = /^\s*\S*/.exec(value.slice(from))?.[0].length ?? 0, hasWords = !['INT', 'TCH', 'RESET'].includes(name);
+    this.field.setRangeText(name + (hasWords ? ' ' : ''), from, from + begun, 'end');
+    this.field.focus();
+    this.field.dispatchEvent(new Event('input'));
+  }
+
+  /**
+   * Shows the deck that was run, with its answers.
+   * @param {DeckLine[]} lines
+   * @param {string[]} answers
+   * @param {(event: number) => {text: string, kind: string}[]} beside what else is said of an answer
+   */
+  ran(lines, answers, beside) {
+    find('deck').classList.remove('writing');
+    find('editor').hidden = true;
+    this.events.hidden = find('edit').hidden = false;
+    find('run').hidden = true;
+    this.events.replaceChildren(...lines.map(({ number, text, event }) => {
+      if (event === null)
+        return make(
+          'div', { class: 'event remark' }, make('span', { class: 'number' }, number + 1), make('span', { class: 'line' }, text || ' '));
+      const came = answers[event] ?? '',
+            said = [{ text: came, kind: 'came' }, ...beside(event)].filter(it => it.text && it.text !== 'STORE OK' && it.text !== 'KEY OK');
+      const words = said.map(it => make('span', { class: `said ${it.kind}` }, it.kind === 'came' ? `→ ${it.text}` : it.text));
+      return make('div', { class: 'event', 'data-event': event, role: 'button', tabindex: -1 },
+        make('span', { class: 'number' }, number + 1), make('span', { class: 'line' }, text), ...words);
+    }));
+  }
+
+  /**
+   * Which event is next.
+   * @param {number} next
+   */
+  stand(next) {
+    for (const it of /** @type {NodeListOf<HTMLElement>} */ (this.events.querySelectorAll('[data-event]'))) {
+      const event = Number(it.dataset.event);
+      it.classList.toggle('later', event > next);
+      it.classList.toggle('now', event === next);
+      if (event === next) it.scrollIntoView({ block: 'nearest' });
+      for (const said of /** @type {NodeListOf<HTMLElement>} */ (it.querySelectorAll('.said'))) said.hidden = event >= next;
+    }
+  }
+}
+
+/**
+ * The forms of events, as `dasd run --help` has them: `  SIO uuu             Start I/O                SIO uuu CC c, ..`.
+ * @param {string} help
+ */
+export function formsOf(help) {
+  return linesOf(help)
+    .map(it => /^ {2}(([A-Z]+)\S*(?: \S+)*) {2,}(\S.*?) {2,}(\S.*)$/.exec(it))
+    .flatMap(it => (it ? [{ form: it[1], name: it[2], about: it[3], answer: it[4] }] : []));
+}
+
+// The lines of an explanation as one: command, address, flags by name, count.
+/** @param {string} text */
+function shortened(text) {
+  const [command, ...rest] = linesOf(text);
+  const flags = rest.filter(it => it.startsWith('  ')).map(it => it.trim().split(':')[0]),
+        others = rest.filter(it => /^(data address|count|goes)/.test(it));
+  return [command.replace(/^command /, ''), ...others, ...flags].join(' · ');
+}
