@@ -8,6 +8,7 @@
 // FAIL_PUT      the name of a file, without folders, in whose place no file can be put
 // FAIL_READ     the read with this number, of those at a place in a file, fails, and each later one
 // FAIL_READS    the path of a file to which each such read adds a byte
+// PUTS          the path of a file to which each file that is put in a place adds a line: its path
 
 #define _GNU_SOURCE
 #include <dlfcn.h>
@@ -33,10 +34,17 @@ static unsigned long failing_read;
 static unsigned long reads;
 static int failing_file = -1;
 static int log_file = -1;
+static int puts_file = -1;
 
 static unsigned long number(const char *name, unsigned long otherwise) {
     const char *text = getenv(name);
     return text == NULL ? otherwise : strtoul(text, NULL, 10);
+}
+
+// The file that a word of the environment names, to add to.
+static int opened_log(const char *name) {
+    const char *path = getenv(name);
+    return path == NULL ? -1 : next_open(path, O_WRONLY | O_CREAT | O_APPEND, 0600);
 }
 
 __attribute__((constructor)) static void begin(void) {
@@ -49,8 +57,8 @@ __attribute__((constructor)) static void begin(void) {
     output_room = number("FAIL_OUTPUT", (size_t)-1);
     file_room = number("FAIL_FILE", (size_t)-1);
     failing_read = number("FAIL_READ", 0);
-    const char *path = getenv("FAIL_READS");
-    log_file = path == NULL ? -1 : next_open(path, O_WRONLY | O_CREAT | O_APPEND, 0600);
+    log_file = opened_log("FAIL_READS");
+    puts_file = opened_log("PUTS");
 }
 
 static ssize_t failed(void) {
@@ -125,10 +133,20 @@ static int is_barred(const char *path) {
     return name != NULL && strcmp(name, folder == NULL ? path : folder + 1) == 0;
 }
 
+// Tells that a file was put in a place, if it was.
+static int told(int result, const char *path) {
+    int error = errno;
+    if (result == 0 && puts_file >= 0 && dprintf(puts_file, "%s\n", path) < 0) {
+        _exit(3);
+    }
+    errno = error;
+    return result;
+}
+
 int rename(const char *from, const char *to) {
-    return is_barred(to) ? (int)failed() : next_rename(from, to);
+    return is_barred(to) ? (int)failed() : told(next_rename(from, to), to);
 }
 
 int link(const char *from, const char *to) {
-    return is_barred(to) ? (int)failed() : next_link(from, to);
+    return is_barred(to) ? (int)failed() : told(next_link(from, to), to);
 }

@@ -183,10 +183,13 @@ class DasdRow:
         with ExitStack() as kept:
             for word in words:
                 self.prepare(word.rpartition("=")[2], word == traces, kept)
+            puts = Path(kept.enter_context(tempfile.TemporaryDirectory())) / "puts"
             before = self.stamps()
-            out, told = self.run(words, dict(self.environment, FAIL_NAME=traces))
+            out, told = self.run(words, dict(self.environment, FAIL_NAME=traces, PUTS=str(puts)))
             behind = self.stamps()
-        self.replaced = [it for it in sorted(behind, key=lambda it: behind[it][1]) if it != traces and behind[it] != before.get(it)]
+            order = [Path(it).name for it in puts.read_text().splitlines()]
+        others = [it for it in behind if it != traces and it not in order and behind[it] != before.get(it)]
+        self.replaced = [it for it in order if it in behind] + others
         self.shown = [it.decode("ascii") for it in SHOWN.findall(told)]
         if self.shown and self.shown[-1] == "":
             self.shown = [it for it in self.shown if it]
@@ -223,7 +226,7 @@ class DasdRow:
             fcntl.flock(file, fcntl.LOCK_EX)
 
     def stamps(self) -> dict[str, tuple[int, int]]:
-        """For each file its number and when it came to its name."""
+        """For each file its number and when it was changed; two changes within a tick of the clock have the same time."""
         return {it.name: (it.stat().st_ino, it.stat().st_ctime_ns) for it in self.folder.iterdir()}
 
     def run(self, words: list[str], environment: dict[str, str], loaded: str = "failing") -> tuple[str, bytes]:

@@ -17,14 +17,14 @@ IS_SILENT = "import sys\nsys.stdin.read()\n"
 class Play(unittest.TestCase):
     """The command rows/play.py over stages that are no stages."""
 
-    def play(self, program: str) -> tuple[int, str]:
-        """Plays one row at a program of Python; the status, and what is printed."""
+    def play(self, program: str, seconds: int = 60) -> tuple[int, str]:
+        """Plays one row at a program of Python, which may be silent for so long; the status, and what is printed."""
         with tempfile.TemporaryDirectory() as folder:
             stage = Path(folder) / "stage"
             stage.write_text("#!%s\n%s" % (sys.executable, program))
             os.chmod(stage, 0o755)
-            words = [sys.executable, str(TOP / "rows" / "play.py"), str(stage), "--seconds", "2", "--only", "charge 2311 0 80", "tracks"]
-            ran = subprocess.run(words, capture_output=True, text=True, timeout=60, check=False)
+            words = [sys.executable, str(TOP / "rows" / "play.py"), str(stage), "--seconds", str(seconds), "--only", "charge 2311 0 80", "tracks"]
+            ran = subprocess.run(words, capture_output=True, text=True, timeout=120, check=False)
         return ran.returncode, ran.stdout.replace(str(stage), "STAGE")
 
     def test_wrong_row(self) -> None:
@@ -43,8 +43,8 @@ class Play(unittest.TestCase):
     def test_stage_that_ends_or_is_silent(self) -> None:
         """It is told at which line."""
         at = "at CHARGE 2311 0 80"
-        for program, told in ((ENDS, "the stage ended %s" % at), (IS_SILENT, "the stage was silent for 2 s %s" % at)):
-            status, printed = self.play(program)
+        for program, seconds, told in ((ENDS, 60, "the stage ended %s" % at), (IS_SILENT, 2, "the stage was silent for 2 s %s" % at)):
+            status, printed = self.play(program, seconds)
             self.assertEqual((1, True), (status, told in printed), printed)
 
 
