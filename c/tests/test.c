@@ -102,6 +102,12 @@ static void write_and_read(void) {
     store(&other, 0x100, "31000208 40000005 08000100 00000000 06000300 20000008");
     program(&other, 0x001);
     CHECK(shows(&other, 0x300, "E3C5E2E3 40F14040"));
+    CHECK(dasd_show_file(&other, 0x001, 0, &before) == DASD_DONE);
+    store(&other, 0x100, write_record);
+    store(&other, 0x200, record_1);
+    program(&other, 0x001); /* writes what stands there already in the file that was attached */
+    CHECK(dasd_show_file(&other, 0x001, 0, &after) == DASD_DONE && after.changes != before.changes);
+    CHECK(after.len == before.len && shows(&other, 0x300, "E3C5E2E3 40F14040"));
     CHECK(dasd_free(&other) == DASD_DONE);
 }
 
