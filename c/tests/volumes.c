@@ -267,6 +267,39 @@ static void two_blocks(void) {
     CHECK(dasd_free(&d) == DASD_DONE);
 }
 
+/* Bytes that an image has behind a track's end mark mean nothing, and are zeros once something is written to the track: by a Write Data that
+ * ends before its record, which zeros fill, and by one of the whole record. Another track keeps its own. */
+static void behind_the_end_mark(void) {
+    enum { SLOT = 4096, RECORD_1 = 21, DATA = RECORD_1 + 8, MARK = DATA + 8, BEHIND = MARK + 8 };
+    static const uint8_t count[8] = {0, 0, 0, 0, 1, 0, 0, 8}, zeros[SLOT];
+    static const char *const commands[2] = {"05000220 20000004", "05000220 00000008"};
+    static const uint8_t left[2][16] = {{1, 2, 3, 4, 0, 0, 0, 0, 255, 255, 255, 255, 255, 255, 255, 255},
+                                        {1, 2, 3, 4, 5, 6, 7, 8, 255, 255, 255, 255, 255, 255, 255, 255}};
+    static uint8_t image[HEADER + CYLINDER];
+    const dasd_bytes file = {image, sizeof image};
+    memcpy(image, bytes[0], sizeof image);
+    image[SEQUENCE] = image[HIGHEST_CYLINDER] = 0; /* the only file */
+    for (size_t slot = HEADER; slot < HEADER + 2 * SLOT; slot += SLOT) {
+        memcpy(image + slot + RECORD_1, count, sizeof count);
+        memset(image + slot + DATA, 0xC1, 8);
+        memset(image + slot + MARK, 0xFF, 8);
+        memset(image + slot + BEHIND, 0xAA, SLOT - BEHIND);
+    }
+    for (int i = 0; i < 2; i++) {
+        dasd d = DASD_NOTHING;
+        dasd_file after = {image, sizeof image, 0};
+        CHECK(dasd_new(&d, 4096, DASD_CHANNEL(1)) == DASD_DONE && dasd_attach(&d, 0x190, &file, 1) == DASD_DONE);
+        store(&d, 0x48, "00000100");
+        store(&d, 0x220, "01020304 05060708");
+        at_record(&d, 0, 1, commands[i]); /* Write Data */
+        CHECK(dasd_show_file(&d, 0x190, 0, &after) == DASD_DONE && after.len == sizeof image);
+        CHECK(!memcmp(after.at, image, HEADER + DATA) && !memcmp(after.at + HEADER + DATA, left[i], sizeof left[i]));
+        CHECK(!memcmp(after.at + HEADER + BEHIND, zeros, SLOT - BEHIND));
+        CHECK(!memcmp(after.at + HEADER + SLOT, image + HEADER + SLOT, CYLINDER - SLOT));
+        CHECK(dasd_free(&d) == DASD_DONE);
+    }
+}
+
 /* An interruption of each channel pends: under every mask the lowest channel that is in it gives its own. */
 static void every_mask(void) {
     dasd d = DASD_NOTHING;
@@ -330,6 +363,7 @@ int main(void) {
     taken_off();
     above_the_channels();
     two_blocks();
+    behind_the_end_mark();
     every_mask();
 #ifdef HEAP
     refused_memory();
