@@ -8,7 +8,7 @@ The pack is called SAMPLE. Its data sets are those of the table below, and what 
 `text`, line by line. The same texts give the same bytes. Nothing but Python is needed: `dasd` takes no part.
 
 Layouts: System Control Blocks (GC28-6628), 'Volume Label', 'Data Set Control Block' and 'Partitioned Data Set Directory', by
-tools/written_labels.py and tools/volume_layouts.py; record formats: Data Management Services (GC26-3746), by tools/record_forms.py."""
+tools/common/written_labels.py and tools/common/volume_layouts.py; record formats: Data Management Services (GC26-3746), by tools/common/record_forms.py."""
 
 import sys
 from dataclasses import dataclass, field
@@ -16,12 +16,12 @@ from pathlib import Path
 
 sys.dont_write_bytecode = True
 HERE = Path(__file__).resolve().parent
-sys.path.insert(0, str(HERE.parent / "tools"))
+sys.path.insert(0, str(HERE.parent))
 
-from record_forms import fixed_blocks, variable_blocks
-from scratch_files import header, track
-from volume_layouts import Extents, Image, Member, count_free, partition
-from written_labels import DataSet, put_label
+from tools.common.record_forms import fixed_blocks, variable_blocks
+from tools.gate.scratch_files import header, track
+from tools.common.volume_layouts import Extents, Image, Member, count_free, partition
+from tools.common.written_labels import DataSet, put_label
 
 MODEL, CYLINDERS, HEADS = "2311", 5, 10
 SERIAL, OWNER = "SAMPLE", "SIXAMBRA"

@@ -3,17 +3,17 @@
 
     example_pack.py FILE
 
-The layouts are those of tools/volume_layouts.py and tools/written_labels.py; the blank volume is written as conformance/FORMAT.md describes
+The layouts are those of tools/common/volume_layouts.py and tools/common/written_labels.py; the blank volume is written as conformance/FORMAT.md describes
 images. What stands in the data sets is made up, and repeats itself, so that the pack is small when it is packed."""
 
 import pathlib
 import sys
 
 sys.dont_write_bytecode = True
-sys.path.insert(0, str(pathlib.Path(__file__).resolve().parent.parent / "tools"))
+sys.path.insert(0, str(pathlib.Path(__file__).resolve().parent.parent))
 
-from volume_layouts import END, HEADER, Extents, Image, Member, ebcdic, partition
-from written_labels import DataSet, put_label
+from tools.common.volume_layouts import END, HEADER, Extents, Image, Member, ebcdic, partition
+from tools.common.written_labels import DataSet, put_label
 
 MODEL, SERIAL = "2314", "SIX001"
 CYLINDERS, HEADS, SLOT = 203, 20, 7680

@@ -13,7 +13,8 @@ import sys
 import tempfile
 from dataclasses import dataclass
 
-TOP = pathlib.Path(__file__).resolve().parent.parent
+from tools import TOP
+
 BUILT = TOP / "crates/dasd_cmd/out/dasd_cmd"
 ENVIRONMENT = dict(os.environ, HERCULES_CP="819/037")
 Extents = list[tuple[int, int, int, int]]

@@ -9,7 +9,7 @@ from pathlib import Path
 from types import ModuleType
 from typing import Any
 
-TOP = Path(__file__).resolve().parent.parent
+from tools import TOP
 
 
 @functools.cache

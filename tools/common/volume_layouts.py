@@ -1,15 +1,11 @@
-"""The layouts that tools/hercules_volumes.py writes and reads itself: images in memory, partitioned data sets and control blocks.
+"""The layouts that tools/make/hercules_volumes.py writes and reads itself: images in memory, partitioned data sets and control blocks.
 
 By System Control Blocks (GC28-6628), 'Partitioned Data Set Directory' and 'Data Set Control Block'. It shares no code with `dasd`."""
 
 import pathlib
-import sys
 from dataclasses import dataclass
 
-sys.dont_write_bytecode = True
-sys.path.insert(0, str(pathlib.Path(__file__).resolve().parent))
-
-from record_forms import cut
+from tools.common.record_forms import cut
 
 HEADER = 512
 END = b"\xff" * 8

@@ -2,14 +2,9 @@
 
 The layouts are those of System Control Blocks (GC28-6628), 'Volume Label' and 'Data Set Control Block'. The table is track 1 of the volume."""
 
-import pathlib
-import sys
 from dataclasses import dataclass
 
-sys.dont_write_bytecode = True
-sys.path.insert(0, str(pathlib.Path(__file__).resolve().parent))
-
-from volume_layouts import HEADER, Image, ebcdic
+from tools.common.volume_layouts import HEADER, Image, ebcdic
 
 FIRST_SET = 3
 BLOCKS = {"2311": 16, "2314": 25}

@@ -1,13 +1,13 @@
-#!/usr/bin/env python3
 """Compares the table of code page 037 in volume_labels' definitions with Python's codec cp037, byte by byte.
 
 It prints how many characters agree, and ends with status 1 where one does not."""
 
-import pathlib
 import re
 import sys
 
-DEFINITIONS = pathlib.Path(__file__).parent.parent / "crates/volume_labels/specs/Ebcdic.antt"
+from tools import TOP
+
+DEFINITIONS = TOP / "crates/volume_labels/specs/Ebcdic.antt"
 
 
 def table(text: str) -> list[int]:

@@ -1,4 +1,3 @@
-#!/usr/bin/env python3
 """Looks for what is stale in the documents.
 
 - Each crate of crates.txt has a README.md, and a row in docs/MAP.md; README.md at the top has at most 7,168 bytes.
@@ -12,9 +11,9 @@ Prints what is wrong; the last line is 'N things looked at in the documents, M w
 
 import re
 import sys
-from pathlib import Path
 
-TOP = Path(__file__).resolve().parent.parent
+from tools import TOP
+
 MOST_BYTES = 7168
 
 CODE = re.compile(r"`([^`\n]+)`")

@@ -1,7 +1,6 @@
-#!/usr/bin/env python3
 """Looks whether each line that `dasd` prints with `--json` is what docs/dasd.schema.json says.
 
-    tools/check_json.py [--built FILE] [--suites]
+    tools/run gate/check_json [--built FILE] [--suites]
 
 Each command runs over the sample pack, over copies of it with faults, and over the images of the conformance suite. With `--suites` the
 scripts below run too, with a program in the place of `dasd` that keeps what is printed with `--json`: it takes some minutes. The program is
@@ -21,7 +20,8 @@ from collections.abc import Iterator
 from pathlib import Path
 from typing import Any
 
-sys.dont_write_bytecode = True
+from tools import TOP
+
 
 DEBIAN = "/usr/bin/python3"
 try:
@@ -29,17 +29,16 @@ try:
 except ImportError:
     # a Python beside the system's does not see Debian's package
     if Path(DEBIAN).exists() and not os.path.samefile(DEBIAN, sys.executable):
-        os.execv(DEBIAN, [DEBIAN, *sys.argv])
+        os.execv(DEBIAN, [DEBIAN, "-m", "tools.gate.check_json", *sys.argv[1:]])
     sys.exit("no jsonschema here: apt-get install python3-jsonschema")
 
-TOP = Path(__file__).resolve().parent.parent
 SCHEMA = TOP / "docs/dasd.schema.json"
 HEADER, SLOT, HEADS = 512, 4096, 10
 SUITES = [
-    ["tools/real_files.py", "--built"],
-    ["tools/play_archives.py"],
-    ["tools/compare_contents.py"],
-    ["tools/compare_extract.py"],
+    ["gate/real_files", "--built"],
+    ["gate/play_archives"],
+    ["gate/compare_contents"],
+    ["gate/compare_extract"],
 ]
 # Keeps the command and the output of each run with --json.
 KEEPING = """#!/bin/sh
@@ -199,7 +198,7 @@ def play_suites(dasd: Path, folder: Path, lines: Lines) -> None:
     program.write_text(KEEPING.format(kept=kept, dasd=dasd), encoding="utf-8")
     program.chmod(0o755)
     for suite in SUITES:
-        done = subprocess.run([TOP / suite[0], *suite[1:], program], cwd=TOP, capture_output=True, text=True, check=False)
+        done = subprocess.run([TOP / "tools/run", *suite, program], cwd=TOP, capture_output=True, text=True, check=False)
         print(f"{suite[0]}: {(done.stdout.splitlines() or [''])[-1]}{done.stderr[-200:]}")
     for command in sorted(kept.glob("*.command")):
         lines.look(command.read_text(encoding="utf-8").strip(), command.with_suffix("").read_text(encoding="utf-8"))

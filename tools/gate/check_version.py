@@ -1,4 +1,3 @@
-#!/usr/bin/env python3
 """Compares every copy of the version with the file VERSION, which is the one place where it stands.
 
 A copy is a line of a file that a pattern finds: the program's word for --version, the C header, packages, README.md, CITATION.cff and the newest
@@ -8,9 +7,9 @@ Prints each copy that is wrong; the last line is 'N copies of the version, M wro
 
 import re
 import sys
-from pathlib import Path
 
-TOP = Path(__file__).resolve().parent.parent
+from tools import TOP
+
 
 # Where the version is shown, and the pattern of the line there; the first line that fits is the copy.
 COPIES = {

@@ -1,9 +1,8 @@
-#!/usr/bin/env python3
 """Compares what `dasd vtoc` says of volumes with what Hercules' tools say of them, field by field.
 
-    tools/compare_contents.py [DASD]
+    tools/run gate/compare_contents [DASD]
 
-The volumes are those of tools/hercules_volumes.py: of both drives, with data sets of all organisations and record formats, of one to
+The volumes are those of tools/make/hercules_volumes.py: of both drives, with data sets of all organisations and record formats, of one to
 sixteen extents, with dates of creation and of expiry. The program is the word, or else the built one of crates/dasd_cmd. It needs
 Debian's package hercules. Each difference is a line; the last line is 'N compared, M differ', and the status 1 where M is not 0.
 
@@ -35,12 +34,8 @@ import re
 import sys
 import tempfile
 
-sys.dont_write_bytecode = True
-sys.path.insert(0, str(pathlib.Path(__file__).resolve().parent))
-
-import hercules_readings as readings
-import hercules_volumes as volumes
-import volume_layouts as layouts
+from tools.common import hercules_readings as readings, volume_layouts as layouts
+from tools.make import hercules_volumes as volumes
 
 LABEL = re.compile(r"(\S+)  owner (.*)  VTOC (\w{4}) (\w{4}) \.\. (\w{4}) (\w{4})")
 LINE = re.compile(r"(.{44}) (.{8}) (.{8}) (.{3}) (.{5}) (.{5}) (.{5}) (.{6}) (.{6}) (.{7})")

@@ -1,16 +1,15 @@
-#!/usr/bin/env python3
 """Has `dasd run` write volumes by channel programs, and compares what Hercules' tools read of them with what was to be written.
 
-    tools/compare_decks.py [DASD]
+    tools/run gate/compare_decks [DASD]
 
 A volume is made in memory first; then a deck writes it into a new image of `dasd format`: for each track with more than record 0, Seek,
 Search Identifier Equal for record 0, and one Write Count, Key and Data after another. Each answer of the deck is looked at, and the
 image must hold the same bytes as the one in memory. The volumes are, for both drives:
 
 - one with a label: VOL1 as record 3 of cylinder 0, head 0, and blocks of formats 4, 5, 1 and 3 on the track behind it, all spelled by
-  tools/written_labels.py; a sequential data set over five extents, and a partitioned one;
+  tools/common/written_labels.py; a sequential data set over five extents, and a partitioned one;
 - one without any label;
-- those of tools/hercules_volumes.py, each written by decks anew, track by track.
+- those of tools/make/hercules_volumes.py, each written by decks anew, track by track.
 
 `dasdls` must list the data sets as they were meant, `dasdseq` and `dasdcat` give their records and members, `dasdpdsu` unload them,
 `dasdseq -abs` find the records where there is no label, and `dasdcopy` make an image in which `dasd compare` finds nothing else.
@@ -23,14 +22,10 @@ import random
 import sys
 import tempfile
 
-sys.dont_write_bytecode = True
-sys.path.insert(0, str(pathlib.Path(__file__).resolve().parent))
-
-import hercules_readings as readings
-import hercules_volumes as volumes
-import volume_layouts as layouts
-from record_forms import cut, fixed_blocks
-from written_labels import DataSet, put_label
+from tools.common import hercules_readings as readings, volume_layouts as layouts
+from tools.common.record_forms import cut, fixed_blocks
+from tools.common.written_labels import DataSet, put_label
+from tools.make import hercules_volumes as volumes
 
 PROGRAM, ARGUMENTS, DATA = 0x400, 0x1000, 0x2000
 SEEK, SEARCH, TRANSFER, WRITE = 0x07, 0x31, 0x08, 0x1D

@@ -1,9 +1,8 @@
-#!/usr/bin/env python3
 """Compares what `dasd extract` takes out of volumes with what was put there, and with what Hercules' tools read.
 
-    tools/compare_extract.py [DASD]
+    tools/run gate/compare_extract [DASD]
 
-The volumes are those of tools/hercules_volumes.py: data sets of all record formats over one to sixteen extents, and partitioned ones with
+The volumes are those of tools/make/hercules_volumes.py: data sets of all record formats over one to sixteen extents, and partitioned ones with
 source, load modules and records of variable length. The program is the word, or else the built one of crates/dasd_cmd. It needs Debian's
 package hercules. Each difference is a line; the last line is 'N compared, M differ', and the status 1 where M is not 0.
 
@@ -23,7 +22,7 @@ What Hercules' tools can't tell, or tell otherwise, is left out:
 - control characters, which they print and `dasd` shows as U+FFFD: two data sets of bytes by chance are compared with what was put there;
 - they know no text in records of variable or undefined length, and none of them reads a data set that is not partitioned and has such
   records or is direct or indexed sequential: these are compared with what was put there alone, by a reading of record formats that shares
-  no code with `dasd` (tools/record_forms.py);
+  no code with `dasd` (tools/common/record_forms.py);
 - `dasdcat` shows names of members in small letters, which are made large again.
 
 Of a spanned record `dasd` drops the blanks at the end of its last segment alone (docs/DECISIONS.md), and so does that reading."""
@@ -35,12 +34,9 @@ import sys
 import tempfile
 from dataclasses import dataclass
 
-sys.dont_write_bytecode = True
-sys.path.insert(0, str(pathlib.Path(__file__).resolve().parent))
-
-import hercules_readings as readings
-import hercules_volumes as volumes
-from record_forms import cut, records_of, text_of
+from tools.common import hercules_readings as readings
+from tools.common.record_forms import cut, records_of, text_of
+from tools.make import hercules_volumes as volumes
 
 CARD, COLUMNS = 80, 72
 NO_END = "the extents end before an end of file"

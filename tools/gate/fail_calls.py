@@ -1,7 +1,6 @@
-#!/usr/bin/env python3
 """Lets each call of the system fail in turn, for each command of the built `dasd`, and looks at what it says and leaves.
 
-    tools/fail_calls.py [--built FILE] [--jobs N] [COMMAND..]
+    tools/run gate/fail_calls [--built FILE] [--jobs N] [COMMAND..]
 
 A command is run once as it is, and what it printed and left is kept; then once for each of its calls that works with files, and each way in which that call may
 fail, once or from there on (by Debian's `strace --inject`), and once more for each, killed there. Wanted is:
@@ -29,13 +28,10 @@ from dataclasses import dataclass
 from pathlib import Path
 from typing import NamedTuple
 
-sys.dont_write_bytecode = True
-sys.path.insert(0, str(Path(__file__).resolve().parent))
+from tools import TOP
+from tools.gate.real_extracts import SETS, spell
+from tools.gate.scratch_files import WRITE, volume
 
-from real_extracts import SETS, spell
-from scratch_files import WRITE, volume
-
-TOP = Path(__file__).resolve().parent.parent
 # How a call may fail, beside being killed there; with `on` behind it all calls of that name fail from there on, as those of a disk that has gone do: what
 # was read ahead in vain is read once more, just as much as is wanted.
 ERRORS = {
@@ -67,8 +63,6 @@ class Command:
     name: str
     words: list[str]
     given: bytes = b""  # on standard input
-
-
 
 
 def deck_for(unit: str) -> bytes:

@@ -11,7 +11,7 @@ In Markdown an example is a fenced block, by the first word behind its fence:
 Further words behind the fence, which no reader of the page sees:
 
     status=N        the last command of the block ends with N, and not with 0
-    needs=WORD      it is run only where WORD is to be had (tools/run_pages.py says which words there are)
+    needs=WORD      it is run only where WORD is to be had (tools/gate/run_pages.py says which words there are)
 
 A line of three periods alone stands for any lines. An indented block is none of these, and is told as a mistake.
 

@@ -1,4 +1,3 @@
-#!/usr/bin/env python3
 """Plays the commands of docs/ARCHIVES.md over a hundred volumes that it makes, and one that is too short, and looks at the answers.
 
 The program `dasd` is the word that is given, or else the built one of crates/dasd_cmd. The commands are those of the section on
@@ -10,12 +9,9 @@ import subprocess
 import sys
 import tempfile
 
-sys.dont_write_bytecode = True
-sys.path.insert(0, str(pathlib.Path(__file__).resolve().parent))
+from tools import TOP
+from tools.gate.page_examples import blocks_of
 
-from page_examples import blocks_of
-
-TOP = pathlib.Path(__file__).resolve().parent.parent
 PAGE = TOP / "docs/ARCHIVES.md"
 SECTION = "## Ten thousand volumes"
 VOLUMES = 100

@@ -1,14 +1,14 @@
-"""Rows of tools/real_files.py: what `dasd extract` writes to standard output and to files, and what it leaves alone.
+"""Rows of tools/gate/real_files.py: what `dasd extract` writes to standard output and to files, and what it leaves alone.
 
-The volume is spelled here, by the layouts of tools/written_labels.py: a sequential data set, a partitioned one over two extents, one whose
+The volume is spelled here, by the layouts of tools/common/written_labels.py: a sequential data set, a partitioned one over two extents, one whose
 name would lead out of a folder, one that has no end of file, one of a format that has no records, and two of one name."""
 
 import json
 import os
 
-from scratch_files import ROWS, fault, is_held, row, same, volume
-from volume_layouts import Extents, Image, directory_blocks, ebcdic
-from written_labels import DataSet, put_label
+from tools.common.volume_layouts import Extents, Image, directory_blocks, ebcdic
+from tools.common.written_labels import DataSet, put_label
+from tools.gate.scratch_files import ROWS, fault, is_held, row, same, volume
 
 __all__ = ["ROWS"]
 MODEL = "2311"

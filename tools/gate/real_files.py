@@ -1,9 +1,8 @@
-#!/usr/bin/env python3
 """Runs the built program `dasd` over real files in a scratch folder, and compares what stands there afterwards byte for byte.
 
 Each row makes files, runs commands and says what they print, end with and leave: links, pipes, devices, modes, owners, full
-disks, broken pipes, odd names and files that are no images; kills, runs at once and traces in tools/real_runs.py, `dasd extract` in
-tools/real_extracts.py, strict checks, dumps and comparisons in tools/real_archives.py, findings in tools/real_findings.py, and lists in tools/real_lists.py. A row that needs root, a small file
+disks, broken pipes, odd names and files that are no images; kills, runs at once and traces in tools/gate/real_runs.py, `dasd extract` in
+tools/gate/real_extracts.py, strict checks, dumps and comparisons in tools/gate/real_archives.py, findings in tools/gate/real_findings.py, and lists in tools/gate/real_lists.py. A row that needs root, a small file
 system of its own or a device, where these can't be had, is skipped, with a word.
 
 It runs crates/dasd_cmd/out/dasd_cmd, as `rt ci` or `rt run` leaves it; with --built FILE that program; with words behind, the
@@ -24,17 +23,9 @@ import tempfile
 import time
 from pathlib import Path
 
-sys.dont_write_bytecode = True
-sys.path.insert(0, str(Path(__file__).resolve().parent))
-
-import real_archives
-import real_extracts
-import real_findings
-import real_lists
-import real_runs
-from scratch_files import ANSWERS, NOBODY, ROWS, WRITE, Scratch, Skipped, fault, header, is_held, row, same, volume, wrote
-
-TOP = Path(__file__).resolve().parent.parent
+from tools import TOP
+from tools.gate import real_archives, real_extracts, real_findings, real_lists, real_runs
+from tools.gate.scratch_files import ANSWERS, NOBODY, ROWS, WRITE, Scratch, Skipped, fault, header, is_held, row, same, volume, wrote
 
 
 # Links.

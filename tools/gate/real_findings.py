@@ -1,15 +1,15 @@
-"""Rows of tools/real_files.py: what `dasd` finds wrong with tables of contents, data sets and files, and what `explain` says of single bits.
+"""Rows of tools/gate/real_files.py: what `dasd` finds wrong with tables of contents, data sets and files, and what `explain` says of single bits.
 
-A volume is that of tools/real_extracts.py, a 2311 of two cylinders, with one thing wrong. Its table is track 1: record 1 is the control block of format 4,
+A volume is that of tools/gate/real_extracts.py, a 2311 of two cylinders, with one thing wrong. Its table is track 1: record 1 is the control block of format 4,
 record 2 that of format 5, records 3 to 8 those of six data sets (System Control Blocks, GC28-6628, 'Data Set Control Block')."""
 
 import os
 import shutil
 import subprocess
 
-from real_extracts import CARDS, LIBRARY, LINES, MODEL, SETS, card, raw, spell
-from scratch_files import ROWS, WRITE, Skipped, fault, header, is_held, row, same, track, volume, waiting_run
-from volume_layouts import Extents, Image, directory_blocks, ebcdic
+from tools.common.volume_layouts import Extents, Image, directory_blocks, ebcdic
+from tools.gate.real_extracts import CARDS, LIBRARY, LINES, MODEL, card, raw, spell
+from tools.gate.scratch_files import ROWS, WRITE, Skipped, fault, header, is_held, row, same, track, volume, waiting_run
 
 __all__ = ["ROWS"]
 FREE_BLOCK, FIRST_SET, LAST_SET = 2, 3, 8

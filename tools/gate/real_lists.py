@@ -1,9 +1,9 @@
-"""Rows of tools/real_files.py: what is listed and compared of volumes of several cylinders, and a data set of more than three extents."""
+"""Rows of tools/gate/real_files.py: what is listed and compared of volumes of several cylinders, and a data set of more than three extents."""
 
-from real_extracts import MODEL
-from scratch_files import ROWS, row, same, volume
-from volume_layouts import Image
-from written_labels import DataSet, put_label
+from tools.common.volume_layouts import Image
+from tools.common.written_labels import DataSet, put_label
+from tools.gate.real_extracts import MODEL
+from tools.gate.scratch_files import ROWS, row, same, volume
 
 __all__ = ["ROWS"]
 HEADER, SLOT, HEADS = 512, 4096, 10

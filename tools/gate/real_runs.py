@@ -1,10 +1,10 @@
-"""Rows of tools/real_files.py: programs that are killed, several at once, and traces beside answers."""
+"""Rows of tools/gate/real_files.py: programs that are killed, several at once, and traces beside answers."""
 
 import os
 import signal
 import time
 
-from scratch_files import ANSWERS, ROWS, Skipped, WRITE, fault, is_held, row, same, volume, waiting_run, wrote
+from tools.gate.scratch_files import ANSWERS, ROWS, WRITE, Skipped, fault, is_held, row, same, volume, waiting_run, wrote
 
 __all__ = ["ROWS"]
 

@@ -1,4 +1,3 @@
-#!/usr/bin/env python3
 """Refuses the built programs each taking of memory in turn, alone, and looks at what comes back.
 
 `test_refused_memory` makes each call of the libraries that takes memory: a call of which a taking is refused says that there is no
@@ -23,12 +22,9 @@ import sys
 import tempfile
 from pathlib import Path
 
-sys.dont_write_bytecode = True
-sys.path.insert(0, str(Path(__file__).resolve().parent))
+from tools import TOP
+from tools.gate.real_extracts import SETS, spell
 
-from real_extracts import SETS, spell
-
-TOP = Path(__file__).resolve().parent.parent
 CALL = re.compile(r"([A-Za-z:]+): ([a-z ,]+)\n")
 DECK = """STORE 48 00000400
 STORE 400 3100050040000005 0800040000000000 1D0006000000000C
@@ -74,7 +70,7 @@ JOBS = {
 def library(folder):
     """Compiles the library that refuses."""
     made = f"{folder}/refuse_memory.so"
-    words = [os.environ.get("CC") or "cc", "-shared", "-fPIC", "-O1", "-Wall", "-o", made, f"{TOP}/tools/refuse_memory.c", "-ldl"]
+    words = [os.environ.get("CC") or "cc", "-shared", "-fPIC", "-O1", "-Wall", "-o", made, f"{TOP}/tools/gate/refuse_memory.c", "-ldl"]
     if not shutil.which(words[0]):
         sys.exit("refuse_memory.py: there is no C compiler: set CC")
     subprocess.run(words, check=True)

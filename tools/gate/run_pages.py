@@ -1,10 +1,9 @@
-#!/usr/bin/env python3
 """Runs the examples of the pages as they stand there, and compares what they print with what the pages say.
 
-    tools/run_pages.py [--built FILE] [--with WORD] [PAGE ..]
+    tools/run gate/run_pages [--built FILE] [--with WORD] [PAGE ..]
 
 PAGES below has the pages; `--help` is the help of the program and of each command. How an example is told from other blocks says
-tools/page_examples.py. Each page has an empty folder of its own, in which its examples run one after another by bash: with `dasd` on
+tools/gate/page_examples.py. Each page has an empty folder of its own, in which its examples run one after another by bash: with `dasd` on
 the path, the folders of the repository under their names, and the sample pack as pack.ckd, and as big_1.ckd and big_2.ckd in two files.
 Their output is what standard output and standard error have together.
 
@@ -24,12 +23,9 @@ from collections.abc import Callable
 from dataclasses import dataclass
 from pathlib import Path
 
-sys.dont_write_bytecode = True
-sys.path.insert(0, str(Path(__file__).resolve().parent))
+from tools import TOP
+from tools.gate.page_examples import BadPage, Example, is_printed, of_help, read
 
-from page_examples import BadPage, Example, is_printed, of_help, read
-
-TOP = Path(__file__).resolve().parent.parent
 HELP = "--help"
 PAGES = [
     "README.md",
@@ -248,7 +244,7 @@ def main() -> int:
     pages = [HELP if it == "help" else it for it in given.pages] or PAGES
     for page in [] if given.pages else forgotten():
         count.wrong += 1
-        print(f"{page} has examples, and is not among the pages of tools/run_pages.py")
+        print(f"{page} has examples, and is not among the pages of tools/gate/run_pages.py")
     for page in pages:
         try:
             run_page(page, dasd, given.asked, count)

@@ -1,19 +1,13 @@
-#!/usr/bin/env python3
-"""Tests of check_documents.py, check_version.py and sharpness.py, over a small repository that is made for each: `tools/test_checks.py`."""
+"""Tests of check_documents.py, check_version.py and sharpness.py, over a small repository that is made for each: `tools/gate/test_checks.py`."""
 
 import contextlib
 import io
-import sys
 import tempfile
 import unittest
 from pathlib import Path
 
-sys.dont_write_bytecode = True
-sys.path.insert(0, str(Path(__file__).resolve().parent))
-
-import check_documents
-import check_version
-import sharpness
+from tools.gate import check_documents, check_version
+from tools.measure import sharpness
 
 PAGES = {
     "crates.txt": "# crates\nlow:\n",

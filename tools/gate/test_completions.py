@@ -1,7 +1,6 @@
-#!/usr/bin/env python3
 """Types at real shells and looks at what they complete, by completions/; and plants faults in what make_completions.py compares.
 
-    tools/test_completions.py
+    tools/run gate/test_completions
 
 Each of bash, zsh and fish that is installed runs at a terminal of its own, in a folder with some files; another is skipped."""
 
@@ -11,19 +10,14 @@ import re
 import select
 import shutil
 import signal
-import sys
 import tempfile
 import time
 import unittest
 from pathlib import Path
 
-sys.dont_write_bytecode = True
-sys.path.insert(0, str(Path(__file__).resolve().parent))
+from tools import TOP
+from tools.make import completions as make_completions, help_words
 
-import help_words
-import make_completions
-
-TOP = Path(__file__).resolve().parent.parent
 SECONDS = 30
 # How each shell is begun, and what makes it know the completions.
 SHELLS = {

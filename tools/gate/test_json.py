@@ -1,16 +1,10 @@
-#!/usr/bin/env python3
 """Tests of check_json.py: lines as the definitions of `dasd` have them pass, and each fault that is planted in one is seen."""
 
 import json
-import sys
 import unittest
-from pathlib import Path
 from typing import Any
 
-sys.dont_write_bytecode = True
-sys.path.insert(0, str(Path(__file__).resolve().parent))
-
-import check_json
+from tools.gate import check_json
 
 # A line of each object, by its command.
 RIGHT: list[tuple[str, dict[str, Any]]] = [

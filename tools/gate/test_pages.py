@@ -1,5 +1,4 @@
-#!/usr/bin/env python3
-"""Tests of run_pages.py and page_examples.py, over small pages and a program that stands in for `dasd`: `tools/test_pages.py`.
+"""Tests of run_pages.py and page_examples.py, over small pages and a program that stands in for `dasd`: `tools/gate/test_pages.py`.
 
 A page that is right passes; each fault that is planted in it is seen: a digit, a word, a line, an option, a status, a mark."""
 
@@ -11,11 +10,7 @@ import unittest
 from pathlib import Path
 from unittest import mock
 
-sys.dont_write_bytecode = True
-sys.path.insert(0, str(Path(__file__).resolve().parent))
-
-import page_examples
-import run_pages
+from tools.gate import page_examples, run_pages
 
 # What stands in for `dasd`: it prints its words, and with --strict ends with 1 behind a line on standard error.
 PROGRAM = """#!/bin/sh
@@ -98,7 +93,7 @@ class Pages(unittest.TestCase):
             program.write_text(PROGRAM, encoding="utf-8")
             program.chmod(0o755)
             for folder_of_ours in ("sample", "tools", "c", "VERSION"):
-                (top / folder_of_ours).symlink_to(Path(run_pages.__file__).parent.parent / folder_of_ours)
+                (top / folder_of_ours).symlink_to(run_pages.TOP / folder_of_ours)
             if name != run_pages.HELP:
                 (top / name).write_text(text, encoding="utf-8")
             printed = io.StringIO()

@@ -1,8 +1,7 @@
-#!/usr/bin/env python3
 """Tries the must-fail edits that the gate leaves out: the prover must refuse each.
 
-    tools/try_edits.py [CRATE..]
-    tools/try_edits.py --texts
+    tools/run gate/try_edits [CRATE..]
+    tools/run gate/try_edits --texts
 
 They stand in tools/edits/CRATE, in the form of those in crates/CRATE/must-fail, which the gate tries each time. Without a name all of them are tried: before
 a version is tagged. With names, those of these crates: by whoever changes one of them. What the crates stand on is proved first, as far as it is
@@ -19,7 +18,8 @@ import sys
 import tempfile
 from pathlib import Path
 
-TOP = Path(__file__).resolve().parent.parent
+from tools import TOP
+
 EDITS = TOP / "tools" / "edits"
 LAST = re.compile(r"^\d+ passed, \d+ failed")
 

@@ -1,7 +1,6 @@
-#!/usr/bin/env python3
 """Keeps the LLVM module of a proved crate: the proved code as the kit lowers it for plain x86-64, which is all that a compiler is given.
 
-    tools/capture.py CRATE MODULE.bc
+    tools/run make/capture CRATE MODULE.bc
 
 CRATE is `dasd_c`, the library, or `dasd_cmd`, the program. Rattle checks the crate over the libraries that stand in this checkout,
 as `rt ci` checks each crate over those below it, and compiles what it proved. It does not see whether those libraries are made of
@@ -24,10 +23,8 @@ from pathlib import Path
 from types import ModuleType
 from typing import Any
 
-sys.dont_write_bytecode = True
-sys.path.insert(0, str(Path(__file__).resolve().parent))
-
-from kit import TOP, kit, kit_crate
+from tools import TOP
+from tools.common.kit import kit, kit_crate
 
 CPU = "x86-64"
 KEEPING = """#!/bin/sh

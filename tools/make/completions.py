@@ -1,8 +1,7 @@
-#!/usr/bin/env python3
 """Makes what shells complete of the words of `dasd`, and the options of its manual page, of the words of `dasd --help`.
 
-    tools/make_completions.py [--built FILE]             writes completions/ and the section OPTIONS of docs/dasd.1
-    tools/make_completions.py --check [--built FILE]     compares them with what would be written
+    tools/run make/completions [--built FILE]             writes completions/ and the section OPTIONS of docs/dasd.1
+    tools/run make/completions --check [--built FILE]     compares them with what would be written
 
 The program is crates/dasd_cmd/out/dasd_cmd, or FILE. `--check` also looks whether the synopsis of the manual page has each option of each
 command, and no other. The last line is 'N files looked at, M are not as --help has it', and the status 1 where M is not 0."""
@@ -13,22 +12,17 @@ import sys
 from collections.abc import Callable
 from pathlib import Path
 
-sys.dont_write_bytecode = True
-sys.path.insert(0, str(Path(__file__).resolve().parent))
+from tools import TOP
+from tools.make import completions_bash, completions_fish, completions_zsh
+from tools.make.help_words import Command, Option, read
 
-import completions_bash
-import completions_fish
-import completions_zsh
-from help_words import Command, Option, read
-
-TOP = Path(__file__).resolve().parent.parent
 MANUAL = "docs/dasd.1"
 WRITERS: dict[str, Callable[[Command, list[Command]], str]] = {
     "completions/dasd.bash": completions_bash.write,
     "completions/_dasd": completions_zsh.write,
     "completions/dasd.fish": completions_fish.write,
 }
-MADE = '.\\" Made by tools/make_completions.py of the words of the help.\n'
+MADE = '.\\" Made by tools/make/completions.py of the words of the help.\n'
 
 
 def item(option: Option) -> str:
@@ -90,7 +84,7 @@ def check(files: dict[str, str], commands: list[Command]) -> int:
         path = TOP / name
         faults = synopsis_faults(text, commands) if name == MANUAL else []
         if not path.is_file() or path.read_text(encoding="utf-8") != text:
-            faults.append(f"{name} is not as --help has it: tools/make_completions.py makes it")
+            faults.append(f"{name} is not as --help has it: tools/make/completions.py makes it")
         print("".join(f"{it}\n" for it in faults), end="")
         wrong += bool(faults)
     return wrong

@@ -1,9 +1,9 @@
 """What bash completes of the words of `dasd`: the text of completions/dasd.bash."""
 
-from help_words import FILES, FOLDERS, VOLUMES, Command, Word, kind
+from tools.make.help_words import FILES, FOLDERS, VOLUMES, Command, Word, kind
 
 HEAD = """\
-# bash completion for dasd. Made by tools/make_completions.py of the words of `dasd --help`.
+# bash completion for dasd. Made by tools/make/completions.py of the words of `dasd --help`.
 
 # Puts the files, or with -d the folders, that begin with the word into COMPREPLY.
 _dasd_files() {

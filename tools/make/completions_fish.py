@@ -1,9 +1,9 @@
 """What fish completes of the words of `dasd`: the text of completions/dasd.fish."""
 
-from help_words import FILES, FOLDERS, VOLUMES, Command, Option, Word, kind
+from tools.make.help_words import FILES, FOLDERS, VOLUMES, Command, Option, Word, kind
 
 HEAD = """\
-# fish completion for dasd. Made by tools/make_completions.py of the words of `dasd --help`.
+# fish completion for dasd. Made by tools/make/completions.py of the words of `dasd --help`.
 complete -c dasd -f
 """
 

@@ -1,10 +1,10 @@
 """What zsh completes of the words of `dasd`: the text of completions/_dasd."""
 
-from help_words import FILES, FOLDERS, VOLUMES, Command, Option, Word, kind
+from tools.make.help_words import FILES, FOLDERS, VOLUMES, Command, Option, Word, kind
 
 HEAD = """\
 #compdef dasd
-# zsh completion for dasd. Made by tools/make_completions.py of the words of `dasd --help`.
+# zsh completion for dasd. Made by tools/make/completions.py of the words of `dasd --help`.
 
 # A drive: the file behind its address.
 _dasd_volumes() {

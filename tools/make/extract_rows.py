@@ -1,10 +1,9 @@
-#!/usr/bin/env python3
 """Writes the rows of crates/test_extract, and the answers that they must have.
 
-    tools/extract_rows.py          writes crates/test_extract/stdin and stdout
-    tools/extract_rows.py --check  compares them, and ends with status 1 where they are others
+    tools/run make/extract_rows          writes crates/test_extract/stdin and stdout
+    tools/run make/extract_rows --check  compares them, and ends with status 1 where they are others
 
-The first row is the volume SMALL1 of tools/hercules_volumes.py, whose labels, volume table of contents and sequential data set Hercules'
+The first row is the volume SMALL1 of tools/make/hercules_volumes.py, whose labels, volume table of contents and sequential data set Hercules'
 `dasdload` wrote. What its data sets and members hold is what was put into them. The other rows are spelled here, and so are their
 answers; those of hostile rows are counted by a reading of directories and of descriptor words that shares no code with `dasd`."""
 
@@ -12,13 +11,11 @@ import pathlib
 import sys
 import tempfile
 
-sys.dont_write_bytecode = True
-sys.path.insert(0, str(pathlib.Path(__file__).resolve().parent))
+from tools import TOP
+from tools.common import volume_layouts as layouts
+from tools.make import hercules_volumes as volumes
 
-import hercules_volumes as volumes
-import volume_layouts as layouts
-
-CRATE = pathlib.Path(__file__).resolve().parent.parent / "crates/test_extract"
+CRATE = TOP / "crates/test_extract"
 MARK = b"\xff" * 8
 PATTERNS = (0x01, 0x80, 0xFF)
 RECORDS = 21

@@ -128,5 +128,5 @@ def kind(it: Word) -> str:
     """What a shell may complete at this place, beside the word's values."""
     name = it.name.split()[0].rstrip(".")
     if name not in KINDS:
-        raise ValueError(f"nobody says what a {name} is: tools/help_words.py")
+        raise ValueError(f"nobody says what a {name} is: tools/make/help_words.py")
     return KINDS[name]

@@ -1,7 +1,6 @@
-#!/usr/bin/env python3
 """Makes small volumes of OS/360 with data sets of known contents, by Hercules' own tools where they can.
 
-    tools/hercules_volumes.py FOLDER
+    tools/run make/hercules_volumes FOLDER
 
 writes into FOLDER, for each volume, the image NAME.ckd and the folder NAME with the data of each data set or member in a file of its
 own, as `dasd extract --all` names it. The same arguments give the same bytes.
@@ -11,7 +10,7 @@ CVOL) and empty ones (method EMPTY) by a control file that this script writes. W
 tool makes no members, never more than one extent, no dates but that of today and no list of free tracks. So this script puts directory,
 members and blocks of any format into the tracks of an empty data set itself, joins the extents of several into one, and writes dates and
 free tracks, by the layouts of System Control Blocks (GC28-6628), 'Partitioned Data Set Directory' and 'Data Set Control Block'. It
-shares no code with `dasd`, and what it makes is read by Hercules' tools too (tools/compare_contents.py, tools/compare_extract.py)."""
+shares no code with `dasd`, and what it makes is read by Hercules' tools too (tools/gate/compare_contents.py, tools/gate/compare_extract.py)."""
 
 import pathlib
 import random
@@ -21,12 +20,11 @@ import sys
 import tempfile
 from dataclasses import dataclass, field
 
-sys.dont_write_bytecode = True
-sys.path.insert(0, str(pathlib.Path(__file__).resolve().parent))
-
-from record_forms import cut, fixed_blocks, spanned_blocks, variable_blocks
-from volume_layouts import CAPACITY, Details, Extents, Image, Member, blocks_of, count_free, date, ebcdic, find_blocks, join, partition
-from volume_layouts import put_last, runs_of
+from tools.common.record_forms import cut, fixed_blocks, spanned_blocks, variable_blocks
+from tools.common.volume_layouts import (
+    CAPACITY, Details, Extents, Image, Member, blocks_of, count_free, date, ebcdic, find_blocks, join, partition, put_last,
+    runs_of,
+)
 
 # Organisations that dasdload can't write, a bit of record formats that it can't, and the type of an extent for user labels.
 SEQUENTIAL_UNMOVABLE, DIRECT_UNMOVABLE, VSAM = 0x4100, 0x2100, 0x0008

@@ -1,7 +1,6 @@
-#!/usr/bin/env python3
 """Makes the archive of the C library over the libraries that `rt ci` has just proved in this checkout, for plain x86-64.
 
-    tools/proved_archive.py FILE
+    tools/run make/proved_archive FILE
 
 `rt lib --cpu x86-64` in crates/dasd_c makes the same archive. Where it did not make the libraries below itself, it proves each of them
 once more, which takes some 20 minutes of processor time from nothing. `.ci/run` has `rt ci` prove them in this very checkout, a moment
@@ -9,16 +8,13 @@ before: so here rattle checks crates/dasd_c over them as they stand, as `rt ci` 
 it proved. It does not see whether the libraries are made of today's files, nor who made them: so it is for `.ci/run` alone, right behind
 `rt ci`.
 
-Beside FILE stand FILE.bc, the module of which the archive is made, and FILE.words, as tools/capture.py writes them. Status 1 where
+Beside FILE stand FILE.bc, the module of which the archive is made, and FILE.words, as tools/make/capture.py writes them. Status 1 where
 a library below is not there, or something is not proved; FILE then stays as it was."""
 
 import sys
 from pathlib import Path
 
-sys.dont_write_bytecode = True
-sys.path.insert(0, str(Path(__file__).resolve().parent))
-
-from capture import NotCaptured, capture
+from tools.make.capture import NotCaptured, capture
 
 
 def main() -> None:

@@ -1,8 +1,7 @@
-#!/usr/bin/env python3
 """Writes docs/RULES.md, the index of rules: of each rule its manual, the definition that says it, the function that does it, and the vectors that pin it.
 
-    tools/make_rules.py           writes the page
-    tools/make_rules.py --check   looks whether the page is what would be written; status 1 where it is not
+    tools/run make/rules           writes the page
+    tools/run make/rules --check   looks whether the page is what would be written; status 1 where it is not
 
 The rules stand in conformance/rules.txt, and where each is in docs/rule_places.txt. A definition, a function or a file that is not there is told, with
 status 1, and so is a rule that one of the two files lacks or that no vector pins.
@@ -12,9 +11,9 @@ import re
 import sys
 from collections import Counter
 from dataclasses import dataclass, field
-from pathlib import Path
 
-TOP = Path(__file__).resolve().parent.parent
+from tools import TOP
+
 SUITE = TOP / "conformance"
 PAGE = TOP / "docs" / "RULES.md"
 HEAD = """# The rules, and where each stands
@@ -22,7 +21,7 @@ HEAD = """# The rules, and where each stands
 Of each rule of the [conformance suite](CONFORMANCE.md): the manual's topic or the choice of this project that it is (*profile*, as [FORMAT.md](../conformance/FORMAT.md) lists them), the definition that says it, the function that does it,
 and how many vectors pin it, with the first of them. `PoO` is *IBM System/360 Principles of Operation*, GA22-6821; `2841 and 2314` are the component descriptions GA26-5988 and GA26-3599. What each definition says stands above it; what a function promises stands in its contract, which names the definition.
 
-This page is written by `tools/make_rules.py`.
+This page is written by `tools/make/rules.py`.
 
 | Rule | Source | Defined | Done | Vectors |
 |---|---|---|---|---|
@@ -123,7 +122,7 @@ def main() -> None:
     wrong += [f"{name}: no vector pins it" for name in rules if name not in vectors]
     text = page(rules, vectors)
     if sys.argv[1:] and (not PAGE.is_file() or PAGE.read_text(encoding="utf-8") != text):
-        wrong.append("docs/RULES.md is not what tools/make_rules.py writes")
+        wrong.append("docs/RULES.md is not what tools/make/rules.py writes")
     elif not sys.argv[1:]:
         PAGE.write_text(text, encoding="utf-8")
     for line in wrong:

@@ -1,7 +1,6 @@
-#!/usr/bin/env python3
 """Counts what the works of the bench execute, and prints the table of docs/TIMES.md: at a drive, by whole programs, at a channel and through the C library.
 
-    tools/measure_bench.py [--bench FILE] [--handle FILE] [WORK..]
+    tools/run measure/bench [--bench FILE] [--handle FILE] [WORK..]
 
 FILE is the built bench (crates/bench/out/bench, as `rt run` leaves it there; c/out/bench, as `make -C c bench` does); where the second is not there, its column is
 empty. A count is what callgrind counts for one pass over a full volume of a 2314 with 203 cylinders, less what it counts for none, in millions of
@@ -18,7 +17,8 @@ import sys
 from concurrent.futures import ThreadPoolExecutor
 from pathlib import Path
 
-TOP = Path(__file__).resolve().parent.parent
+from tools import TOP
+
 WORKS = {
     "A": "a search, then seven Read Data a track",
     "B": "seven Read Count, Key and Data a track",
@@ -39,7 +39,7 @@ def executed(words: list[str]) -> int:
     done = subprocess.run(command, capture_output=True, text=True, env={**os.environ, "GLIBC_TUNABLES": NO_REP_STOSB})
     found = COLLECTED.search(done.stderr)
     if done.returncode or not found:
-        sys.exit(f"measure_bench.py: {' '.join(words)}: status {done.returncode}\n{done.stderr[-400:]}")
+        sys.exit(f"bench.py: {' '.join(words)}: status {done.returncode}\n{done.stderr[-400:]}")
     return int(found[1])
 
 
@@ -64,9 +64,9 @@ def main() -> None:
     given = words.parse_args()
     unknown = [it for it in given.works if it not in WORKS]
     if unknown:
-        sys.exit(f"measure_bench.py: no such work: {', '.join(unknown)} (there are {', '.join(WORKS)})")
+        sys.exit(f"bench.py: no such work: {', '.join(unknown)} (there are {', '.join(WORKS)})")
     if not shutil.which("valgrind") or not given.bench.exists():
-        sys.exit("measure_bench.py: it wants valgrind, and the built bench")
+        sys.exit("bench.py: it wants valgrind, and the built bench")
     print("| Work | Drive alone | Whole programs | At a channel | Through C |\n|---|---|---|---|---|")
     with ThreadPoolExecutor(2) as pool:
         for line in pool.map(lambda work: row(work, given.bench, given.handle), given.works):

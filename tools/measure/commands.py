@@ -1,7 +1,6 @@
-#!/usr/bin/env python3
 """Measures what the commands of `dasd` take for a full volume, beside `cat` of the same file.
 
-    tools/measure_commands.py [--rounds N] [--cylinders N] [DASD]
+    tools/run measure/commands [--rounds N] [--cylinders N] [DASD]
 
 The volume is a 2314 of 203 cylinders, of which each track is full: a label, a volume table of contents, a sequential data set on three
 quarters of it, and on the rest a partitioned one with members of 48 blocks. Each command is run in turn, as many rounds as asked for (5),
@@ -9,7 +8,7 @@ with its output to /dev/null, in a folder of its own. Of each the least processo
 time; the most memory is that of all rounds. A Markdown table is printed, and before it what was measured.
 
 The program is the word, or else the built one of crates/dasd_cmd; a command that it does not know is left out, with a word. It needs a C
-compiler (`cc`, or what $CC names) for tools/resource_use.c."""
+compiler (`cc`, or what $CC names) for tools/measure/resource_use.c."""
 
 import argparse
 import os
@@ -20,13 +19,10 @@ import subprocess
 import sys
 import tempfile
 
-sys.dont_write_bytecode = True
-sys.path.insert(0, str(pathlib.Path(__file__).resolve().parent))
+from tools import TOP
+from tools.common import written_labels as labels
+from tools.common.volume_layouts import HEADER, Extents, Image, Member, ebcdic, partition
 
-import written_labels as labels
-from volume_layouts import HEADER, Extents, Image, Member, ebcdic, partition
-
-TOP = pathlib.Path(__file__).resolve().parent.parent
 BUILT = TOP / "crates/dasd_cmd/out/dasd_cmd"
 BLOCK, RECORD = 800, 80
 BLOCKS_OF_TRACK, BLOCKS_OF_MEMBER = 7, 48
@@ -124,7 +120,7 @@ def main() -> int:
     dasd = str(pathlib.Path(asked.dasd).resolve())
     with tempfile.TemporaryDirectory() as name:
         folder = pathlib.Path(name)
-        subprocess.run([os.environ.get("CC", "cc"), "-O2", "-Wall", "-o", folder / "resource_use", TOP / "tools/resource_use.c"], check=True)
+        subprocess.run([os.environ.get("CC", "cc"), "-O2", "-Wall", "-o", folder / "resource_use", TOP / "tools/measure/resource_use.c"], check=True)
         path = folder / "full.ckd"
         subprocess.run([dasd, "format", path, "--model", "2314", "--cylinders", str(asked.cylinders)], check=True, stdout=subprocess.DEVNULL)
         image = Image(path)

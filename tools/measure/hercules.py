@@ -1,7 +1,6 @@
-#!/usr/bin/env python3
 """Counts the instructions that Hercules executes for the channel programs of crates/bench, by callgrind, and prints a table of them.
 
-    tools/measure_hercules.py [--cylinders N] [WORK..]
+    tools/run measure/hercules [--cylinders N] [WORK..]
 
 The volume is a 2314 of 203 cylinders, of which each track has the records that the work reads; the works are those of crates/bench that are
 done by channel programs (A B C D S U W), or those of the words. Each is done once in each of three ways: by a Start I/O for each track
@@ -30,10 +29,7 @@ import sys
 import tempfile
 from dataclasses import dataclass, field
 
-sys.dont_write_bytecode = True
-sys.path.insert(0, str(pathlib.Path(__file__).resolve().parent))
-
-from volume_layouts import Image
+from tools.common.volume_layouts import Image
 
 SEEK, SEARCH_HOME_ADDRESS, SEARCH_ID, TRANSFER = 0x07, 0x39, 0x31, 0x08
 READ_R0, READ_DATA, READ_DATA_MULTI_TRACK, READ_COUNT_KEY_AND_DATA = 0x16, 0x06, 0x86, 0x1E

@@ -1,7 +1,6 @@
-#!/usr/bin/env python3
 """Measures how sharp the suites are: which wrong bodies a suite catches, of those that stand in must-fail edits and in tools/edits.
 
-    tools/sharpness.py [--crates CRATE,..] SUITE..
+    tools/run measure/sharpness [--crates CRATE,..] SUITE..
 
 A suite is rows that are played at the stage or at `dasd` (`rows/channel` is the suite `channel` of rows/play.py); a script that asks a
 built `dasd` (`differ`, lists by chance beside the conformance suite's model, `real_files` and `fail_calls`); or a crate whose program prints what is
@@ -36,7 +35,8 @@ from pathlib import Path
 from types import ModuleType
 from typing import Iterable, Iterator, NamedTuple
 
-TOP = Path(__file__).resolve().parent.parent
+from tools import TOP
+
 SECONDS = 1800  # at most, for the right bodies
 TIMES = 8  # so much longer may a wrong body take
 DASD, STAGE = "dasd_cmd", "test_stage"
@@ -81,8 +81,8 @@ SUITES = {
     "test_decks": printing("test_decks", "s360_program s360_channel s360_deck"),
     "differ": Suite(("s360_words", *DRIVE.split(), "s360_program", "s360_channel"), DASD,
                     ("conformance/differ.py", "--lists", "200", "model", "dasd=MADE")),
-    "real_files": Suite(tuple(FILES.split()), DASD, ("tools/real_files.py", "--built", "MADE"), "real_files"),
-    "fail_calls": Suite((), DASD, ("tools/fail_calls.py", "--built", "MADE"), "fail_calls"),
+    "real_files": Suite(tuple(FILES.split()), DASD, ("tools/run", "gate/real_files", "--built", "MADE"), "real_files"),
+    "fail_calls": Suite((), DASD, ("tools/run", "gate/fail_calls", "--built", "MADE"), "fail_calls"),
 }
 # Wrong bodies that no run of a suite can show, and why.
 NO_RUN_SHOWS = {
@@ -124,7 +124,7 @@ wrong:
 
 def unproved() -> ModuleType:
     """The script that makes unproved builds."""
-    loaded = importlib.util.spec_from_file_location("unproved_dasd", TOP / "tools" / "unproved_dasd.py")
+    loaded = importlib.util.spec_from_file_location("unproved_dasd", TOP / "tools" / "make" / "unproved_dasd.py")
     if loaded is None or loaded.loader is None:
         sys.exit("sharpness.py: there is no unproved_dasd.py")
     module = importlib.util.module_from_spec(loaded)

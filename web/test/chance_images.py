@@ -16,10 +16,10 @@ from pathlib import Path
 
 sys.dont_write_bytecode = True
 WEB = Path(__file__).resolve().parent.parent
-sys.path.insert(0, str(WEB.parent / "tools"))
+sys.path.insert(0, str(WEB.parent))
 
-from volume_layouts import Extents, Image, Member, ebcdic, partition  # noqa: E402
-from written_labels import DataSet, put_label  # noqa: E402
+from tools.common.volume_layouts import Extents, Image, Member, ebcdic, partition  # noqa: E402
+from tools.common.written_labels import DataSet, put_label  # noqa: E402
 
 VECTORS = WEB.parent / "conformance" / "vectors"
 COMMANDS = (["list", "--json"], ["check", "--strict", "--json"], ["vtoc", "--json"])

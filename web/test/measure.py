@@ -14,12 +14,12 @@ import time
 
 sys.dont_write_bytecode = True
 HERE = pathlib.Path(__file__).resolve().parent
-sys.path[:0] = [str(HERE.parent), str(HERE.parent.parent / "tools")]
+sys.path[:0] = [str(HERE.parent), str(HERE.parent.parent)]
 
 from browser import Browser
 from example_pack import CYLINDERS, HEADS, blank
 from native import Native
-from volume_layouts import Image, ebcdic
+from tools.common.volume_layouts import Image, ebcdic
 
 ROUNDS = 9
 RECORDS, LENGTH = 12, 400
