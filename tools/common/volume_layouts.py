@@ -1,77 +1,35 @@
-"""The layouts that tools/make/hercules_volumes.py writes and reads itself: images in memory, partitioned data sets and control blocks.
+"""Partitioned data sets and control blocks, as they are put on a volume and read there.
 
 By System Control Blocks (GC28-6628), 'Partitioned Data Set Directory' and 'Data Set Control Block'. It shares no code with `dasd`."""
 
-import pathlib
 from dataclasses import dataclass
 
+from conformance.suite.volumes import MODELS
+from tools.common.images import Image, Place
 from tools.common.record_forms import cut
 
-HEADER = 512
 END = b"\xff" * 8
-CAPACITY = {"2311": 3625, "2314": 7294}
 EXTENTS = 61
 EXTENT = 10
-
-
-class Image:
-    """An image in the layout CKD_P370 in memory: its tracks as home address and records, each an identifier, a key and data."""
-
-    def __init__(self, path: pathlib.Path, held: bytes | None = None):
-        """The image of this file; or, where it is given what the file is to hold, that."""
-        self.path = path
-        self.bytes = bytearray(path.read_bytes() if held is None else held)
-        assert self.bytes[:8] == b"CKD_P370"
-        self.heads = int.from_bytes(self.bytes[8:12], "little")
-        self.slot = int.from_bytes(self.bytes[12:16], "little")
-
-    def track(self, number: int) -> list[tuple[bytes, bytes, bytes]]:
-        """The records of a track, record 0 the first."""
-        at, records = HEADER + number * self.slot + 5, []
-        while self.bytes[at : at + 8] != END:
-            count = bytes(self.bytes[at : at + 8])
-            key, data = count[5], int.from_bytes(count[6:8], "big")
-            body = bytes(self.bytes[at + 8 : at + 8 + key + data])
-            records.append((count[:5], body[:key], body[key:]))
-            at += 8 + key + data
-        return records
-
-    def put_track(self, number: int, records: list[tuple[bytes, bytes, bytes]]) -> None:
-        """Replaces the records of a track."""
-        at = HEADER + number * self.slot
-        made = bytes(self.bytes[at : at + 5])
-        for name, key, data in records:
-            made += name + bytes([len(key)]) + len(data).to_bytes(2, "big") + key + data
-        made += END
-        assert len(made) <= self.slot
-        self.bytes[at : at + self.slot] = made.ljust(self.slot, b"\0")
-
-    def block(self, place: tuple[int, int]) -> tuple[bytes, bytes]:
-        """Key and data of a record, by its track and its place on it."""
-        _, key, data = self.track(place[0])[place[1]]
-        return key, data
-
-    def put_block(self, place: tuple[int, int], key: bytes, data: bytes) -> None:
-        """Replaces key and data of a record."""
-        records = self.track(place[0])
-        records[place[1]] = (records[place[1]][0], key, data)
-        self.put_track(place[0], records)
-
-    def save(self) -> None:
-        self.path.write_bytes(self.bytes)
+# The first and the last of tracks in a row, by their numbers on the volume.
+Run = tuple[int, int]
+# More than a record's gaps are on either drive, and more than a byte of it takes, of a track's capacity.
+MOST_GAPS = max(it.gap + it.key_gap for it in MODELS.values()) + 1
+MOST_SCALE = max((it.scale for it in MODELS.values()), key=lambda it: it[0] / it[1])
 
 
 class Extents:
     """The tracks of a data set, by their numbers on the volume."""
 
-    def __init__(self, image: Image, model: str, runs: list[tuple[int, int]]):
-        self.image, self.capacity = image, CAPACITY[model]
+    def __init__(self, image: Image, runs: list[Run]) -> None:
+        self.image, self.capacity = image, image.volume.model.capacity
         self.tracks = [track for first, last in runs for track in range(first, last + 1)]
         self.filled: list[list[tuple[bytes, bytes]]] = [[]]
 
     def charge(self, key: bytes, data: bytes) -> int:
         """More than a record is ever charged on either drive."""
-        return 146 + (len(key) + len(data)) * 537 // 512 + 1
+        by, of = MOST_SCALE
+        return MOST_GAPS + (len(key) + len(data)) * by // of
 
     def append(self, key: bytes, data: bytes) -> tuple[int, int]:
         """Writes a block behind the last one, and answers its track and its number."""
@@ -95,11 +53,7 @@ class Extents:
         """Puts the blocks on the tracks; those behind them have record 0 alone."""
         assert len(self.filled) <= len(self.tracks), (len(self.filled), len(self.tracks))
         for relative, track in enumerate(self.tracks):
-            first = self.image.track(track)[0]
-            blocks = self.filled[relative] if relative < len(self.filled) else []
-            place = b"".join(it.to_bytes(2, "big") for it in divmod(track, self.image.heads))
-            records = [(place + bytes([number]), *block) for number, block in enumerate(blocks, 1)]
-            self.image.put_track(track, [first, *records])
+            self.image.put_blocks(track, self.filled[relative] if relative < len(self.filled) else [])
 
 
 def ebcdic(text: str, length: int) -> bytes:
@@ -156,25 +110,24 @@ def partition(extents: Extents, members: dict[str, Member], count: int) -> None:
     extents.save()
 
 
-def control_blocks(image: Image) -> list[tuple[tuple[int, int], bytes, bytes]]:
+def control_blocks(image: Image) -> list[tuple[Place, bytes, bytes]]:
     """All control blocks: their places, keys and data."""
-    tracks = range((len(image.bytes) - HEADER) // image.slot)
-    records = [((track, i), key, data) for track in tracks for i, (_, key, data) in enumerate(image.track(track))]
+    records = [((track, i), it.key, it.data) for track in range(image.tracks) for i, it in enumerate(image.records(track))]
     return [it for it in records if len(it[1]) == 44 and len(it[2]) == 96]
 
 
-def find_blocks(image: Image) -> dict[str, tuple[int, int]]:
+def find_blocks(image: Image) -> dict[str, Place]:
     """The format 1 blocks: the track and the place on it, by the name of their data set."""
     return {key.decode("cp037").rstrip(): place for place, key, data in control_blocks(image) if data[0] == 0xF1}
 
 
-def run_of(image: Image, extent: bytes) -> tuple[int, int]:
+def run_of(image: Image, extent: bytes) -> Run:
     """The numbers of the first and last track of an extent."""
     number = [int.from_bytes(extent[k : k + 2], "big") for k in (2, 4, 6, 8)]
     return number[0] * image.heads + number[1], number[2] * image.heads + number[3]
 
 
-def runs_of(image: Image, block: tuple[int, int]) -> list[tuple[int, int]]:
+def runs_of(image: Image, block: Place) -> list[Run]:
     """The extents of a format 1 block, and of the one of format 3 behind it, as the numbers of their first and last tracks."""
     data = image.block(block)[1]
     spelled = data[EXTENTS : EXTENTS + 3 * EXTENT]
@@ -185,9 +138,9 @@ def runs_of(image: Image, block: tuple[int, int]) -> list[tuple[int, int]]:
     return [run_of(image, it) for it in cut(spelled, EXTENT) if it[0]]
 
 
-def blocks_of(image: Image, runs: list[tuple[int, int]]) -> list[bytes]:
+def blocks_of(image: Image, runs: list[Run]) -> list[bytes]:
     """The data of each record of these tracks, up to the first without any, if there is one."""
-    records = [data for first, last in runs for track in range(first, last + 1) for _, _, data in image.track(track)[1:]]
+    records = [it.data for first, last in runs for track in range(first, last + 1) for it in image.records(track)[1:]]
     return records[: records.index(b"")] if b"" in records else records
 
 
@@ -214,7 +167,7 @@ def join(image: Image, name: str, parts: list[str]) -> None:
         track, i = blocks[parts[0]]
         more = b"".join(extents[3:]).ljust(13 * EXTENT, b"\0")
         image.put_block((track, i), bytes([3] * 4) + more[:40], b"\xf3" + more[40:] + bytes(5))
-        made[91:96] = b"".join(it.to_bytes(2, "big") for it in divmod(track, image.heads)) + bytes([i])
+        made[91:96] = image.address(track) + bytes([i])
     image.put_block(blocks[name], key, bytes(made))
 
 
@@ -229,7 +182,7 @@ class Details:
     format: int = 0
     first_extent: int | None = None
 
-    def put(self, image: Image, place: tuple[int, int]) -> None:
+    def put(self, image: Image, place: Place) -> None:
         """Writes them."""
         key, data = image.block(place)
         made = bytearray(data)
@@ -243,20 +196,20 @@ class Details:
         image.put_block(place, key, bytes(made))
 
 
-def put_last(image: Image, place: tuple[int, int], last: tuple[int, int]) -> None:
+def put_last(image: Image, place: Place, last: tuple[int, int]) -> None:
     """Writes the address of the last block of a data set: a track of it, and the block's number."""
     key, data = image.block(place)
     image.put_block(place, key, data[:54] + last[0].to_bytes(2, "big") + bytes([last[1]]) + data[57:])
 
 
-def free_runs(image: Image) -> list[tuple[int, int]]:
+def free_runs(image: Image) -> list[Run]:
     """The tracks that are no data set's, nor those of the label and of the volume table of contents."""
     used = {0}
     for place, _, data in control_blocks(image):
         taken = [run_of(image, data[EXTENTS : EXTENTS + EXTENT])] if data[0] == 0xF4 else runs_of(image, place) if data[0] == 0xF1 else []
         used.update(track for first, last in taken for track in range(first, last + 1))
-    runs: list[tuple[int, int]] = []
-    for track in range((len(image.bytes) - HEADER) // image.slot):
+    runs: list[Run] = []
+    for track in range(image.tracks):
         if track in used:
             continue
         if runs and runs[-1][1] == track - 1:

@@ -4,7 +4,8 @@ The layouts are those of System Control Blocks (GC28-6628), 'Volume Label' and '
 
 from dataclasses import dataclass
 
-from tools.common.volume_layouts import HEADER, Image, ebcdic
+from tools.common.images import Image
+from tools.common.volume_layouts import Run, ebcdic
 
 FIRST_SET = 3
 BLOCKS = {"2311": 16, "2314": 25}
@@ -16,16 +17,9 @@ FORMAT = {"FB": 0x90, "VB": 0x50}
 DAYS = bytes([74, 1, 109, 99, 1, 109])
 
 
-def fill(image: Image, blocks: list[tuple[bytes, bytes]], track: int) -> None:
-    """Puts records behind record 0 of a track."""
-    place = b"".join(it.to_bytes(2, "big") for it in divmod(track, image.heads))
-    records = [(place + bytes([number]), *block) for number, block in enumerate(blocks, 1)]
-    image.put_track(track, [image.track(track)[0], *records])
-
-
-def extent(image: Image, number: int, run: tuple[int, int]) -> bytes:
+def extent(image: Image, number: int, run: Run) -> bytes:
     """An extent of a control block."""
-    return bytes([1, number]) + b"".join(it.to_bytes(2, "big") for track in run for it in divmod(track, image.heads))
+    return bytes([1, number]) + b"".join(map(image.address, run))
 
 
 @dataclass
@@ -36,7 +30,7 @@ class DataSet:
     organisation: str
     record_length: int
     block_length: int
-    runs: list[tuple[int, int]]
+    runs: list[Run]
     last: tuple[int, int]
     form: str = "FB"
 
@@ -55,19 +49,19 @@ class DataSet:
         return [(ebcdic(self.name, 44), block + b"\0\0\0\1" + bytes([number + 1])), further]
 
 
-def put_label(image: Image, model: str, serial: str, sets: list[DataSet], owner: str = "SCRIPT") -> None:
+def put_label(image: Image, serial: str, sets: list[DataSet], owner: str = "SCRIPT") -> None:
     """The volume label as record 3 of track 0, and on track 1 the blocks of formats 4 and 5, those of data sets, and free ones."""
     volume = ebcdic(f"VOL1{serial}", 11) + b"\0\0\0\1\1" + ebcdic("", 21) + ebcdic(f"    {owner}", 14)
     loader = [(ebcdic("IPL1", 4), bytes(24)), (ebcdic("IPL2", 4), bytes(144))]
-    fill(image, [*loader, (ebcdic("VOL1", 4), volume.ljust(80, b"\x40"))], 0)
+    image.put_blocks(0, [*loader, (ebcdic("VOL1", 4), volume.ljust(80, b"\x40"))])
     blocks: list[tuple[bytes, bytes]] = []
     for it in sets:
         last = FIRST_SET + len(blocks)
         blocks += it.blocks(image, serial, last)
+    model = image.volume.model.name
     free = BLOCKS[model] - 2 - len(blocks)
-    cylinders = (len(image.bytes) - HEADER) // image.slot // image.heads
-    device = cylinders.to_bytes(2, "big") + image.heads.to_bytes(2, "big") + bytes.fromhex(DEVICE[model])
+    device = image.volume.cylinders.to_bytes(2, "big") + image.heads.to_bytes(2, "big") + bytes.fromhex(DEVICE[model])
     table = b"\xf4\0\0\0\1" + bytes([last]) + free.to_bytes(2, "big") + bytes(6) + b"\x80\1\0\0" + device
     table = table.ljust(61, b"\0") + extent(image, 0, (1, 1))
     space = (b"\5" * 4).ljust(44, b"\0"), b"\xf5".ljust(96, b"\0")
-    fill(image, [(b"\4" * 44, table.ljust(96, b"\0")), space, *blocks, *[(bytes(44), bytes(96))] * free], 1)
+    image.put_blocks(1, [(b"\4" * 44, table.ljust(96, b"\0")), space, *blocks, *[(bytes(44), bytes(96))] * free])

@@ -20,6 +20,7 @@ from collections.abc import Iterator
 from pathlib import Path
 from typing import Any
 
+from conformance.suite.volumes import HEADER, MODELS
 from tools import TOP
 
 
@@ -33,7 +34,7 @@ except ImportError:
     sys.exit("no jsonschema here: apt-get install python3-jsonschema")
 
 SCHEMA = TOP / "docs/dasd.schema.json"
-HEADER, SLOT, HEADS = 512, 4096, 10
+MODEL = MODELS["2311"]
 SUITES = [
     ["gate/real_files", "--built"],
     ["gate/play_archives"],
@@ -117,7 +118,7 @@ def put(path: Path, at: int, held: bytes) -> None:
 
 def slot(cylinder: int, head: int) -> int:
     """Where a track begins in a file of the sample pack."""
-    return HEADER + (cylinder * HEADS + head) * SLOT
+    return HEADER + (cylinder * MODEL.heads + head) * MODEL.slot
 
 
 def block(number: int, at: int) -> int:

@@ -35,6 +35,7 @@ import sys
 import tempfile
 
 from tools.common import hercules_readings as readings, volume_layouts as layouts
+from tools.common.images import Image
 from tools.make import hercules_volumes as volumes
 
 LABEL = re.compile(r"(\S+)  owner (.*)  VTOC (\w{4}) (\w{4}) \.\. (\w{4}) (\w{4})")
@@ -81,9 +82,8 @@ class Volume:
 
     def __init__(self, comparison: readings.Comparison, dasd: str, folder: pathlib.Path, plan: volumes.Plan):
         self.comparison, self.plan, self.path = comparison, plan, folder / f"{plan.name}.ckd"
-        self.image = layouts.Image(self.path)
+        self.image = Image(self.path)
         self.blocks = layouts.find_blocks(self.image)
-        self.tracks = (len(self.image.bytes) - layouts.HEADER) // self.image.slot
         self.serial, self.listed = readings.list_by_dasdls(self.path)
         self.allotted = allotted(plan.messages, self.image.heads)
         self.table = self.allotted.pop("SYSVTOC")
@@ -118,7 +118,7 @@ class Volume:
         first = self.objects[0]
         self.same("label", [first["serial"], first["owner"], first["contents"]], [self.serial, OWNER, extent], "dasdls and dasdload")
         used = [self.table, *self.allotted.values()]
-        free = self.tracks - 1 - sum(last + 1 - first for first, last in used) if self.plan.exact else 0
+        free = self.image.tracks - 1 - sum(last + 1 - first for first, last in used) if self.plan.exact else 0
         table = next(data for _, _, data in layouts.control_blocks(self.image) if data[0] == 0xF4)
         wanted = (free, int.from_bytes(table[6:8], "big"))
         self.same("free", (first["free_tracks"], first["free_blocks"]), wanted, "dasdload")

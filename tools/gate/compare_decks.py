@@ -23,6 +23,7 @@ import sys
 import tempfile
 
 from tools.common import hercules_readings as readings, volume_layouts as layouts
+from tools.common.images import Image
 from tools.common.record_forms import cut, fixed_blocks
 from tools.common.written_labels import DataSet, put_label
 from tools.make import hercules_volumes as volumes
@@ -73,18 +74,16 @@ class Deck:
         self.add("INT", f"INT 190 {PROGRAM + 8 * len(words):08X} 0C000000")
 
 
-def decks_of(image: layouts.Image) -> list[Deck]:
+def decks_of(image: Image) -> list[Deck]:
     """Decks that write each track with more than record 0."""
     decks = [Deck()]
-    for number in range((len(image.bytes) - layouts.HEADER) // image.slot):
-        records = image.track(number)[1:]
+    for number in range(image.tracks):
+        records = image.records(number)[1:]
         if not records:
             continue
         if decks[-1].size > MOST_TEXT:
             decks.append(Deck())
-        place = b"".join(it.to_bytes(2, "big") for it in divmod(number, image.heads))
-        spelled = [name + bytes([len(key)]) + len(data).to_bytes(2, "big") + key + data for name, key, data in records]
-        decks[-1].write_track(place, spelled)
+        decks[-1].write_track(image.address(number), [it.spelled() for it in records])
     return decks
 
 
@@ -94,13 +93,13 @@ class Written:
     def __init__(self, comparison: readings.Comparison, dasd: str, folder: pathlib.Path):
         self.comparison, self.dasd, self.folder = comparison, dasd, folder
 
-    def new(self, name: str, model: str, cylinders: int) -> layouts.Image:
+    def new(self, name: str, model: str, cylinders: int) -> Image:
         """A new image, which is to be filled in memory."""
         path = self.folder / f"{name}.written.ckd"
         readings.run(self.dasd, "format", path, "--model", model, "--cylinders", cylinders)
-        return layouts.Image(path)
+        return Image(path)
 
-    def write(self, image: layouts.Image) -> pathlib.Path:
+    def write(self, image: Image) -> pathlib.Path:
         """Writes by decks what the image in memory holds, and compares the answers and the bytes."""
         path, deck_path = image.path, self.folder / "deck"
         for deck in decks_of(image):
@@ -112,7 +111,7 @@ class Written:
             self.comparison.same(f"{path.name} answers", (len(answers), known), (len(deck.answers), deck.answers), "this script")
         strict = readings.run(self.dasd, "check", "--strict", path)
         self.comparison.same(f"{path.name} status of a strict check", strict.returncode, 0, "this script")
-        self.comparison.holds(f"{path.name} holds other bytes than were to be written", path.read_bytes() == bytes(image.bytes))
+        self.comparison.holds(f"{path.name} holds other bytes than were to be written", path.read_bytes() == image.volume.bytes())
         return path
 
 
@@ -121,18 +120,18 @@ def compare_label(written: Written, model: str) -> None:
     chance, image = random.Random(model), written.new(f"LABEL{model}", model, CYLINDERS)
     cards = volumes.numbered_cards(chance, 150 if model == "2311" else 300)
     runs = [(3, 3), (7, 8), (5, 5), (12, 12), (10, 10)]
-    sequential = layouts.Extents(image, model, runs)
+    sequential = layouts.Extents(image, runs)
     for block in [*fixed_blocks(cards, 800), b""]:
         sequential.append(b"", block)
     sequential.save()
     members = {it: layouts.Member(cut(volumes.cards(chance, count), 400)) for it, count in (("FIRST", 7), ("SECOND", 60), ("THIRD", 1))}
-    library = layouts.Extents(image, model, [(14, 18)])
+    library = layouts.Extents(image, [(14, 18)])
     layouts.partition(library, members, 2)
     sets = [
         DataSet("DECK.CARDS", "PS", 80, 800, runs, sequential.last()),
         DataSet("DECK.LIBRARY", "PO", 80, 400, [(14, 18)], library.last()),
     ]
-    put_label(image, model, "DECK01", sets)
+    put_label(image, "DECK01", sets)
     path = written.write(image)
     compare_list(written, path)
     compare_records(written, path, b"".join(cards), members)
@@ -173,7 +172,7 @@ def compare_without_label(written: Written, model: str) -> None:
     """A volume without any label."""
     image = written.new(f"PLAIN{model}", model, CYLINDERS)
     cards = volumes.numbered_cards(random.Random(model), 80)
-    extents = layouts.Extents(image, model, [(4, 9)])
+    extents = layouts.Extents(image, [(4, 9)])
     for block in [*cards, b""]:
         extents.append(b"", block)
     extents.save()
@@ -189,9 +188,9 @@ def compare_without_label(written: Written, model: str) -> None:
 def compare_rewritten(written: Written, plan: volumes.Plan) -> None:
     """A volume of Hercules', written anew by decks."""
     plan.make(written.folder)
-    original = layouts.Image(written.folder / f"{plan.name}.ckd")
+    original = Image(written.folder / f"{plan.name}.ckd")
     image = written.new(plan.name, plan.model, plan.cylinders)
-    image.bytes[layouts.HEADER :] = original.bytes[layouts.HEADER :]
+    image.volume.slots = list(original.volume.slots)
     path = written.write(image)
     lists = [readings.run("dasdls", "-info", "-expdt", it).stdout.split(b"VOLSER=")[1] for it in (path, original.path)]
     written.comparison.same(f"{path.name} listed", *lists, "dasdls")

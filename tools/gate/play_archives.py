@@ -10,13 +10,12 @@ import sys
 import tempfile
 
 from tools import TOP
+from tools.common.images import slot_at
 from tools.gate.page_examples import blocks_of
 
 PAGE = TOP / "docs/ARCHIVES.md"
 SECTION = "## Ten thousand volumes"
 VOLUMES = 100
-SLOT = 4096
-HEADER = 512
 
 
 def commands(page: str) -> list[str]:
@@ -30,7 +29,8 @@ def make_volume(dasd: str, path: pathlib.Path, number: int) -> None:
     subprocess.run([dasd, "format", str(path), "--cylinders", "1"], check=True, stdout=subprocess.DEVNULL)
     image = bytearray(path.read_bytes())
     if number % 10 == 0:
-        image[HEADER + 3 * SLOT + 21 : HEADER + 3 * SLOT + 29] = bytes([0, 0, 0, 3, 1, 0, 0xFF, 0xFF])
+        at = slot_at("2311", 3) + 21
+        image[at : at + 8] = bytes([0, 0, 0, 3, 1, 0, 0xFF, 0xFF])
     if number % 4 == 0:
         image[20] = 1
     path.write_bytes(image)

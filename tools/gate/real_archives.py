@@ -7,11 +7,11 @@ make them; one that must end with another status than 0 has it at its end, as `s
 
 from pathlib import Path
 
-from tools.gate.scratch_files import ROWS, SLOT, same, volume
+from tools.common.images import slot_at
+from tools.gate.scratch_files import ROWS, same, volume
 
 __all__ = ["ROWS"]
 HERE = Path(__file__).resolve().parent / "rows"
-HEADER = 512
 
 
 def spelled(word):
@@ -27,7 +27,7 @@ def made(lines, kind):
         word, *rest = line.split()
         if word == kind:
             track, at, body = int(rest[0]), int(rest[1]), spelled(rest[2])
-            begin = HEADER + track * SLOT["2311"] + at
+            begin = slot_at("2311", track) + at
             held[begin : begin + len(body)] = body
     return bytes(held)
 

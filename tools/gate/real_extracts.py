@@ -6,7 +6,8 @@ name would lead out of a folder, one that has no end of file, one of a format th
 import json
 import os
 
-from tools.common.volume_layouts import Extents, Image, directory_blocks, ebcdic
+from tools.common.images import Image
+from tools.common.volume_layouts import Extents, directory_blocks, ebcdic
 from tools.common.written_labels import DataSet, put_label
 from tools.gate.scratch_files import ROWS, fault, is_held, row, same, volume
 
@@ -33,7 +34,7 @@ def card(text):
 
 def put_blocks(image, runs, blocks, end=True):
     """Writes blocks of records to the tracks of a data set, and an end of file behind them."""
-    extents = Extents(image, MODEL, runs)
+    extents = Extents(image, runs)
     for block in blocks:
         extents.append(b"", b"".join(map(card, block)))
     if end:
@@ -43,7 +44,7 @@ def put_blocks(image, runs, blocks, end=True):
 
 def put_library(image):
     """A directory and two members: ALPHA behind the directory, BETA on the track behind, which is of the second extent."""
-    extents = Extents(image, MODEL, LIBRARY)
+    extents = Extents(image, LIBRARY)
     places = {"ALPHA": (0, 3), "BETA": (1, 1)}
     entries = [(ebcdic(name, 8), track.to_bytes(2, "big") + bytes([number, 0])) for name, (track, number) in places.items()]
     for block in directory_blocks(entries, 1):
@@ -61,7 +62,7 @@ def spell(path, sets=SETS):
     """Makes the file of the volume, with the control blocks of these data sets."""
     path.write_bytes(volume(MODEL, 2))
     image = Image(path)
-    put_label(image, MODEL, "ABC123", [DataSet(it, kind, 80, 160, runs, (0, 1)) for it, kind, runs in sets])
+    put_label(image, "ABC123", [DataSet(it, kind, 80, 160, runs, (0, 1)) for it, kind, runs in sets])
     put_blocks(image, CARDS, [LINES[:2], LINES[2:]])
     put_library(image)
     put_blocks(image, OUTSIDE, [["ROOT"]])

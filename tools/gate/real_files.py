@@ -23,7 +23,9 @@ import tempfile
 import time
 from pathlib import Path
 
+from conformance.suite.volumes import HEADER
 from tools import TOP
+from tools.common.images import slot_at
 from tools.gate import real_archives, real_extracts, real_findings, real_lists, real_runs
 from tools.gate.scratch_files import ANSWERS, NOBODY, ROWS, WRITE, Scratch, Skipped, fault, header, is_held, row, same, volume, wrote
 
@@ -303,16 +305,16 @@ def pipe_is_listed_and_checked(s):
 
 @row
 def image_in_two_files(s):
-    whole = volume("2311", 3)
-    first = header("2311", 1, 1) + whole[512 : 512 + 20 * 4096]
+    whole, middle = volume("2311", 3), slot_at("2311", 20)
+    first = header("2311", 1, 1) + whole[HEADER:middle]
     s.put("a.ckd", first)
-    s.put("b.ckd", header("2311", 2, 0) + whole[512 + 20 * 4096 :])
+    s.put("b.ckd", header("2311", 2, 0) + whole[middle:])
     s.put("whole.ckd", whole)
     same(s.dasd("list", "a.ckd", "b.ckd"), s.dasd("list", "whole.ckd"))
     same(s.dasd("check", "a.ckd", "b.ckd"), (0, "0 findings\n", ""))
     same(s.write("90=a.ckd", "90=b.ckd"), wrote())
-    is_held(s.path("a.ckd"), header("2311", 1, 1) + volume(cylinders=2, data="D5D6D7D8")[512:])
-    is_held(s.path("b.ckd"), header("2311", 2, 0) + whole[512 + 20 * 4096 :])
+    is_held(s.path("a.ckd"), header("2311", 1, 1) + volume(cylinders=2, data="D5D6D7D8")[HEADER:])
+    is_held(s.path("b.ckd"), header("2311", 2, 0) + whole[middle:])
     same(s.dasd("list", "b.ckd", "a.ckd"), fault("image in several files"))
 
 
@@ -331,8 +333,8 @@ def large_volumes_take_little_memory(s):
 
 @row
 def findings_end_with_status_1(s):
-    held = bytearray(volume())
-    held[512 + 2 * 4096 + 21 : 512 + 2 * 4096 + 29] = bytes([0, 0, 0, 2, 1, 0, 255, 255])
+    held, at = bytearray(volume()), slot_at("2311", 2) + 21
+    held[at : at + 8] = bytes([0, 0, 0, 2, 1, 0, 255, 255])
     s.put("vol.ckd", bytes(held))
     same(s.dasd("check", "vol.ckd"), (1, "0000 0002 record past end at 21\n1 findings\n", ""))
     same(s.dasd("list", "vol.ckd")[0::2], (0, ""))
@@ -369,8 +371,8 @@ def broken_pipe_ends_quietly(s):
 @row
 def more_is_told_where_it_is_asked(s):
     s.put("vol.ckd", volume())
-    s.put("a.ckd", header("2311", 1, 1) + volume(cylinders=2)[512:])
-    s.put("b.ckd", header("2311", 1, 0) + volume()[512:])
+    s.put("a.ckd", header("2311", 1, 1) + volume(cylinders=2)[HEADER:])
+    s.put("b.ckd", header("2311", 1, 0) + volume()[HEADER:])
     s.put("late.ckd", volume()).chmod(0o444)
     told = {
         ("list", "work.ckd"): "read fault\n  work.ckd: No such file or directory\n",

@@ -7,9 +7,11 @@ import os
 import shutil
 import subprocess
 
-from tools.common.volume_layouts import Extents, Image, directory_blocks, ebcdic
+from conformance.suite.volumes import Record, Volume, address
+from tools.common.images import Image
+from tools.common.volume_layouts import Extents, directory_blocks, ebcdic
 from tools.gate.real_extracts import CARDS, LIBRARY, LINES, MODEL, card, raw, spell
-from tools.gate.scratch_files import ROWS, WRITE, Skipped, fault, header, is_held, row, same, track, volume, waiting_run
+from tools.gate.scratch_files import ROWS, WRITE, Skipped, fault, header, is_held, row, same, volume, waiting_run
 
 __all__ = ["ROWS"]
 FREE_BLOCK, FIRST_SET, LAST_SET = 2, 3, 8
@@ -18,7 +20,7 @@ EXTENTS_AT, NEXT_AT = 61, 91  # where a block of format 1 has its extents and th
 
 def place(cylinder, head, number):
     """The address of a record in a control block."""
-    return cylinder.to_bytes(2, "big") + head.to_bytes(2, "big") + bytes([number])
+    return address(cylinder, head) + bytes([number])
 
 
 def changed(s, record, at, held, key=False):
@@ -43,7 +45,7 @@ def is_found(s, text):
 
 def extent(number, first, last):
     """An extent of a control block, between two tracks given as cylinder and head."""
-    return bytes([1, number]) + b"".join(it.to_bytes(2, "big") for it in (*first, *last))
+    return bytes([1, number]) + address(*first) + address(*last)
 
 
 # Findings of a table of contents.
@@ -123,8 +125,8 @@ def data_set_of_the_second_block_is_extracted(s):
 def data_set_begins_with_its_first_block_whatever_its_number(s):
     path = changed(s, FIRST_SET, 0, b"")
     image = Image(path)
-    first, *others = image.track(CARDS[0][0])
-    image.put_track(CARDS[0][0], [first, *[(name[:4] + bytes([number]), key, data) for number, (name, key, data) in enumerate(others, 5)]])
+    first, *others = image.records(CARDS[0][0])
+    image.put_records(CARDS[0][0], [first, *(Record(it.identifier[:4] + bytes([number]), it.key, it.data) for number, it in enumerate(others, 5))])
     image.save()
     same(s.dasd("extract", "pack.ckd", "PAY.CARDS", "--text"), (0, "".join(it + "\n" for it in LINES), ""))
 
@@ -143,7 +145,7 @@ def member_behind_the_extents_is_told(s):
 def library_of_many_members_is_read_to_its_last(s):
     path = changed(s, FIRST_SET + 1, EXTENTS_AT, extent(0, (1, 0), (1, 5)) + bytes(20))
     image = Image(path)
-    extents = Extents(image, MODEL, [(10, 15)])
+    extents = Extents(image, [(10, 15)])
     names = [f"M{number:05}" for number in range(300)]
     blocks = directory_blocks([(ebcdic(name, 8), (3).to_bytes(2, "big") + bytes([1, 0])) for name in names], 20)
     for block in blocks:
@@ -164,7 +166,7 @@ def library_of_many_members_is_read_to_its_last(s):
 
 def cylinder(number):
     """The slots of a new cylinder."""
-    return b"".join(track(MODEL, number, head) for head in range(10))
+    return b"".join(Volume.new(MODEL, number + 1).slots[-10:])
 
 
 @row

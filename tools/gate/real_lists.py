@@ -1,12 +1,13 @@
 """Rows of tools/gate/real_files.py: what is listed and compared of volumes of several cylinders, and a data set of more than three extents."""
 
-from tools.common.volume_layouts import Image
+from conformance.suite.volumes import MODELS
+from tools.common.images import Image, slot_at
 from tools.common.written_labels import DataSet, put_label
 from tools.gate.real_extracts import MODEL
 from tools.gate.scratch_files import ROWS, row, same, volume
 
 __all__ = ["ROWS"]
-HEADER, SLOT, HEADS = 512, 4096, 10
+HEADS = MODELS[MODEL].heads
 R0_DATA = 13  # where the data of record 0 begins in a slot: behind the home address and its count area
 
 
@@ -45,7 +46,7 @@ def tracks_with_record_0_alone_are_left_out_of_those_that_are_used(s):
 @row
 def findings_stand_at_their_cylinder_and_head(s):
     held = bytearray(volume(MODEL, 3))
-    count = HEADER + 23 * SLOT + 5
+    count = slot_at(MODEL, 23) + 5
     held[count + 6 : count + 8] = b"\xff\xff"  # record 0 of track 23 has more data than its slot
     s.put("vol.ckd", bytes(held))
     same(s.dasd("check", "vol.ckd"), (1, "0002 0003 record past end at 5\n1 findings\n", ""))
@@ -56,7 +57,7 @@ def volumes_are_compared_up_to_the_last_cylinder(s):
     held = bytearray(volume(MODEL, 3))
     s.put("one.ckd", bytes(held))
     for track in (0, 13, 29):
-        held[HEADER + track * SLOT + R0_DATA] = 0xC1
+        held[slot_at(MODEL, track) + R0_DATA] = 0xC1
     s.put("other.ckd", bytes(held))
     wanted = [f"{cylinder:04X} {head:04X} record 0 data from 0 on" for cylinder, head in [(0, 0), (1, 3), (2, 9)]]
     status, printed, told = s.dasd("compare", "one.ckd", "other.ckd")
@@ -67,7 +68,7 @@ def volumes_are_compared_up_to_the_last_cylinder(s):
 def data_set_of_four_extents_has_no_finding(s):
     path = s.put("pack.ckd", volume(MODEL, 2))
     image = Image(path)
-    put_label(image, MODEL, "ABC123", [DataSet("FOUR", "PS", 80, 160, [(2, 2), (4, 4), (6, 6), (8, 9)], (0, 1))])
+    put_label(image, "ABC123", [DataSet("FOUR", "PS", 80, 160, [(2, 2), (4, 4), (6, 6), (8, 9)], (0, 1))])
     image.save()
     status, printed, told = s.dasd("vtoc", "pack.ckd")
     same((status, told), (0, ""))

@@ -1,15 +1,15 @@
 """What the scripts that run `dasd` over real files share: rows, scratch folders, what volumes hold, and comparisons.
 
-What a volume must hold is made here, from the layout of an image (docs/DECISIONS.md), and not by the program."""
+What a volume must hold is made here, by the conformance suite's spelling of an image, and not by the program."""
 
 import os
 import subprocess
 from contextlib import contextmanager
 from pathlib import Path
 
+from conformance.suite.volumes import MODELS, Record, Volume, address, header_of, new_track
+
 NOBODY = 65534
-HEADS = {"2311": 10, "2314": 20}
-SLOT = {"2311": 4096, "2314": 7680}
 # Searches record 0 of cylinder 0, head 0, and formats record 1 of four bytes behind it.
 WRITE = """STORE 48 00000400
 STORE 400 3100050040000005 0800040000000000 1D0006000000000C
@@ -38,23 +38,17 @@ def row(play):
 
 def header(model: str, sequence: int = 0, highest: int = 0) -> bytes:
     """The header of a file of an image."""
-    fields = HEADS[model].to_bytes(4, "little") + SLOT[model].to_bytes(4, "little")
-    kind = bytes([{"2311": 0x11, "2314": 0x14}[model], sequence]) + highest.to_bytes(2, "little")
-    return (b"CKD_P370" + fields + kind).ljust(512, b"\0")
+    return header_of(MODELS[model], None, sequence, highest)
 
 
-def track(model: str, cylinder: int, head: int, records: bytes = b"") -> bytes:
-    """The slot of a track with these records behind record 0."""
-    at = cylinder.to_bytes(2, "big") + head.to_bytes(2, "big")
-    spelled = b"\0" + at + at + bytes([0, 0, 0, 8]) + bytes(8) + records + b"\xff" * 8
-    return spelled.ljust(SLOT[model], b"\0")
-
-
-def volume(model="2311", cylinders=1, data=None, first=0, sequence=0, highest=0):
-    """A new volume; with data, what WRITE makes of it."""
-    record = b"" if data is None else bytes([0, 0, 0, 0, 1, 0, 0, 4]) + bytes.fromhex(data)
-    slots = [track(model, c, h, b"" if c or h else record) for c in range(first, cylinders) for h in range(HEADS[model])]
-    return header(model, sequence, highest) + b"".join(slots)
+def volume(model: str = "2311", cylinders: int = 1, data: str | None = None) -> bytes:
+    """A new volume in one file; with data, what WRITE makes of it."""
+    made = Volume.new(model, cylinders)
+    if data is not None:
+        track = new_track(0, 0)
+        track.records.append(Record(address(0, 0) + b"\1", b"", bytes.fromhex(data)))
+        made.write(0, 0, track)
+    return made.bytes()
 
 
 # Commands.

@@ -10,15 +10,19 @@ answers; those of hostile rows are counted by a reading of directories and of de
 import pathlib
 import sys
 import tempfile
+from collections.abc import Callable, Iterator
 
 from tools import TOP
+from conformance.suite.volumes import END, Record, address
 from tools.common import volume_layouts as layouts
+from tools.common.images import Image
 from tools.make import hercules_volumes as volumes
 
 CRATE = TOP / "crates/test_extract"
-MARK = b"\xff" * 8
 PATTERNS = (0x01, 0x80, 0xFF)
 RECORDS = 21
+# The lines of a row, and those of its answers.
+Row = tuple[list[str], list[str]]
 
 
 def spelled(body: bytes) -> str:
@@ -40,13 +44,12 @@ def spelled(body: bytes) -> str:
 
 
 def record(track: int, number: int, data: bytes, key: bytes = b"") -> bytes:
-    place = b"".join(it.to_bytes(2, "big") for it in divmod(track, 10))
-    return place + bytes([number, len(key)]) + len(data).to_bytes(2, "big") + key + data
+    return Record(address(*divmod(track, 10)) + bytes([number]), key, data).spelled()
 
 
 def put(track: int, *records: bytes) -> str:
     """The line of a track of a new volume that has these records behind record 0."""
-    return f"track {track} {RECORDS} {spelled(b''.join(records) + MARK)}"
+    return f"track {track} {RECORDS} {spelled(b''.join(records) + END)}"
 
 
 def text(data: bytes, length: int) -> list[str]:
@@ -57,54 +60,69 @@ def ends(track: int, cause: str) -> str:
     return f"track {track} of the data set: {cause}"
 
 
-def hercules_row() -> tuple[list[str], list[str]]:
-    """The volume SMALL1, and all that is on it."""
-    plan = next(it for it in volumes.plans() if it.name == "SMALL1")
-    with tempfile.TemporaryDirectory() as room:
-        folder = pathlib.Path(room)
-        plan.make(folder)
-        image = layouts.Image(folder / "SMALL1.ckd")
-        contents = {it.name: it.read_bytes() for it in (folder / "SMALL1").iterdir()}
-    asked, answers = ["SMALL1 of Hercules"], ["SMALL1 of Hercules"]
-    for track in range(20):
-        at = layouts.HEADER + track * image.slot
-        slot = bytes(image.bytes[at : at + image.slot])
-        end = 5 + sum(8 + len(key) + len(data) for _, key, data in image.track(track)) + len(MARK)
-        asked.append(f"track {track} 0 {spelled(slot[:end])}")
-    blocks = layouts.find_blocks(image)
-    runs = {name: layouts.runs_of(image, block) for name, block in blocks.items()}
-    spell = lambda name: " ".join(f"{a // 10}:{a % 10}-{b // 10}:{b % 10}" for a, b in runs[name])
-    cards = contents["SYS1.CARDS"]
-    for form in ("raw", "fixed:80"):
-        asked.append(f"extract {form} 0 0 65535 {spell('SYS1.CARDS')}")
-        answers += [cards.hex().upper()] if form == "raw" else text(cards, 80)
-        answers.append(ends(0, "end of file"))
-    library = "SYS1.MACLIB"
-    tracks = [track for first, last in runs[library] for track in range(first, last + 1)]
-    listed, extracted = [], []
-    for relative, track in enumerate(tracks):
-        for _, key, data in image.track(track)[1:]:
-            if len(key) == 8 and len(data) == 256:
-                at = 2
-                while at < int.from_bytes(data[:2], "big") and data[at : at + 8] != MARK:
-                    name, last = data[at : at + 8].decode("cp037").rstrip(), data[at + 11]
-                    first = int.from_bytes(data[at + 8 : at + 10], "big"), data[at + 10]
-                    listed.append(f"{name} {'alias' if last & 128 else 'member'} {first[0]} {first[1]} notes {last >> 5 & 3} user {(last & 31) * 2}")
-                    extracted.append((name, first))
-                    at += 12 + (last & 31) * 2
-    directory_end = next(i for i, track in enumerate(tracks) if any(not data for _, _, data in image.track(track)[1:]))
-    asked.append(f"members {spell(library)}")
-    answers += listed + [f"no fault; {ends(directory_end, 'end of file')}"]
-    for name, (track, number) in extracted:
-        body = contents[f"{library}({name})"]
-        end, left = track, number
-        while not any(not data for _, _, data in image.track(tracks[end])[left:]):
-            end, left = end + 1, 1
-        for form in ("raw", "fixed:80"):
-            asked.append(f"extract {form} {track} {number} 65535 {spell(library)}")
-            answers += [body.hex().upper()] if form == "raw" else text(body, 80)
-            answers.append(ends(end, "end of file"))
+class Small:
+    """The volume SMALL1 of Hercules: its image, what its data sets and members hold, and which tracks are theirs."""
+
+    def __init__(self) -> None:
+        plan = next(it for it in volumes.plans() if it.name == "SMALL1")
+        with tempfile.TemporaryDirectory() as room:
+            folder = pathlib.Path(room)
+            plan.make(folder)
+            self.image = Image(folder / "SMALL1.ckd")
+            self.contents = {it.name: it.read_bytes() for it in (folder / "SMALL1").iterdir()}
+        self.runs = {name: layouts.runs_of(self.image, block) for name, block in layouts.find_blocks(self.image).items()}
+
+    def spell(self, name: str) -> str:
+        """The extents of a data set as the rows have them."""
+        return " ".join(f"{a // 10}:{a % 10}-{b // 10}:{b % 10}" for a, b in self.runs[name])
+
+    def blocks(self, name: str) -> list[list[Record]]:
+        """The records of each track of a data set, behind record 0."""
+        return [self.image.records(track)[1:] for first, last in self.runs[name] for track in range(first, last + 1)]
+
+
+def taken(asked: str, data: bytes, end: str) -> Row:
+    """What is extracted from a place on, raw and as lines of 80 characters."""
+    return [f"extract {form} {asked}" for form in ("raw", "fixed:80")], [data.hex().upper(), end, *text(data, 80), end]
+
+
+def entries_of(block: bytes) -> Iterator[tuple[str, tuple[int, int], int]]:
+    """The entries of a directory's block: the name, the place, and the byte that counts what stands behind."""
+    at = 2
+    while at < int.from_bytes(block[:2], "big") and block[at : at + 8] != END:
+        yield block[at : at + 8].decode("cp037").rstrip(), (int.from_bytes(block[at + 8 : at + 10], "big"), block[at + 10]), block[at + 11]
+        at += 12 + (block[at + 11] & 31) * 2
+
+
+def end_from(tracks: list[list[Record]], track: int, number: int) -> int:
+    """The track of the first end of file from a record on."""
+    return next(at for at in range(track, len(tracks)) if any(not it.data for it in tracks[at][number - 1 if at == track else 0 :]))
+
+
+def library_rows(small: Small, library: str) -> Row:
+    """The directory of a partitioned data set, and each member."""
+    tracks = small.blocks(library)
+    entries = [entry for it in sum(tracks, []) if len(it.key) == 8 and len(it.data) == 256 for entry in entries_of(it.data)]
+    asked = [f"members {small.spell(library)}"]
+    answers = [
+        f"{name} {'alias' if last & 128 else 'member'} {track} {number} notes {last >> 5 & 3} user {(last & 31) * 2}"
+        for name, (track, number), last in entries
+    ]
+    answers.append(f"no fault; {ends(end_from(tracks, 0, 1), 'end of file')}")
+    for name, (track, number), _ in entries:
+        end = ends(end_from(tracks, track, number), "end of file")
+        more = taken(f"{track} {number} 65535 {small.spell(library)}", small.contents[f"{library}({name})"], end)
+        asked, answers = asked + more[0], answers + more[1]
     return asked, answers
+
+
+def hercules_row() -> Row:
+    """The volume SMALL1, and all that is on it."""
+    small, name = Small(), "SMALL1 of Hercules"
+    tracks = [f"track {track} 0 {spelled(small.image.track(track).spelled())}" for track in range(20)]
+    cards = taken(f"0 0 65535 {small.spell('SYS1.CARDS')}", small.contents["SYS1.CARDS"], ends(0, "end of file"))
+    members = library_rows(small, "SYS1.MACLIB")
+    return [name, *tracks, *cards[0], *members[0]], [name, *cards[1], *members[1]]
 
 
 def variable(*records: bytes) -> bytes:
@@ -112,7 +130,7 @@ def variable(*records: bytes) -> bytes:
     return (len(body) + 4).to_bytes(2, "big") + bytes(2) + body
 
 
-def small_rows() -> list[tuple[list[str], list[str]]]:
+def small_rows() -> list[Row]:
     """Rows of one rule each: their lines, and their answers."""
     a, b, c = b"\xc1\xc1", b"\xc2\xc2", b"\xc3\xc3"
     end = b""
@@ -177,7 +195,7 @@ def directory_end(data: bytes) -> int:
     while at < used:
         if at + 12 > used:
             return 2
-        if data[at : at + 8] == MARK:
+        if data[at : at + 8] == END:
             return 0
         at += 12 + (data[at + 11] & 31) * 2
         if at > used:
@@ -202,7 +220,7 @@ def block_end(data: bytes) -> int:
     return 0
 
 
-def tally(data: bytes, kinds: int, reading) -> list[int]:
+def tally(data: bytes, kinds: int, reading: Callable[[bytes], int]) -> list[int]:
     """How often each kind is read, while each byte is replaced in turn."""
     counts = [0] * kinds
     for i in range(len(data)):
@@ -211,7 +229,7 @@ def tally(data: bytes, kinds: int, reading) -> list[int]:
     return counts
 
 
-def hostile_rows() -> list[tuple[list[str], list[str]]]:
+def hostile_rows() -> list[Row]:
     """Rows in which each byte of a directory's block, and each of a block of records, is replaced in turn."""
     entries = [(layouts.ebcdic(f"MEMBER{i}", 8), bytes([0, 1, i + 1, user // 2]) + bytes(user)) for i, user in enumerate((0, 30, 12, 62))]
     key, block = layouts.directory_blocks(entries, 1)[0]
@@ -243,7 +261,7 @@ def listed(cards: int | None = 1, last_head: int = 4) -> list[str]:
     return [LABEL.format(last_head), HEADING, *(SET.format(*line) for line in sets), "free 0 tracks, 57 control blocks"]
 
 
-def contents_rows(lines: list[str]) -> list[tuple[list[str], list[str]]]:
+def contents_rows(lines: list[str]) -> list[Row]:
     """What SMALL1 holds, and what is wrong with it where one byte of its label or of a control block is another. The label's data stands
     at 225 of track 0; format 4 at 73, the format 1 blocks of SYS1.CARDS and SYS1.MACLIB at 369 and 517 of track 1."""
     tracks = [line for line in lines if line.startswith("track ")]

@@ -20,9 +20,11 @@ import sys
 import tempfile
 from dataclasses import dataclass, field
 
+from conformance.suite.volumes import MODELS
+from tools.common.images import Image
 from tools.common.record_forms import cut, fixed_blocks, spanned_blocks, variable_blocks
 from tools.common.volume_layouts import (
-    CAPACITY, Details, Extents, Image, Member, blocks_of, count_free, date, ebcdic, find_blocks, join, partition, put_last,
+    Details, Extents, Member, blocks_of, count_free, date, ebcdic, find_blocks, join, partition, put_last,
     runs_of,
 )
 
@@ -197,7 +199,7 @@ class Plan:
         """Puts directory and members into the extents of a partitioned data set."""
         join(image, name, library.parts)
         place = find_blocks(image)[name]
-        extents = Extents(image, self.model, runs_of(image, place))
+        extents = Extents(image, runs_of(image, place))
         partition(extents, library.members, library.count)
         if self.exact:
             put_last(image, place, extents.last())
@@ -206,7 +208,7 @@ class Plan:
         """Puts blocks, and an end of file behind them, into the extents of a data set."""
         join(image, name, blocks.parts)
         place = find_blocks(image)[name]
-        extents = Extents(image, self.model, runs_of(image, place)[1 if self.has_labels(name) else 0 :])
+        extents = Extents(image, runs_of(image, place)[1 if self.has_labels(name) else 0 :])
         for key, data in [*blocks.blocks, (b"", b"")]:
             extents.append(key, data)
         extents.save()
@@ -232,7 +234,7 @@ def numbered_cards(chance: random.Random, count: int) -> list[bytes]:
 
 def add_record_forms(plan: Plan, chance: random.Random) -> None:
     """Sequential and direct data sets, one of each record format, over one to sixteen extents."""
-    full = CAPACITY[plan.model]
+    full = MODELS[plan.model].capacity
     plan.add_sequential("FORM.CARDS", b"".join(numbered_cards(chance, 60)), "CYL 1 1", "PS FB 80 3200 0")
     plan.add_blocks("FORM.F", [words(chance, 100) for _ in range(40)], [3], "PS F 100 100 0")
     plan.add_blocks("FORM.FB", fixed_blocks(numbered_cards(chance, 230), 720), [2, 1, 5], "PS FB 80 720 0")

@@ -21,7 +21,8 @@ import tempfile
 
 from tools import TOP
 from tools.common import written_labels as labels
-from tools.common.volume_layouts import HEADER, Extents, Image, Member, ebcdic, partition
+from tools.common.images import Image
+from tools.common.volume_layouts import Extents, Member, ebcdic, partition
 
 BUILT = TOP / "crates/dasd_cmd/out/dasd_cmd"
 BLOCK, RECORD = 800, 80
@@ -35,24 +36,24 @@ def cards(chance: random.Random, blocks: int) -> list[bytes]:
 
 def fill_volume(image: Image) -> None:
     """Fills a volume of a 2314."""
-    chance, tracks = random.Random(2314), (len(image.bytes) - HEADER) // image.slot
+    chance, tracks = random.Random(2314), image.tracks
     first = tracks * 3 // 4
     data = cards(chance, BLOCKS_OF_TRACK * 64)
     sequential = [(2, first - 1)]
     for track in range(2, first):
         at = track % 64 * BLOCKS_OF_TRACK
         end = [b""] if track == first - 1 else []
-        labels.fill(image, [(b"", it) for it in data[at : at + BLOCKS_OF_TRACK - len(end)] + end], track)
+        image.put_blocks(track, [(b"", it) for it in data[at : at + BLOCKS_OF_TRACK - len(end)] + end])
     # A member takes its blocks, and one of 340 entries on a track of the directory.
     count = (tracks - first - 2) * 340 * BLOCKS_OF_TRACK // (340 * BLOCKS_OF_MEMBER + BLOCKS_OF_TRACK)
     members = {f"MEMB{number:03}": Member(data[number % 8 * BLOCKS_OF_MEMBER :][:BLOCKS_OF_MEMBER]) for number in range(count)}
-    library = Extents(image, "2314", [(first, tracks - 1)])
+    library = Extents(image, [(first, tracks - 1)])
     partition(library, members, count // 20 + 1)
     sets = [
         labels.DataSet("FULL.CARDS", "PS", RECORD, BLOCK, sequential, (first - 3, BLOCKS_OF_TRACK)),
         labels.DataSet("FULL.LIBRARY", "PO", RECORD, BLOCK, [(first, tracks - 1)], library.last()),
     ]
-    labels.put_label(image, "2314", "FULL01", sets)
+    labels.put_label(image, "FULL01", sets)
 
 
 def commands(dasd: str, cylinders: int) -> list[tuple[str, list[str]]]:

@@ -29,13 +29,15 @@ import sys
 import tempfile
 from dataclasses import dataclass, field
 
-from tools.common.volume_layouts import Image
+from conformance.suite.volumes import MODELS, Record, address
+from tools.common.images import Image
 
 SEEK, SEARCH_HOME_ADDRESS, SEARCH_ID, TRANSFER = 0x07, 0x39, 0x31, 0x08
 READ_R0, READ_DATA, READ_DATA_MULTI_TRACK, READ_COUNT_KEY_AND_DATA = 0x16, 0x06, 0x86, 0x1E
 WRITE_DATA, WRITE_COUNT_KEY_AND_DATA = 0x05, 0x1D
 DATA_CHAINING, COMMAND_CHAINING = 0x80, 0x40
-HEADS, RECORDS, DATA, LONG_DATA = 20, 7, 900, 7294
+MODEL = MODELS["2314"]
+HEADS, RECORDS, DATA, LONG_DATA = MODEL.heads, 7, 900, MODEL.capacity
 WRITTEN = b"\xc2"
 # Where things stand in storage: how many programs there are, how many did not end well, data, the list of programs, their words, and
 # the operands of each track.
@@ -82,7 +84,7 @@ WAYS: list[Way] = [("A Start I/O a track", False, ""), ("The same with `nosyncio
 
 def place_of(track: int) -> bytes:
     """Cylinder and head of a track."""
-    return b"".join(it.to_bytes(2, "big") for it in divmod(track, HEADS))
+    return address(*divmod(track, HEADS))
 
 
 def count_area(track: int, record: int, length: int) -> bytes:
@@ -150,10 +152,10 @@ def data_of(work: str, track: int, number: int, is_done: bool) -> bytes:
     return (WRITTEN if is_written else bytes([(track + number) % 128])) * (LONG_DATA if work == "D" else DATA)
 
 
-def records_of(work: str, track: int, is_done: bool) -> list[tuple[bytes, bytes, bytes]]:
-    """The records of a track behind R0, before the work or where it is done: identifiers, keys and data."""
+def records_of(work: str, track: int, is_done: bool) -> list[Record]:
+    """The records of a track behind R0, before the work or where it is done."""
     last = 1 if work == "D" else 0 if work == "W" and not is_done else RECORDS
-    return [(count_area(track, it, 0)[:5], b"", data_of(work, track, it, is_done)) for it in range(1, last + 1)]
+    return [Record(place_of(track) + bytes([it]), b"", data_of(work, track, it, is_done)) for it in range(1, last + 1)]
 
 
 def buffer_of(work: str, cylinders: int) -> bytes:
@@ -212,7 +214,7 @@ def make_volume(path: pathlib.Path, work: str, cylinders: int) -> None:
     subprocess.run(["dasdinit", "-r", path, "2314", str(cylinders)], check=True, stdout=subprocess.DEVNULL, stderr=subprocess.DEVNULL)
     image = Image(path)
     for track in range(cylinders * HEADS):
-        image.put_track(track, image.track(track)[:1] + records_of(work, track, False))
+        image.put_records(track, image.records(track)[:1] + records_of(work, track, False))
     image.save()
 
 
@@ -261,7 +263,7 @@ def check(folder: pathlib.Path, work: str, cylinders: int, is_done: bool) -> Non
         sys.exit(f"{work}: storage does not hold what was read last")
     image = Image(folder / "volume")
     for track in range(cylinders * HEADS):
-        if image.track(track)[1:] != records_of(work, track, is_done):
+        if image.records(track)[1:] != records_of(work, track, is_done):
             sys.exit(f"{work}: track {track} does not hold what it should")
 
 
