@@ -3,8 +3,8 @@
 
     example_pack.py FILE
 
-The layouts are those of tools/common/volume_layouts.py and tools/common/written_labels.py, over an image as conformance/FORMAT.md describes
-images. What stands in the data sets is made up, and repeats itself, so that the pack is small when it is packed."""
+The layouts are those of tools/common/volume_layouts.py and tools/common/written_labels.py, over a new volume of the conformance suite.
+What stands in the data sets is made up, and repeats itself, so that the pack is small when it is packed."""
 
 import pathlib
 import sys

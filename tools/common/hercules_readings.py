@@ -20,7 +20,7 @@ ENVIRONMENT = dict(os.environ, HERCULES_CP="819/037")
 Extents = list[tuple[int, int, int, int]]
 
 
-def run(*words, folder: pathlib.Path | None = None) -> subprocess.CompletedProcess:
+def run(*words: object, folder: pathlib.Path | None = None) -> subprocess.CompletedProcess[bytes]:
     """Runs a command, and keeps what it prints."""
     given = [str(it) for it in words]
     return subprocess.run(given, cwd=folder, env=ENVIRONMENT, stdin=subprocess.DEVNULL, capture_output=True, check=False)
@@ -45,7 +45,7 @@ class Comparison:
     def __init__(self) -> None:
         self.compared, self.differ = 0, 0
 
-    def same(self, what: str, found, wanted, reader: str) -> None:
+    def same(self, what: str, found: object, wanted: object, reader: str) -> None:
         """Compares what `dasd` has with what another reader has."""
         self.compared += 1
         if found != wanted:
@@ -66,14 +66,14 @@ class Comparison:
         return 1 if self.differ else 0
 
 
-def first_difference(one, other) -> int:
+def first_difference(one: object, other: object) -> int:
     """Where bytes begin to differ; 0 for anything else."""
     if not isinstance(one, bytes) or not isinstance(other, bytes):
         return 0
     return next((at for at, pair in enumerate(zip(one, other)) if pair[0] != pair[1]), min(len(one), len(other)))
 
 
-def shown(it, at: int) -> str:
+def shown(it: object, at: int) -> str:
     """A value for a line: long bytes by their number and some of them from an offset on."""
     if isinstance(it, bytes) and len(it) > 40:
         return f"{len(it)} bytes, from {at} on {it[at : at + 40]!r}"
@@ -118,10 +118,21 @@ def list_by_dasdls(image: pathlib.Path) -> tuple[str, list[Listed]]:
 
     listed = []
     for line in lines[2:]:
-        days = [day_of(column(line, name, 9)) for name in ("Created ", "Exp. Date")]
-        words = [column(line, name, width) for name, width in (("ORG", 3), ("RECFM", 5))]
-        numbers = [number(line, *it) for it in (("LRECL", 5), ("BLKSZ", 5), ("Key", 3), ("Trks", 5), ("%Use", 4), ("#Ext", 4))]
-        listed.append(Listed(line[:44].rstrip(), *days, *words, *numbers))
+        listed.append(
+            Listed(
+                name=line[:44].rstrip(),
+                created=day_of(column(line, "Created ", 9)),
+                expires=day_of(column(line, "Exp. Date", 9)),
+                organisation=column(line, "ORG", 3),
+                form=column(line, "RECFM", 5),
+                record_length=number(line, "LRECL", 5),
+                block_length=number(line, "BLKSZ", 5),
+                key_length=number(line, "Key", 3),
+                tracks=number(line, "Trks", 5),
+                used_percent=number(line, "%Use", 4),
+                extents=number(line, "#Ext", 4),
+            )
+        )
     return serial, listed
 
 
@@ -130,7 +141,7 @@ def extents_by_dasdseq(image: pathlib.Path, name: str) -> Extents:
     with tempfile.TemporaryDirectory() as room:
         printed = run("dasdseq", "-debug", image.resolve(), name, folder=pathlib.Path(room)).stderr.decode("latin-1")
     rows = re.findall(r"^  [0-9A-F]{2}   [0-9A-F]{2}   (\w{4}) (\w{4}) (\w{4}) (\w{4})$", printed, re.M)
-    return [tuple(int(it, 16) for it in row) for row in rows]
+    return [(int(a, 16), int(b, 16), int(c, 16), int(d, 16)) for a, b, c, d in rows]
 
 
 def records_by_dasdseq(image: pathlib.Path, name: str, *options: str) -> bytes | None:

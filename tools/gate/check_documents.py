@@ -11,6 +11,8 @@ Prints what is wrong; the last line is 'N things looked at in the documents, M w
 
 import re
 import sys
+from collections.abc import Iterator
+from pathlib import Path
 
 from tools import TOP
 
@@ -25,28 +27,29 @@ WORD = re.compile(r"(?:[A-Z]\w*::)?([A-Za-z_]\w*)")
 class Findings:
     """What was looked at, and what of it is wrong."""
 
-    def __init__(self):
+    def __init__(self) -> None:
         self.looked, self.wrong = 0, 0
 
-    def expect(self, holds, what):
+    def expect(self, holds: bool, what: str) -> None:
+        """Counts something, and prints what is wrong with it unless it holds."""
         self.looked += 1
         if not holds:
             print(what)
             self.wrong += 1
 
 
-def crates():
+def crates() -> list[str]:
     """The names of crates.txt."""
     lines = (TOP / "crates.txt").read_text(encoding="utf-8").splitlines()
     return [line.split(":")[0].split()[0] for line in lines if line.strip() and not line.startswith("#")]
 
 
-def documents():
+def documents() -> list[Path]:
     """All pages of the repository."""
     return sorted({*TOP.glob("*.md"), *TOP.glob("docs/*.md"), *TOP.glob("crates/*/README.md")})
 
 
-def check_crates(findings):
+def check_crates(findings: Findings) -> None:
     """Each crate has its page and its row; the first page is short."""
     rows = (TOP / "docs/MAP.md").read_text(encoding="utf-8").split("## Which definitions live where")[0]
     for name in crates():
@@ -56,13 +59,13 @@ def check_crates(findings):
     findings.expect(size <= MOST_BYTES, f"README.md has {size} bytes, more than {MOST_BYTES}")
 
 
-def check_links(findings, page, text):
+def check_links(findings: Findings, page: Path, text: str) -> None:
     """Each link leads somewhere."""
     for link in LINK.findall(text):
         findings.expect((page.parent / link).exists(), f"{page.relative_to(TOP)}: nothing at {link}")
 
 
-def files_named(paragraph, own):
+def files_named(paragraph: str, own: str | None) -> Iterator[str]:
     """Files that a paragraph names, each as a path below crates/; own is the crate of the page, if it has one."""
     crate, folder = own, "src"
     for code in CODE.findall(paragraph):
@@ -77,7 +80,7 @@ def files_named(paragraph, own):
                 yield f"{crate}/{folder}/{file}"
 
 
-def check_files(findings, page, text):
+def check_files(findings: Findings, page: Path, text: str) -> None:
     """Each file that is named is there."""
     own = page.parent.name if page.parent.parent.name == "crates" else None
     for paragraph in re.split(r"\n(?=\||- |\n)", text):
@@ -85,7 +88,7 @@ def check_files(findings, page, text):
             findings.expect((TOP / "crates" / path).is_file(), f"{page.relative_to(TOP)}: no file crates/{path}")
 
 
-def check_names(findings, page, text):
+def check_names(findings: Findings, page: Path, text: str) -> None:
     """Each name of a table's last column is one of the crate's own."""
     sources = [*page.parent.rglob("src/**/*.rt"), *page.parent.rglob("specs/*.antt")]
     words = set(re.findall(r"\w+", "\n".join(source.read_text(encoding="utf-8") for source in sources)))
@@ -97,7 +100,8 @@ def check_names(findings, page, text):
                     findings.expect(name.group(1) in words, f"{page.relative_to(TOP)}: {code} is no name of the crate")
 
 
-def main():
+def main() -> int:
+    """Looks at all of it."""
     findings = Findings()
     check_crates(findings)
     for page in documents():

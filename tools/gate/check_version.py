@@ -7,6 +7,7 @@ Prints each copy that is wrong; the last line is 'N copies of the version, M wro
 
 import re
 import sys
+from pathlib import Path
 
 from tools import TOP
 
@@ -25,15 +26,16 @@ COPIES = {
 }
 
 
-def copy_in(path, pattern):
+def copy_in(path: Path, pattern: str) -> str | None:
     """The version that a file shows, or None."""
     if not path.is_file():
         return None
     found = re.search(pattern, path.read_text(encoding="utf-8"), re.MULTILINE)
-    return found and found.group(1)
+    return found[1] if found else None
 
 
-def main():
+def main() -> int:
+    """Compares them all."""
     version = (TOP / "VERSION").read_text(encoding="utf-8").strip()
     wrong = 0
     copies = {name: pattern for name, pattern in COPIES.items() if (TOP / name.split("/")[0]).exists()}

@@ -33,6 +33,7 @@ import pathlib
 import re
 import sys
 import tempfile
+from typing import Any
 
 from tools.common import hercules_readings as readings, volume_layouts as layouts
 from tools.common.images import Image
@@ -43,10 +44,11 @@ LINE = re.compile(r"(.{44}) (.{8}) (.{8}) (.{3}) (.{5}) (.{5}) (.{5}) (.{6}) (.{
 FREE = re.compile(r"free (\d+) tracks, (\d+) control blocks")
 OWNER = "    HERCULES"
 # What a line and an object of a data set have alike.
+Fields = dict[str, Any]
 FIELDS = ("name", "created", "expires", "organisation", "format", "record_length", "block_length", "tracks", "used", "extents")
 
 
-def fields_of(line: str) -> dict:
+def fields_of(line: str) -> Fields:
     """A line of `dasd vtoc` as the fields of the object, with the number of extents in their place."""
     found = LINE.fullmatch(line)
     if not found:
@@ -93,7 +95,7 @@ class Volume:
         self.lines = lines.stdout.decode().splitlines()
         self.objects = [json.loads(line) for line in objects.stdout.splitlines()]
 
-    def same(self, what: str, found, wanted, reader: str) -> None:
+    def same(self, what: str, found: object, wanted: object, reader: str) -> None:
         self.comparison.same(f"{self.plan.name} {what}", found, wanted, reader)
 
     def compare(self) -> None:
@@ -125,7 +127,7 @@ class Volume:
         found = FREE.fullmatch(self.lines[-1])
         self.same("free in lines", tuple(map(int, found.groups())) if found else self.lines[-1], wanted, "dasdload")
 
-    def compare_set(self, found: dict, listed: readings.Listed, where: str) -> None:
+    def compare_set(self, found: Fields, listed: readings.Listed, where: str) -> None:
         """A data set, field by field."""
         wanted = {
             "name": listed.name,
@@ -157,7 +159,7 @@ class Volume:
         balance = int.from_bytes(self.image.block(self.blocks[listed.name])[1][57:59], "big")
         return (used - balance / self.image.slot) * 100 / listed.tracks
 
-    def compare_extents(self, found: dict) -> None:
+    def compare_extents(self, found: Fields) -> None:
         """The extents of a data set."""
         name = found["name"]
         held = self.plan.partitioned.get(name) or self.plan.blocked.get(name)

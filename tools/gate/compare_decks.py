@@ -192,8 +192,8 @@ def compare_rewritten(written: Written, plan: volumes.Plan) -> None:
     image = written.new(plan.name, plan.model, plan.cylinders)
     image.volume.slots = list(original.volume.slots)
     path = written.write(image)
-    lists = [readings.run("dasdls", "-info", "-expdt", it).stdout.split(b"VOLSER=")[1] for it in (path, original.path)]
-    written.comparison.same(f"{path.name} listed", *lists, "dasdls")
+    ours, theirs = (readings.run("dasdls", "-info", "-expdt", it).stdout.split(b"VOLSER=")[1] for it in (path, original.path))
+    written.comparison.same(f"{path.name} listed", ours, theirs, "dasdls")
     compared = readings.run(written.dasd, "compare", "--tracks", path, original.path)
     written.comparison.same(f"{path.name} beside {original.path.name}", (compared.returncode, compared.stderr), (0, b""), "dasd compare")
 

@@ -107,7 +107,7 @@ class Extraction:
         self.image = folder / f"{plan.name}.ckd"
         self.pieces = pieces_of(plan, folder / plan.name)
 
-    def same(self, what: str, found, wanted, reader: str) -> None:
+    def same(self, what: str, found: object, wanted: object, reader: str) -> None:
         self.comparison.same(f"{self.plan.name} {what}", found, wanted, reader)
 
     def compare(self) -> None:
@@ -120,7 +120,7 @@ class Extraction:
             self.compare_all(options)
         self.compare_refusals()
 
-    def extract(self, name: str, *options) -> tuple[int, str, bytes]:
+    def extract(self, name: str, *options: object) -> tuple[int, str, bytes]:
         """Status, fault and standard output of an extraction."""
         ended = readings.run(self.dasd, "extract", self.image, name, *options)
         return ended.returncode, ended.stderr.decode(), ended.stdout
@@ -173,8 +173,8 @@ class Extraction:
         with tempfile.TemporaryDirectory(dir=self.folder) as name:
             ended = readings.run(self.dasd, "extract", "--all", name, *options, self.image)
             found = {path.name: path.read_bytes() for path in pathlib.Path(name).iterdir()}
-        wanted = {it.file: it.text() if is_text else it.raw() for it in self.pieces}
-        wanted = {file: body for file, body in wanted.items() if body is not None}
+        bodies = {it.file: it.text() if is_text else it.raw() for it in self.pieces}
+        wanted = {file: body for file, body in bodies.items() if body is not None}
         self.same(f"{title} files", sorted(found), sorted(wanted), "what was put there")
         for file, body in wanted.items():
             self.same(f"{title} {file}", found.get(file), body, "what was put there")

@@ -8,19 +8,20 @@ make them; one that must end with another status than 0 has it at its end, as `s
 from pathlib import Path
 
 from tools.common.images import slot_at
-from tools.gate.scratch_files import ROWS, same, volume
+from tools.gate.scratch_files import ROWS, Play, Scratch, same, volume
 
-__all__ = ["ROWS"]
+# What the words of a row behind its command are for `dasd`.
+STYLES: dict[str, list[str]] = {"text": [], "json": ["--json"], "lists": [], "counts": ["--tracks"]}
 HERE = Path(__file__).resolve().parent / "rows"
 
 
-def spelled(word):
+def spelled(word: str) -> bytes:
     """Bytes as a row writes them: hexadecimal digits, of which a part may be followed by how often it stands there, as `0000+C1*80`."""
     parts = [part.partition("*") for part in word.split("+")]
     return b"".join(bytes.fromhex(digits) * int(times or 1) for digits, _, times in parts)
 
 
-def made(lines, kind):
+def made(lines: list[str], kind: str) -> bytes:
     """The volume that the lines of this kind make."""
     held = bytearray(volume())
     for line in lines:
@@ -32,26 +33,26 @@ def made(lines, kind):
     return bytes(held)
 
 
-def command(line):
+def command(line: str) -> tuple[list[str], int] | None:
     """The words of `dasd` for a line of a row, and the status that they must end with; none for a line that is no command."""
     said, _, status = line.partition(" status ")
     word, *rest = said.split()
     if word not in ("check", "dump", "compare"):
         return None
-    style = {"text": [], "json": ["--json"]}[rest[0]]
+    style = STYLES[rest[0]]
     if word == "check":
         words = ["check", "--strict", *style, "a.ckd"]
     elif word == "dump":
         words = ["dump", *style, "a.ckd", *rest[1:]]
     else:
-        words = ["compare", *({"lists": [], "counts": ["--tracks"]}[rest[1]]), *style, "a.ckd", "b.ckd"]
+        words = ["compare", *STYLES[rest[1]], *style, "a.ckd", "b.ckd"]
     return words, int(status or 0)
 
 
-def player(lines, wanted):
+def player(lines: list[str], wanted: str) -> Play:
     """Plays a row: what its commands print, one behind another, the status of each, and that they say nothing on standard error."""
 
-    def play(s):
+    def play(s: Scratch) -> None:
         s.put("a.ckd", made(lines, "track"))
         s.put("b.ckd", made(lines, "other"))
         printed = ""
@@ -64,7 +65,7 @@ def player(lines, wanted):
     return play
 
 
-def read_rows():
+def read_rows() -> None:
     """The rows, each with its name, its lines and what it must print."""
     rows = [row.splitlines() for row in (HERE / "archives.rows").read_text().split("\n\n")]
     left = (HERE / "archives.answers").read_text()

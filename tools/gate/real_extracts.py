@@ -5,18 +5,20 @@ name would lead out of a folder, one that has no end of file, one of a format th
 
 import json
 import os
+from pathlib import Path
 
 from tools.common.images import Image
-from tools.common.volume_layouts import Extents, directory_blocks, ebcdic
+from tools.common.volume_layouts import Extents, Run, directory_blocks, ebcdic
 from tools.common.written_labels import DataSet, put_label
-from tools.gate.scratch_files import ROWS, fault, is_held, row, same, volume
+from tools.gate.scratch_files import How, Scratch, fault, is_held, row, same, volume
 
-__all__ = ["ROWS"]
 MODEL = "2311"
 END_OF_FILE = (b"", b"")
 # Where each data set stands: its tracks on the volume.
 CARDS, LIBRARY, OUTSIDE, ENDLESS, SHAPELESS, TWIN = [(2, 2)], [(3, 3), (5, 5)], [(6, 6)], [(7, 7)], [(8, 8)], [(9, 9)]
-SETS = [
+# A data set that is to be: its name, its organisation and its tracks.
+Set = tuple[str, str, list[Run]]
+SETS: list[Set] = [
     ("PAY.CARDS", "PS", CARDS),
     ("SYS1.MACLIB", "PO", LIBRARY),
     ("../../ETC/PASSWD", "PS", OUTSIDE),
@@ -27,12 +29,12 @@ SETS = [
 LINES = ["//CARDS    JOB", "FIRST  CARD", "", "LAST CARD"]
 
 
-def card(text):
+def card(text: str) -> bytes:
     """A record of 80 bytes."""
     return ebcdic(text, 80)
 
 
-def put_blocks(image, runs, blocks, end=True):
+def put_blocks(image: Image, runs: list[Run], blocks: list[list[str]], end: bool = True) -> None:
     """Writes blocks of records to the tracks of a data set, and an end of file behind them."""
     extents = Extents(image, runs)
     for block in blocks:
@@ -42,7 +44,7 @@ def put_blocks(image, runs, blocks, end=True):
     extents.save()
 
 
-def put_library(image):
+def put_library(image: Image) -> None:
     """A directory and two members: ALPHA behind the directory, BETA on the track behind, which is of the second extent."""
     extents = Extents(image, LIBRARY)
     places = {"ALPHA": (0, 3), "BETA": (1, 1)}
@@ -58,7 +60,7 @@ def put_library(image):
     extents.save()
 
 
-def spell(path, sets=SETS):
+def spell(path: Path, sets: list[Set] = SETS) -> None:
     """Makes the file of the volume, with the control blocks of these data sets."""
     path.write_bytes(volume(MODEL, 2))
     image = Image(path)
@@ -74,27 +76,28 @@ def spell(path, sets=SETS):
     image.save()
 
 
-def labelled(s):
+def labelled(s: Scratch) -> Path:
     """The path of the volume in the folder of a row."""
     spell(s.path("pack.ckd"))
     return s.path("pack.ckd")
 
 
-def raw(*lines):
+def raw(*lines: str) -> bytes:
+    """Lines as the records of a data set."""
     return b"".join(map(card, lines))
 
 
 @row
-def data_set_goes_to_standard_output(s):
+def data_set_goes_to_standard_output(s: Scratch) -> None:
     labelled(s)
     same(s.dasd("extract", "pack.ckd", "PAY.CARDS", "--text"), (0, "".join(it + "\n" for it in LINES), ""))
     with open(s.path("out"), "wb") as out:
-        same(s.dasd("extract", "pack.ckd", "PAY.CARDS", stdout=out), (0, "", ""))
+        same(s.dasd("extract", "pack.ckd", "PAY.CARDS", how=How(stdout=out)), (0, "", ""))
     is_held(s.path("out"), raw(*LINES))
 
 
 @row
-def member_goes_to_a_new_file_and_no_file_is_written_over(s):
+def member_goes_to_a_new_file_and_no_file_is_written_over(s: Scratch) -> None:
     held = labelled(s).read_bytes()
     words = ("extract", "pack.ckd", "SYS1.MACLIB(BETA)", "--text", "--to", "beta")
     same(s.dasd(*words), (0, "", ""))
@@ -109,7 +112,7 @@ def member_goes_to_a_new_file_and_no_file_is_written_over(s):
 
 
 @row
-def what_is_not_there_is_refused_by_name(s):
+def what_is_not_there_is_refused_by_name(s: Scratch) -> None:
     labelled(s)
     for name, text in [
         ("NO.SUCH", "no such data set"),
@@ -128,7 +131,7 @@ def what_is_not_there_is_refused_by_name(s):
 
 
 @row
-def data_set_without_an_end_is_written_and_told(s):
+def data_set_without_an_end_is_written_and_told(s: Scratch) -> None:
     labelled(s)
     text = "track 1 of the data set: the extents end before an end of file"
     same(s.dasd("extract", "pack.ckd", "OPEN.END", "--text"), fault(text, "ONE\nTWO\n"))
@@ -137,7 +140,7 @@ def data_set_without_an_end_is_written_and_told(s):
 
 
 @row
-def all_of_a_volume_goes_to_a_folder_and_nothing_leaves_it(s):
+def all_of_a_volume_goes_to_a_folder_and_nothing_leaves_it(s: Scratch) -> None:
     labelled(s)
     s.path("deep").mkdir()
     s.path("deep/out").mkdir()
@@ -170,7 +173,7 @@ def all_of_a_volume_goes_to_a_folder_and_nothing_leaves_it(s):
 
 
 @row
-def all_of_a_volume_as_text_with_objects(s):
+def all_of_a_volume_as_text_with_objects(s: Scratch) -> None:
     labelled(s)
     s.path("out").mkdir()
     status, out, told = s.dasd("extract", "--all", "out", "pack.ckd", "--text", "--json")
@@ -185,19 +188,19 @@ def all_of_a_volume_as_text_with_objects(s):
 
 
 @row
-def folder_that_is_not_there_and_disk_that_is_full(s):
+def folder_that_is_not_there_and_disk_that_is_full(s: Scratch) -> None:
     labelled(s)
     same(s.dasd("extract", "--all", "out", "pack.ckd"), fault("write fault"))
     with open("/dev/full", "wb") as full:
-        same(s.dasd("extract", "pack.ckd", "PAY.CARDS", stdout=full), fault("write fault"))
+        same(s.dasd("extract", "pack.ckd", "PAY.CARDS", how=How(stdout=full)), fault("write fault"))
     same(s.names(), ["pack.ckd"])
 
 
 @row
-def words_of_an_extraction_that_are_wrong(s):
+def words_of_an_extraction_that_are_wrong(s: Scratch) -> None:
     labelled(s)
     name = "error: no name of a data set behind the paths, as SYS1.MACLIB(OPEN) or PAYROLL\n"
     for words in [("pack.ckd",), ("pack.ckd", "LIB("), ("pack.ckd", "(ALPHA)"), ("pack.ckd", "LIB()")]:
-        same(s.dasd("extract", *words), (2, "", name), words)
+        same(s.dasd("extract", *words), (2, "", name), " ".join(words))
     same(s.dasd("extract", "pack.ckd", "PAY.CARDS", "--json"), (2, "", "error: --json goes with --all\n"))
     same(s.dasd("extract", "pack.ckd", "--all", "out", "--to", "file")[0], 2)

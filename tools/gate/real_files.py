@@ -13,7 +13,6 @@ is not 0.
 import argparse
 import os
 import pty
-import resource
 import shutil
 import socket
 import stat
@@ -21,20 +20,25 @@ import subprocess
 import sys
 import tempfile
 import time
+from collections.abc import Callable
 from pathlib import Path
 
 from conformance.suite.volumes import HEADER
 from tools import TOP
 from tools.common.images import slot_at
 from tools.gate import real_archives, real_extracts, real_findings, real_lists, real_runs
-from tools.gate.scratch_files import ANSWERS, NOBODY, ROWS, WRITE, Scratch, Skipped, fault, header, is_held, row, same, volume, wrote
+from tools.gate.scratch_files import ANSWERS, ROWS, WRITE, How, Scratch, Skipped, fault, header, is_held, row, same, volume, wrote
+
+
+# The modules whose rows stand in ROWS with those below.
+OTHERS = (real_archives, real_extracts, real_findings, real_lists, real_runs)
 
 
 # Links.
 
 
 @row
-def symbolic_link_stays_a_link(s):
+def symbolic_link_stays_a_link(s: Scratch) -> None:
     s.put("target.ckd", volume())
     s.path("link.ckd").symlink_to("target.ckd")
     same(s.write("90=link.ckd"), wrote())
@@ -47,7 +51,7 @@ def symbolic_link_stays_a_link(s):
 
 
 @row
-def link_to_another_folder(s):
+def link_to_another_folder(s: Scratch) -> None:
     s.path("there").mkdir()
     s.put("there/target.ckd", volume())
     s.path("link.ckd").symlink_to("there/target.ckd")
@@ -57,7 +61,7 @@ def link_to_another_folder(s):
 
 
 @row
-def link_to_nothing_and_loop_of_links(s):
+def link_to_nothing_and_loop_of_links(s: Scratch) -> None:
     s.path("nothing.ckd").symlink_to("nowhere.ckd")
     s.path("loop.ckd").symlink_to("loop.ckd")
     for name in ("nothing.ckd", "loop.ckd"):
@@ -68,7 +72,7 @@ def link_to_nothing_and_loop_of_links(s):
 
 
 @row
-def hard_link_keeps_the_old_bytes_at_its_other_name(s):
+def hard_link_keeps_the_old_bytes_at_its_other_name(s: Scratch) -> None:
     os.link(s.put("one.ckd", volume()), s.path("other.ckd"))
     same(s.write("90=one.ckd"), wrote())
     is_held(s.path("one.ckd"), volume(data="D5D6D7D8"))
@@ -78,7 +82,8 @@ def hard_link_keeps_the_old_bytes_at_its_other_name(s):
 # What is no regular file.
 
 
-def is_refused(s, name, kind):
+def is_refused(s: Scratch, name: str, kind: Callable[[int], bool]) -> None:
+    """What is no regular file is neither formatted nor run, and stays what it was."""
     same(s.dasd("format", name, "--cylinders", "1"), fault("write fault"))
     same(s.write(f"90={name}"), fault("read fault"))
     if not kind(os.lstat(s.path(name)).st_mode):
@@ -87,27 +92,27 @@ def is_refused(s, name, kind):
 
 
 @row
-def pipe_is_not_replaced(s):
+def pipe_is_not_replaced(s: Scratch) -> None:
     os.mkfifo(s.path("pipe"))
     is_refused(s, "pipe", stat.S_ISFIFO)
 
 
 @row
-def folder_is_not_replaced(s):
+def folder_is_not_replaced(s: Scratch) -> None:
     s.path("folder").mkdir()
     is_refused(s, "folder", stat.S_ISDIR)
     same(s.dasd("list", "folder"), fault("read fault"))
 
 
 @row
-def socket_is_not_replaced(s):
+def socket_is_not_replaced(s: Scratch) -> None:
     with socket.socket(socket.AF_UNIX) as it:
         it.bind(str(s.path("socket")))
         is_refused(s, "socket", stat.S_ISSOCK)
 
 
 @row
-def device_is_not_replaced(s):
+def device_is_not_replaced(s: Scratch) -> None:
     try:
         os.mknod(s.path("null"), stat.S_IFCHR | 0o666, os.makedev(1, 3))
     except OSError as why:
@@ -116,7 +121,7 @@ def device_is_not_replaced(s):
 
 
 @row
-def standard_input_is_not_replaced(s):
+def standard_input_is_not_replaced(s: Scratch) -> None:
     same(s.dasd("run", "90=/dev/stdin", deck=volume()), fault("read fault"))
 
 
@@ -124,7 +129,7 @@ def standard_input_is_not_replaced(s):
 
 
 @row
-def mode_is_kept(s):
+def mode_is_kept(s: Scratch) -> None:
     for mode in (0o600, 0o640, 0o666, 0o755):
         s.put("vol.ckd", volume()).chmod(mode)
         same(s.write("90=vol.ckd"), wrote())
@@ -134,13 +139,13 @@ def mode_is_kept(s):
 
 
 @row
-def new_file_has_the_mode_of_new_files(s):
-    same(s.dasd("format", "vol.ckd", "--cylinders", "1", umask=0o027)[0], 0)
+def new_file_has_the_mode_of_new_files(s: Scratch) -> None:
+    same(s.dasd("format", "vol.ckd", "--cylinders", "1", how=How(umask=0o027))[0], 0)
     same(oct(s.path("vol.ckd").stat().st_mode & 0o7777), oct(0o640))
 
 
 @row
-def owner_is_kept(s):
+def owner_is_kept(s: Scratch) -> None:
     if os.geteuid() != 0:
         raise Skipped("no other owner without root")
     os.chown(s.put("vol.ckd", volume()), 1000, 1001)
@@ -151,7 +156,7 @@ def owner_is_kept(s):
 
 
 @row
-def file_that_may_not_be_written_is_not_replaced(s):
+def file_that_may_not_be_written_is_not_replaced(s: Scratch) -> None:
     s.put("vol.ckd", volume()).chmod(0o444)
     same(s.write("90=vol.ckd"), fault("write fault", ANSWERS.format(unit="190")))
     same(s.dasd("format", "vol.ckd", "--cylinders", "2"), fault("write fault"))
@@ -161,18 +166,14 @@ def file_that_may_not_be_written_is_not_replaced(s):
 
 
 @row
-def folder_that_may_not_be_written(s):
+def folder_that_may_not_be_written(s: Scratch) -> None:
     s.put("vol.ckd", volume()).chmod(0o666)
-    how = {}
-    if os.geteuid() == 0:
-        how = {"user": NOBODY, "group": NOBODY, "extra_groups": []}
-        s.folder.chmod(0o755)
-    else:
-        s.folder.chmod(0o555)
+    how = How(is_nobodys=os.geteuid() == 0)
+    s.folder.chmod(0o755 if how.is_nobodys else 0o555)
     try:
-        same(s.write("90=vol.ckd", **how), fault("write fault", ANSWERS.format(unit="190")))
-        same(s.dasd("format", "vol.ckd", "--cylinders", "2", **how), fault("write fault"))
-        same(s.dasd("format", "new.ckd", "--cylinders", "2", **how), fault("write fault"))
+        same(s.write("90=vol.ckd", how=how), fault("write fault", ANSWERS.format(unit="190")))
+        same(s.dasd("format", "vol.ckd", "--cylinders", "2", how=how), fault("write fault"))
+        same(s.dasd("format", "new.ckd", "--cylinders", "2", how=how), fault("write fault"))
     finally:
         s.folder.chmod(0o700)
     is_held(s.path("vol.ckd"), volume())
@@ -180,7 +181,7 @@ def folder_that_may_not_be_written(s):
 
 
 @row
-def disk_that_is_full(s):
+def disk_that_is_full(s: Scratch) -> None:
     s.path("small").mkdir()
     if shutil.which("mount") is None:
         raise Skipped("there is no mount")
@@ -198,16 +199,16 @@ def disk_that_is_full(s):
 
 
 @row
-def output_that_is_full(s):
+def output_that_is_full(s: Scratch) -> None:
     if not os.path.exists("/dev/full"):
         raise Skipped("there is no /dev/full")
     s.put("vol.ckd", volume())
     for words in (["list", "vol.ckd"], ["check", "vol.ckd"], ["format", "new.ckd", "--cylinders", "1"], ["--version"]):
         with open("/dev/full", "wb") as full:
-            status, _, told = s.dasd(*words, stdout=full)
+            status, _, told = s.dasd(*words, how=How(stdout=full))
         same((status, told), (1, "dasd: write fault\n"), " ".join(words))
     with open("/dev/full", "wb") as full:
-        same(s.write("90=vol.ckd", stdout=full)[::2], (1, "dasd: write fault\n"))
+        same(s.write("90=vol.ckd", how=How(stdout=full))[::2], (1, "dasd: write fault\n"))
     is_held(s.path("vol.ckd"), volume(data="D5D6D7D8"))
     is_held(s.path("new.ckd"), volume())
 
@@ -216,7 +217,7 @@ def output_that_is_full(s):
 
 
 @row
-def file_of_the_old_name_beside_it_stays(s):
+def file_of_the_old_name_beside_it_stays(s: Scratch) -> None:
     s.put("vol.ckd", volume())
     s.put("vol.ckd.new", b"mine")
     same(s.write("90=vol.ckd"), wrote())
@@ -232,7 +233,7 @@ def file_of_the_old_name_beside_it_stays(s):
 
 
 @row
-def names_of_new_files_are_never_taken(s):
+def names_of_new_files_are_never_taken(s: Scratch) -> None:
     s.put("vol.ckd", volume())
     os.mkfifo(s.path("deck"))
     run = s.start("run", "--deck", "deck", "90=vol.ckd")
@@ -248,7 +249,7 @@ def names_of_new_files_are_never_taken(s):
 
 
 @row
-def names_with_blanks_equals_signs_and_letters_of_all_kinds(s):
+def names_with_blanks_equals_signs_and_letters_of_all_kinds(s: Scratch) -> None:
     for name in ("my pack.ckd", "a=b.ckd", "=", "größe-磁気.ckd", "'quoted'", "n" * 255):
         same(s.dasd("format", "--cylinders", "1", "--", name), (0, "formatted 2311 1 cylinders\n", ""), name)
         same(s.write(f"90={name}"), wrote(), name)
@@ -259,7 +260,7 @@ def names_with_blanks_equals_signs_and_letters_of_all_kinds(s):
 
 
 @row
-def no_replace_refuses(s):
+def no_replace_refuses(s: Scratch) -> None:
     s.put("vol.ckd", b"mine")
     same(s.dasd("format", "vol.ckd", "--no-replace"), fault("file exists"))
     is_held(s.path("vol.ckd"), b"mine")
@@ -271,7 +272,7 @@ def no_replace_refuses(s):
 
 
 @row
-def files_that_are_no_images(s):
+def files_that_are_no_images(s: Scratch) -> None:
     s.put("empty", b"")
     s.put("short", volume()[:-1])
     with open(s.path("huge"), "wb") as huge:
@@ -286,14 +287,14 @@ def files_that_are_no_images(s):
 
 
 @row
-def device_without_an_end(s):
+def device_without_an_end(s: Scratch) -> None:
     for words in (["list", "/dev/zero"], ["check", "/dev/zero"]):
         same(s.dasd(*words), fault("not a CKD_P370 image"))
     same(s.dasd("run", "--deck", "/dev/zero", "90=new:2311:1"), fault("read fault"))
 
 
 @row
-def pipe_is_listed_and_checked(s):
+def pipe_is_listed_and_checked(s: Scratch) -> None:
     held = volume("2314", 3)
     s.put("vol.ckd", held)
     same(s.dasd("check", "/dev/stdin", deck=held), (0, "0 findings\n", ""))
@@ -304,7 +305,7 @@ def pipe_is_listed_and_checked(s):
 
 
 @row
-def image_in_two_files(s):
+def image_in_two_files(s: Scratch) -> None:
     whole, middle = volume("2311", 3), slot_at("2311", 20)
     first = header("2311", 1, 1) + whole[HEADER:middle]
     s.put("a.ckd", first)
@@ -319,20 +320,19 @@ def image_in_two_files(s):
 
 
 @row
-def large_volumes_take_little_memory(s):
-    most = (8 << 20, 8 << 20)
-    how = {"preexec_fn": lambda: resource.setrlimit(resource.RLIMIT_AS, most)}
-    same(s.dasd("format", "vol.ckd", "--cylinders", "2000", **how), (0, "formatted 2311 2000 cylinders\n", ""))
+def large_volumes_take_little_memory(s: Scratch) -> None:
+    how = How(memory=8 << 10)
+    same(s.dasd("format", "vol.ckd", "--cylinders", "2000", how=how), (0, "formatted 2311 2000 cylinders\n", ""))
     is_held(s.path("vol.ckd"), volume(cylinders=2000))
-    same(s.dasd("check", "vol.ckd", **how), (0, "0 findings\n", ""))
-    same(s.dasd("list", "vol.ckd", **how)[::2], (0, ""))
+    same(s.dasd("check", "vol.ckd", how=how), (0, "0 findings\n", ""))
+    same(s.dasd("list", "vol.ckd", how=how)[::2], (0, ""))
 
 
 # Statuses and words.
 
 
 @row
-def findings_end_with_status_1(s):
+def findings_end_with_status_1(s: Scratch) -> None:
     held, at = bytearray(volume()), slot_at("2311", 2) + 21
     held[at : at + 8] = bytes([0, 0, 0, 2, 1, 0, 255, 255])
     s.put("vol.ckd", bytes(held))
@@ -341,7 +341,7 @@ def findings_end_with_status_1(s):
 
 
 @row
-def wrong_words_end_with_status_2(s):
+def wrong_words_end_with_status_2(s: Scratch) -> None:
     for words in (["format"], ["fomrat"], ["check", "--what", "a"], ["run", "90"], ["run", "--trace", "--trace-to", "a", "90=a"]):
         status, out, told = s.dasd(*words)
         same((status, out, bool(told)), (2, "", True), " ".join(words))
@@ -350,7 +350,7 @@ def wrong_words_end_with_status_2(s):
 
 
 @row
-def help_goes_to_standard_output(s):
+def help_goes_to_standard_output(s: Scratch) -> None:
     for words in (["--help"], ["run", "--help"], ["format", "--help"], ["list", "--help"], ["check", "--help"]):
         status, out, told = s.dasd(*words)
         same((status, "Example: dasd" in out, told), (2, True, ""), " ".join(words))
@@ -359,17 +359,17 @@ def help_goes_to_standard_output(s):
 
 
 @row
-def broken_pipe_ends_quietly(s):
+def broken_pipe_ends_quietly(s: Scratch) -> None:
     s.put("vol.ckd", volume(cylinders=200))
     for words in (["list", "vol.ckd"], ["check", "vol.ckd"]):
         ours, theirs = os.pipe()
         os.close(ours)
-        same(s.dasd(*words, stdout=theirs)[::2], (1, ""), words[0])
+        same(s.dasd(*words, how=How(stdout=theirs))[::2], (1, ""), words[0])
         os.close(theirs)
 
 
 @row
-def more_is_told_where_it_is_asked(s):
+def more_is_told_where_it_is_asked(s: Scratch) -> None:
     s.put("vol.ckd", volume())
     s.put("a.ckd", header("2311", 1, 1) + volume(cylinders=2)[HEADER:])
     s.put("b.ckd", header("2311", 1, 0) + volume()[HEADER:])
@@ -400,7 +400,7 @@ def more_is_told_where_it_is_asked(s):
 
 
 @row
-def program_that_was_cut_is_told(s):
+def program_that_was_cut_is_told(s: Scratch) -> None:
     s.put("vol.ckd", volume())
     deck = WRITE.format(data="D5D6D7D8", unit="190").replace("STEP 100\nINT\n", "STEP 17\n")
     ended = s.dasd("run", "--verbose", "90=vol.ckd", deck=deck)
@@ -409,10 +409,10 @@ def program_that_was_cut_is_told(s):
 
 
 @row
-def line_of_progress_is_erased(s):
+def line_of_progress_is_erased(s: Scratch) -> None:
     s.put("vol.ckd", volume(cylinders=150))
     ours, theirs = pty.openpty()
-    run = s.start("check", "vol.ckd", stderr=theirs)
+    run = s.start("check", "vol.ckd", how=How(stderr=theirs))
     os.close(theirs)
     shown = b""
     while True:
@@ -430,7 +430,8 @@ def line_of_progress_is_erased(s):
     same(shown.endswith(b"\r\x1b[K"), True, "that the line is erased")
 
 
-def main():
+def main() -> int:
+    """Plays the rows that are asked for."""
     parser = argparse.ArgumentParser(description=__doc__, formatter_class=argparse.RawDescriptionHelpFormatter)
     parser.add_argument("--built", metavar="FILE", help="the built program")
     parser.add_argument("words", nargs="*", help="only rows whose names have one of these words")
@@ -439,7 +440,6 @@ def main():
     if not program.is_file():
         sys.exit(f"real_files.py: there is no {program}: rt run in its crate builds it")
     played, wrong, skipped = 0, 0, 0
-    assert real_archives.ROWS is ROWS and real_extracts.ROWS is ROWS and real_findings.ROWS is ROWS and real_lists.ROWS is ROWS and real_runs.ROWS is ROWS
     for name, play in ROWS:
         if given.words and not any(word in name for word in given.words):
             continue

@@ -5,25 +5,24 @@ record 2 that of format 5, records 3 to 8 those of six data sets (System Control
 
 import os
 import shutil
-import subprocess
+from pathlib import Path
 
-from conformance.suite.volumes import Record, Volume, address
+from conformance.suite.volumes import Address, Record, Volume, address
 from tools.common.images import Image
 from tools.common.volume_layouts import Extents, directory_blocks, ebcdic
 from tools.gate.real_extracts import CARDS, LIBRARY, LINES, MODEL, card, raw, spell
-from tools.gate.scratch_files import ROWS, WRITE, Skipped, fault, header, is_held, row, same, volume, waiting_run
+from tools.gate.scratch_files import PLAIN, WRITE, Run, Scratch, Skipped, fault, give, header, is_held, row, same, volume, waiting_run
 
-__all__ = ["ROWS"]
 FREE_BLOCK, FIRST_SET, LAST_SET = 2, 3, 8
 EXTENTS_AT, NEXT_AT = 61, 91  # where a block of format 1 has its extents and the next block's address, behind its key
 
 
-def place(cylinder, head, number):
+def place(cylinder: int, head: int, number: int) -> bytes:
     """The address of a record in a control block."""
     return address(cylinder, head) + bytes([number])
 
 
-def changed(s, record, at, held, key=False):
+def changed(s: Scratch, record: int, at: int, held: bytes, key: bool = False) -> Path:
     """The volume with other bytes in a control block, in its data or in its key; its path."""
     path = s.path("pack.ckd")
     spell(path)
@@ -36,14 +35,14 @@ def changed(s, record, at, held, key=False):
     return path
 
 
-def is_found(s, text):
+def is_found(s: Scratch, text: str) -> None:
     """`dasd vtoc` has one finding, and its status says so."""
     status, printed, told = s.dasd("vtoc", "pack.ckd")
     found = [line for line in printed.splitlines() if line.startswith("finding")]
     same((status, found, told), (1, ["finding " + text], ""))
 
 
-def extent(number, first, last):
+def extent(number: int, first: Address, last: Address) -> bytes:
     """An extent of a control block, between two tracks given as cylinder and head."""
     return bytes([1, number]) + address(*first) + address(*last)
 
@@ -52,32 +51,32 @@ def extent(number, first, last):
 
 
 @row
-def volume_without_a_label_has_one_finding_and_status_1(s):
+def volume_without_a_label_has_one_finding_and_status_1(s: Scratch) -> None:
     s.put("bare.ckd", volume(MODEL, 1))
     same(s.dasd("vtoc", "bare.ckd"), (1, "finding 0000 0000 R3 no volume label\n", ""))
 
 
 @row
-def data_set_over_the_table_is_found(s):
+def data_set_over_the_table_is_found(s: Scratch) -> None:
     changed(s, FIRST_SET, EXTENTS_AT, extent(0, (0, 1), (0, 1)))
     is_found(s, "0000 0001 R3 extent 0000 0001 .. 0000 0001 has track 1 of an earlier one")
 
 
 @row
-def extent_of_the_last_data_set_that_leaves_the_volume_is_found(s):
+def extent_of_the_last_data_set_that_leaves_the_volume_is_found(s: Scratch) -> None:
     changed(s, LAST_SET, EXTENTS_AT, extent(0, (1, 9), (2, 0)))
     is_found(s, "0000 0001 R8 extent 0001 0009 .. 0002 0000 is not all on the volume")
 
 
 @row
-def free_tracks_that_a_data_set_has_are_found_at_their_block(s):
+def free_tracks_that_a_data_set_has_are_found_at_their_block(s: Scratch) -> None:
     free = (4).to_bytes(2, "big") + bytes(2) + bytes([2])  # from track 4 on, no cylinder and two tracks: the second is the library's
     changed(s, FREE_BLOCK, 4, free, key=True)
     is_found(s, "0000 0001 R2 free tracks from track 4 on, 0 cylinders and 2 tracks have track 5, which is not free")
 
 
 @row
-def free_space_that_goes_on_at_no_block_is_found(s):
+def free_space_that_goes_on_at_no_block_is_found(s: Scratch) -> None:
     changed(s, FREE_BLOCK, 91, place(0, 5, 9))
     is_found(s, "0000 0001 R2 next control block 0000 0005 R9 is none")
 
@@ -86,7 +85,7 @@ def free_space_that_goes_on_at_no_block_is_found(s):
 
 
 @row
-def extraction_of_everything_tells_a_broken_chain(s):
+def extraction_of_everything_tells_a_broken_chain(s: Scratch) -> None:
     changed(s, FIRST_SET, NEXT_AT, place(0, 5, 9))
     s.path("out").mkdir()
     status, printed, told = s.dasd("extract", "--all", "out", "pack.ckd")
@@ -96,7 +95,7 @@ def extraction_of_everything_tells_a_broken_chain(s):
 
 
 @row
-def extraction_of_everything_tells_that_the_table_has_findings(s):
+def extraction_of_everything_tells_that_the_table_has_findings(s: Scratch) -> None:
     path = changed(s, FIRST_SET, 0, b"")
     image = Image(path)
     image.put_block((1, LAST_SET + 1), b"", b"too short")
@@ -110,7 +109,7 @@ def extraction_of_everything_tells_that_the_table_has_findings(s):
 
 
 @row
-def data_set_of_the_second_block_is_extracted(s):
+def data_set_of_the_second_block_is_extracted(s: Scratch) -> None:
     path = changed(s, FIRST_SET, 0, b"")
     image = Image(path)
     image.put_block((1, FREE_BLOCK), *image.block((1, FIRST_SET)))
@@ -122,7 +121,7 @@ def data_set_of_the_second_block_is_extracted(s):
 
 
 @row
-def data_set_begins_with_its_first_block_whatever_its_number(s):
+def data_set_begins_with_its_first_block_whatever_its_number(s: Scratch) -> None:
     path = changed(s, FIRST_SET, 0, b"")
     image = Image(path)
     first, *others = image.records(CARDS[0][0])
@@ -132,7 +131,7 @@ def data_set_begins_with_its_first_block_whatever_its_number(s):
 
 
 @row
-def member_behind_the_extents_is_told(s):
+def member_behind_the_extents_is_told(s: Scratch) -> None:
     path = changed(s, FIRST_SET, 0, b"")
     image = Image(path)
     (key, data), = directory_blocks([(ebcdic("FAR", 8), (9).to_bytes(2, "big") + bytes([1, 0]))], 1)
@@ -142,7 +141,7 @@ def member_behind_the_extents_is_told(s):
 
 
 @row
-def library_of_many_members_is_read_to_its_last(s):
+def library_of_many_members_is_read_to_its_last(s: Scratch) -> None:
     path = changed(s, FIRST_SET + 1, EXTENTS_AT, extent(0, (1, 0), (1, 5)) + bytes(20))
     image = Image(path)
     extents = Extents(image, [(10, 15)])
@@ -164,13 +163,13 @@ def library_of_many_members_is_read_to_its_last(s):
 # Files of one image.
 
 
-def cylinder(number):
+def cylinder(number: int) -> bytes:
     """The slots of a new cylinder."""
     return b"".join(Volume.new(MODEL, number + 1).slots[-10:])
 
 
 @row
-def reserved_byte_of_the_second_file_is_found_there(s):
+def reserved_byte_of_the_second_file_is_found_there(s: Scratch) -> None:
     second = bytearray(header(MODEL, 2, 0) + cylinder(2))
     second[20] = 1
     s.put("a.ckd", header(MODEL, 1, 1) + cylinder(0) + cylinder(1))
@@ -180,7 +179,7 @@ def reserved_byte_of_the_second_file_is_found_there(s):
 
 
 @row
-def header_alone_and_files_of_one_highest_cylinder_have_their_reason(s):
+def header_alone_and_files_of_one_highest_cylinder_have_their_reason(s: Scratch) -> None:
     s.put("head.ckd", header(MODEL))
     same(s.dasd("list", "--verbose", "head.ckd"), fault("wrong length\n  head.ckd: its length is 512 bytes"))
     s.put("a.ckd", header(MODEL, 1, 1) + cylinder(0) + cylinder(1))
@@ -194,7 +193,7 @@ def header_alone_and_files_of_one_highest_cylinder_have_their_reason(s):
 
 
 @row
-def skip_suppress_and_seek_check_are_told_apart(s):
+def skip_suppress_and_seek_check_are_told_apart(s: Scratch) -> None:
     for word, line in [
         ("0520040020000010", "  suppress length indication: incorrect length is not reported, where chain data is off"),
         ("0510040010000010", "  skip: what is read does not go into storage"),
@@ -215,7 +214,7 @@ def skip_suppress_and_seek_check_are_told_apart(s):
 
 
 @row
-def file_that_another_program_has_put_there_stays(s):
+def file_that_another_program_has_put_there_stays(s: Scratch) -> None:
     s.put("vol.ckd", volume())
     with waiting_run(s, "90=vol.ckd") as (run, deck):
         s.put("other", volume(data="01020304"))
@@ -227,20 +226,16 @@ def file_that_another_program_has_put_there_stays(s):
     same(s.names(), ["vol.ckd"])
 
 
-def under_strace(s, words, *injected, deck=""):
+def under_strace(s: Scratch, words: list[str], injected: str, deck: str = "") -> Run:
     """Begins `dasd` with calls of the system that are killed or delayed."""
     if not shutil.which("strace"):
         raise Skipped("no strace here")
-    command = ["strace", "-qq", "-o", "/dev/null", *[it for word in injected for it in ("-e", f"inject={word}")], s.program, *words]
-    run = subprocess.Popen(command, cwd=s.folder, stdin=subprocess.PIPE, stdout=subprocess.PIPE, stderr=subprocess.PIPE, **s.how)
-    run.stdin.write(deck.encode())
-    run.stdin.close()
-    run.stdin = None
-    return run
+    command = ["strace", "-qq", "-o", "/dev/null", "-e", f"inject={injected}", str(s.program), *words]
+    return give(PLAIN.start(command, s.folder), deck)
 
 
 @row
-def private_file_is_private_while_it_is_written(s):
+def private_file_is_private_while_it_is_written(s: Scratch) -> None:
     s.put("vol.ckd", volume()).chmod(0o600)
     under_strace(s, ["format", "vol.ckd", "--cylinders", "1"], "fsync:signal=KILL:when=1").communicate(timeout=60)
     (draft,) = [name for name in s.names() if name.startswith(".dasd-")]
@@ -248,7 +243,7 @@ def private_file_is_private_while_it_is_written(s):
 
 
 @row
-def name_that_went_to_another_file_behind_the_lock_is_looked_at_again(s):
+def name_that_went_to_another_file_behind_the_lock_is_looked_at_again(s: Scratch) -> None:
     s.put("vol.ckd", volume())
     s.put("other", volume(data="01020304"))
     run = under_strace(s, ["run", "90=vol.ckd"], "flock:delay_enter=1000000:when=1", deck=WRITE.format(data="D5D6D7D8", unit="190"))
@@ -262,7 +257,7 @@ def name_that_went_to_another_file_behind_the_lock_is_looked_at_again(s):
     same(run.returncode == 0, s.path("vol.ckd").read_bytes() == volume(data="D5D6D7D8"), "the status and what was written")
 
 
-def descriptors_below(tracer):
+def descriptors_below(tracer: str) -> list[str]:
     """The files that the children of a process have open."""
     found = []
     for child in children_of(os.path.basename(tracer)):
@@ -274,7 +269,7 @@ def descriptors_below(tracer):
     return found
 
 
-def children_of(process):
+def children_of(process: str) -> list[str]:
     """The processes that a process has begun."""
     try:
         with open(f"/proc/{process}/task/{process}/children", encoding="ascii") as listed:

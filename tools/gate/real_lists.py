@@ -1,17 +1,18 @@
 """Rows of tools/gate/real_files.py: what is listed and compared of volumes of several cylinders, and a data set of more than three extents."""
 
+from collections.abc import Iterable
+
 from conformance.suite.volumes import MODELS
 from tools.common.images import Image, slot_at
 from tools.common.written_labels import DataSet, put_label
 from tools.gate.real_extracts import MODEL
-from tools.gate.scratch_files import ROWS, row, same, volume
+from tools.gate.scratch_files import Scratch, row, same, volume
 
-__all__ = ["ROWS"]
 HEADS = MODELS[MODEL].heads
 R0_DATA = 13  # where the data of record 0 begins in a slot: behind the home address and its count area
 
 
-def listed(cylinders):
+def listed(cylinders: Iterable[int]) -> list[str]:
     """The lines of new tracks."""
     lines = []
     for cylinder in cylinders:
@@ -22,7 +23,7 @@ def listed(cylinders):
 
 
 @row
-def each_cylinder_is_listed_up_to_the_last(s):
+def each_cylinder_is_listed_up_to_the_last(s: Scratch) -> None:
     s.put("vol.ckd", volume(MODEL, 3))
     head = "2311 3 cylinders 10 heads slot 4096"
     for words, cylinders in [((), range(3)), (("--cylinder", "1-2"), range(1, 3)), (("--cylinder", "2"), range(2, 3))]:
@@ -31,7 +32,7 @@ def each_cylinder_is_listed_up_to_the_last(s):
 
 
 @row
-def tracks_with_record_0_alone_are_left_out_of_those_that_are_used(s):
+def tracks_with_record_0_alone_are_left_out_of_those_that_are_used(s: Scratch) -> None:
     s.put("vol.ckd", volume(MODEL, 2, data="C1C2C3C4"))
     wanted = [
         "2311 2 cylinders 10 heads slot 4096",
@@ -44,7 +45,7 @@ def tracks_with_record_0_alone_are_left_out_of_those_that_are_used(s):
 
 
 @row
-def findings_stand_at_their_cylinder_and_head(s):
+def findings_stand_at_their_cylinder_and_head(s: Scratch) -> None:
     held = bytearray(volume(MODEL, 3))
     count = slot_at(MODEL, 23) + 5
     held[count + 6 : count + 8] = b"\xff\xff"  # record 0 of track 23 has more data than its slot
@@ -53,7 +54,7 @@ def findings_stand_at_their_cylinder_and_head(s):
 
 
 @row
-def volumes_are_compared_up_to_the_last_cylinder(s):
+def volumes_are_compared_up_to_the_last_cylinder(s: Scratch) -> None:
     held = bytearray(volume(MODEL, 3))
     s.put("one.ckd", bytes(held))
     for track in (0, 13, 29):
@@ -65,7 +66,7 @@ def volumes_are_compared_up_to_the_last_cylinder(s):
 
 
 @row
-def data_set_of_four_extents_has_no_finding(s):
+def data_set_of_four_extents_has_no_finding(s: Scratch) -> None:
     path = s.put("pack.ckd", volume(MODEL, 2))
     image = Image(path)
     put_label(image, "ABC123", [DataSet("FOUR", "PS", 80, 160, [(2, 2), (4, 4), (6, 6), (8, 9)], (0, 1))])

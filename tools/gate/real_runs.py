@@ -4,16 +4,15 @@ import os
 import signal
 import time
 
-from tools.gate.scratch_files import ANSWERS, ROWS, WRITE, Skipped, fault, is_held, row, same, volume, waiting_run, wrote
-
-__all__ = ["ROWS"]
+from tools.gate.scratch_files import ANSWERS, WRITE, How, Scratch, Skipped, fault, is_held, row, same, volume, waiting_run, wrote
 
 
 # Kills.
 
 
-def kill_at_moments(s, name, words, deck, old, new):
-    whole = []
+def kill_at_moments(s: Scratch, words: list[str], deck: str, old: bytes, new: bytes) -> None:
+    """Kills a command a little later each time: vol.ckd is the old file or the new one, and nothing else stays but a draft."""
+    name = "vol.ckd"
     for turn in range(20):
         s.put(name, old)
         run = s.begin(*words, deck=deck)
@@ -23,31 +22,29 @@ def kill_at_moments(s, name, words, deck, old, new):
         held = s.path(name).read_bytes()
         if held not in (old, new):
             raise AssertionError(f"{name} is neither the old file nor the new one")
-        whole.append(held == new)
         for it in s.names():
             if it.startswith(".dasd-"):
                 s.path(it).unlink()
         same(s.names(), [name])
-    return whole
 
 
 @row
-def killed_formats_leave_the_old_file_or_the_new_one(s):
+def killed_formats_leave_the_old_file_or_the_new_one(s: Scratch) -> None:
     old, new = volume(data="01020304"), volume(cylinders=200)
-    kill_at_moments(s, "vol.ckd", ["format", "vol.ckd", "--cylinders", "200"], "", old, new)
+    kill_at_moments(s, ["format", "vol.ckd", "--cylinders", "200"], "", old, new)
 
 
 @row
-def killed_runs_leave_the_old_file_or_the_new_one(s):
+def killed_runs_leave_the_old_file_or_the_new_one(s: Scratch) -> None:
     old, new = volume(cylinders=100), volume(cylinders=100, data="D5D6D7D8")
-    kill_at_moments(s, "vol.ckd", ["run", "90=vol.ckd"], WRITE.format(data="D5D6D7D8", unit="190"), old, new)
+    kill_at_moments(s, ["run", "90=vol.ckd"], WRITE.format(data="D5D6D7D8", unit="190"), old, new)
 
 
 # One user at a time.
 
 
 @row
-def second_run_is_refused(s):
+def second_run_is_refused(s: Scratch) -> None:
     s.put("vol.ckd", volume())
     s.path("link.ckd").symlink_to("vol.ckd")
     with waiting_run(s, "90=vol.ckd") as (run, deck):
@@ -66,7 +63,7 @@ def second_run_is_refused(s):
 
 
 @row
-def second_run_with_another_image_first_is_refused(s):
+def second_run_with_another_image_first_is_refused(s: Scratch) -> None:
     s.put("one.ckd", volume())
     s.put("two.ckd", volume())
     with waiting_run(s, "90=one.ckd", "91=two.ckd") as (run, deck):
@@ -80,7 +77,7 @@ def second_run_with_another_image_first_is_refused(s):
 
 
 @row
-def six_runs_at_once_lose_no_update(s):
+def six_runs_at_once_lose_no_update(s: Scratch) -> None:
     held, done = volume(), 0
     s.put("vol.ckd", held)
     for turn in range(4):
@@ -101,7 +98,7 @@ def six_runs_at_once_lose_no_update(s):
 
 
 @row
-def file_at_two_addresses_is_refused(s):
+def file_at_two_addresses_is_refused(s: Scratch) -> None:
     s.put("vol.ckd", volume())
     s.path("link.ckd").symlink_to("vol.ckd")
     os.link(s.path("vol.ckd"), s.path("hard.ckd"))
@@ -116,7 +113,7 @@ def file_at_two_addresses_is_refused(s):
 
 
 @row
-def trace_goes_to_standard_error_and_changes_nothing(s):
+def trace_goes_to_standard_error_and_changes_nothing(s: Scratch) -> None:
     s.put("vol.ckd", volume())
     status, out, told = s.write("--trace", "90=vol.ckd")
     same((status, out), wrote()[:2])
@@ -128,12 +125,12 @@ def trace_goes_to_standard_error_and_changes_nothing(s):
 
 
 @row
-def trace_goes_to_a_file_in_the_place_of_what_it_held(s):
+def trace_goes_to_a_file_in_the_place_of_what_it_held(s: Scratch) -> None:
     told = s.write("--trace", "90=new:2311:1")[2].encode()
     s.put("old", b"x" * 100000)
     for name in ("new", "old"):
         s.put("vol.ckd", volume())
-        same(s.write("--trace-to", name, "90=vol.ckd", umask=0o027), wrote())
+        same(s.write("--trace-to", name, "90=vol.ckd", how=How(umask=0o027)), wrote())
         is_held(s.path(name), told)
         is_held(s.path("vol.ckd"), volume(data="D5D6D7D8"))
     same(oct(s.path("new").stat().st_mode & 0o7777), oct(0o640))
@@ -146,7 +143,7 @@ def trace_goes_to_a_file_in_the_place_of_what_it_held(s):
 
 
 @row
-def trace_file_keeps_what_it_held_where_the_deck_is_not_run(s):
+def trace_file_keeps_what_it_held_where_the_deck_is_not_run(s: Scratch) -> None:
     s.put("trace", b"mine")
     same(s.dasd("run", "--trace-to", "trace", "90=new:2311:1", deck="FOO\n"), fault("line 1: unknown event"))
     same(s.dasd("run", "--trace-to", "trace", "90=nowhere.ckd"), fault("read fault"))
@@ -156,7 +153,7 @@ def trace_file_keeps_what_it_held_where_the_deck_is_not_run(s):
 
 
 @row
-def trace_file_that_cannot_be_opened(s):
+def trace_file_that_cannot_be_opened(s: Scratch) -> None:
     s.put("vol.ckd", volume())
     s.path("folder").mkdir()
     for name, why in (("folder", "Is a directory"), ("nowhere/trace", "No such file or directory")):
@@ -167,7 +164,7 @@ def trace_file_that_cannot_be_opened(s):
 
 
 @row
-def trace_over_a_file_of_the_run_is_refused(s):
+def trace_over_a_file_of_the_run_is_refused(s: Scratch) -> None:
     s.put("vol.ckd", volume())
     s.put("deck", b"INT\n")
     for name in ("vol.ckd", "deck"):
@@ -177,9 +174,9 @@ def trace_over_a_file_of_the_run_is_refused(s):
             told = fault(f"trace file in use\n  {other}: this run uses it already")
             same(s.dasd("run", "--verbose", "--trace-to", other, "--deck", "deck", "90=vol.ckd"), told, other)
     with open(s.path("deck"), "rb") as given:
-        same(s.dasd("run", "--trace-to", "deck", "90=vol.ckd", stdin=given), fault("trace file in use"))
+        same(s.dasd("run", "--trace-to", "deck", "90=vol.ckd", how=How(stdin=given)), fault("trace file in use"))
     with open(s.path("out"), "wb") as out:
-        ended = s.dasd("run", "--verbose", "--trace-to", "out", "90=vol.ckd", deck="INT\n", stdout=out)
+        ended = s.dasd("run", "--verbose", "--trace-to", "out", "90=vol.ckd", deck="INT\n", how=How(stdout=out))
     same(ended, fault("trace file in use\n  out: it is standard input or output"))
     is_held(s.path("vol.ckd"), volume())
     is_held(s.path("deck"), b"INT\n")
@@ -187,7 +184,7 @@ def trace_over_a_file_of_the_run_is_refused(s):
 
 
 @row
-def trace_over_an_image_of_another_run_is_refused(s):
+def trace_over_an_image_of_another_run_is_refused(s: Scratch) -> None:
     s.put("vol.ckd", volume())
     with waiting_run(s, "90=vol.ckd") as (run, deck):
         same(s.write("--trace-to", "vol.ckd", "90=new:2311:1"), fault("trace file in use"))
@@ -198,7 +195,7 @@ def trace_over_an_image_of_another_run_is_refused(s):
 
 
 @row
-def trace_that_cannot_be_written_changes_nothing_else(s):
+def trace_that_cannot_be_written_changes_nothing_else(s: Scratch) -> None:
     if not os.path.exists("/dev/full"):
         raise Skipped("there is no /dev/full")
     s.put("vol.ckd", volume())
@@ -206,7 +203,7 @@ def trace_that_cannot_be_written_changes_nothing_else(s):
     same(s.write("--trace-to", "/dev/full", "90=vol.ckd"), fault("trace write fault", answers))
     is_held(s.path("vol.ckd"), volume(data="D5D6D7D8"))
     with open("/dev/full", "wb") as full:
-        same(s.write("--trace", "90=vol.ckd", data="01020304", stderr=full)[:2], (1, answers))
+        same(s.write("--trace", "90=vol.ckd", data="01020304", how=How(stderr=full))[:2], (1, answers))
         is_held(s.path("vol.ckd"), volume(data="01020304"))
-        same(s.write("--trace-to", "/dev/full", "90=vol.ckd", stdout=full)[::2], (1, "dasd: write fault\n"))
+        same(s.write("--trace-to", "/dev/full", "90=vol.ckd", how=How(stdout=full))[::2], (1, "dasd: write fault\n"))
     is_held(s.path("vol.ckd"), volume(data="D5D6D7D8"))

@@ -4,7 +4,10 @@ import contextlib
 import io
 import tempfile
 import unittest
+from collections.abc import Mapping
 from pathlib import Path
+from types import ModuleType
+from unittest import mock
 
 from tools.gate import check_documents, check_version
 from tools.measure import sharpness
@@ -52,7 +55,7 @@ pub fn most(one: u32, other: u32) -> u32 {
 }
 
 
-def write(top, files):
+def write(top: str, files: Mapping[str, str | None]) -> None:
     """Makes files below a folder."""
     for name, text in files.items():
         page = Path(top, name)
@@ -64,34 +67,35 @@ def write(top, files):
 class Checks(unittest.TestCase):
     """What each script prints of a repository in which one file is another."""
 
-    def run_check(self, script, changed):
+    def run_check(self, script: ModuleType, changed: dict[str, str | None]) -> tuple[int, list[str]]:
+        """Its status, and its lines."""
         with tempfile.TemporaryDirectory() as folder:
             write(folder, {**PAGES, **changed})
             printed = io.StringIO()
-            script.TOP = Path(folder)
-            with contextlib.redirect_stdout(printed):
+            with mock.patch.object(script, "TOP", Path(folder)), contextlib.redirect_stdout(printed):
                 status = script.main()
             return status, printed.getvalue().splitlines()
 
-    def finds(self, script, changed, *lines):
+    def finds(self, script: ModuleType, changed: dict[str, str | None], *lines: str) -> None:
+        """It prints these lines, and the last one counts them."""
         status, printed = self.run_check(script, changed)
         self.assertEqual(printed[:-1], list(lines))
         self.assertTrue(printed[-1].endswith(f", {len(lines)} wrong"), printed[-1])
         self.assertEqual(status, 1 if lines else 0)
 
-    def test_sound_documents(self):
+    def test_sound_documents(self) -> None:
         self.finds(check_documents, {})
 
-    def test_crate_without_page_and_row(self):
+    def test_crate_without_page_and_row(self) -> None:
         self.finds(check_documents, {"crates.txt": "low:\nhigh: low\n"}, "crates/high: no README.md", "docs/MAP.md: no row of high")
 
-    def test_long_first_page(self):
+    def test_long_first_page(self) -> None:
         self.finds(check_documents, {"README.md": "x" * 7169}, "README.md has 7169 bytes, more than 7168")
 
-    def test_link_to_nothing(self):
+    def test_link_to_nothing(self) -> None:
         self.finds(check_documents, {"README.md": "[times](docs/TIMES.md)\n"}, "README.md: nothing at docs/TIMES.md")
 
-    def test_files_that_are_not_there(self):
+    def test_files_that_are_not_there(self) -> None:
         self.finds(
             check_documents,
             {"crates/low/specs/Word.antt": None, "crates/low/specs/Other.antt": None},
@@ -99,7 +103,7 @@ class Checks(unittest.TestCase):
             "docs/MAP.md: no file crates/low/specs/Other.antt",
         )
 
-    def test_name_that_is_not_the_crates(self):
+    def test_name_that_is_not_the_crates(self) -> None:
         self.finds(
             check_documents,
             {"crates/low/src/lib.rt": "pub fn write() {}\n"},
@@ -107,28 +111,28 @@ class Checks(unittest.TestCase):
             "crates/low/README.md: Word::read is no name of the crate",
         )
 
-    def test_versions(self):
-        check_version.COPIES = COPIES
-        self.finds(check_version, {})
-        self.finds(check_version, {"README.md": "Version 2.3.3.\n"}, "README.md: 2.3.3, and VERSION has 2.3.4")
-        self.finds(check_version, {"README.md": "\n"}, "README.md: no version, and VERSION has 2.3.4")
+    def test_versions(self) -> None:
+        with mock.patch.object(check_version, "COPIES", COPIES):
+            self.finds(check_version, {})
+            self.finds(check_version, {"README.md": "Version 2.3.3.\n"}, "README.md: 2.3.3, and VERSION has 2.3.4")
+            self.finds(check_version, {"README.md": "\n"}, "README.md: no version, and VERSION has 2.3.4")
 
 
 class WrongBodies(unittest.TestCase):
     """What `sharpness.py` plants."""
 
-    def plant(self, folder, own):
+    def plant(self, folder: str, own: str) -> tuple[list[str], list[str]]:
         """The names that were planted, in the order of their numbers, and those that were left out."""
         planted = sharpness.Planted(Path(folder))
         suite = sharpness.Suite(("low",), "low", own=own)
         planted.plant(sharpness.edits_of(Path(folder), suite, ["low"]))
         return list(planted.numbers), sorted(planted.left_out)
 
-    def test_bodies_stand_beside_the_right_one(self):
+    def test_bodies_stand_beside_the_right_one(self) -> None:
         with tempfile.TemporaryDirectory() as folder:
             write(folder, BODIES)
-            sharpness.TOP = Path(folder)
-            planted, left_out = self.plant(folder, "suite")
+            with mock.patch.object(sharpness, "TOP", Path(folder)):
+                planted, left_out = self.plant(folder, "suite")
             code = Path(folder, "crates/low/src/lib.rt").read_text(encoding="utf-8")
         bodies = [
             ("low/always_the_first", "least", "if one < other { one } else { one }"),
@@ -148,11 +152,11 @@ class WrongBodies(unittest.TestCase):
             self.assertEqual(copy.splitlines()[-1].strip(), body)
             self.assertNotIn("wrong_body", copy)
 
-    def test_no_body_that_no_run_shows(self):
+    def test_no_body_that_no_run_shows(self) -> None:
         with tempfile.TemporaryDirectory() as folder:
             write(folder, BODIES)
-            sharpness.TOP, sharpness.NO_RUN_SHOWS = Path(folder), {"low/greatest": "it is so"}
-            planted, left_out = self.plant(folder, "another")
+            with mock.patch.multiple(sharpness, TOP=Path(folder), NO_RUN_SHOWS={"low/greatest": "it is so"}):
+                planted, left_out = self.plant(folder, "another")
         self.assertEqual(planted, ["low/always_the_first", "low/most_is_least"])
         self.assertIn("low/greatest", left_out)
 

@@ -10,6 +10,7 @@ import unittest
 from pathlib import Path
 from unittest import mock
 
+from tools import TOP
 from tools.gate import page_examples, run_pages
 
 # What stands in for `dasd`: it prints its words, and with --strict ends with 1 behind a line on standard error.
@@ -93,7 +94,7 @@ class Pages(unittest.TestCase):
             program.write_text(PROGRAM, encoding="utf-8")
             program.chmod(0o755)
             for folder_of_ours in ("sample", "tools", "c", "VERSION"):
-                (top / folder_of_ours).symlink_to(run_pages.TOP / folder_of_ours)
+                (top / folder_of_ours).symlink_to(TOP / folder_of_ours)
             if name != run_pages.HELP:
                 (top / name).write_text(text, encoding="utf-8")
             printed = io.StringIO()

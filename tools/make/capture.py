@@ -20,24 +20,11 @@ import shutil
 import sys
 import tempfile
 from pathlib import Path
-from types import ModuleType
-from typing import Any
 
 from tools import TOP
-from tools.common.kit import kit, kit_crate
+from tools.common.kit import Kit, KitCrate, keeping_tools, kit_crate
 
 CPU = "x86-64"
-KEEPING = """#!/bin/sh
-for word; do
-    case $word in
-    *.bc) cp "$word" "{kept}/$$.bc" ;;
-    /* | *.o | *.a | --sysroot=*) ;;
-    *) printf '%s\\n' "$word" >> "{kept}/$$.words" ;;
-    esac
-done
-exec "{clang}" "$@"
-"""
-
 
 class NotCaptured(Exception):
     """Why there is no module."""
@@ -47,22 +34,7 @@ class NotBuilt(NotCaptured):
     """Libraries below the crate do not stand in this checkout."""
 
 
-def keeping_tools(room: Path) -> tuple[Path, Path]:
-    """The kit's tools in a folder of their own, with a clang that keeps each module that it is given; and where it keeps them."""
-    own, tools, kept = kit() / "toolchain", room / "toolchain", room / "kept"
-    (tools / "bin").mkdir(parents=True)
-    kept.mkdir()
-    for folder, into in ((own, tools), (own / "bin", tools / "bin")):
-        for it in folder.iterdir():
-            if it.name not in ("bin", "clang"):
-                (into / it.name).symlink_to(it)
-    clang = tools / "bin" / "clang"
-    clang.write_text(KEEPING.format(kept=kept, clang=own / "bin" / "clang"), encoding="utf-8")
-    clang.chmod(0o755)
-    return tools, kept
-
-
-def build(crate: str, rtlib: ModuleType, known: Any, into: Path) -> None:
+def build(crate: str, rtlib: Kit, known: KitCrate, into: Path) -> None:
     """Proves and compiles the crate, and keeps its module, the compiler's words, and what the kit makes of it."""
     missing = [it.name for it in known.below() if not (Path(it.rlib) / "format").is_file()]
     if missing:

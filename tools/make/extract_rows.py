@@ -134,7 +134,7 @@ def small_rows() -> list[Row]:
     """Rows of one rule each: their lines, and their answers."""
     a, b, c = b"\xc1\xc1", b"\xc2\xc2", b"\xc3\xc3"
     end = b""
-    rows = [
+    rows: list[tuple[str, list[str], str, list[str]]] = [
         ("blocks over tracks in order", [put(1, record(1, 1, a), record(1, 2, b)), put(2, record(2, 1, c), record(2, 2, end)), put(3, record(3, 1, a))],
          "raw 0 0 65535 0:1-0:3", ["C1C1C2C2C3C3", ends(1, "end of file")]),
         ("extents in the order that they are given", [put(4, record(4, 1, a)), put(2, record(2, 1, b), record(2, 2, end))],
@@ -275,7 +275,7 @@ def contents_rows(lines: list[str]) -> list[Row]:
     name = "what SMALL1 holds, as Hercules' dasdls has it"
     calls = ["contents", "contents-json", "hostile-contents 0 213 92", "hostile-contents 1 21 1036"]
     whole = ([name, *tracks, *calls], [name, *listed(), *objects, f"{92 * 19} volumes", f"{1036 * 19} volumes"])
-    wrong = [
+    wrong: list[tuple[str, list[str], str]] = [
         ("0 225 01", [], "0000 0000 R3 no volume label"),
         ("0 239 02", [], "0000 0000 R3 no volume table of contents at 0000 0003 R1"),
         ("1 439 02", listed(3), "0000 0001 R4 extent 0000 0006 .. 0000 0007 has track 6 of an earlier one"),

@@ -18,6 +18,7 @@ import shutil
 import subprocess
 import sys
 import tempfile
+from collections.abc import Callable
 from dataclasses import dataclass, field
 
 from conformance.suite.volumes import MODELS
@@ -53,7 +54,7 @@ def variable(chance: random.Random, count: int) -> list[bytes]:
     return blocks
 
 
-def members_of(chance: random.Random, count: int, blocks) -> dict[str, Member]:
+def members_of(chance: random.Random, count: int, blocks: Callable[[int], list[bytes]]) -> dict[str, Member]:
     """Members with names by chance, some of which begin a track or have other names or user data."""
     members = {}
     for i in range(count):

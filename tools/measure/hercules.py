@@ -236,8 +236,8 @@ def run_hercules(folder: pathlib.Path) -> None:
     environment = dict(os.environ, GLIBC_TUNABLES=TUNABLES, HERCULES_RC="commands")
     try:
         with open(folder / "log", "wb") as log:
-            how = {"cwd": folder, "env": environment, "stdin": subprocess.DEVNULL, "stdout": log, "stderr": log}
-            subprocess.run(words, timeout=PATIENCE, check=False, **how)
+            given = subprocess.DEVNULL
+            subprocess.run(words, timeout=PATIENCE, check=False, cwd=folder, env=environment, stdin=given, stdout=log, stderr=log)
     except subprocess.TimeoutExpired:
         sys.exit(f"Hercules did not end within {PATIENCE} seconds:\n{(folder / 'log').read_text(errors='replace')}")
 
