@@ -71,21 +71,14 @@ static int operands(const words *w, event *e) {
     case SIO:
     case TIO:
     case HIO:
-    case ARRIVE:
-        return w->count == 2 && number(w->word[1], 16, 3, 3, &e->at);
+    case ARRIVE: return w->count == 2 && number(w->word[1], 16, 3, 3, &e->at);
     case TCH:
     case INTERRUPT:
-    case RESET:
-        return w->count == 1;
-    case STEP:
-        return w->count == 2 && number(w->word[1], 10, 1, 5, &e->at) && is_within(0, e->at, 65535);
-    case RUN:
-        e->at = 16777216;
-        return w->count == 1 || (w->count == 2 && number(w->word[1], 10, 1, 10, &e->at) && e->at > 0);
-    case STORE:
-        return w->count > 1 && number(w->word[1], 16, 1, 6, &e->at) && stored(w, e);
-    case KEY:
-        return w->count == 3 && number(w->word[1], 16, 1, 6, &e->at) && number(w->word[2], 16, 1, 1, &e->count);
+    case RESET: return w->count == 1;
+    case STEP: return w->count == 2 && number(w->word[1], 10, 1, 5, &e->at) && is_within(0, e->at, 65535);
+    case RUN: e->at = 16777216; return w->count == 1 || (w->count == 2 && number(w->word[1], 10, 1, 10, &e->at) && e->at > 0);
+    case STORE: return w->count > 1 && number(w->word[1], 16, 1, 6, &e->at) && stored(w, e);
+    case KEY: return w->count == 3 && number(w->word[1], 16, 1, 6, &e->at) && number(w->word[2], 16, 1, 1, &e->count);
     case SHOW:
         return w->count == 3 && number(w->word[1], 16, 1, 6, &e->at) && number(w->word[2], 10, 1, 5, &e->count) && is_within(1, e->count, 32);
     }

@@ -251,15 +251,16 @@ static void look(dasd *d, seen *s) {
 
 typedef int32_t use(dasd *d, void *out);
 
-#define USE(name, call)                              \
-    static int32_t name(dasd *d, void *out) {        \
-        (void)d;                                     \
-        (void)out;                                   \
-        return call;                                 \
+#define USE(name, call)                       \
+    static int32_t name(dasd *d, void *out) { \
+        (void)d;                              \
+        (void)out;                            \
+        return call;                          \
     }
 
 static const dasd_bytes good = {image, sizeof image}, cut = {image, sizeof image - 1}, four = {image, 4};
-static const dasd_bytes nine[9] = {{image, sizeof image}, {image, 1}, {image, 1}, {image, 1}, {image, 1}, {image, 1}, {image, 1}, {image, 1}, {image, 1}};
+static const dasd_bytes nine[9] = {
+    {image, sizeof image}, {image, 1}, {image, 1}, {image, 1}, {image, 1}, {image, 1}, {image, 1}, {image, 1}, {image, 1}};
 static uint8_t other[512 + 10 * 4096]; /* the same with one byte of its header replaced */
 
 static const dasd_bytes *with(size_t at, uint8_t byte) {
@@ -395,13 +396,15 @@ static const struct {
 };
 
 /* Each use of a handle that holds nothing. */
-static use *const uses[] = {use_free, use_attach, use_new_volume, use_detach, use_file, use_drive, use_sio, use_tio, use_hio, use_tch, use_step,
-                            use_run, use_arrive, use_pending, use_interrupt, use_reset, use_channel, use_storage, use_peek, use_poke, use_key, use_set_key};
+static use *const uses[] = {use_free,    use_attach,  use_new_volume, use_detach, use_file,   use_drive,   use_sio,       use_tio,
+                            use_hio,     use_tch,     use_step,       use_run,    use_arrive, use_pending, use_interrupt, use_reset,
+                            use_channel, use_storage, use_peek,       use_poke,   use_key,    use_set_key};
 
 static const struct {
     use *call;
     int32_t code;
-} bad_makes[] = {{make_small, DASD_BAD_SIZE}, {make_odd, DASD_BAD_SIZE}, {make_large, DASD_BAD_SIZE}, {make_none, DASD_BAD_CHANNELS}, {make_eighth, DASD_BAD_CHANNELS}, {make_with_eighth, DASD_BAD_CHANNELS}};
+} bad_makes[] = {{make_small, DASD_BAD_SIZE},    {make_odd, DASD_BAD_SIZE},        {make_large, DASD_BAD_SIZE},
+                 {make_none, DASD_BAD_CHANNELS}, {make_eighth, DASD_BAD_CHANNELS}, {make_with_eighth, DASD_BAD_CHANNELS}};
 
 static int is_untouched(const uint8_t *out, size_t n) {
     for (size_t i = 0; i < n; i++)
@@ -444,14 +447,14 @@ static void bad_use(void) {
 
 #ifdef HEAP
 /* The call answers that memory was refused, or that it was done; where it was refused, it works when it is made again. */
-#define AGAIN(call)                        \
-    do {                                   \
-        int32_t r = (call);                \
-        if (r == DASD_NO_MEMORY) {         \
-            refused++;                     \
-            r = (call);                    \
-        }                                  \
-        CHECK(r == DASD_DONE);             \
+#define AGAIN(call)                \
+    do {                           \
+        int32_t r = (call);        \
+        if (r == DASD_NO_MEMORY) { \
+            refused++;             \
+            r = (call);            \
+        }                          \
+        CHECK(r == DASD_DONE);     \
     } while (0)
 
 static void memory(void) {

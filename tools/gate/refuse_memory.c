@@ -45,9 +45,7 @@ __attribute__((constructor)) static void begin(void) {
     takings = 0;
 }
 
-__attribute__((destructor)) static void end(void) {
-    note(0);
-}
+__attribute__((destructor)) static void end(void) { note(0); }
 
 // Counts a taking; whether it is the one that is refused.
 static int is_refused(void) {

@@ -25,12 +25,10 @@ int main(int count, char **words) {
     pid_t child = fork();
     if (child == 0) {
         int nowhere = open("/dev/null", O_WRONLY);
-        if (nowhere >= 0 && dup2(nowhere, STDOUT_FILENO) >= 0)
-            execvp(words[1], words + 1);
+        if (nowhere >= 0 && dup2(nowhere, STDOUT_FILENO) >= 0) execvp(words[1], words + 1);
         _exit(127);
     }
-    if (child < 0 || wait4(child, &status, 0, &used) != child)
-        return 1;
+    if (child < 0 || wait4(child, &status, 0, &used) != child) return 1;
     clock_gettime(CLOCK_MONOTONIC, &ended);
     long passed = (ended.tv_sec - began.tv_sec) * 1000000L + (ended.tv_nsec - began.tv_nsec) / 1000;
     printf("%ld %ld %ld %d\n", microseconds(used.ru_utime) + microseconds(used.ru_stime), passed, used.ru_maxrss,
