@@ -20,7 +20,7 @@ int is_waiting(const machine *m) { return m->amwp >> 1 & 1; }
 
 static void store_psw(const machine *m, uint32_t at) {
     uint8_t *p = m->storage + at;
-    p[0] = m->mask;
+    p[0] = m->mask; /* NOLINT(clang-analyzer-core.NullDereference): a machine has its storage */
     p[1] = (uint8_t)(m->key << 4 | m->amwp);
     p[2] = (uint8_t)(m->code >> 8);
     p[3] = (uint8_t)m->code;
@@ -161,7 +161,7 @@ static int arithmetic(machine *m, unsigned operation, unsigned r1, uint32_t b) {
 
 /* --- The five forms of instructions --- */
 
-static int is_taken(const machine *m, unsigned mask) { return mask >> (3 - m->cc) & 1; }
+static int is_taken(const machine *m, unsigned mask) { return (int)(mask >> (3 - m->cc) & 1); }
 
 static void link(machine *m, unsigned r) {
     m->r[r] = (uint32_t)m->length / 2 << 30 | (uint32_t)m->cc << 28 | (uint32_t)m->program_mask << 24 | m->at;
@@ -271,7 +271,7 @@ static void multiple(machine *m, const uint8_t *i, uint32_t at) {
     int loads = i[0] == 0x98;
     if (at % 4) fault = SPECIFICATION;
     uint8_t *p = fault ? NULL : loads ? bytes(m, at, 4 * count) : written(m, at, 4 * count);
-    for (unsigned n = 0; p && n < count; n++)
+    for (size_t n = 0; p && n < count; n++)
         if (loads) m->r[(r1 + n) % 16] = word_at(p + 4 * n);
         else put_word(p + 4 * n, m->r[(r1 + n) % 16]);
 }

@@ -22,7 +22,7 @@ static void split(const uint8_t *line, size_t len, words *w) {
     w->count = 0;
     for (size_t i = 0; i < len; i++) {
         int is_blank = line[i] == ' ' || line[i] == '\t';
-        w->text[i] = is_blank ? '\0' : capital(line[i]);
+        w->text[i] = (char)(is_blank ? '\0' : capital(line[i]));
         if (!is_blank && !in_word) w->word[w->count++] = w->text + i;
         in_word = !is_blank;
     }

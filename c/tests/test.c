@@ -118,7 +118,8 @@ static void two_files(void) {
     dasd d = DASD_NOTHING;
     dasd_file whole, first, second, again;
     made(&d);
-    CHECK(dasd_attach_new(&d, 0x192, 2311, 3) == DASD_DONE && dasd_show_file(&d, 0x192, 0, &whole) == DASD_DONE);
+    CHECK(dasd_attach_new(&d, 0x192, 2311, 3) == DASD_DONE);
+    CHECK(dasd_show_file(&d, 0x192, 0, &whole) == DASD_DONE);
     memcpy(one, whole.at, sizeof one);
     memcpy(two, whole.at, HEADER);
     memcpy(two + HEADER, whole.at + sizeof one, CYLINDER);
@@ -128,7 +129,8 @@ static void two_files(void) {
     const dasd_bytes files[2] = {{one, sizeof one}, {two, sizeof two}}, swapped[2] = {files[1], files[0]};
     CHECK(dasd_check(files, 2) == DASD_DONE && dasd_check(swapped, 2) == DASD_SPLIT && dasd_check(files, 1) == DASD_SPLIT);
     CHECK(dasd_attach(&d, 0x191, files, 2) == DASD_DONE);
-    CHECK(dasd_show_file(&d, 0x191, 0, &first) == DASD_DONE && dasd_show_file(&d, 0x191, 1, &second) == DASD_DONE);
+    CHECK(dasd_show_file(&d, 0x191, 0, &first) == DASD_DONE);
+    CHECK(dasd_show_file(&d, 0x191, 1, &second) == DASD_DONE);
     CHECK(first.len == sizeof one && second.len == sizeof two && dasd_show_file(&d, 0x191, 2, &again) == DASD_NO_FILE);
     store(&d, 0x48, "00000100"); /* Seek to cylinder 2, Search Identifier of record 0, Write Count, Key and Data */
     store(&d, 0x100, "07000200 40000006 31000208 40000005 08000108 00000000 1D000210 20000010");

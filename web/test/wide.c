@@ -2,7 +2,7 @@
 #define __multi3 web_multiply
 #define __ashlti3 web_shift_left
 #define __lshrti3 web_shift_right
-#include "../wide.c"
+#include "../wide.c" /* NOLINT(bugprone-suspicious-include): under its own names for its functions */
 
 #include <stdio.h>
 #include <stdlib.h>
