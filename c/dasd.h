@@ -68,34 +68,34 @@ typedef struct dasd {
 
 enum dasd_fault {
     DASD_DONE = 0,
-    DASD_NOTHING_HELD = -1,      /* the handle holds nothing: it was not made, or was freed */
-    DASD_IN_USE = -2,            /* the handle holds something already */
-    DASD_NO_MEMORY = -3,         /* memory was refused */
-    DASD_OUTSIDE_STORAGE = -4,   /* a byte lies outside main storage */
-    DASD_BAD_SIZE = -5,          /* storage has a multiple of 2,048 bytes, from 4,096 to 16,777,216 */
-    DASD_BAD_CHANNELS = -6,      /* the set is not one of the channels 0 to 6 */
-    DASD_BAD_KEY = -7,           /* a storage key is 0 to 15 */
-    DASD_BAD_MODEL = -8,         /* a drive's model is 2311 or 2314 */
-    DASD_NO_CYLINDERS = -9,      /* a volume has 1 to 65,535 cylinders */
-    DASD_NO_CHANNEL = -10,       /* there is no channel of this number */
-    DASD_NO_DRIVE = -11,         /* no drive with this address is attached */
-    DASD_ADDRESS_TAKEN = -12,    /* a drive with this address is attached */
-    DASD_FULL = -13,             /* eight drives are attached to this channel */
-    DASD_NO_FILES = -14,         /* an image has at least one file */
-    DASD_TOO_MANY_FILES = -15,   /* an image has at most eight files */
-    DASD_NO_FILE = -16,          /* the drive's image has no such file */
-    DASD_PROGRAM_RUNS = -17,     /* a channel program runs */
-    DASD_ENDING_PENDS = -18,     /* the channel status word of this drive's program is not yet stored */
-    DASD_DEVICE_END_OWED = -19,  /* this drive's arm moves, or has arrived and has not interrupted */
+    DASD_NOTHING_HELD = -1,     /* the handle holds nothing: it was not made, or was freed */
+    DASD_IN_USE = -2,           /* the handle holds something already */
+    DASD_NO_MEMORY = -3,        /* memory was refused */
+    DASD_OUTSIDE_STORAGE = -4,  /* a byte lies outside main storage */
+    DASD_BAD_SIZE = -5,         /* storage has a multiple of 2,048 bytes, from 4,096 to 16,777,216 */
+    DASD_BAD_CHANNELS = -6,     /* the set is not one of the channels 0 to 6 */
+    DASD_BAD_KEY = -7,          /* a storage key is 0 to 15 */
+    DASD_BAD_MODEL = -8,        /* a drive's model is 2311 or 2314 */
+    DASD_NO_CYLINDERS = -9,     /* a volume has 1 to 65,535 cylinders */
+    DASD_NO_CHANNEL = -10,      /* there is no channel of this number */
+    DASD_NO_DRIVE = -11,        /* no drive with this address is attached */
+    DASD_ADDRESS_TAKEN = -12,   /* a drive with this address is attached */
+    DASD_FULL = -13,            /* eight drives are attached to this channel */
+    DASD_NO_FILES = -14,        /* an image has at least one file */
+    DASD_TOO_MANY_FILES = -15,  /* an image has at most eight files */
+    DASD_NO_FILE = -16,         /* the drive's image has no such file */
+    DASD_PROGRAM_RUNS = -17,    /* a channel program runs */
+    DASD_ENDING_PENDS = -18,    /* the channel status word of this drive's program is not yet stored */
+    DASD_DEVICE_END_OWED = -19, /* this drive's arm moves, or has arrived and has not interrupted */
     /* Why files are no image, in the order in which they are looked at: */
-    DASD_NOT_CKD_P370 = -32,     /* not a CKD_P370 image */
-    DASD_COMPRESSED = -33,       /* a compressed image, or a shadow file */
-    DASD_DEVICE_TYPE = -34,      /* neither a 2311 nor a 2314 */
-    DASD_HEADS = -35,            /* the number of heads is not the drive's */
-    DASD_TRACK_SIZE = -36,       /* a track of the drive may not fit the track size */
-    DASD_SPLIT = -37,            /* the files are not those of one image, in order */
-    DASD_LENGTH = -38,           /* a file's length is not that of an image */
-    DASD_STORE = -39             /* a file could not be read or written; no file in memory does so */
+    DASD_NOT_CKD_P370 = -32, /* not a CKD_P370 image */
+    DASD_COMPRESSED = -33,   /* a compressed image, or a shadow file */
+    DASD_DEVICE_TYPE = -34,  /* neither a 2311 nor a 2314 */
+    DASD_HEADS = -35,        /* the number of heads is not the drive's */
+    DASD_TRACK_SIZE = -36,   /* a track of the drive may not fit the track size */
+    DASD_SPLIT = -37,        /* the files are not those of one image, in order */
+    DASD_LENGTH = -38,       /* a file's length is not that of an image */
+    DASD_STORE = -39         /* a file could not be read or written; no file in memory does so */
 };
 
 /* The version of the library, as DASD_VERSION_NUMBER; and the number of its binary interface. */
@@ -159,9 +159,9 @@ typedef struct dasd_drive {
     uint16_t cylinders; /* how many its volume has */
     uint16_t cylinder;  /* where its arm is or, in motion, goes */
     uint16_t head;
-    uint8_t arm;        /* enum dasd_arm */
-    uint8_t sense[6];   /* the sense bytes; they stay */
-    uint8_t reserved;   /* 0 */
+    uint8_t arm;      /* enum dasd_arm */
+    uint8_t sense[6]; /* the sense bytes; they stay */
+    uint8_t reserved; /* 0 */
 } dasd_drive;
 
 /* DASD_NO_CHANNEL, DASD_NO_DRIVE. */

@@ -1,4 +1,4 @@
-# bash completion for dasd. Made by tools/make_completions.py of the words of `dasd --help`.
+# bash completion for dasd. Made by tools/make/completions.py of the words of `dasd --help`.
 
 # Puts the files, or with -d the folders, that begin with the word into COMPREPLY.
 _dasd_files() {

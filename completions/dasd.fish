@@ -1,4 +1,4 @@
-# fish completion for dasd. Made by tools/make_completions.py of the words of `dasd --help`.
+# fish completion for dasd. Made by tools/make/completions.py of the words of `dasd --help`.
 complete -c dasd -f
 complete -c dasd -n '__fish_use_subcommand' -s h -l help -d 'Print help'
 complete -c dasd -n '__fish_use_subcommand' -s V -l version -d 'Print version'

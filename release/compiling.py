@@ -1,4 +1,4 @@
-"""Compiles a module that tools/capture.py kept for each target of a release, by the kit's clang and with the words that the kit gave it.
+"""Compiles a module that tools/make/capture.py kept for each target of a release, by the kit's clang and with the words that the kit gave it.
 
 For x86-64 Linux the module goes in as it stands. For another target its text is changed in three places: the layout of data and the triple,
 which the same clang says of that target, and the attributes that name a processor of the x86. Nothing else of the code is touched, and a
@@ -14,9 +14,9 @@ from dataclasses import dataclass
 from pathlib import Path
 
 HERE = Path(__file__).resolve().parent
-sys.path.insert(0, str(HERE.parent / "tools"))
+sys.path.insert(0, str(HERE.parent))
 
-from kit import kit
+from tools.common.kit import kit
 
 LINUX = "x86_64-unknown-linux-gnu"
 

@@ -22,10 +22,10 @@ from pathlib import Path
 
 HERE = Path(__file__).resolve().parent
 sys.dont_write_bytecode = True
-sys.path.insert(0, str(HERE.parent / "tools"))
+sys.path.insert(0, str(HERE.parent))
 
-from volume_layouts import Image
-from written_labels import DataSet, put_label
+from tools.common.images import Image
+from tools.common.written_labels import DataSet, put_label
 
 EQUAL = {"O_RDONLY", "O_WRONLY", "O_RDWR", "O_CREAT", "O_EXCL", "O_NOCTTY", "O_TRUNC", "O_APPEND", "O_NONBLOCK", "O_CLOEXEC"}
 CALL = re.compile(r'\b(?:open\(|openat\(AT_FDCWD,\s*)"([^"]*)",\s*([A-Z0-9_|x]+)')
@@ -65,7 +65,7 @@ def prepare(folder: Path, program: list[str]) -> None:
     (folder / "folder").mkdir()
     subprocess.run([*program, "format", "pack.ckd", "--cylinders", "2"], cwd=folder, check=True, stdout=subprocess.DEVNULL)
     image = Image(folder / "pack.ckd")
-    put_label(image, "2311", "FLAGS1", [DataSet("OPEN.FLAGS", "PS", 80, 160, [(10, 10)], (0, 0))])
+    put_label(image, "FLAGS1", [DataSet("OPEN.FLAGS", "PS", 80, 160, [(10, 10)], (0, 0))])
     image.save()
 
 

@@ -1,3 +1,4 @@
+# shellcheck shell=sh
 # What make_packages, make_wheels and make_crates have in common; they read it with `.`.
 #
 # Each is called with the tree of a release, which is its unpacked tarball, and the folder for what it makes. It wants SOURCE_DATE_EPOCH,

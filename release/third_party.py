@@ -16,9 +16,9 @@ from pathlib import Path
 
 HERE = Path(__file__).resolve().parent
 TOP = HERE.parent
-sys.path.insert(0, str(TOP / "tools"))
+sys.path.insert(0, str(TOP))
 
-from kit import kit
+from tools.common.kit import kit
 
 FILE = TOP / "THIRD_PARTY"
 # Crates of the kit's own that no file of a licence stands beside.

@@ -143,10 +143,6 @@ static int told(int result, const char *path) {
     return result;
 }
 
-int rename(const char *from, const char *to) {
-    return is_barred(to) ? (int)failed() : told(next_rename(from, to), to);
-}
+int rename(const char *from, const char *to) { return is_barred(to) ? (int)failed() : told(next_rename(from, to), to); }
 
-int link(const char *from, const char *to) {
-    return is_barred(to) ? (int)failed() : told(next_link(from, to), to);
-}
+int link(const char *from, const char *to) { return is_barred(to) ? (int)failed() : told(next_link(from, to), to); }

@@ -8,7 +8,7 @@ The pack is called SAMPLE. Its data sets are those of the table below, and what 
 `text`, line by line. The same texts give the same bytes. Nothing but Python is needed: `dasd` takes no part.
 
 Layouts: System Control Blocks (GC28-6628), 'Volume Label', 'Data Set Control Block' and 'Partitioned Data Set Directory', by
-tools/written_labels.py and tools/volume_layouts.py; record formats: Data Management Services (GC26-3746), by tools/record_forms.py."""
+tools/common/written_labels.py and tools/common/volume_layouts.py; record formats: Data Management Services (GC26-3746), by tools/common/record_forms.py."""
 
 import sys
 from dataclasses import dataclass, field
@@ -16,14 +16,15 @@ from pathlib import Path
 
 sys.dont_write_bytecode = True
 HERE = Path(__file__).resolve().parent
-sys.path.insert(0, str(HERE.parent / "tools"))
+sys.path.insert(0, str(HERE.parent))
 
-from record_forms import fixed_blocks, variable_blocks
-from scratch_files import header, track
-from volume_layouts import Extents, Image, Member, count_free, partition
-from written_labels import DataSet, put_label
+from conformance.suite.volumes import Volume
+from tools.common.images import Image
+from tools.common.record_forms import fixed_blocks, variable_blocks
+from tools.common.volume_layouts import Extents, Member, count_free, partition
+from tools.common.written_labels import DataSet, put_label
 
-MODEL, CYLINDERS, HEADS = "2311", 5, 10
+MODEL, CYLINDERS = "2311", 5
 SERIAL, OWNER = "SAMPLE", "SIXAMBRA"
 DIRECTORY_BLOCKS = 2
 
@@ -59,7 +60,7 @@ class Source:
 
     def put(self, image: Image) -> DataSet:
         """Writes the blocks to the data set's tracks, with what ends them, and answers what its control block says."""
-        extents = Extents(image, MODEL, self.runs)
+        extents = Extents(image, self.runs)
         if self.organisation == "PO":
             partition(extents, self.members(), DIRECTORY_BLOCKS)
         else:
@@ -77,16 +78,11 @@ SOURCES = [
 ]
 
 
-def new_tracks() -> bytes:
-    """The tracks of a volume on which nothing stands but home addresses and records 0."""
-    return b"".join(track(MODEL, cylinder, head) for cylinder in range(CYLINDERS) for head in range(HEADS))
-
-
 def pack(path: Path) -> Image:
     """The sample pack in memory, which is to stand in this file."""
-    image = Image(path, header(MODEL) + new_tracks())
+    image = Image(path, Volume.new(MODEL, CYLINDERS).bytes())
     sets = [it.put(image) for it in SOURCES]
-    put_label(image, MODEL, SERIAL, sets, OWNER)
+    put_label(image, SERIAL, sets, OWNER)
     count_free(image)
     return image
 
@@ -94,15 +90,7 @@ def pack(path: Path) -> Image:
 def in_files(image: Image, count: int) -> list[bytes]:
     """The image in so many files: two cylinders in the first of them, which must bear a highest cylinder above 0, one in each further
     one, and what is left in the last."""
-    if count == 1:
-        return [bytes(image.bytes)]
-    body, cylinder = bytes(image.bytes[len(header(MODEL)) :]), HEADS * image.slot
-    firsts = [0, *range(2, count + 1), CYLINDERS]
-    files = []
-    for number, (first, behind) in enumerate(zip(firsts, firsts[1:]), 1):
-        highest = behind - 1 if number < count else 0
-        files.append(header(MODEL, number, highest) + body[first * cylinder : behind * cylinder])
-    return files
+    return (image.volume if count == 1 else image.volume.split(*range(2, count + 1))).files()
 
 
 def main() -> int:

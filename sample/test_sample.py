@@ -17,9 +17,9 @@ from pathlib import Path
 
 sys.dont_write_bytecode = True
 HERE = Path(__file__).resolve().parent
-sys.path.insert(0, str(HERE.parent / "tools"))
+sys.path.insert(0, str(HERE.parent))
 
-from hercules_readings import BUILT, Comparison, run
+from tools.common.hercules_readings import BUILT, Comparison, run
 
 MOST_PACKED = 8192
 # What `dasd vtoc` must print, worked out from the table in make_sample.py: of 50 tracks 2 are for label and table, 11 the data sets'; a

@@ -3,20 +3,22 @@
 
     example_pack.py FILE
 
-The layouts are those of tools/volume_layouts.py and tools/written_labels.py; the blank volume is written as conformance/FORMAT.md describes
-images. What stands in the data sets is made up, and repeats itself, so that the pack is small when it is packed."""
+The layouts are those of tools/common/volume_layouts.py and tools/common/written_labels.py, over a new volume of the conformance suite.
+What stands in the data sets is made up, and repeats itself, so that the pack is small when it is packed."""
 
 import pathlib
 import sys
 
 sys.dont_write_bytecode = True
-sys.path.insert(0, str(pathlib.Path(__file__).resolve().parent.parent / "tools"))
+sys.path.insert(0, str(pathlib.Path(__file__).resolve().parent.parent))
 
-from volume_layouts import END, HEADER, Extents, Image, Member, ebcdic, partition
-from written_labels import DataSet, put_label
+from conformance.suite.volumes import MODELS, Volume, address
+from tools.common.images import Image
+from tools.common.volume_layouts import Extents, Member, Run, ebcdic, partition
+from tools.common.written_labels import DataSet, put_label
 
 MODEL, SERIAL = "2314", "SIX001"
-CYLINDERS, HEADS, SLOT = 203, 20, 7680
+CYLINDERS, HEADS = 203, MODELS[MODEL].heads
 NAMES = [
     "ADAMS",
     "BAKER",
@@ -38,17 +40,11 @@ NAMES = [
 CODES = ["LA", "LR", "L", "ST", "STM", "LM", "BALR", "BCT", "BC", "MVC", "CLC", "AP", "SP", "ZAP", "ED", "EX", "TM", "OI", "NI"]
 # What stands in records comes again behind so many: within what a gzip looks back upon.
 PERIOD = 96
-Run = tuple[int, int]
 
 
 def blank() -> bytes:
     """A volume whose tracks have their home address and record 0 alone."""
-    header = b"CKD_P370" + HEADS.to_bytes(4, "little") + SLOT.to_bytes(4, "little") + bytes([0x14])
-    parts = [header.ljust(HEADER, b"\0")]
-    for track in range(CYLINDERS * HEADS):
-        place = b"".join(it.to_bytes(2, "big") for it in divmod(track, HEADS))
-        parts.append((b"\0" + place + place + b"\0\0\0\x08" + bytes(8) + END).ljust(SLOT, b"\0"))
-    return b"".join(parts)
+    return Volume.new(MODEL, CYLINDERS).bytes()
 
 
 def payroll(number: int) -> bytes:
@@ -91,7 +87,7 @@ class Pack:
 
     def sequential(self, name: str, runs: list[Run], records: list[bytes], each: int) -> None:
         """A sequential data set of records of 80 bytes, blocked."""
-        it = Extents(self.image, MODEL, runs)
+        it = Extents(self.image, runs)
         for block in blocks(records, each):
             it.append(b"", block)
         it.append(b"", b"")
@@ -100,7 +96,7 @@ class Pack:
 
     def library(self, name: str, runs: list[Run], members: dict[str, list[bytes]], each: int) -> None:
         """A partitioned data set of records of 80 bytes, blocked."""
-        it = Extents(self.image, MODEL, runs)
+        it = Extents(self.image, runs)
         partition(it, {member: Member(blocks(lines, each)) for member, lines in members.items()}, len(members) // 14 + 2)
         self.sets.append(DataSet(name, "PO", 80, 80 * each, runs, it.last()))
 
@@ -150,14 +146,9 @@ def put_free_space(pack: Pack) -> None:
 
 def spoil(image: Image) -> None:
     """What is wrong: a slot that spells no track, a home address of another cylinder, and more records than the drive has room for."""
-
-    def slot(cylinder: int, head: int) -> int:
-        return int(HEADER + (cylinder * HEADS + head) * image.slot)
-
-    image.bytes[slot(45, 7) + 400 : slot(45, 7) + 3000] = bytes([0x5A]) * 2600
-    image.bytes[slot(72, 3) : slot(72, 3) + 5] = b"\0\0\x48\0\4"
-    track = 171 * HEADS + 11
-    image.put_track(track, [image.track(track)[0]] + [(b"\0\xab\0\x0b" + bytes([it]), b"", ebcdic("SCRATCH", 80)) for it in range(1, 52)])
+    image.put_bytes(45 * HEADS + 7, 400, bytes([0x5A]) * 2600)
+    image.put_bytes(72 * HEADS + 3, 0, b"\0" + address(72, 4))
+    image.put_blocks(171 * HEADS + 11, [(b"", ebcdic("SCRATCH", 80))] * 51)
 
 
 def main() -> int:
@@ -169,7 +160,7 @@ def main() -> int:
     path.write_bytes(blank())
     pack = Pack(Image(path))
     fill_pack(pack)
-    put_label(pack.image, MODEL, SERIAL, pack.sets)
+    put_label(pack.image, SERIAL, pack.sets)
     put_free_space(pack)
     spoil(pack.image)
     pack.image.save()

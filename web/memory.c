@@ -64,7 +64,7 @@ static int grow(size_t bytes) {
         if (!memory_grow((bytes - (end - heap_end) + PAGE - 1) / PAGE)) return 0;
         end = memory_end();
     }
-    it = (block *)heap_end;
+    it = (block *)heap_end; /* NOLINT(performance-no-int-to-ptr): the memory begins where a number says */
     it->bytes = end - heap_end;
     heap_end = end;
     add_free(it);

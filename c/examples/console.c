@@ -16,8 +16,8 @@ static int printed(uint8_t c) {
     static const struct {
         uint8_t code;
         char sign;
-    } signs[] = {{0x40, ' '}, {0x4B, '.'}, {0x4D, '('}, {0x4E, '+'}, {0x5C, '*'}, {0x5D, ')'}, {0x60, '-'},
-                 {0x61, '/'}, {0x6B, ','}, {0x7A, ':'}, {0x7D, '\''}, {0x7E, '='}};
+    } signs[] = {{0x40, ' '}, {0x4B, '.'}, {0x4D, '('}, {0x4E, '+'}, {0x5C, '*'},  {0x5D, ')'},
+                 {0x60, '-'}, {0x61, '/'}, {0x6B, ','}, {0x7A, ':'}, {0x7D, '\''}, {0x7E, '='}};
     if (c >= 0xF0 && c <= 0xF9) return '0' + c - 0xF0;
     if (c >= 0xC1 && c <= 0xE9) return letters[c - 0xC1];
     for (size_t i = 0; i < sizeof signs / sizeof *signs; i++)

@@ -20,7 +20,7 @@ int is_waiting(const machine *m) { return m->amwp >> 1 & 1; }
 
 static void store_psw(const machine *m, uint32_t at) {
     uint8_t *p = m->storage + at;
-    p[0] = m->mask;
+    p[0] = m->mask; /* NOLINT(clang-analyzer-core.NullDereference): a machine has its storage */
     p[1] = (uint8_t)(m->key << 4 | m->amwp);
     p[2] = (uint8_t)(m->code >> 8);
     p[3] = (uint8_t)m->code;
@@ -161,9 +161,11 @@ static int arithmetic(machine *m, unsigned operation, unsigned r1, uint32_t b) {
 
 /* --- The five forms of instructions --- */
 
-static int is_taken(const machine *m, unsigned mask) { return mask >> (3 - m->cc) & 1; }
+static int is_taken(const machine *m, unsigned mask) { return (int)(mask >> (3 - m->cc) & 1); }
 
-static void link(machine *m, unsigned r) { m->r[r] = (uint32_t)m->length / 2 << 30 | (uint32_t)m->cc << 28 | (uint32_t)m->program_mask << 24 | m->at; }
+static void link(machine *m, unsigned r) {
+    m->r[r] = (uint32_t)m->length / 2 << 30 | (uint32_t)m->cc << 28 | (uint32_t)m->program_mask << 24 | m->at;
+}
 
 static void storage_key(machine *m, unsigned r1, unsigned r2, int sets) {
     uint32_t at = m->r[r2] & 0xFFFFFF;
@@ -190,13 +192,13 @@ static void rr(machine *m, const uint8_t *i) {
     case 0x07: /* BCR */
         if (r2 && is_taken(m, r1)) m->at = to;
         return;
-    case 0x08: storage_key(m, r1, r2, 1); return;                                /* SSK */
-    case 0x09: storage_key(m, r1, r2, 0); return;                                /* ISK */
-    case 0x0A: interrupt(m, i[1], SVC_OLD, SVC_NEW); return;                     /* SVC */
-    case 0x10: m->r[r1] = b >> 31 ? difference(m, 0, b) : sum(m, 0, b); return;  /* LPR */
-    case 0x11: m->r[r1] = b >> 31 ? sum(m, 0, b) : difference(m, 0, b); return;  /* LNR */
-    case 0x12: m->r[r1] = sum(m, 0, b); return;                                  /* LTR */
-    case 0x13: m->r[r1] = difference(m, 0, b); return;                           /* LCR */
+    case 0x08: storage_key(m, r1, r2, 1); return;                               /* SSK */
+    case 0x09: storage_key(m, r1, r2, 0); return;                               /* ISK */
+    case 0x0A: interrupt(m, i[1], SVC_OLD, SVC_NEW); return;                    /* SVC */
+    case 0x10: m->r[r1] = b >> 31 ? difference(m, 0, b) : sum(m, 0, b); return; /* LPR */
+    case 0x11: m->r[r1] = b >> 31 ? sum(m, 0, b) : difference(m, 0, b); return; /* LNR */
+    case 0x12: m->r[r1] = sum(m, 0, b); return;                                 /* LTR */
+    case 0x13: m->r[r1] = difference(m, 0, b); return;                          /* LCR */
     }
     if (i[0] < 0x14 || !arithmetic(m, i[0] & 15, r1, b)) fault = OPERATION;
 }
@@ -247,9 +249,7 @@ static void rx(machine *m, const uint8_t *i) {
     case 0x47: /* BC */
         if (is_taken(m, r1)) m->at = at;
         return;
-    case 0x4C: /* MH */
-        m->r[r1] *= operand(m, at, 2);
-        return;
+    case 0x4C: /* MH */ m->r[r1] *= operand(m, at, 2); return;
     case 0x4E: convert_to_decimal(m, r1, at); return; /* CVD */
     case 0x4F: convert_to_binary(m, r1, at); return;  /* CVB */
     case 0x50:                                        /* ST */
@@ -271,7 +271,7 @@ static void multiple(machine *m, const uint8_t *i, uint32_t at) {
     int loads = i[0] == 0x98;
     if (at % 4) fault = SPECIFICATION;
     uint8_t *p = fault ? NULL : loads ? bytes(m, at, 4 * count) : written(m, at, 4 * count);
-    for (unsigned n = 0; p && n < count; n++)
+    for (size_t n = 0; p && n < count; n++)
         if (loads) m->r[(r1 + n) % 16] = word_at(p + 4 * n);
         else put_word(p + 4 * n, m->r[(r1 + n) % 16]);
 }

@@ -32,11 +32,16 @@ static int write_record(dasd *d, uint16_t address, uint8_t cylinder, uint8_t rec
     const uint8_t at[6] = {0, 0, 0, cylinder, 0, 0}, behind[5] = {0, cylinder, 0, 0, (uint8_t)(record - 1)};
     const size_t data = len - key_len;
     const uint8_t count[8] = {0, cylinder, 0, 0, record, key_len, (uint8_t)(data >> 8), (uint8_t)data};
-    const uint8_t words[40] = {0x07, 0, 0x02, 0x00, 0x40, 0, 0, 6,                                  /* Seek */
-                               0x31, 0, 0x02, 0x08, 0x40, 0, 0, 5,                                  /* Search Identifier Equal */
-                               0x08, 0, 0x01, 0x08, 0x00, 0, 0, 0,                                  /* Transfer in Channel to the search */
-                               0x1D, 0, 0x02, 0x10, 0x80, 0, 0, 8,                                  /* Write Count, Key and Data: the count area, */
-                               0x00, 0, 0x03, 0x00, 0x00, 0, (uint8_t)(len >> 8), (uint8_t)len};    /* and on with key and data */
+    const uint8_t words[40] = {0x07,        0, 0x02, 0x00, 0x40, 0, 0,
+                               6, /* Seek */
+                               0x31,        0, 0x02, 0x08, 0x40, 0, 0,
+                               5, /* Search Identifier Equal */
+                               0x08,        0, 0x01, 0x08, 0x00, 0, 0,
+                               0, /* Transfer in Channel to the search */
+                               0x1D,        0, 0x02, 0x10, 0x80, 0, 0,
+                               8, /* Write Count, Key and Data: the count area, */
+                               0x00,        0, 0x03, 0x00, 0x00, 0, (uint8_t)(len >> 8),
+                               (uint8_t)len}; /* and on with key and data */
     const uint8_t caw[4] = {0, 0, 0x01, 0x00};
     uint8_t csw[8];
     dasd_run ran;
@@ -62,14 +67,14 @@ static int write_label(dasd *d, uint16_t address, const char *serial) {
 }
 
 static int write_resident(dasd *d, const uint8_t *program, size_t len) {
-    static const uint8_t first[24] = {0, 0, 0, 0, 0, 0, 0x10, 0,      /* the program begins at 1000 */
-                                      0x06, 0, 0x08, 0, 0x60, 0, 0, 64, /* Read Data of record 2 to 800 */
-                                      0x08, 0, 0x08, 0, 0, 0, 0, 0};    /* Transfer in Channel to it */
-    static const uint8_t second[64] = {0x07, 0, 0x08, 0x20, 0x40, 0, 0, 6,       /* Seek to cylinder 1 */
-                                       0x31, 0, 0x08, 0x28, 0x40, 0, 0, 5,       /* Search Identifier Equal of record 1 */
-                                       0x08, 0, 0x08, 0x08, 0x00, 0, 0, 0,       /* Transfer in Channel to the search */
+    static const uint8_t first[24] = {0,    0, 0,    0, 0,    0, 0x10, 0,        /* the program begins at 1000 */
+                                      0x06, 0, 0x08, 0, 0x60, 0, 0,    64,       /* Read Data of record 2 to 800 */
+                                      0x08, 0, 0x08, 0, 0,    0, 0,    0};       /* Transfer in Channel to it */
+    static const uint8_t second[64] = {0x07, 0, 0x08, 0x20, 0x40, 0, 0,    6,    /* Seek to cylinder 1 */
+                                       0x31, 0, 0x08, 0x28, 0x40, 0, 0,    5,    /* Search Identifier Equal of record 1 */
+                                       0x08, 0, 0x08, 0x08, 0x00, 0, 0,    0,    /* Transfer in Channel to the search */
                                        0x06, 0, 0x10, 0x00, 0x20, 0, 0x10, 0x00, /* Read Data to 1000: at most 4,096 bytes */
-                                       0, 0, 0, 1, 0, 0, 0, 0, 0, 1, 0, 0, 1};
+                                       0,    0, 0,    1,    0,    0, 0,    0,    0, 1, 0, 0, 1};
     return write_record(d, RESIDENT, 0, 1, 0, first, sizeof first) || write_record(d, RESIDENT, 0, 2, 0, second, sizeof second) ||
            write_label(d, RESIDENT, "SYSRES") || write_record(d, RESIDENT, 1, 1, 0, program, len);
 }

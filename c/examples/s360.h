@@ -22,8 +22,8 @@ enum { CONSOLE = 0x009, CHANNEL = 1 };
 
 /* The console: a printer that types what a channel program of its own gives it. */
 typedef struct console {
-    int is_busy;        /* it types, until `ready` */
-    int pends;          /* it has ended, and its channel status word is not yet stored */
+    int is_busy; /* it types, until `ready` */
+    int pends;   /* it has ended, and its channel status word is not yet stored */
     uint64_t ready;
     uint8_t csw[8];
 } console;
@@ -41,15 +41,15 @@ typedef struct machine {
     uint32_t size;
     uint32_t r[16];
     /* the program status word (PoO, 'Program Status Word') */
-    uint8_t mask;         /* the system mask: bit 0 is channel 0 */
-    uint8_t key;          /* 0 to 15 */
-    uint8_t amwp;         /* bit 2: the processor waits */
-    uint16_t code;        /* of the interruption */
-    uint8_t length;       /* of the last instruction, in bytes */
+    uint8_t mask;   /* the system mask: bit 0 is channel 0 */
+    uint8_t key;    /* 0 to 15 */
+    uint8_t amwp;   /* bit 2: the processor waits */
+    uint16_t code;  /* of the interruption */
+    uint8_t length; /* of the last instruction, in bytes */
     uint8_t cc, program_mask;
-    uint32_t at;          /* the instruction address */
-    uint64_t clock;       /* in ticks of 10 microseconds: an instruction, or a tick of waiting */
-    uint8_t works;        /* a program runs on the channel */
+    uint32_t at;    /* the instruction address */
+    uint64_t clock; /* in ticks of 10 microseconds: an instruction, or a tick of waiting */
+    uint8_t works;  /* a program runs on the channel */
     arm arms[8];
     int arm_count;
     console console;

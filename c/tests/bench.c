@@ -70,23 +70,18 @@ static void run(machine *m) {
     const uint8_t want[8] = {0, 0, (uint8_t)(m->next >> 8), (uint8_t)m->next, 0x0C, 0, 0, 0};
     dasd_run ran = {0, DASD_AVAILABLE, 0, 0, 0};
     store(m, CAW, caw, sizeof caw);
-    if (dasd_sio(&m->d, ADDRESS) == 0)
-        do
+    if (dasd_sio(&m->d, ADDRESS) == 0) do
             if (dasd_run_on(&m->d, 1, UINT32_MAX, &ran) != DASD_DONE) abort();
         while (ran.subchannel == DASD_WORKING);
-    if (dasd_tio(&m->d, ADDRESS) == 1 && !memcmp(m->storage.at + CSW, want, sizeof want))
-        m->ended++;
-    else
-        m->otherwise++;
+    if (dasd_tio(&m->d, ADDRESS) == 1 && !memcmp(m->storage.at + CSW, want, sizeof want)) m->ended++;
+    else m->otherwise++;
 }
 
 /* The three calls alone. */
 static void run_alone(machine *m) {
     dasd_run ran;
-    if (dasd_sio(&m->d, ADDRESS) == 0 && dasd_run_on(&m->d, 1, UINT32_MAX, &ran) == DASD_DONE && dasd_tio(&m->d, ADDRESS) == 1)
-        m->ended++;
-    else
-        m->otherwise++;
+    if (dasd_sio(&m->d, ADDRESS) == 0 && dasd_run_on(&m->d, 1, UINT32_MAX, &ran) == DASD_DONE && dasd_tio(&m->d, ADDRESS) == 1) m->ended++;
+    else m->otherwise++;
 }
 
 static int is_small(char work) { return work == '0' || work == '1'; }

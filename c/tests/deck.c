@@ -22,7 +22,7 @@ static void split(const uint8_t *line, size_t len, words *w) {
     w->count = 0;
     for (size_t i = 0; i < len; i++) {
         int is_blank = line[i] == ' ' || line[i] == '\t';
-        w->text[i] = is_blank ? '\0' : capital(line[i]);
+        w->text[i] = (char)(is_blank ? '\0' : capital(line[i]));
         if (!is_blank && !in_word) w->word[w->count++] = w->text + i;
         in_word = !is_blank;
     }
@@ -71,21 +71,14 @@ static int operands(const words *w, event *e) {
     case SIO:
     case TIO:
     case HIO:
-    case ARRIVE:
-        return w->count == 2 && number(w->word[1], 16, 3, 3, &e->at);
+    case ARRIVE: return w->count == 2 && number(w->word[1], 16, 3, 3, &e->at);
     case TCH:
     case INTERRUPT:
-    case RESET:
-        return w->count == 1;
-    case STEP:
-        return w->count == 2 && number(w->word[1], 10, 1, 5, &e->at) && is_within(0, e->at, 65535);
-    case RUN:
-        e->at = 16777216;
-        return w->count == 1 || (w->count == 2 && number(w->word[1], 10, 1, 10, &e->at) && e->at > 0);
-    case STORE:
-        return w->count > 1 && number(w->word[1], 16, 1, 6, &e->at) && stored(w, e);
-    case KEY:
-        return w->count == 3 && number(w->word[1], 16, 1, 6, &e->at) && number(w->word[2], 16, 1, 1, &e->count);
+    case RESET: return w->count == 1;
+    case STEP: return w->count == 2 && number(w->word[1], 10, 1, 5, &e->at) && is_within(0, e->at, 65535);
+    case RUN: e->at = 16777216; return w->count == 1 || (w->count == 2 && number(w->word[1], 10, 1, 10, &e->at) && e->at > 0);
+    case STORE: return w->count > 1 && number(w->word[1], 16, 1, 6, &e->at) && stored(w, e);
+    case KEY: return w->count == 3 && number(w->word[1], 16, 1, 6, &e->at) && number(w->word[2], 16, 1, 1, &e->count);
     case SHOW:
         return w->count == 3 && number(w->word[1], 16, 1, 6, &e->at) && number(w->word[2], 10, 1, 5, &e->count) && is_within(1, e->count, 32);
     }

@@ -11,8 +11,8 @@ typedef enum event_kind { SIO, TIO, HIO, TCH, STEP, RUN, ARRIVE, INTERRUPT, RESE
 
 typedef struct event {
     event_kind kind;
-    uint32_t at;       /* an input/output address, an address in storage, or a number of units */
-    uint32_t count;    /* bytes, or a key */
+    uint32_t at;    /* an input/output address, an address in storage, or a number of units */
+    uint32_t count; /* bytes, or a key */
     uint8_t bytes[128];
 } event;
 

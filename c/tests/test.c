@@ -118,7 +118,8 @@ static void two_files(void) {
     dasd d = DASD_NOTHING;
     dasd_file whole, first, second, again;
     made(&d);
-    CHECK(dasd_attach_new(&d, 0x192, 2311, 3) == DASD_DONE && dasd_show_file(&d, 0x192, 0, &whole) == DASD_DONE);
+    CHECK(dasd_attach_new(&d, 0x192, 2311, 3) == DASD_DONE);
+    CHECK(dasd_show_file(&d, 0x192, 0, &whole) == DASD_DONE);
     memcpy(one, whole.at, sizeof one);
     memcpy(two, whole.at, HEADER);
     memcpy(two + HEADER, whole.at + sizeof one, CYLINDER);
@@ -128,7 +129,8 @@ static void two_files(void) {
     const dasd_bytes files[2] = {{one, sizeof one}, {two, sizeof two}}, swapped[2] = {files[1], files[0]};
     CHECK(dasd_check(files, 2) == DASD_DONE && dasd_check(swapped, 2) == DASD_SPLIT && dasd_check(files, 1) == DASD_SPLIT);
     CHECK(dasd_attach(&d, 0x191, files, 2) == DASD_DONE);
-    CHECK(dasd_show_file(&d, 0x191, 0, &first) == DASD_DONE && dasd_show_file(&d, 0x191, 1, &second) == DASD_DONE);
+    CHECK(dasd_show_file(&d, 0x191, 0, &first) == DASD_DONE);
+    CHECK(dasd_show_file(&d, 0x191, 1, &second) == DASD_DONE);
     CHECK(first.len == sizeof one && second.len == sizeof two && dasd_show_file(&d, 0x191, 2, &again) == DASD_NO_FILE);
     store(&d, 0x48, "00000100"); /* Seek to cylinder 2, Search Identifier of record 0, Write Count, Key and Data */
     store(&d, 0x100, "07000200 40000006 31000208 40000005 08000108 00000000 1D000210 20000010");
@@ -251,15 +253,16 @@ static void look(dasd *d, seen *s) {
 
 typedef int32_t use(dasd *d, void *out);
 
-#define USE(name, call)                              \
-    static int32_t name(dasd *d, void *out) {        \
-        (void)d;                                     \
-        (void)out;                                   \
-        return call;                                 \
+#define USE(name, call)                       \
+    static int32_t name(dasd *d, void *out) { \
+        (void)d;                              \
+        (void)out;                            \
+        return call;                          \
     }
 
 static const dasd_bytes good = {image, sizeof image}, cut = {image, sizeof image - 1}, four = {image, 4};
-static const dasd_bytes nine[9] = {{image, sizeof image}, {image, 1}, {image, 1}, {image, 1}, {image, 1}, {image, 1}, {image, 1}, {image, 1}, {image, 1}};
+static const dasd_bytes nine[9] = {
+    {image, sizeof image}, {image, 1}, {image, 1}, {image, 1}, {image, 1}, {image, 1}, {image, 1}, {image, 1}, {image, 1}};
 static uint8_t other[512 + 10 * 4096]; /* the same with one byte of its header replaced */
 
 static const dasd_bytes *with(size_t at, uint8_t byte) {
@@ -395,13 +398,15 @@ static const struct {
 };
 
 /* Each use of a handle that holds nothing. */
-static use *const uses[] = {use_free, use_attach, use_new_volume, use_detach, use_file, use_drive, use_sio, use_tio, use_hio, use_tch, use_step,
-                            use_run, use_arrive, use_pending, use_interrupt, use_reset, use_channel, use_storage, use_peek, use_poke, use_key, use_set_key};
+static use *const uses[] = {use_free,    use_attach,  use_new_volume, use_detach, use_file,   use_drive,   use_sio,       use_tio,
+                            use_hio,     use_tch,     use_step,       use_run,    use_arrive, use_pending, use_interrupt, use_reset,
+                            use_channel, use_storage, use_peek,       use_poke,   use_key,    use_set_key};
 
 static const struct {
     use *call;
     int32_t code;
-} bad_makes[] = {{make_small, DASD_BAD_SIZE}, {make_odd, DASD_BAD_SIZE}, {make_large, DASD_BAD_SIZE}, {make_none, DASD_BAD_CHANNELS}, {make_eighth, DASD_BAD_CHANNELS}, {make_with_eighth, DASD_BAD_CHANNELS}};
+} bad_makes[] = {{make_small, DASD_BAD_SIZE},    {make_odd, DASD_BAD_SIZE},        {make_large, DASD_BAD_SIZE},
+                 {make_none, DASD_BAD_CHANNELS}, {make_eighth, DASD_BAD_CHANNELS}, {make_with_eighth, DASD_BAD_CHANNELS}};
 
 static int is_untouched(const uint8_t *out, size_t n) {
     for (size_t i = 0; i < n; i++)
@@ -444,14 +449,14 @@ static void bad_use(void) {
 
 #ifdef HEAP
 /* The call answers that memory was refused, or that it was done; where it was refused, it works when it is made again. */
-#define AGAIN(call)                        \
-    do {                                   \
-        int32_t r = (call);                \
-        if (r == DASD_NO_MEMORY) {         \
-            refused++;                     \
-            r = (call);                    \
-        }                                  \
-        CHECK(r == DASD_DONE);             \
+#define AGAIN(call)                \
+    do {                           \
+        int32_t r = (call);        \
+        if (r == DASD_NO_MEMORY) { \
+            refused++;             \
+            r = (call);            \
+        }                          \
+        CHECK(r == DASD_DONE);     \
     } while (0)
 
 static void memory(void) {

@@ -7,12 +7,12 @@
 
 static int failures;
 
-#define CHECK(fact)                                                          \
-    do {                                                                     \
-        if (!(fact)) {                                                       \
+#define CHECK(fact)                                                           \
+    do {                                                                      \
+        if (!(fact)) {                                                        \
             printf("%s:%d: this is not so: %s\n", __FILE__, __LINE__, #fact); \
-            failures++;                                                      \
-        }                                                                    \
+            failures++;                                                       \
+        }                                                                     \
     } while (0)
 
 #endif

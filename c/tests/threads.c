@@ -41,7 +41,8 @@ static void *makes(void *argument) {
 int main(void) {
     dasd handles[2] = {DASD_NOTHING, DASD_NOTHING};
     pthread_t threads[3];
-    for (int i = 0; i < 2; i++) CHECK(dasd_new(&handles[i], 65536, DASD_CHANNEL(1)) == DASD_DONE && dasd_attach_new(&handles[i], 0x190, 2314, 1) == DASD_DONE);
+    for (int i = 0; i < 2; i++)
+        CHECK(dasd_new(&handles[i], 65536, DASD_CHANNEL(1)) == DASD_DONE && dasd_attach_new(&handles[i], 0x190, 2314, 1) == DASD_DONE);
     for (int round = 0; round < 2; round++) { /* in the second each handle is in the other's thread */
         for (int i = 0; i < 2; i++) CHECK(pthread_create(&threads[i], NULL, reads, &handles[i ^ round]) == 0);
         CHECK(pthread_create(&threads[2], NULL, makes, NULL) == 0);

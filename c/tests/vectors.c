@@ -188,12 +188,12 @@ static int plays_deck(dasd *d, const vector *v) {
         count += kind == AN_EVENT;
         if (is_faulty(kind, i + 1, fault, sizeof fault)) count = 0;
     }
-    if (strcmp(fault, v->fault)) return differs("fault: `%s`, not `%s`", fault, v->fault);
+    if (strcmp(fault, v->fault) != 0) return differs("fault: `%s`, not `%s`", fault, v->fault);
     if (count != v->answer_count) return differs("%zu answers, not %zu", count, v->answer_count);
     for (size_t i = 0; i < count; i++) {
         play(d, v->channel, &events[i], answer);
         answer[strcspn(answer, "\n")] = '\0';
-        if (strcmp(answer, v->answers[i])) return differs("answer %zu: %s, not %s", i + 1, answer, v->answers[i]);
+        if (strcmp(answer, v->answers[i]) != 0) return differs("answer %zu: %s, not %s", i + 1, answer, v->answers[i]);
     }
     return 1;
 }
@@ -211,7 +211,7 @@ static int holds_slot(dasd *d, uint16_t address, const slot *s) {
             track -= tracks;
             continue;
         }
-        if (s->bytes.len > size || memcmp(at, s->bytes.bytes, s->bytes.len)) return 0;
+        if (s->bytes.len > size || memcmp(at, s->bytes.bytes, s->bytes.len) != 0) return 0;
         for (size_t i = s->bytes.len; i < size; i++)
             if (at[i]) return 0;
         return 1;

@@ -26,7 +26,7 @@ static void split(void) {
     CHECK(dasd_new(&d, 4096, DASD_CHANNEL(0)) == DASD_DONE && dasd_attach_new(&d, 0, 2311, FILES + 1) == DASD_DONE);
     CHECK(dasd_show_file(&d, 0, 0, &whole) == DASD_DONE && whole.len == HEADER + (FILES + 1) * CYLINDER);
     for (size_t i = 0; i < FILES; i++) {
-        size_t first = i ? i + 1 : 0, len = (i ? 1 : 2) * CYLINDER;
+        size_t first = i ? i + 1 : 0, len = (size_t)(i ? 1 : 2) * CYLINDER;
         memcpy(bytes[i], whole.at, HEADER);
         memcpy(bytes[i] + HEADER, whole.at + HEADER + first * CYLINDER, len);
         bytes[i][SEQUENCE] = (uint8_t)(i + 1);
@@ -60,15 +60,16 @@ static void eight_files(void) {
     dasd_file before[FILES], after;
     CHECK(dasd_new(&d, 4096, DASD_CHANNEL(1)) == DASD_DONE && dasd_attach(&d, 0x190, files, FILES) == DASD_DONE);
     store(&d, 0x48, "00000100");
-    for (uint8_t c = 0; c <= FILES; c++) {
+    for (uint8_t c = 0; c <= (uint8_t)FILES; c++) {
         const uint8_t record_1[9] = {0, c, 0, 0, 1, 0, 0, 1, (uint8_t)(0xC1 + c)};
-        for (uint8_t i = 0; i < FILES; i++) CHECK(dasd_show_file(&d, 0x190, i, &before[i]) == DASD_DONE && before[i].len == files[i].len);
+        for (uint8_t i = 0; i < (uint8_t)FILES; i++)
+            CHECK(dasd_show_file(&d, 0x190, i, &before[i]) == DASD_DONE && before[i].len == files[i].len);
         CHECK(dasd_poke(&d, 0x210, record_1, sizeof record_1) == DASD_DONE);
         at_record(&d, c, 0, "1D000210 20000009"); /* Write Count, Key and Data */
-        for (uint8_t i = 0; i < FILES; i++)
+        for (uint8_t i = 0; i < (uint8_t)FILES; i++)
             CHECK(dasd_show_file(&d, 0x190, i, &after) == DASD_DONE && (after.changes != before[i].changes) == (i == (c ? c - 1 : 0)));
     }
-    for (uint8_t c = 0; c <= FILES; c++) {
+    for (uint8_t c = 0; c <= (uint8_t)FILES; c++) {
         uint8_t got = 0;
         at_record(&d, c, 1, "06000300 20000001"); /* Read Data */
         CHECK(dasd_peek(&d, 0x300, &got, 1) == DASD_DONE && got == 0xC1 + c);

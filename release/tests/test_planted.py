@@ -11,7 +11,7 @@ import unittest
 from pathlib import Path
 
 HERE = Path(__file__).resolve().parent
-sys.path[:0] = [str(HERE.parent), str(HERE.parent.parent / "tools")]
+sys.path[:0] = [str(HERE.parent), str(HERE.parent.parent)]
 
 import examine
 import tree

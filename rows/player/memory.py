@@ -1,7 +1,7 @@
 """Refuses the stage each taking of memory in turn, alone, while it does calls of all kinds. A call that is refused for want of memory says
 so, and has left all as it was: made again, with the lines of its group, it comes out right, and so do all lines behind it. Where the
 stage itself finds no memory for a line or its answer, it says that or ends, and the lines behind it are not looked at. Where a collection
-of items asks once more, for less, a refusal changes nothing. `tools/refuse_memory.py` asks more of each call, by a program of its own."""
+of items asks once more, for less, a refusal changes nothing. `tools/gate/refuse_memory.py` asks more of each call, by a program of its own."""
 from __future__ import annotations
 
 import tempfile

@@ -16,10 +16,11 @@ from pathlib import Path
 
 sys.dont_write_bytecode = True
 WEB = Path(__file__).resolve().parent.parent
-sys.path.insert(0, str(WEB.parent / "tools"))
+sys.path.insert(0, str(WEB.parent))
 
-from volume_layouts import Extents, Image, Member, ebcdic, partition  # noqa: E402
-from written_labels import DataSet, put_label  # noqa: E402
+from tools.common.images import Image  # noqa: E402
+from tools.common.volume_layouts import Extents, Member, ebcdic, partition  # noqa: E402
+from tools.common.written_labels import DataSet, put_label  # noqa: E402
 
 VECTORS = WEB.parent / "conformance" / "vectors"
 COMMANDS = (["list", "--json"], ["check", "--strict", "--json"], ["vtoc", "--json"])
@@ -32,14 +33,14 @@ def labelled(dasd: str, path: Path) -> bytes:
     subprocess.run([dasd, "format", path, "--model", "2311", "--cylinders", "5"], check=True, stdout=subprocess.DEVNULL)
     image = Image(path)
     runs, rows = [(10, 13), (20, 27)], [(30, 44)]
-    cards, macros = Extents(image, "2311", runs), Extents(image, "2311", rows)
+    cards, macros = Extents(image, runs), Extents(image, rows)
     for number in range(60):
         cards.append(b"", ebcdic(f"CARD {number}", 80) * 5)
     cards.append(b"", b"")
     cards.save()
     partition(macros, {name: Member([ebcdic(name, 80)] * 3) for name in ("CLOSE", "GET", "OPEN")}, 3)
     sets = [DataSet("TEST.CARDS", "PS", 80, 400, runs, cards.last()), DataSet("TEST.MACROS", "PO", 80, 80, rows, macros.last())]
-    put_label(image, "2311", "CHANCE", sets)
+    put_label(image, "CHANCE", sets)
     image.save()
     return path.read_bytes()
 

@@ -14,12 +14,13 @@ import time
 
 sys.dont_write_bytecode = True
 HERE = pathlib.Path(__file__).resolve().parent
-sys.path[:0] = [str(HERE.parent), str(HERE.parent.parent / "tools")]
+sys.path[:0] = [str(HERE.parent), str(HERE.parent.parent)]
 
 from browser import Browser
 from example_pack import CYLINDERS, HEADS, blank
 from native import Native
-from volume_layouts import Image, ebcdic
+from tools.common.images import Image
+from tools.common.volume_layouts import ebcdic
 
 ROUNDS = 9
 RECORDS, LENGTH = 12, 400
@@ -37,9 +38,7 @@ def full_pack(path: pathlib.Path) -> None:
     path.write_bytes(blank())
     image = Image(path)
     for track in range(CYLINDERS * HEADS):
-        place = b"".join(it.to_bytes(2, "big") for it in divmod(track, HEADS))
-        data = ebcdic(f"TRACK {track:05}", LENGTH)
-        image.put_track(track, [image.track(track)[0], *((place + bytes([number]), b"", data) for number in range(1, RECORDS + 1))])
+        image.put_blocks(track, [(b"", ebcdic(f"TRACK {track:05}", LENGTH))] * RECORDS)
     image.save()
 
 

@@ -6,7 +6,7 @@
 #define memcmp web_memcmp
 #define bcmp web_bcmp
 #define strlen web_strlen
-#include "../memory.c"
+#include "../memory.c" /* NOLINT(bugprone-suspicious-include): under its own names for its calls */
 #undef malloc
 #undef free
 #undef realloc
@@ -127,8 +127,8 @@ static void refusals(void) {
     unsigned char *at = web_malloc(100);
     size_t free_bytes = first_free->bytes;
     at[99] = 7;
-    MUST(!web_malloc(SIZE_MAX) && !web_malloc(MOST + 1) && !web_malloc(PAGES * PAGE));
-    MUST(!web_realloc(at, SIZE_MAX) && !web_realloc(at, PAGES * PAGE) && at[99] == 7);
+    MUST(!web_malloc(SIZE_MAX) && !web_malloc(MOST + 1) && !web_malloc((size_t)PAGES * PAGE));
+    MUST(!web_realloc(at, SIZE_MAX) && !web_realloc(at, (size_t)PAGES * PAGE) && at[99] == 7);
     MUST(first_free->bytes == free_bytes);
     web_free(NOTHING);
     MUST(web_realloc(at, 10) == at);

@@ -2,7 +2,7 @@
 #define __multi3 web_multiply
 #define __ashlti3 web_shift_left
 #define __lshrti3 web_shift_right
-#include "../wide.c"
+#include "../wide.c" /* NOLINT(bugprone-suspicious-include): under its own names for its functions */
 
 #include <stdio.h>
 #include <stdlib.h>
@@ -29,8 +29,8 @@ static void compare(whole a, whole b) {
 }
 
 int main(void) {
-    static const uint64_t edges[] = {0, 1, 2, 63, 64, 65, 127, 0x7FFFFFFF,
-                                     0xFFFFFFFF, 0x100000000, 0x7FFFFFFFFFFFFFFF, 0x8000000000000000, 0xFFFFFFFFFFFFFFFF};
+    static const uint64_t edges[] = {
+        0, 1, 2, 63, 64, 65, 127, 0x7FFFFFFF, 0xFFFFFFFF, 0x100000000, 0x7FFFFFFFFFFFFFFF, 0x8000000000000000, 0xFFFFFFFFFFFFFFFF};
     const int count = sizeof edges / sizeof edges[0];
     for (int at = 0; at < count * count * count * count; at++)
         compare((whole)edges[at % count] << 64 | edges[at / count % count],

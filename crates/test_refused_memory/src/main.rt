@@ -1,4 +1,4 @@
-//! Each call of the libraries that takes memory, made over a stage that is prepared before. `tools/refuse_memory.py` runs this
+//! Each call of the libraries that takes memory, made over a stage that is prepared before. `tools/gate/refuse_memory.py` runs this
 //! program again and again, and refuses it each taking of memory in turn: a call must say that there is none, leave all as it was,
 //! and come out right when it is made again.
 //!

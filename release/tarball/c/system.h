@@ -8,9 +8,9 @@
 /* Each copies a text into `room` bytes, without the zero behind it, and answers how many there are; or one of these. */
 enum { TEXT_MISSING = -1, TEXT_TOO_LONG = -2 };
 
-int64_t rattle_arg(size_t index, char *into, size_t room);        /* the program's word of this number, from 0, its name */
-int64_t rattle_env(const char *name, char *into, size_t room);    /* the value of a name of the environment */
-int64_t rattle_env_at(size_t index, char *into, size_t room);     /* the environment's entry of this number, as NAME=VALUE */
+int64_t rattle_arg(size_t index, char *into, size_t room);     /* the program's word of this number, from 0, its name */
+int64_t rattle_env(const char *name, char *into, size_t room); /* the value of a name of the environment */
+int64_t rattle_env_at(size_t index, char *into, size_t room);  /* the environment's entry of this number, as NAME=VALUE */
 
 int32_t rattle_errno(void);
 void rattle_set_errno(int32_t number);

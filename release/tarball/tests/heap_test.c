@@ -18,8 +18,8 @@ void *__wrap_realloc(void *old, size_t bytes);
 void __wrap_free(void *at);
 
 static int is_refused;
-static size_t asked;  /* how many bytes were asked for last */
-static void *freed;   /* what was given back last */
+static size_t asked; /* how many bytes were asked for last */
+static void *freed;  /* what was given back last */
 
 void *__wrap_malloc(size_t bytes) {
     asked = bytes;

@@ -1,0 +1,1 @@
+"""What several tools share: the kit, images and labels, the records of blocks, and what Hercules reads."""

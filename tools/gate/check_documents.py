@@ -1,0 +1,118 @@
+"""Looks for what is stale in the documents.
+
+- Each crate of crates.txt has a README.md, and a row in docs/MAP.md; README.md at the top has at most 7,168 bytes.
+- Each link of a document leads to a file that is there.
+- Each file of Rattle or antt that a document names is there: `crates/NAME/src/x.rt`, `NAME/specs/X.antt`; a name without a folder, as `Geometry.antt`,
+  is looked for in the folder that was named last in its paragraph.
+- Each name that the last column of a table in a crate's README has in code, as `Drive::new` or `Follows`, stands in the crate's own files.
+
+Prints what is wrong; the last line is 'N things looked at in the documents, M wrong', and the status 1 where M is not 0.
+"""
+
+import re
+import sys
+from collections.abc import Iterator
+from pathlib import Path
+
+from tools import TOP
+
+MOST_BYTES = 7168
+
+CODE = re.compile(r"`([^`\n]+)`")
+LINK = re.compile(r"\]\((?!https?:)([^)#\s]+)[^)]*\)")
+FILE = re.compile(r"(?:[a-z0-9_]+/)*[A-Za-z0-9_]+\.(?:rt|antt)")
+WORD = re.compile(r"(?:[A-Z]\w*::)?([A-Za-z_]\w*)")
+
+
+class Findings:
+    """What was looked at, and what of it is wrong."""
+
+    def __init__(self) -> None:
+        self.looked, self.wrong = 0, 0
+
+    def expect(self, holds: bool, what: str) -> None:
+        """Counts something, and prints what is wrong with it unless it holds."""
+        self.looked += 1
+        if not holds:
+            print(what)
+            self.wrong += 1
+
+
+def crates() -> list[str]:
+    """The names of crates.txt."""
+    lines = (TOP / "crates.txt").read_text(encoding="utf-8").splitlines()
+    return [line.split(":")[0].split()[0] for line in lines if line.strip() and not line.startswith("#")]
+
+
+def documents() -> list[Path]:
+    """All pages of the repository."""
+    return sorted({*TOP.glob("*.md"), *TOP.glob("docs/*.md"), *TOP.glob("crates/*/README.md")})
+
+
+def check_crates(findings: Findings) -> None:
+    """Each crate has its page and its row; the first page is short."""
+    rows = (TOP / "docs/MAP.md").read_text(encoding="utf-8").split("## Which definitions live where")[0]
+    for name in crates():
+        findings.expect((TOP / "crates" / name / "README.md").is_file(), f"crates/{name}: no README.md")
+        findings.expect(f"`{name}`" in rows, f"docs/MAP.md: no row of {name}")
+    size = len((TOP / "README.md").read_bytes())
+    findings.expect(size <= MOST_BYTES, f"README.md has {size} bytes, more than {MOST_BYTES}")
+
+
+def check_links(findings: Findings, page: Path, text: str) -> None:
+    """Each link leads somewhere."""
+    for link in LINK.findall(text):
+        findings.expect((page.parent / link).exists(), f"{page.relative_to(TOP)}: nothing at {link}")
+
+
+def files_named(paragraph: str, own: str | None) -> Iterator[str]:
+    """Files that a paragraph names, each as a path below crates/; own is the crate of the page, if it has one."""
+    crate, folder = own, "src"
+    for code in CODE.findall(paragraph):
+        for named in re.split(r"[\s,]+", code):
+            if not FILE.fullmatch(named):
+                continue
+            *folders, file = named.removeprefix("crates/").split("/")
+            if folders and folders[0] not in ("src", "specs", "proofs"):
+                crate = folders.pop(0)
+            folder = "/".join(folders) or folder
+            if crate:
+                yield f"{crate}/{folder}/{file}"
+
+
+def check_files(findings: Findings, page: Path, text: str) -> None:
+    """Each file that is named is there."""
+    own = page.parent.name if page.parent.parent.name == "crates" else None
+    for paragraph in re.split(r"\n(?=\||- |\n)", text):
+        for path in files_named(paragraph, own):
+            findings.expect((TOP / "crates" / path).is_file(), f"{page.relative_to(TOP)}: no file crates/{path}")
+
+
+def check_names(findings: Findings, page: Path, text: str) -> None:
+    """Each name of a table's last column is one of the crate's own."""
+    sources = [*page.parent.rglob("src/**/*.rt"), *page.parent.rglob("specs/*.antt")]
+    words = set(re.findall(r"\w+", "\n".join(source.read_text(encoding="utf-8") for source in sources)))
+    for line in text.splitlines():
+        if line.startswith("|") and line.count("|") == 3:
+            for code in CODE.findall(line.split("|")[2]):
+                name = WORD.fullmatch(code)
+                if name:
+                    findings.expect(name.group(1) in words, f"{page.relative_to(TOP)}: {code} is no name of the crate")
+
+
+def main() -> int:
+    """Looks at all of it."""
+    findings = Findings()
+    check_crates(findings)
+    for page in documents():
+        text = page.read_text(encoding="utf-8")
+        check_links(findings, page, text)
+        check_files(findings, page, text)
+        if page.parent.parent.name == "crates":
+            check_names(findings, page, text)
+    print(f"{findings.looked} things looked at in the documents, {findings.wrong} wrong")
+    return 1 if findings.wrong else 0
+
+
+if __name__ == "__main__":
+    sys.exit(main())

@@ -1,0 +1,228 @@
+"""Looks whether each line that `dasd` prints with `--json` is what docs/dasd.schema.json says.
+
+    tools/run gate/check_json [--built FILE] [--suites]
+
+Each command runs over the sample pack, over copies of it with faults, and over the images of the conformance suite. With `--suites` the
+scripts below run too, with a program in the place of `dasd` that keeps what is printed with `--json`: it takes some minutes. The program is
+crates/dasd_cmd/out/dasd_cmd, or FILE.
+
+Each member of a definition, and each word of a list of words, should have been met: what was not is named, and is no fault. The last line
+is 'N lines of JSON, M are not as the schema has them', and the status 1 where M is not 0. It needs Debian's python3-jsonschema."""
+
+import argparse
+import json
+import os
+import shutil
+import subprocess
+import sys
+import tempfile
+from collections.abc import Iterator
+from pathlib import Path
+from typing import Any
+
+from conformance.suite.volumes import HEADER, MODELS
+from tools import TOP
+
+
+DEBIAN = "/usr/bin/python3"
+try:
+    import jsonschema  # type: ignore[import]
+except ImportError:
+    # a Python beside the system's does not see Debian's package
+    if Path(DEBIAN).exists() and not os.path.samefile(DEBIAN, sys.executable):
+        os.execv(DEBIAN, [DEBIAN, "-m", "tools.gate.check_json", *sys.argv[1:]])
+    sys.exit("no jsonschema here: apt-get install python3-jsonschema")
+
+SCHEMA = TOP / "docs/dasd.schema.json"
+MODEL = MODELS["2311"]
+SUITES = [
+    ["gate/real_files", "--built"],
+    ["gate/play_archives"],
+    ["gate/compare_contents"],
+    ["gate/compare_extract"],
+]
+# Keeps the command and the output of each run with --json.
+KEEPING = """#!/bin/sh
+for word in "$@"; do
+    if [ "$word" = --json ]; then
+        kept=$(mktemp "{kept}/XXXXXX")
+        "{dasd}" "$@" > "$kept"
+        status=$?
+        cat "$kept"
+        printf '%s\\n' "$1" > "$kept.command"
+        exit $status
+    fi
+done
+exec "{dasd}" "$@"
+"""
+
+
+class Lines:
+    """The lines that were looked at, how many are wrong, and what of the schema was met."""
+
+    def __init__(self) -> None:
+        schema = json.loads(SCHEMA.read_text(encoding="utf-8"))
+        jsonschema.Draft202012Validator.check_schema(schema)
+        self.definitions: dict[str, Any] = schema["$defs"]
+        self.validators = {
+            name: jsonschema.Draft202012Validator({"$ref": f"#/$defs/{name}", "$defs": self.definitions})
+            for name in (it["$ref"].rsplit("/", 1)[1] for it in schema["anyOf"])
+        }
+        self.looked, self.wrong = 0, 0
+        self.met: set[tuple[str, str]] = set()
+
+    def look(self, command: str, output: str) -> None:
+        """Looks at the output of a command."""
+        for line in output.splitlines():
+            self.looked += 1
+            why = self.fault(command, line)
+            if why:
+                self.wrong += 1
+                print(f"dasd {command}: {why}: {line}")
+
+    def fault(self, command: str, line: str) -> str:
+        """What is wrong with a line, or an empty text."""
+        try:
+            held = json.loads(line)
+        except ValueError:
+            return "this is no JSON"
+        faults = list(self.validators[command].iter_errors(held))
+        if not faults:
+            self.keep(command, held)
+        return str(faults[0].message) if faults else ""
+
+    def keep(self, command: str, held: dict[str, Any]) -> None:
+        """Remembers what an object has."""
+        for name, value in held.items():
+            self.met.add((command, name))
+            if isinstance(value, str):
+                self.met.add((command, f"{name}={value}"))
+
+    def not_met(self) -> Iterator[str]:
+        """What the schema has, and no line had."""
+        for command in self.validators:
+            for form in self.definitions[command]["oneOf"]:
+                if "$ref" in form:
+                    form = self.definitions[form["$ref"].rsplit("/", 1)[1]]
+                for name, says in form["properties"].items():
+                    words = [f"{name}={it}" for it in says.get("enum", []) if isinstance(it, str)]
+                    yield from (f"{command}: {it}" for it in words or [name] if (command, it) not in self.met)
+
+
+def put(path: Path, at: int, held: bytes) -> None:
+    """Writes bytes into a file."""
+    with path.open("r+b") as file:
+        file.seek(at)
+        file.write(held)
+
+
+def slot(cylinder: int, head: int) -> int:
+    """Where a track begins in a file of the sample pack."""
+    return HEADER + (cylinder * MODEL.heads + head) * MODEL.slot
+
+
+def block(number: int, at: int) -> int:
+    """Where a byte of the data of a control block is: each is a record of a key of 44 bytes and 96 of data, behind record 0 of track
+    0000 0001. The sample pack has the blocks of formats 4 and 5 as 1 and 2, its data sets as 3 to 6, and free ones behind them."""
+    return slot(0, 1) + 21 + (number - 1) * 148 + 8 + 44 + at
+
+
+# What is another in each copy of the sample pack, by places: System Control Blocks (GC28-6628), 'Data Set Control Block', for those of the
+# table, and the layout of a slot (docs/DECISIONS.md) for the others.
+Changes = list[tuple[int, bytes]]
+COPIES: dict[str, Changes] = {
+    "header.ckd": [(20, b"\1")],
+    "tracks.ckd": [
+        (slot(0, 5), b"\0\0\7\0\7"),  # the home address of another track
+        (slot(0, 6), b"\2"),  # flags in one
+        (slot(0, 7) + 5 + 6, b"\xff\xff"),  # a length that leads out of the slot
+        (slot(0, 8) + 5, b"\xff" * 8),  # no record 0
+        (slot(1, 0) + 21 + 8 + 800, b"\0\1\0\0\1"),  # the identifier of the record before
+        (slot(1, 2) + 21, b"\0\1\0\3\1"),  # that of another track
+        (slot(3, 0) + 1000, b"\1"),  # bytes behind the end mark
+        (slot(3, 1) + 21, b"\0\3\0\1\1\0\x0f\x00" + b"\0" * 3840 + b"\xff" * 8),  # more than a track has room for
+    ],
+    "unlabelled.ckd": [(slot(0, 0) + 21 + 36 + 156 + 12, bytes(80))],
+    "tableless.ckd": [(block(1, -44), bytes(140))],
+    "turned-table.ckd": [(block(1, 61), b"\1\0\0\0\0\5\0\0\0\1")],
+    "unreadable-table.ckd": [(block(1, 61 + 8), b"\0\2"), (slot(0, 2) + 5 + 6, b"\xff\xff")],
+    "outside.ckd": [(block(3, 61), b"\1\0\0\x30\0\0\0\x31\0\0"), (block(5, 0), b"\x99")],
+    "number-of-extents.ckd": [(block(3, 15), b"\2")],
+    "turned-extent.ckd": [(block(3, 61 + 4), b"\0\5")],
+    "overlap.ckd": [(block(4, 61 + 2), b"\0\1\0\0\0\1\0\1")],
+    "missing.ckd": [(block(3, 91), b"\0\0\0\1\x20")],
+    "another-format.ckd": [(block(3, 91), b"\0\0\0\1\4")],
+    "endless.ckd": [(block(3, 91), b"\0\0\0\1\7"), (block(7, -44), b"\3\3\3\3"), (block(7, 0), b"\xf3"), (block(7, 91), b"\0\0\0\1\7")],
+    "free-tracks.ckd": [(block(2, -40), b"\0\x0a\0\0\1" + b"\0\x3c\0\0\1" + bytes(30))],
+    "lengths.ckd": [(slot(0, 1) + 21 + 7 * 148 + 5, b"\x2b\0\x61")],
+    "keys.ckd": [(block(2, -44), b"\7")],
+}
+
+
+def make_packs(folder: Path) -> list[list[str]]:
+    """The packs, each as the names of its files."""
+    for names in (["pack.ckd"], ["half_1.ckd", "half_2.ckd"]):
+        subprocess.run([TOP / "sample/make_sample.py", *names], cwd=folder, check=True)
+    for name, changes in COPIES.items():
+        shutil.copy(folder / "pack.ckd", folder / name)
+        for at, held in changes:
+            put(folder / name, at, held)
+    vectors = sorted((TOP / "conformance/vectors").glob("*.img"))
+    return [["pack.ckd"], ["half_1.ckd", "half_2.ckd"], *[[it] for it in COPIES], *[[str(it)] for it in vectors]]
+
+
+def play(dasd: Path, folder: Path, lines: Lines) -> None:
+    """Runs each command over each pack."""
+    for number, files in enumerate(make_packs(folder)):
+        taken = folder / f"taken{number}"
+        taken.mkdir()
+        joined = "+".join(files)
+        for words in (
+            ["list", "--json", *files],
+            ["check", "--strict", "--json", *files],
+            ["dump", "--json", *[f"./{it}" if "/" not in it else it for it in files], "0", "0-9"],
+            ["vtoc", "--json", *files],
+            ["extract", "--all", str(taken), "--text", "--json", *files],
+            ["compare", "--json", "pack.ckd", joined],
+            ["compare", "--json", "--tracks", "pack.ckd", joined],
+        ):
+            done = subprocess.run([dasd, *words], cwd=folder, stdin=subprocess.DEVNULL, capture_output=True, text=True, check=False)
+            lines.look(words[0], done.stdout)
+
+
+def play_suites(dasd: Path, folder: Path, lines: Lines) -> None:
+    """Runs the suites, and looks at what their runs with --json printed."""
+    kept, program = folder / "kept", folder / "keeping"
+    kept.mkdir()
+    for it in (folder, kept):
+        it.chmod(0o777)
+    program.write_text(KEEPING.format(kept=kept, dasd=dasd), encoding="utf-8")
+    program.chmod(0o755)
+    for suite in SUITES:
+        done = subprocess.run([TOP / "tools/run", *suite, program], cwd=TOP, capture_output=True, text=True, check=False)
+        print(f"{suite[0]}: {(done.stdout.splitlines() or [''])[-1]}{done.stderr[-200:]}")
+    for command in sorted(kept.glob("*.command")):
+        lines.look(command.read_text(encoding="utf-8").strip(), command.with_suffix("").read_text(encoding="utf-8"))
+
+
+def main() -> int:
+    """Looks at all of it."""
+    words = argparse.ArgumentParser(description="Compares what dasd prints with --json with docs/dasd.schema.json.")
+    words.add_argument("--built", default=str(TOP / "crates/dasd_cmd/out/dasd_cmd"), metavar="FILE", help="the program dasd")
+    words.add_argument("--suites", action="store_true", help="runs the suites over real files too")
+    given = words.parse_args()
+    dasd, lines = Path(given.built).resolve(), Lines()
+    if not dasd.is_file():
+        sys.exit(f"there is no {dasd}")
+    with tempfile.TemporaryDirectory() as name:
+        play(dasd, Path(name), lines)
+        if given.suites:
+            play_suites(dasd, Path(name), lines)
+    for it in lines.not_met():
+        print(f"not met: {it}")
+    print(f"{lines.looked} lines of JSON, {lines.wrong} are not as the schema has them")
+    return 1 if lines.wrong else 0
+
+
+if __name__ == "__main__":
+    sys.exit(main())

@@ -1,0 +1,52 @@
+"""Compares every copy of the version with the file VERSION, which is the one place where it stands.
+
+A copy is a line of a file that a pattern finds: the program's word for --version, the C header, packages, README.md, CITATION.cff and the newest
+heading of CHANGELOG.md. A file that has no such line is as wrong as one with another version; the folder of a language that is not there is left out.
+Prints each copy that is wrong; the last line is 'N copies of the version, M wrong', and the status 1 where M is not 0.
+"""
+
+import re
+import sys
+from pathlib import Path
+
+from tools import TOP
+
+
+# Where the version is shown, and the pattern of the line there; the first line that fits is the copy.
+COPIES = {
+    "README.md": r"^Version (\S+)\.$",
+    "CHANGELOG.md": r"^## (\S+)$",
+    "crates/dasd_words/src/commands.rt": r'\.version\("([^"]*)"\)',
+    "rows/data/dasd.rows": r"^< dasd (\S+)$",
+    "c/dasd.h": r'^#define DASD_VERSION "([^"]*)"$',
+    "rust/Cargo.toml": r'^version = "([^"]*)"$',
+    "rust/dasd/Cargo.toml": r'^dasd-sys = \{ version = "=([^"]*)"',
+    "python/dasd/__init__.py": r'^__version__ = "([^"]*)"$',
+    "CITATION.cff": r'^version: "([^"]*)"$',
+}
+
+
+def copy_in(path: Path, pattern: str) -> str | None:
+    """The version that a file shows, or None."""
+    if not path.is_file():
+        return None
+    found = re.search(pattern, path.read_text(encoding="utf-8"), re.MULTILINE)
+    return found[1] if found else None
+
+
+def main() -> int:
+    """Compares them all."""
+    version = (TOP / "VERSION").read_text(encoding="utf-8").strip()
+    wrong = 0
+    copies = {name: pattern for name, pattern in COPIES.items() if (TOP / name.split("/")[0]).exists()}
+    for name, pattern in copies.items():
+        shown = copy_in(TOP / name, pattern)
+        if shown != version:
+            print(f"{name}: {shown or 'no version'}, and VERSION has {version}")
+            wrong += 1
+    print(f"{len(copies)} copies of the version, {wrong} wrong")
+    return 1 if wrong else 0
+
+
+if __name__ == "__main__":
+    sys.exit(main())

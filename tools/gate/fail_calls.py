@@ -1,0 +1,277 @@
+"""Lets each call of the system fail in turn, for each command of the built `dasd`, and looks at what it says and leaves.
+
+    tools/run gate/fail_calls [--built FILE] [--jobs N] [COMMAND..]
+
+A command is run once as it is, and what it printed and left is kept; then once for each of its calls that works with files, and each way in which that call may
+fail, once or from there on (by Debian's `strace --inject`), and once more for each, killed there. Wanted is:
+
+- With status 0 the command printed what it prints, and left what it leaves: no failure is told as success, and no byte that the file did not hold is printed.
+- With another status a fault is told on standard error (that of a read, where reads fail from there on), what was printed is the beginning of what it prints, and each file
+  is the old one or the new one, whole; no file stays behind.
+- Where only the call fails that takes a file's first, hidden name away, all is as it was meant to be, and that name stays beside the other.
+- A program that is killed leaves each file the old one or the new one, whole. What it had begun to write may stay, under a name that begins with `.dasd-`.
+- Where a file takes its place, it was synced before that, and its folder is synced behind it.
+
+It runs crates/dasd_cmd/out/dasd_cmd, as `rt ci` leaves it; with --built FILE that program; with words behind, the commands whose names have one of them.
+The last line is 'N failures of N calls, M came out wrong', and the status 1 where M is not 0.
+"""
+
+import argparse
+import os
+import re
+import shutil
+import subprocess
+import sys
+import tempfile
+from concurrent.futures import ThreadPoolExecutor
+from dataclasses import dataclass
+from pathlib import Path
+from typing import NamedTuple
+
+from tools import TOP
+from tools.gate.real_extracts import SETS, spell
+from tools.gate.scratch_files import WRITE, volume
+
+# How a call may fail, beside being killed there; with `on` behind it all calls of that name fail from there on, as those of a disk that has gone do: what
+# was read ahead in vain is read once more, just as much as is wanted.
+ERRORS = {
+    "openat": ["EACCES", "EMFILE"],
+    "statx": ["EIO"],
+    "read": ["EIO", "EIO on", "EINTR"],
+    "pread64": ["EIO", "EIO on", "EINTR"],
+    "write": ["EIO", "ENOSPC", "ENOSPC on", "EINTR"],
+    "ftruncate": ["EIO"],
+    "fsync": ["EIO"],
+    "fdatasync": ["EIO"],
+    "rename": ["EACCES"],
+    "link": ["EACCES"],
+    "unlink": ["EACCES"],
+    "flock": ["EIO"],
+    "fchmod": ["EPERM"],
+    "fchown": ["EPERM"],
+    "mkdir": ["EACCES"],
+}
+CALL = re.compile(r"^(?P<name>\w+)\((?P<words>.*)\)\s+= (?P<answer>-?\d+)")
+PATH = re.compile(r'"((?:[^"\\]|\\.)*)"')
+DRAFT = ".dasd-"
+
+
+@dataclass
+class Command:
+    """A command of `dasd`, by its words behind the program's name."""
+
+    name: str
+    words: list[str]
+    given: bytes = b""  # on standard input
+
+
+def deck_for(unit: str) -> bytes:
+    """A deck that writes a record of the volume of this unit."""
+    return str(WRITE.format(data="D5D6D7D8", unit=unit)).encode()
+
+
+COMMANDS = [
+    Command("format a new file", ["format", "new.ckd", "--cylinders", "1"]),
+    Command("format over a file", ["format", "one.ckd", "--cylinders", "2"]),
+    Command("run", ["run", "90=one.ckd", "91=two.ckd"], deck_for("190") + deck_for("191")),
+    Command("run with a trace", ["run", "--trace-to", "trace", "90=one.ckd"], deck_for("190")),
+    Command("list", ["list", "pack.ckd"]),
+    Command("list a pipe", ["list", "/dev/stdin"], volume(cylinders=2)),
+    Command("check", ["check", "pack.ckd"]),
+    Command("check --strict", ["check", "--strict", "pack.ckd"]),
+    Command("dump", ["dump", "pack.ckd", "0", "2"]),
+    Command("vtoc", ["vtoc", "pack.ckd"]),
+    Command("compare", ["compare", "one.ckd", "same.ckd"]),
+    Command("extract", ["extract", "pack.ckd", "PAY.CARDS", "--text"]),
+    Command("extract to a file", ["extract", "pack.ckd", "SYS1.MACLIB(BETA)", "--to", "beta"]),
+    Command("extract --all", ["extract", "--all", "out", "pack.ckd"]),
+    Command("explain", ["explain", "csw", "00000428", "0E000320"]),
+]
+
+
+class Came(NamedTuple):
+    """What became of a command: status, output, what it said, and the files by their paths."""
+
+    status: int
+    printed: bytes
+    told: bytes
+    files: dict[str, bytes]
+
+
+class Failure(NamedTuple):
+    """Which call fails, by its name and its number among those of that name, and how."""
+
+    call: str
+    number: int
+    how: str
+
+    def words(self) -> list[str]:
+        """The words of strace for it."""
+        error, _, on = self.how.partition(" ")
+        way = "signal=KILL" if error == "killed" else f"error={error}"
+        return ["-e", f"inject={self.call}:{way}:when={self.number}{'+' if on else ''}"]
+
+
+def fill(folder: Path) -> None:
+    """The files that each command begins with."""
+    (folder / "one.ckd").write_bytes(volume(data="C1C2C3C4"))
+    (folder / "same.ckd").write_bytes(volume(data="C1C2C3C4"))
+    (folder / "two.ckd").write_bytes(volume(cylinders=2))
+    spell(folder / "pack.ckd", SETS[:3])  # those of which there is no finding
+    with open(folder / "pack.ckd", "r+b") as pack:  # a reserved byte of the header, which a strict check tells
+        pack.seek(20)
+        pack.write(b"\1")
+    (folder / "out").mkdir()
+
+
+def files_in(folder: Path) -> dict[str, bytes]:
+    """All files below a folder."""
+    return {str(it.relative_to(folder)): it.read_bytes() for it in sorted(folder.rglob("*")) if it.is_file()}
+
+
+def play(dasd: Path, command: Command, tracing: list[str]) -> Came:
+    """Runs a command under strace in a folder of its own."""
+    with tempfile.TemporaryDirectory(prefix="fail_calls-") as room:
+        folder = Path(room)
+        fill(folder)
+        words = ["strace", "-qq", *tracing, str(dasd), *command.words]
+        done = subprocess.run(words, cwd=folder, input=command.given, capture_output=True, timeout=60)
+        return Came(done.returncode, done.stdout, done.stderr, files_in(folder))
+
+
+def old_files() -> dict[str, bytes]:
+    """The files before any command."""
+    with tempfile.TemporaryDirectory(prefix="fail_calls-") as room:
+        fill(Path(room))
+        return files_in(Path(room))
+
+
+def traced(dasd: Path, command: Command) -> tuple[Came, list[str]]:
+    """A command as it is, and the lines of its calls."""
+    with tempfile.NamedTemporaryFile(prefix="fail_calls-") as trace:
+        came = play(dasd, command, ["-o", trace.name, "-s", "200"])
+        return came, Path(trace.name).read_text(errors="replace").splitlines()
+
+
+def failures_of(lines: list[str]) -> list[Failure]:
+    """Each failure of each call behind those of the loader, whose last one unmaps its list of libraries: the first such call of all."""
+    own = 1 + min((at for at, line in enumerate(lines) if line.startswith("munmap(")), default=-1)
+    counts: dict[str, int] = {}
+    found = []
+    for at, line in enumerate(lines):
+        call = CALL.match(line)
+        if not call or call["name"] not in ERRORS:
+            continue
+        number = counts[call["name"]] = counts.get(call["name"], 0) + 1
+        if at >= own:
+            found += [Failure(call["name"], number, how) for how in [*ERRORS[call["name"]], "killed"]]
+    return found
+
+
+def without_first_names(files: dict[str, bytes], failure: Failure) -> dict[str, bytes]:
+    """The files that were left, but for the hidden name that a failed call should have taken away."""
+    return {name: held for name, held in files.items() if failure.call != "unlink" or not Path(name).name.startswith(DRAFT)}
+
+
+def is_old_or_new(came: Came, old: dict[str, bytes], new: dict[str, bytes], killed: bool) -> str | None:
+    """What is wrong with the files that were left, if anything is."""
+    for name, held in came.files.items():
+        if killed and Path(name).name.startswith(DRAFT):
+            continue
+        if held not in (old.get(name), new.get(name)):
+            if name == "trace" and new.get(name, b"").startswith(held):
+                continue  # a trace is written as it comes
+            return f"{name} is neither the old file nor the new one" if name in new else f"{name} is left behind"
+    missing = [name for name in old if name not in came.files]
+    return f"{missing[0]} is gone" if missing else None
+
+
+def untold(failure: Failure, came: Came) -> str | None:
+    """What is wrong with what a command says that ended with a fault; where all writes fail it can't say anything."""
+    if failure.how.endswith(" on") and failure.call == "write":
+        return None
+    if failure.how.endswith(" on") and b"read fault" not in came.told:
+        return f"status {came.status}, and no fault of a read is told"
+    return None if came.told else f"status {came.status}, and no fault is told"
+
+
+def judge(failure: Failure, came: Came, good: Came, old: dict[str, bytes]) -> str | None:
+    """What is wrong with what came of a failure, if anything is."""
+    killed, left = failure.how == "killed", without_first_names(came.files, failure)
+    if not killed and came.status == 0:
+        if came.printed != good.printed:
+            return "it ends as if all were well, and printed something else"
+        return None if left == good.files else "it ends as if all were well, and left something else"
+    if not killed and (fault := untold(failure, came)):
+        return fault
+    if not good.printed.startswith(came.printed):
+        return "it printed what it does not print"
+    return is_old_or_new(came, old, good.files, killed)
+
+
+def unsynced(lines: list[str]) -> list[str]:
+    """Which files took a place without being synced before, or without their folder being synced behind."""
+    opened: dict[str, str] = {}
+    synced: set[str] = set()
+    owed: dict[str, str] = {}
+    wrong = []
+    for call in filter(None, map(CALL.match, lines)):
+        name, words = call["name"], call["words"]
+        paths = PATH.findall(words)
+        if name == "openat" and paths and int(call["answer"]) >= 0:
+            opened[call["answer"]] = os.path.normpath(paths[0])
+        elif name in ("fsync", "fdatasync"):
+            path = opened.get(words.split(",")[0], "")
+            synced.add(path)
+            owed = {file: folder for file, folder in owed.items() if folder != path}
+        elif name in ("rename", "link") and call["answer"] == "0":
+            if os.path.normpath(paths[0]) not in synced:
+                wrong.append(f"{paths[1]} took its place before it was synced")
+            owed[paths[1]] = os.path.normpath(os.path.dirname(paths[1]) or ".")
+    return wrong + [f"the folder of {file} is not synced behind it" for file in owed]
+
+
+def try_command(dasd: Path, command: Command, pool: ThreadPoolExecutor) -> tuple[int, list[str]]:
+    """How many failures of a command were tried, and what came out wrong."""
+    old = old_files()
+    good, lines = traced(dasd, command)
+    wrong = [f"{command.name}: {it}" for it in unsynced(lines)]
+    if good.status or good.told:
+        return 0, [f"{command.name}: status {good.status} where nothing fails: {good.told!r}"]
+    failures = failures_of(lines)
+
+    def tried(failure: Failure) -> str | None:
+        came = play(dasd, command, ["-o", "/dev/null", *failure.words()])
+        said = judge(failure, came, good, old)
+        return said and f"{command.name}: {failure.call} {failure.number}, {failure.how}: {said} (status {came.status}, {came.told!r})"
+
+    wrong += filter(None, pool.map(tried, failures))
+    return len(failures), wrong
+
+
+def main() -> None:
+    """Reads the words, and tries each command."""
+    words = argparse.ArgumentParser(description=__doc__, formatter_class=argparse.RawDescriptionHelpFormatter)
+    words.add_argument("--built", type=Path, default=TOP / "crates" / "dasd_cmd" / "out" / "dasd_cmd")
+    words.add_argument("--jobs", type=int, default=os.cpu_count() or 1)
+    words.add_argument("names", nargs="*", metavar="COMMAND")
+    given = words.parse_args()
+    if not shutil.which("strace") or not given.built.exists():
+        sys.exit("fail_calls.py: it wants strace, and the built program")
+    dasd = given.built.resolve()
+    count, wrong = 0, []
+    chosen = [it for it in COMMANDS if not given.names or any(name in it.name for name in given.names)]
+    with ThreadPoolExecutor(given.jobs) as pool:
+        for command in chosen:
+            tried, found = try_command(dasd, command, pool)
+            print(f"{command.name}: {tried} failures, {len(found)} wrong", flush=True)
+            count += tried
+            wrong += found
+    for line in wrong:
+        print(line)
+    print(f"{count} failures of {len(chosen)} commands' calls, {len(wrong)} came out wrong")
+    sys.exit(1 if wrong else 0)
+
+
+if __name__ == "__main__":
+    main()

@@ -1,0 +1,212 @@
+"""Refuses the built programs each taking of memory in turn, alone, and looks at what comes back.
+
+`test_refused_memory` makes each call of the libraries that takes memory: a call of which a taking is refused says that there is no
+memory, has left all as it was, and comes out right when it is made again. `dasd` prints `dasd: out of memory` and ends with
+status 1, with a front of what it prints otherwise, in a trace too, and no other file is changed or left.
+
+For a word that is misspelled `clap` suggests those that are like it. It collects the letters of each, and where the standard library
+collects items whose number is not known, it asks once more, for less, when it is refused. There, and nowhere else, a refusal changes
+nothing; how often it may is reckoned from the words.
+
+It runs crates/NAME/out/NAME, as `rt ci` or `rt run` leaves it; with --built FOLDER the programs of that folder. It needs a C
+compiler, $CC or cc. The last line is 'N takings of memory refused, M came out wrong', and the status 1
+where M is not 0.
+"""
+
+import argparse
+import os
+import re
+import shutil
+import subprocess
+import sys
+import tempfile
+from dataclasses import dataclass
+from pathlib import Path
+from typing import NamedTuple
+
+from tools import TOP
+from tools.gate.real_extracts import SETS, spell
+
+CALL = re.compile(r"([A-Za-z:]+): ([a-z ,]+)\n")
+DECK = """STORE 48 00000400
+STORE 400 3100050040000005 0800040000000000 1D0006000000000C
+STORE 500 0000000000
+STORE 600 0000000001000004 D5D6D7D8
+SIO 190
+STEP 100
+INT
+"""
+COMMANDS = ["format", "list", "check", "dump", "compare", "vtoc", "extract", "explain", "run", "help"]
+WRONG = "fomrat"
+TRACE = "trace"
+# Of all data sets those that were whole before it stay.
+ALL = "all data sets to files"
+
+
+def growths(length: int) -> int:
+    """How often a list of so many items grows that is collected: it has room for 4 of them, then 8, 16, 32."""
+    count, room = 0, 0
+    while room < length:
+        room, count = max(4, 2 * room), count + 1
+    return count
+
+
+@dataclass(frozen=True)
+class Job:
+    """A job of `dasd`: its words, a deck, and how many refusals are asked for again."""
+
+    words: list[str]
+    deck: str = ""
+    asked_again: int = 0
+
+
+JOBS = {
+    "the stored deck": Job([]),
+    "format": Job(["format", "new.ckd", "--model", "2311", "--cylinders", "2"]),
+    "list": Job(["list", "old.ckd"]),
+    "check": Job(["check", "old.ckd"]),
+    "a deck that writes a record": Job(["run", "90=old.ckd", "91=new:2314:1"], DECK),
+    "a deck that is traced": Job(["run", "--trace-to", TRACE, "90=old.ckd"], DECK),
+    "a number in words": Job(["explain", "csw", "000004080C400014"]),
+    "the data sets of a volume": Job(["vtoc", "old.ckd"]),
+    "the same in objects": Job(["vtoc", "--json", "old.ckd"]),
+    "a data set": Job(["extract", "old.ckd", "PAY.CARDS", "--text"]),
+    "a member to a file": Job(["extract", "old.ckd", "SYS1.MACLIB(BETA)", "--to", "beta"]),
+    ALL: Job(["extract", "--all", ".", "old.ckd"]),
+    "a word that is wrong": Job([WRONG], "", sum(growths(len(WRONG)) + growths(len(it)) for it in COMMANDS)),
+}
+
+
+class Came(NamedTuple):
+    """What came of a run: its status, what it printed, its faults, its files behind it."""
+
+    status: int
+    printed: str
+    told: str
+    files: dict[str, bytes]
+
+
+# For each piece of output its takings of memory before it, and its length.
+Noted = list[tuple[int, int]]
+
+
+def library(folder: str) -> str:
+    """Compiles the library that refuses."""
+    made = f"{folder}/refuse_memory.so"
+    words = [os.environ.get("CC") or "cc", "-shared", "-fPIC", "-O1", "-Wall", "-o", made, f"{TOP}/tools/gate/refuse_memory.c", "-ldl"]
+    if not shutil.which(words[0]):
+        sys.exit("refuse_memory.py: there is no C compiler: set CC")
+    subprocess.run(words, check=True)
+    return made
+
+
+class Program:
+    """A built program, run in a folder of its own."""
+
+    def __init__(self, path: str, refusing: str) -> None:
+        self.path, self.refusing = path, refusing
+
+    def run(self, job: Job, refused_at: int, old: bytes | None = None) -> tuple[Came, Noted]:
+        """Runs it with one taking refused, or with none where that is 0; what came of it, and the log of its takings."""
+        with tempfile.TemporaryDirectory() as folder:
+            if old is not None:
+                Path(folder, "old.ckd").write_bytes(old)
+            log = Path(f"{self.refusing}.log")
+            given = {"REFUSE_AT": str(refused_at), "REFUSE_LOG": str(log), "LD_PRELOAD": self.refusing}
+            words = [self.path, *job.words]
+            ran = subprocess.run(words, input=job.deck.encode(), capture_output=True, cwd=folder, env=given, timeout=60, check=False)
+            files = {it.name: it.read_bytes() for it in Path(folder).iterdir()}
+        noted = [(int(count), int(length)) for count, length in map(str.split, log.read_text(encoding="ascii").splitlines())]
+        return Came(ran.returncode, ran.stdout.decode(), ran.stderr.decode(), files), noted
+
+
+def places(text: str, noted: Noted) -> dict[str, tuple[int, int]]:
+    """Each call's name, and the takings before it and behind it: its name and a colon are written before it, a space behind it."""
+    takings: list[int] = []
+    for count, length in noted:
+        takings += [count] * length
+    return {call[1]: (takings[call.end(1)], takings[call.end(1) + 1]) for call in CALL.finditer(text)}
+
+
+def is_right_with_one_refused(came: Came, right: str, name: str | None) -> bool:
+    """Whether `test_refused_memory` says what it must where a taking in this call is refused, or one around all calls."""
+    if came.status or came.told:
+        return False
+    if name is None:
+        return re.sub(r"([A-Za-z:]+: ?)?no memory around [A-Za-z:]+\n", "", came.printed) == right
+    return came.printed == right.replace(f"{name}: right", f"{name}: out of memory, then right", 1)
+
+
+def check_calls(program: Program) -> tuple[int, int]:
+    """Refuses each taking of the calls of `test_refused_memory`, and around them; how many were tried, and how many came out wrong."""
+    good, noted = program.run(Job([]), 0)
+    if good.status or good.told or set(it[2] for it in CALL.finditer(good.printed)) != {"right"}:
+        sys.exit(f"refuse_memory.py: test_refused_memory without a refusal: status {good.status}\n{good.printed}{good.told}")
+    total, wrong = noted[-1][0], 0
+    calls = places(good.printed, noted)
+    tallies = {name: 0 for name in calls}
+    for number in range(1, total + 1):
+        came, _ = program.run(Job([]), number)
+        name = next((it for it, (before, behind) in calls.items() if before < number <= behind), None)
+        if name is not None:
+            tallies[name] += 1
+        if not is_right_with_one_refused(came, good.printed, name):
+            wrong += 1
+            print(f"test_refused_memory, taking {number}, in {name}: status {came.status}\n{came.printed}{came.told}")
+    for name, tried in tallies.items():
+        print(f"{name}: {tried} takings")
+    print(f"around these calls: {total - sum(tallies.values())} takings")
+    return total, wrong
+
+
+def is_told(came: Came, good: Came, old: bytes, stays: dict[str, bytes]) -> bool:
+    """Whether `dasd` said that there is no memory, printed a front of what it prints, and left all as it was, but for what stays."""
+    left = dict(came.files)
+    is_front = good.printed.startswith(came.printed) and good.files.get(TRACE, b"").startswith(left.pop(TRACE, b""))
+    return (came.status, came.told) == (1, "dasd: out of memory\n") and is_front and left == stays and left["old.ckd"] == old
+
+
+def check_dasd(program: Program, name: str, old: bytes) -> tuple[int, int]:
+    """Refuses each taking of a job of `dasd`; how many were tried, and how many came out wrong."""
+    job = JOBS[name]
+    good, noted = program.run(job, 0, old)
+    total, told, absorbed, wrong = noted[-1][0], 0, 0, 0
+    for number in range(1, total + 1):
+        came, _ = program.run(job, number, old)
+        stays = {it: good.files[it] for it in came.files if it in good.files and it != TRACE} if name == ALL else {"old.ckd": old}
+        if is_told(came, good, old, stays):
+            told += 1
+        elif came == good:
+            absorbed += 1
+        else:
+            wrong += 1
+            print(f"dasd, {name}, taking {number}: status {came.status}\n{came.printed}{came.told}{sorted(came.files)}")
+    wrong += absorbed != job.asked_again
+    print(f"dasd, {name}: {total} takings, {told} answered out of memory, {absorbed} asked for again")
+    return total, wrong
+
+
+def main() -> int:
+    """Refuses all of it."""
+    parser = argparse.ArgumentParser(description=__doc__, formatter_class=argparse.RawDescriptionHelpFormatter)
+    parser.add_argument("--built", metavar="FOLDER", help="the folder of the built programs")
+    built = parser.parse_args().built
+    paths = [str(Path(built or f"{TOP}/crates/{it}/out", it).resolve()) for it in ("test_refused_memory", "dasd_cmd")]
+    for path in paths:
+        if not os.path.isfile(path):
+            sys.exit(f"refuse_memory.py: there is no {path}: rt run in its crate builds it")
+    with tempfile.TemporaryDirectory() as folder:
+        refusing = library(folder)
+        calls, dasd = (Program(path, refusing) for path in paths)
+        total, wrong = check_calls(calls)
+        spell(Path(folder, "old.ckd"), SETS[:-1])
+        old = Path(folder, "old.ckd").read_bytes()
+        for name in JOBS:
+            tried, failed = check_dasd(dasd, name, old)
+            total, wrong = total + tried, wrong + failed
+    print(f"{total} takings of memory refused, {wrong} came out wrong")
+    return 1 if wrong else 0
+
+
+if __name__ == "__main__":
+    sys.exit(main())

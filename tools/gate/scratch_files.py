@@ -1,0 +1,168 @@
+"""What the scripts that run `dasd` over real files share: rows, scratch folders, what volumes hold, and comparisons.
+
+What a volume must hold is made here, by the conformance suite's spelling of an image, and not by the program."""
+
+import os
+import subprocess
+from collections.abc import Callable, Iterator
+from contextlib import contextmanager
+from dataclasses import dataclass
+from pathlib import Path
+from typing import IO
+
+from conformance.suite.volumes import MODELS, Record, Volume, address, header_of, new_track
+
+NOBODY = 65534
+# Searches record 0 of cylinder 0, head 0, and formats record 1 of four bytes behind it.
+WRITE = """STORE 48 00000400
+STORE 400 3100050040000005 0800040000000000 1D0006000000000C
+STORE 500 0000000000
+STORE 600 0000000001000004 {data}
+SIO {unit}
+STEP 100
+INT
+"""
+ANSWERS = "STORE OK\n" * 4 + "SIO {unit} CC 0\nSTEP 20\nINT {unit} 00000418 0C000000\n"
+# What a command did: its status, what it printed, and what it said on standard error.
+Ended = tuple[int, str, str]
+Run = subprocess.Popen[bytes]
+Play = Callable[["Scratch"], None]
+ROWS: list[tuple[str, Play]] = []
+
+
+class Skipped(Exception):
+    """A row that can't be played here."""
+
+
+def row(play: Play) -> Play:
+    """A row: its name is that of the function, in words."""
+    ROWS.append((play.__name__.replace("_", " "), play))
+    return play
+
+
+# What volumes hold.
+
+
+def header(model: str, sequence: int = 0, highest: int = 0) -> bytes:
+    """The header of a file of an image."""
+    return header_of(MODELS[model], None, sequence, highest)
+
+
+def volume(model: str = "2311", cylinders: int = 1, data: str | None = None) -> bytes:
+    """A new volume in one file; with data, what WRITE makes of it."""
+    made = Volume.new(model, cylinders)
+    if data is not None:
+        track = new_track(0, 0)
+        track.records.append(Record(address(0, 0) + b"\1", b"", bytes.fromhex(data)))
+        made.write(0, 0, track)
+    return made.bytes()
+
+
+# Commands.
+
+
+@dataclass(frozen=True)
+class How:
+    """How a command is run: its streams, what new files are not to allow, and with how many kilobytes of memory, if not all of it."""
+
+    stdin: int | IO[bytes] = subprocess.PIPE
+    stdout: int | IO[bytes] = subprocess.PIPE
+    stderr: int | IO[bytes] = subprocess.PIPE
+    umask: int = -1
+    is_nobodys: bool = False
+    memory: int | None = None
+
+    def start(self, words: list[str], folder: Path) -> Run:
+        """Begins a command."""
+        limited = ["sh", "-c", f'ulimit -v {self.memory}; exec "$0" "$@"'] if self.memory else []
+        user = NOBODY if self.is_nobodys else None
+        groups: list[str] | None = [] if self.is_nobodys else None
+        return subprocess.Popen(
+            [*limited, *words], cwd=folder, umask=self.umask, user=user, group=user, extra_groups=groups,
+            stdin=self.stdin, stdout=self.stdout, stderr=self.stderr,
+        )  # fmt: skip
+
+
+PLAIN = How()
+
+
+def give(run: Run, deck: str) -> Run:
+    """Gives a run its deck."""
+    assert run.stdin is not None
+    try:
+        run.stdin.write(deck.encode())
+        run.stdin.close()
+    except BrokenPipeError:  # it was refused before it read
+        pass
+    run.stdin = None
+    return run
+
+
+class Scratch:
+    """A folder of a row's own, and the program."""
+
+    def __init__(self, program: Path, folder: str) -> None:
+        self.program, self.folder = program, Path(folder)
+
+    def path(self, name: str) -> Path:
+        """The path of a file of the folder."""
+        return self.folder / name
+
+    def put(self, name: str, held: bytes) -> Path:
+        """Makes a file; its path."""
+        self.path(name).write_bytes(held)
+        return self.path(name)
+
+    def start(self, *words: str, how: How = PLAIN) -> Run:
+        """Begins a command of `dasd`."""
+        return how.start([str(self.program), *words], self.folder)
+
+    def begin(self, *words: str, deck: str) -> Run:
+        """A run that has its deck."""
+        return give(self.start(*words), deck)
+
+    def dasd(self, *words: str, deck: str | bytes = "", how: How = PLAIN) -> Ended:
+        """Runs a command to its end."""
+        ran = self.start(*words, how=how)
+        out, told = ran.communicate(deck.encode() if isinstance(deck, str) else deck, timeout=120)
+        return ran.returncode, (out or b"").decode(), (told or b"").decode()
+
+    def write(self, *words: str, data: str = "D5D6D7D8", unit: str = "190", how: How = PLAIN) -> Ended:
+        """Runs a deck that writes a record."""
+        return self.dasd("run", *words, deck=WRITE.format(data=data, unit=unit), how=how)
+
+    def names(self) -> list[str]:
+        """What stands in the folder."""
+        return sorted(it.name for it in self.folder.iterdir())
+
+
+def same(found: object, wanted: object, what: str = "it") -> None:
+    """Ends the row where something is not what it should be."""
+    if found != wanted:
+        shown = [repr(it if not isinstance(it, bytes) else f"{len(it)} bytes") for it in (found, wanted)]
+        raise AssertionError(f"{what} is {shown[0]}, not {shown[1]}")
+
+
+def is_held(path: Path, held: bytes) -> None:
+    """Ends the row where a file holds anything else."""
+    same(path.read_bytes(), held, path.name)
+
+
+def wrote(unit: str = "190") -> Ended:
+    """What a run of WRITE ends with."""
+    return 0, ANSWERS.format(unit=unit), ""
+
+
+def fault(text: str, printed: str = "") -> Ended:
+    """What a command ends with that tells a fault."""
+    return 1, printed, f"dasd: {text}\n"
+
+
+@contextmanager
+def waiting_run(scratch: Scratch, *volumes: str, name: str = "deck") -> Iterator[tuple[Run, IO[bytes]]]:
+    """A run that has locked its images and waits for its deck; the deck's pipe."""
+    os.mkfifo(scratch.path(name))
+    run = scratch.start("run", "--deck", name, *volumes)
+    with open(scratch.path(name), "wb", buffering=0) as deck:
+        yield run, deck
+    scratch.path(name).unlink()

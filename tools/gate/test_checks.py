@@ -1,0 +1,165 @@
+"""Tests of check_documents.py, check_version.py and sharpness.py, over a small repository that is made for each: `tools/gate/test_checks.py`."""
+
+import contextlib
+import io
+import tempfile
+import unittest
+from collections.abc import Mapping
+from pathlib import Path
+from types import ModuleType
+from unittest import mock
+
+from tools.gate import check_documents, check_version
+from tools.measure import sharpness
+
+PAGES = {
+    "crates.txt": "# crates\nlow:\n",
+    "VERSION": "2.3.4\n",
+    "README.md": "Version 2.3.4.\n\n[the map](docs/MAP.md)\n",
+    "CHANGELOG.md": "# Changes\n\n## 2.3.4\n\n## 2.3.3\n",
+    "docs/MAP.md": "| Crate |\n|---|\n| `low` |\n\n## Which definitions live where\n\n| a word | `low/specs/Word.antt`, `Other.antt` |\n",
+    "crates/low/README.md": "# `low`\n\n| Proved | By |\n|---|---|\n| a word | `read`, `Word::read` in `src/lib.rt` |\n",
+    "crates/low/src/lib.rt": "pub fn read() {}\n",
+    "crates/low/specs/Word.antt": "",
+    "crates/low/specs/Other.antt": "",
+}
+COPIES = {"README.md": check_version.COPIES["README.md"], "CHANGELOG.md": check_version.COPIES["CHANGELOG.md"]}
+# A crate with wrong bodies of two functions, one of which reads as the other does, and three that can't stand beside a right one.
+BODIES = {
+    "crates/low/src/lib.rt": """mod trait_of;
+
+pub fn least(one: u32, other: u32) -> u32
+    ensures { result ≡ min one other }
+{
+    if one < other { one } else { other }
+}
+
+pub fn most(one: u32, other: u32) -> u32 {
+    if other < one { one } else { other }
+}
+""",
+    "crates/low/src/trait_of.rt": """impl Least for Pair {
+    fn least(&self) -> u32 {
+        self.one
+    }
+}
+""",
+    "crates/low/specs/Word.antt": "word = 1\n",
+    "crates/low/must-fail/always_the_first.edit": "file: src/lib.rt\nold: { other }\nnew: { one }\n",
+    "crates/low/must-fail/greatest.edit": "file: src/lib.rt\nold: one < other\nnew: other < one\n",
+    "crates/low/must-fail/most_is_least.edit": "file: src/lib.rt\nold: if other < one\nnew: if one < other\n",
+    "crates/low/must-fail/another_definition.edit": "file: specs/Word.antt\nold: 1\nnew: 2\n",
+    "crates/low/must-fail/method_of_a_trait.edit": "file: src/trait_of.rt\nold: self.one\nnew: self.other\n",
+    "tools/wrong_bodies/suite/always_the_second.edit": "file: crates/low/src/lib.rt\nold: { one }\nnew: { other }\n",
+    "tools/wrong_bodies/suite/stale.edit": "file: crates/low/src/lib.rt\nold: not there\nnew: there\n",
+}
+
+
+def write(top: str, files: Mapping[str, str | None]) -> None:
+    """Makes files below a folder."""
+    for name, text in files.items():
+        page = Path(top, name)
+        page.parent.mkdir(parents=True, exist_ok=True)
+        if text is not None:
+            page.write_text(text, encoding="utf-8")
+
+
+class Checks(unittest.TestCase):
+    """What each script prints of a repository in which one file is another."""
+
+    def run_check(self, script: ModuleType, changed: dict[str, str | None]) -> tuple[int, list[str]]:
+        """Its status, and its lines."""
+        with tempfile.TemporaryDirectory() as folder:
+            write(folder, {**PAGES, **changed})
+            printed = io.StringIO()
+            with mock.patch.object(script, "TOP", Path(folder)), contextlib.redirect_stdout(printed):
+                status = script.main()
+            return status, printed.getvalue().splitlines()
+
+    def finds(self, script: ModuleType, changed: dict[str, str | None], *lines: str) -> None:
+        """It prints these lines, and the last one counts them."""
+        status, printed = self.run_check(script, changed)
+        self.assertEqual(printed[:-1], list(lines))
+        self.assertTrue(printed[-1].endswith(f", {len(lines)} wrong"), printed[-1])
+        self.assertEqual(status, 1 if lines else 0)
+
+    def test_sound_documents(self) -> None:
+        self.finds(check_documents, {})
+
+    def test_crate_without_page_and_row(self) -> None:
+        self.finds(check_documents, {"crates.txt": "low:\nhigh: low\n"}, "crates/high: no README.md", "docs/MAP.md: no row of high")
+
+    def test_long_first_page(self) -> None:
+        self.finds(check_documents, {"README.md": "x" * 7169}, "README.md has 7169 bytes, more than 7168")
+
+    def test_link_to_nothing(self) -> None:
+        self.finds(check_documents, {"README.md": "[times](docs/TIMES.md)\n"}, "README.md: nothing at docs/TIMES.md")
+
+    def test_files_that_are_not_there(self) -> None:
+        self.finds(
+            check_documents,
+            {"crates/low/specs/Word.antt": None, "crates/low/specs/Other.antt": None},
+            "docs/MAP.md: no file crates/low/specs/Word.antt",
+            "docs/MAP.md: no file crates/low/specs/Other.antt",
+        )
+
+    def test_name_that_is_not_the_crates(self) -> None:
+        self.finds(
+            check_documents,
+            {"crates/low/src/lib.rt": "pub fn write() {}\n"},
+            "crates/low/README.md: read is no name of the crate",
+            "crates/low/README.md: Word::read is no name of the crate",
+        )
+
+    def test_versions(self) -> None:
+        with mock.patch.object(check_version, "COPIES", COPIES):
+            self.finds(check_version, {})
+            self.finds(check_version, {"README.md": "Version 2.3.3.\n"}, "README.md: 2.3.3, and VERSION has 2.3.4")
+            self.finds(check_version, {"README.md": "\n"}, "README.md: no version, and VERSION has 2.3.4")
+
+
+class WrongBodies(unittest.TestCase):
+    """What `sharpness.py` plants."""
+
+    def plant(self, folder: str, own: str) -> tuple[list[str], list[str]]:
+        """The names that were planted, in the order of their numbers, and those that were left out."""
+        planted = sharpness.Planted(Path(folder))
+        suite = sharpness.Suite(("low",), "low", own=own)
+        planted.plant(sharpness.edits_of(Path(folder), suite, ["low"]))
+        return list(planted.numbers), sorted(planted.left_out)
+
+    def test_bodies_stand_beside_the_right_one(self) -> None:
+        with tempfile.TemporaryDirectory() as folder:
+            write(folder, BODIES)
+            with mock.patch.object(sharpness, "TOP", Path(folder)):
+                planted, left_out = self.plant(folder, "suite")
+            code = Path(folder, "crates/low/src/lib.rt").read_text(encoding="utf-8")
+        bodies = [
+            ("low/always_the_first", "least", "if one < other { one } else { one }"),
+            ("low/greatest", "least", "if other < one { one } else { other }"),
+            ("low/most_is_least", "most", "if one < other { one } else { other }"),
+            ("suite: always_the_second", "least", "if one < other { other } else { other }"),
+        ]
+        self.assertEqual(planted, [name for name, _, _ in bodies])
+        self.assertEqual(left_out, ["low/another_definition", "low/method_of_a_trait", "suite: stale"])
+        self.assertTrue(code.startswith("mod wrong_body;\nmod trait_of;\n"))
+        for number, (_, function, body) in enumerate(bodies, 1):
+            wrong = f"{function}_wrong_{number}"
+            call = f"if crate::wrong_body::number() == {number} {{ return {wrong}(one, other); }}\n"
+            right = code[code.index(f"pub fn {function}(") :].partition("\n}\n")[0]
+            self.assertIn(call, right)
+            copy = code[code.index(f"\nfn {wrong}(") :].partition("\n}\n")[0]
+            self.assertEqual(copy.splitlines()[-1].strip(), body)
+            self.assertNotIn("wrong_body", copy)
+
+    def test_no_body_that_no_run_shows(self) -> None:
+        with tempfile.TemporaryDirectory() as folder:
+            write(folder, BODIES)
+            with mock.patch.multiple(sharpness, TOP=Path(folder), NO_RUN_SHOWS={"low/greatest": "it is so"}):
+                planted, left_out = self.plant(folder, "another")
+        self.assertEqual(planted, ["low/always_the_first", "low/most_is_least"])
+        self.assertIn("low/greatest", left_out)
+
+
+if __name__ == "__main__":
+    unittest.main()

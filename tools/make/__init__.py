@@ -1,0 +1,1 @@
+"""What makes files: archives and programs, pages, completions, rows and volumes."""

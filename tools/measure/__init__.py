@@ -1,0 +1,1 @@
+"""What measures the programs, and how sharp the suites are."""

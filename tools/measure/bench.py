@@ -1,0 +1,77 @@
+"""Counts what the works of the bench execute, and prints the table of docs/TIMES.md: at a drive, by whole programs, at a channel and through the C library.
+
+    tools/run measure/bench [--bench FILE] [--handle FILE] [WORK..]
+
+FILE is the built bench (crates/bench/out/bench, as `rt run` leaves it there; c/out/bench, as `make -C c bench` does); where the second is not there, its column is
+empty. A count is what callgrind counts for one pass over a full volume of a 2314 with 203 cylinders, less what it counts for none, in millions of
+instructions: the same on every machine. The C library's `rep stosb` is turned off, since callgrind counts that one instruction once for each byte that
+it clears. Wants Debian's `valgrind`; half a minute for a work.
+"""
+
+import argparse
+import os
+import re
+import shutil
+import subprocess
+import sys
+from concurrent.futures import ThreadPoolExecutor
+from pathlib import Path
+
+from tools import TOP
+
+WORKS = {
+    "A": "a search, then seven Read Data a track",
+    "B": "seven Read Count, Key and Data a track",
+    "C": "multi-track Read Data",
+    "D": "records of 7,294 bytes",
+    "S": "Search Home Address, Read R0, seven Read Data",
+    "U": "a search and an update",
+    "W": "seven Write Count, Key and Data",
+}
+WAYS: list[list[str]] = [[], ["programs"], ["channel"]]
+COLLECTED = re.compile(r"Collected : (\d+)")
+NO_REP_STOSB = "glibc.cpu.x86_rep_stosb_threshold=1000000"
+
+
+def executed(words: list[str]) -> int:
+    """The instructions that a command executes."""
+    command = ["valgrind", "--tool=callgrind", "--callgrind-out-file=/dev/null", *words]
+    done = subprocess.run(command, capture_output=True, text=True, env={**os.environ, "GLIBC_TUNABLES": NO_REP_STOSB})
+    found = COLLECTED.search(done.stderr)
+    if done.returncode or not found:
+        sys.exit(f"bench.py: {' '.join(words)}: status {done.returncode}\n{done.stderr[-400:]}")
+    return int(found[1])
+
+
+def millions(words: list[str]) -> str:
+    """What one pass of a work takes."""
+    return f"{(executed([*words, '1']) - executed([*words, '0'])) / 1e6:.2f}"
+
+
+def row(work: str, bench: Path, handle: Path) -> str:
+    """The line of a work."""
+    cells = [millions([str(bench), *way, work]) for way in WAYS]
+    cells.append(millions([str(handle), work]) if handle.exists() else "")
+    return f"| {work}: {WORKS[work]} | " + " | ".join(cells) + " |"
+
+
+def main() -> None:
+    """Reads the words, and prints the table."""
+    words = argparse.ArgumentParser(description=__doc__, formatter_class=argparse.RawDescriptionHelpFormatter)
+    words.add_argument("--bench", type=Path, default=TOP / "crates" / "bench" / "out" / "bench")
+    words.add_argument("--handle", type=Path, default=TOP / "c" / "out" / "bench")
+    words.add_argument("works", nargs="*", metavar="WORK", default=list(WORKS))
+    given = words.parse_args()
+    unknown = [it for it in given.works if it not in WORKS]
+    if unknown:
+        sys.exit(f"bench.py: no such work: {', '.join(unknown)} (there are {', '.join(WORKS)})")
+    if not shutil.which("valgrind") or not given.bench.exists():
+        sys.exit("bench.py: it wants valgrind, and the built bench")
+    print("| Work | Drive alone | Whole programs | At a channel | Through C |\n|---|---|---|---|---|")
+    with ThreadPoolExecutor(2) as pool:
+        for line in pool.map(lambda work: row(work, given.bench, given.handle), given.works):
+            print(line, flush=True)
+
+
+if __name__ == "__main__":
+    main()

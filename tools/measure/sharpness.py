@@ -1,0 +1,419 @@
+"""Measures how sharp the suites are: which wrong bodies a suite catches, of those that stand in must-fail edits and in tools/edits.
+
+    tools/run measure/sharpness [--crates CRATE,..] SUITE..
+
+A suite is rows that are played at the stage or at `dasd` (`rows/channel` is the suite `channel` of rows/play.py); a script that asks a
+built `dasd` (`differ`, lists by chance beside the conformance suite's model, `real_files` and `fail_calls`); or a crate whose program prints what is
+kept in its `stdout`. A script's status is 0 where all is right. For each suite the wrong bodies of the crates that it is meant to
+watch (or of those named) are put beside the right ones, with a number that says which of them is taken. All suites that play one
+program share one unproved build of it (see unproved_dasd.py), and each is run once a number. A wrong body is caught if what the program
+prints or its status is another, or if it does not end in the time that it has. For each suite one line tells how many were caught, and
+then which were not.
+
+A suite may have wrong bodies of its own in tools/wrong_bodies/SUITE: files of the form of a must-fail edit, whose `file:` begins at
+`crates`. They stand for what no must-fail edit shows, or none shows any more, and the gate does not look at them.
+
+What stands outside a function (an edit of a definition, of a table, or of a function of a trait) is not tried, and is counted; so is
+what NO_RUN_SHOWS names.
+NOTHING THAT IS BUILT HERE IS PROVED, and the gate does not run this.
+"""
+
+from __future__ import annotations
+
+import argparse
+import importlib.util
+import os
+import re
+import shutil
+import signal
+import subprocess
+import sys
+import tempfile
+import time
+from dataclasses import dataclass
+from pathlib import Path
+from types import ModuleType
+from typing import Iterable, Iterator, NamedTuple
+
+from tools import TOP
+
+SECONDS = 1800  # at most, for the right bodies
+TIMES = 8  # so much longer may a wrong body take
+DASD, STAGE = "dasd_cmd", "test_stage"
+
+
+@dataclass(frozen=True)
+class Suite:
+    """A suite: the crates that it is meant to watch (what it does not ask of them is another suite's); the crate of the program that
+    it plays; the words of its script, where it has one, with MADE for the program; and the folder of its own wrong bodies."""
+
+    crates: tuple[str, ...]
+    program: str
+    script: tuple[str, ...] = ()
+    own: str = ""
+
+
+def played(name: str, crates: str, own: str, program: str = STAGE) -> Suite:
+    """A suite of rows/play.py."""
+    words = ("MADE",) if program == STAGE else ("none", "--dasd", "MADE")
+    return Suite(tuple(crates.split()), program, ("rows/play.py", *words, "--first", "--seconds", "60", *name.split()), own)
+
+
+def printing(name: str, crates: str) -> Suite:
+    """A crate whose program prints what is kept."""
+    return Suite(tuple(crates.split()), name, (), name)
+
+
+DRIVE = "ckd_position ckd_sense ckd_command ckd_slot ckd_drive"
+FILES = "dasd_volumes dasd_archive volume_labels dasd_jobs dasd_run dasd_cmd"
+SUITES = {
+    "rows/channel": played("channel", "s360_program s360_channel s360_deck", "channel"),
+    "rows/lists": played("lists failing_lists", "s360_program s360_channel", "test_random_lists"),
+    "rows/decks": played("traces cut_programs hostile_decks", "s360_program s360_channel s360_deck", "test_decks"),
+    "rows/drives": played("drives", DRIVE, "drives"),
+    "rows/programs": played("programs", "s360_words s360_program", "programs"),
+    "rows/images": played("images", "ckd_image", "images"),
+    "rows/tracks": played("tracks", "ckd_track", "tracks"),
+    "rows/dasd": played("dasd", "dasd_volumes dasd_jobs dasd_run", "dasd", DASD),
+    "rows/files": played("dasd hostile_checks", FILES, "real_files", DASD),
+    "test_random_lists": printing("test_random_lists", "s360_program s360_channel"),
+    "test_hostile_images": printing("test_hostile_images", "ckd_track ckd_image"),
+    "test_decks": printing("test_decks", "s360_program s360_channel s360_deck"),
+    "differ": Suite(("s360_words", *DRIVE.split(), "s360_program", "s360_channel"), DASD,
+                    ("conformance/differ.py", "--lists", "200", "model", "dasd=MADE")),
+    "real_files": Suite(tuple(FILES.split()), DASD, ("tools/run", "gate/real_files", "--built", "MADE"), "real_files"),
+    "fail_calls": Suite((), DASD, ("tools/run", "gate/fail_calls", "--built", "MADE"), "fail_calls"),
+}
+# Wrong bodies that no run of a suite can show, and why.
+NO_RUN_SHOWS = {
+    "ckd_image/failure_not_counted": "only proofs read that count",
+    "s360_words/caw_takes_any_low_bits": "the fetch of the first word refuses such an address with the same answer",
+    "ckd_slot/bytes_behind_the_end_mark_are_left": "no drive puts bytes behind an end mark; the contract alone leaves it open",
+    "ckd_position/search_compares_at_most_four_bytes": "no drive asks that function: it compares piece by piece, by another",
+}
+HEAD = re.compile(r"^(?P<indent> *)(?P<before>(?:pub(?:\([a-z]+\))? )?(?:const )?)fn (?P<name>\w+)", re.M)
+CALL = re.compile(r"^if crate::wrong_body::number\(\) == .*\n", re.M)
+NUMBER_MADE = re.compile(r'^(define internal [^\n]*@"\w+::wrong_body::number"\([^\n]*\)[^\n{]*)\{\n.*?^\}\n', re.M | re.S)
+NUMBER = """//! Which wrong body is taken.
+
+/// Its number, or 0: what stands here is read from the environment once the program is built.
+pub fn number() -> u32 {
+    0
+}
+"""
+READ = """{
+  %known = load i32, ptr @wrong_body_number
+  %is_known = icmp sge i32 %known, 0
+  br i1 %is_known, label %answer, label %ask
+answer:
+  ret i32 %known
+ask:
+  %text = call ptr @getenv(ptr @wrong_body_name)
+  %none = icmp eq ptr %text, null
+  br i1 %none, label %right, label %wrong
+right:
+  store i32 0, ptr @wrong_body_number
+  ret i32 0
+wrong:
+  %number = call i32 @atoi(ptr %text)
+  store i32 %number, ptr @wrong_body_number
+  ret i32 %number
+}
+"""
+
+
+def unproved() -> ModuleType:
+    """The script that makes unproved builds."""
+    loaded = importlib.util.spec_from_file_location("unproved_dasd", TOP / "tools" / "make" / "unproved_dasd.py")
+    if loaded is None or loaded.loader is None:
+        sys.exit("sharpness.py: there is no unproved_dasd.py")
+    module = importlib.util.module_from_spec(loaded)
+    loaded.loader.exec_module(module)
+    return module
+
+
+def crates_below(program: str) -> list[str]:
+    """The crates of this repository that a program stands on."""
+    lines = [it.split(":", 1) for it in (TOP / "crates.txt").read_text().splitlines() if re.match(r"\w", it)]
+    needs = {name.split()[0]: words.split() for name, words in lines}
+    found: list[str] = []
+    waiting = [program]
+    while waiting:
+        for name in needs.get(waiting.pop(), []):
+            if name in needs and name not in found:
+                found.append(name)
+                waiting.append(name)
+    return found
+
+
+def closing(text: str, at: int) -> int:
+    """The place behind the bracket that closes the one at `at`."""
+    depth = 0
+    for place in range(at, len(text)):
+        depth += {"(": 1, "[": 1, "{": 1, ")": -1, "]": -1, "}": -1}.get(text[place], 0)
+        if depth == 0:
+            return place + 1
+    raise ValueError("a bracket is not closed")
+
+
+def function_at(text: str, place: int) -> tuple[re.Match[str], int, int] | None:
+    """Begin, body and end of the function in which `place` lies, with its head, or none."""
+    heads = [it for it in HEAD.finditer(text) if it.start() <= place]
+    for head in reversed(heads):
+        indent = head["indent"]
+        end = text.find(f"\n{indent}}}\n", head.end())
+        if end < 0 or end < place:
+            continue
+        body = re.compile(rf"^{indent}\{{\n|[^\n]\{{\n", re.M)
+        parameters = closing(text, text.index("(", head.end()))
+        for it in body.finditer(text, parameters):
+            line = text[text.rfind("\n", 0, it.end() - 1) + 1 : it.end()]
+            if line.strip() == "{" or not re.match(r" *(requires|ensures|decreases)\b", line):
+                return head, it.end(), end + len(indent) + 3
+    return None
+
+
+def arguments(text: str, head: re.Match[str]) -> tuple[str | None, list[str]] | None:
+    """What calls the function with what it was called with, up to its name: the receiver, and the arguments."""
+    begin = text.index("(", head.end())
+    inside = text[begin + 1 : closing(text, begin) - 1]
+    names: list[str] = []
+    receiver: str | None = None
+    depth, word = 0, ""
+    for sign in inside + ",":
+        depth += {"(": 1, "[": 1, "<": 1, "{": 1, ")": -1, "]": -1, ">": -1, "}": -1}.get(sign, 0)
+        if sign != "," or depth > 0:
+            word += sign
+            continue
+        word, part = "", word.strip()
+        if re.fullmatch(r"(&(mut )?)?(mut )?self", part):
+            receiver = "self."
+        elif part:
+            name = re.match(r"(?:mut )?(\w+)\s*:", part)
+            if not name:
+                return None
+            names.append(name[1])
+    return receiver, names
+
+
+def read_edit(path: Path) -> tuple[str, list[list[str]]]:
+    """The file of an edit, and its pairs."""
+    file = ""
+    pairs: list[list[str]] = []
+    for line in path.read_text().splitlines():
+        key, _, rest = line.partition(": ")
+        if key == "file":
+            file = rest
+        elif key == "old":
+            pairs.append([rest, ""])
+        elif line.startswith("new:"):
+            pairs[-1][1] = line[5:]
+    return file, pairs
+
+
+def right_one(text: str, old: str) -> tuple[re.Match[str], int, int] | None:
+    """The function at hand in which this text stands, as `function_at` answers it: no wrong copy that was planted before."""
+    for place in re.finditer(re.escape(old), text):
+        found = function_at(text, place.start())
+        if found and "_wrong_" not in found[0]["name"]:
+            return found
+    return None
+
+
+def beside(text: str, pairs: list[list[str]], number: int) -> str | None:
+    """The file with a wrong copy of the function behind the right one, which calls it where its number is asked for; or none."""
+    found = right_one(text, pairs[0][0])
+    if not found:
+        return None
+    head, body, end = found
+    blocks = re.findall(r"^(?:unsafe )?impl\b[^\n]*", text[: head.start()], re.M)
+    if head["indent"] and blocks and " for " in blocks[-1]:
+        return None
+    whole, called = CALL.sub("", text[head.start() : end]), arguments(text, head)
+    if called is None or any(old not in whole for old, _ in pairs):
+        return None
+    wrong = whole
+    for old, new in pairs:
+        wrong = wrong.replace(old, new, 1)
+    name = f"{head['name']}_wrong_{number}"
+    wrong = HEAD.sub(lambda it: f"{it['indent']}fn {name}" if it["name"] == head["name"] else it[0], wrong, count=1)
+    receiver, names = called
+    receiver = receiver or ("Self::" if head["indent"] else "")
+    taken = f"if crate::wrong_body::number() == {number} {{ return {receiver}{name}({', '.join(names)}); }}\n"  # as CALL reads it
+    return text[:body] + taken + text[body:end] + "\n" + wrong + text[end:]
+
+
+class Edit(NamedTuple):
+    """A wrong body: its name, the folder in which its `file:` begins, and its file."""
+
+    name: str
+    folder: Path
+    file: Path
+
+
+def edits_of(top: Path, suite: Suite, crates: Iterable[str]) -> Iterator[Edit]:
+    """The wrong bodies to try of a suite: those of these crates, and its own."""
+    for crate in crates:
+        folder = top / "crates" / crate
+        for edits in (folder / "must-fail", TOP / "tools" / "edits" / crate):
+            for edit in sorted(edits.glob("*.edit")):
+                yield Edit(f"{crate}/{edit.stem}", folder, edit)
+    if suite.own:
+        for edit in sorted((TOP / "tools" / "wrong_bodies" / suite.own).glob("*.edit")):
+            yield Edit(f"{suite.own}: {edit.stem}", top, edit)
+
+
+def make_number(folder: Path) -> None:
+    """Gives a crate the function that says which wrong body is taken."""
+    (folder / "src" / "wrong_body.rt").write_text(NUMBER)
+    root = next(it for it in (folder / "src" / "lib.rt", folder / "src" / "main.rt") if it.exists())
+    lines = root.read_text()
+    found = re.search(r"^(pub )?mod ", lines, re.M)
+    at = found.start() if found else len(lines)
+    root.write_text(lines[:at] + "mod wrong_body;\n" + lines[at:])
+
+
+class Planted:
+    """A copy in which wrong bodies stand beside the right ones: their numbers by name, and the names of those that can't be tried."""
+
+    def __init__(self, top: Path) -> None:
+        self.top = top
+        self.numbers: dict[str, int] = {}
+        self.left_out: set[str] = set()
+        self.crates: set[str] = set()
+
+    def plant(self, edits: Iterable[Edit]) -> None:
+        """Puts wrong bodies beside the right ones, each once."""
+        for edit in edits:
+            if edit.name in self.numbers or edit.name in self.left_out:
+                continue
+            file, pairs = read_edit(edit.file)
+            source = edit.folder / file
+            number, code = len(self.numbers) + 1, source.relative_to(self.top / "crates").parts
+            tried = code[1] == "src" and edit.name not in NO_RUN_SHOWS
+            changed = beside(source.read_text(), pairs, number) if tried else None
+            if changed is None:
+                self.left_out.add(edit.name)
+                continue
+            source.write_text(changed)
+            self.numbers[edit.name] = number
+            if code[0] not in self.crates:
+                make_number(self.top / "crates" / code[0])
+            self.crates.add(code[0])
+
+
+def reading_the_environment(text: str) -> str:
+    """The module's text, with the number of each crate read from the environment."""
+    text, found = NUMBER_MADE.subn(lambda it: it[1] + READ, text)
+    if not found:
+        sys.exit("sharpness.py: no wrong body stands in the module")
+    name = b"WRONG_BODY\0"
+    text += f'@wrong_body_name = private constant [{len(name)} x i8] c"WRONG_BODY\\00"\n'
+    text += "@wrong_body_number = internal global i32 -1\n"
+    for declared in ("declare ptr @getenv(ptr)", "declare i32 @atoi(ptr)"):
+        if not re.search(re.escape(declared.split("(")[0]) + r"\(", text):
+            text += declared + "\n"
+    return text
+
+
+def build(tools: ModuleType, top: Path, program: str, made: Path, room: Path) -> None:
+    """An unproved build of a program in a copy, with its wrong bodies."""
+    setattr(tools, "TOP", top)
+    setattr(tools, "CRATE", top / "crates" / program)
+    (room / program).mkdir()
+    module = tools.module_of_try(tools.kit(), room / program)
+    tools.compile_module(tools.kit(), module, made, room / program, reading_the_environment)
+
+
+Verdict = tuple[int, bytes]
+
+
+def verdict(made: Path, suite: Suite, number: int, seconds: float) -> Verdict | None:
+    """What the program printed and its status, or the status of the script; none if it did not end in these seconds."""
+    environment = dict(os.environ, WRONG_BODY=str(number))
+    words, room, given = [word.replace("MADE", str(made)) for word in suite.script], TOP, b""
+    if not words:
+        crate = TOP / "crates" / suite.program
+        room = crate / "data" if (crate / "data").exists() else crate
+        words, given = [str(made)], (crate / "stdin").read_bytes() if (crate / "stdin").exists() else b""
+    running = subprocess.Popen(words, cwd=room, stdin=subprocess.PIPE, stdout=subprocess.PIPE, stderr=subprocess.DEVNULL, env=environment,
+                               start_new_session=True)
+    try:
+        printed, _ = running.communicate(given, timeout=seconds)
+    except subprocess.TimeoutExpired:
+        end_group(running.pid)
+        running.communicate()
+        return None
+    end_group(running.pid)
+    return running.returncode, b"" if suite.script else printed
+
+
+def end_group(leader: int) -> None:
+    """Ends all that a script has started and left, as a program that does not end."""
+    try:
+        os.killpg(leader, signal.SIGKILL)
+    except ProcessLookupError:
+        pass
+
+
+def copied(top: Path) -> None:
+    """A copy of the crates, without what checks leave there."""
+    shutil.copytree(TOP / "crates", top / "crates", ignore=shutil.ignore_patterns("out", ".git"))
+    shutil.copy(TOP / "crates.txt", top)
+    shutil.copy(TOP / "HANDLES", top)
+
+
+def try_all(made: Path, name: str, numbers: dict[str, int], left_out: list[str]) -> None:
+    """Plays a suite with each of its wrong bodies, and prints what it catches."""
+    suite = SUITES[name]
+    began = time.monotonic()
+    right = verdict(made, suite, 0, SECONDS)
+    seconds = 2 + TIMES * (time.monotonic() - began)
+    expected = b"" if suite.script else (TOP / "crates" / suite.program / "stdout").read_bytes()
+    if right is None or right != (0, expected):
+        print(f"{name}: does not come out right with the right bodies", flush=True)
+        return
+    missed = [it for it, number in numbers.items() if verdict(made, suite, number, seconds) == right]
+    print(f"{name}: {len(numbers) - len(missed)} of {len(numbers)} wrong bodies caught, {len(left_out)} not tried", flush=True)
+    for it in missed:
+        print(f"    not caught: {it}", flush=True)
+    for it in left_out:
+        print(f"    not tried: {it}", flush=True)
+
+
+def measure(tools: ModuleType, program: str, names: list[str], crates: list[str]) -> None:
+    """Measures the suites that play one program, with one build of it."""
+    with tempfile.TemporaryDirectory() as folder:
+        # a row over real files has `dasd` run by a user who is not this one
+        os.chmod(folder, 0o755)
+        room, top = Path(folder), Path(folder) / "copy"
+        copied(top)
+        below, planted = [*crates_below(program), program], Planted(top)
+        edits = {}
+        for name in names:
+            watched = crates or SUITES[name].crates
+            edits[name] = list(edits_of(top, SUITES[name], [it for it in below if it in watched]))
+            planted.plant(edits[name])
+        if not planted.numbers:
+            sys.exit(f"sharpness.py: no wrong body of {', '.join(names)} can be tried")
+        build(tools, top, program, room / "built", room)
+        for name in names:
+            numbers = {it.name: planted.numbers[it.name] for it in edits[name] if it.name in planted.numbers}
+            try_all(room / "built", name, numbers, [it.name for it in edits[name] if it.name in planted.left_out])
+
+
+def main() -> None:
+    words = argparse.ArgumentParser(description=__doc__, formatter_class=argparse.RawDescriptionHelpFormatter)
+    words.add_argument("--crates", default="", help="of these crates alone, with commas between")
+    words.add_argument("suites", nargs="+", metavar="SUITE", choices=SUITES, help=", ".join(SUITES))
+    given = words.parse_args()
+    tools = unproved()
+    programs: dict[str, list[str]] = {}
+    for name in given.suites:
+        programs.setdefault(SUITES[name].program, []).append(name)
+    for program, names in programs.items():
+        measure(tools, program, names, [it for it in given.crates.split(",") if it])
+
+
+if __name__ == "__main__":
+    main()
