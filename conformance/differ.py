@@ -71,7 +71,7 @@ class Pair:
         vector = Chance(seed, self.plain, self.seek_first, self.odd).vector()
         model = ModelEmulator().play(vector)
         known = replace(vector, answers=model.answers)
-        if set(needs_of(known)) & self.lacks or self.without_profile and profile_of(known):
+        if set(needs_of(known)) & self.lacks or self.without_profile and profile_of(known, {"steps"} & self.lacks):
             return None
         return vector
 

@@ -61,11 +61,12 @@ def needs_of(vector: Vector) -> List[str]:
     return [it for it in NEEDS if it in found]
 
 
-def profile_of(vector: Vector) -> List[str]:
-    """The choices of the profile on which a vector rests."""
+def profile_of(vector: Vector, lacks: Collection[str] = ()) -> List[str]:
+    """The choices of the profile on which a vector rests, as an emulator plays it that lacks these: its numbers behind STEP count where
+    it has steps."""
     if vector.fault:
         return ["decks"]
-    found = [it for it in PROFILE if differs(vector, ModelEmulator(Profile().without(it.replace("-", "_"))), ["steps"])]
+    found = [it for it in PROFILE if differs(vector, ModelEmulator(Profile().without(it.replace("-", "_"))), lacks)]
     return found + ["units"] if "steps" in vector.needs else found
 
 

@@ -96,7 +96,13 @@ class Model(unittest.TestCase):
             for vector in VECTORS[::13]:
                 if name not in vector.profile:
                     with self.subTest(vector.name, profile=name):
-                        self.assertIsNone(difference(vector, model.play(vector), ["steps"]))
+                        self.assertIsNone(difference(vector, model.play(vector)))
+
+    def test_another_number_behind_step_makes_a_choice(self) -> None:
+        vectors = {it.name: it for it in VECTORS}
+        for name, choice in (("mask-from-far-beyond-storage", "bytes-one-by-one"), ("loop-is-reset", "laps-over-searches")):
+            self.assertIn(choice, profile_of(vectors[name]))
+            self.assertNotIn(choice, profile_of(vectors[name], ["steps"]))
 
     def test_the_figures_of_the_page(self) -> None:
         of_text = [it for it in VECTORS if it.is_of_text()]
