@@ -65,6 +65,7 @@ class Profile:
     mask_ignores_bits: bool = True
     mask_holds_recalibrate: bool = True
     seek_head_alone: bool = True
+    own_home_address: bool = True
     write_credit: bool = True
     charges: bool = True
     laps_over_searches: bool = True
@@ -408,7 +409,7 @@ class Drive:
     def close_home(self, got: bytes) -> Ending:
         if got and len(got) < 5:
             return self.checked("cut short")
-        if got and got != b"\0" + address(self.cylinder, self.head):
+        if got and self.profile.own_home_address and got != b"\0" + address(self.cylinder, self.head):
             return self.checked("bad home address")
         self.position = HOME
         if got:
