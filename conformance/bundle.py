@@ -3,16 +3,19 @@
 
   bundle.py FILE.tar.gz
 """
+from __future__ import annotations
+
 import os
 import sys
 import tarfile
+from typing import Optional
 
 from suite.vectors import HERE
 
 NAME = "ckd-conformance"
 
 
-def keep(member):
+def keep(member: tarfile.TarInfo) -> Optional[tarfile.TarInfo]:
     """Leaves out what Python leaves behind, and who made the files."""
     if "__pycache__" in member.name:
         return None
@@ -21,7 +24,7 @@ def keep(member):
     return member
 
 
-def main():
+def main() -> int:
     if len(sys.argv) != 2:
         print(__doc__, file=sys.stderr)
         return 2

@@ -4,13 +4,17 @@
   differ.py EMULATOR EMULATOR [--seed N] [--lists N]
 
 Emulators are named as for run.py. What one of them lacks is left out of the lists. Status 1 where they differ."""
+from __future__ import annotations
+
 import argparse
 import os
 import re
 import sys
 from collections import Counter
+from dataclasses import replace
+from typing import Collection, Optional, Tuple
 
-from suite.adapters import make
+from suite.adapters import Emulator, make
 from suite.adapters.model import ModelEmulator
 from suite.adapters.protocol import Broke
 from suite.adapters.spoiled import SPOILS, Spoiled
@@ -22,7 +26,7 @@ from suite.volumes import tidied
 from volume import describe
 
 
-def unlike(vector, one, other, lacks):
+def unlike(vector: Vector, one: Outcome, other: Outcome, lacks: Collection[str]) -> Optional[str]:
     """How two outcomes differ, in words; None where they do not. A list that one of them declines shows nothing."""
     if one.declined or other.declined:
         return None
@@ -30,9 +34,9 @@ def unlike(vector, one, other, lacks):
         return None if one.broke and other.broke else "%s | %s" % (one.broke or "answers", other.broke or "answers")
     if one.fault != other.fault:
         return "fault %s | %s" % (one.fault, other.fault)
-    for number, (left, right) in enumerate(zip(one.answers, other.answers), 1):
-        if softened(left, lacks) != softened(right, lacks):
-            return "answer %d: %s | %s" % (number, left, right)
+    for number, (said, says) in enumerate(zip(one.answers, other.answers), 1):
+        if softened(said, lacks) != softened(says, lacks):
+            return "answer %d: %s | %s" % (number, said, says)
     for unit, before in vector.before().items():
         left, right = ((tidied(it.after[unit], before) if "zeros" in lacks else it.after[unit]) for it in (one, other))
         if left.bytes() != right.bytes():
@@ -40,7 +44,7 @@ def unlike(vector, one, other, lacks):
     return None
 
 
-def kind(why):
+def kind(why: Optional[str]) -> Optional[str]:
     """What two differences have in common: the answers' words and status bytes, without places, addresses and counts."""
     if why is None:
         return None
@@ -55,27 +59,27 @@ def kind(why):
 class Pair:
     """Two emulators, and what lists they can both do."""
 
-    def __init__(self, one, other, said):
+    def __init__(self, one: Emulator, other: Emulator, said: argparse.Namespace) -> None:
         self.one, self.other, self.without_profile = one, other, said.without_profile
         self.lacks = one.lacks | other.lacks | set(filter(None, said.lacks.split(",")))
         self.plain = said.plain or bool({"steps", "arrivals", "pci"} & self.lacks)
         self.seek_first = said.seek_first
         self.odd = not said.readable
 
-    def made(self, seed):
+    def made(self, seed: int) -> Optional[Vector]:
         """The list of a seed; None where it needs what one of them lacks."""
         vector = Chance(seed, self.plain, self.seek_first, self.odd).vector()
         model = ModelEmulator().play(vector)
-        known = Vector(**{**vars(vector), "answers": model.answers})
-        if set(needs_of(known)) & self.lacks or self.without_profile and profile_of(known):
+        known = replace(vector, answers=model.answers)
+        if set(needs_of(known)) & self.lacks or self.without_profile and profile_of(known, {"steps"} & self.lacks):
             return None
         return vector
 
-    def difference(self, vector):
+    def difference(self, vector: Vector) -> Optional[str]:
         return unlike(vector, self.one.play(vector), self.other.play(vector), self.lacks)
 
 
-def show(vector, pair, why):
+def show(vector: Vector, pair: Pair, why: Optional[str]) -> None:
     """Prints a failing list: its volumes in words, its deck, and what each of the two answers."""
     print("%s: %s" % (vector.name, why))
     for unit, what in vector.volumes:
@@ -84,11 +88,11 @@ def show(vector, pair, why):
     print("\n# deck")
     both = [it.play(vector) for it in (pair.one, pair.other)]
     for number, line in enumerate(vector.deck.decode("ascii").splitlines()):
-        left, right = ((it.answers[number:number + 1] or ["-"])[0] if isinstance(it, Outcome) else "-" for it in both)
+        left, right = ((it.answers[number:number + 1] or ["-"])[0] for it in both)
         print("%s%s" % (line, "" if left == right else "\n    # %s | %s" % (left, right)))
 
 
-def keep(vector, folder):
+def keep(vector: Vector, folder: str) -> None:
     """Writes a failing list into a folder: its deck and its images."""
     os.makedirs(folder, exist_ok=True)
     with open(os.path.join(folder, vector.name + ".deck"), "wb") as it:
@@ -98,9 +102,9 @@ def keep(vector, folder):
             it.write(volume.bytes())
 
 
-def parse_words():
+def parse_words() -> argparse.Namespace:
     words = argparse.ArgumentParser(description=__doc__, formatter_class=argparse.RawDescriptionHelpFormatter)
-    words.add_argument("emulators", nargs=2)
+    words.add_argument("emulators", nargs=2, metavar="EMULATOR")
     words.add_argument("--seed", type=int, default=1, help="the first list's seed")
     words.add_argument("--lists", type=int, default=100, help="how many seeds")
     words.add_argument("--lacks", default="", help="what is to be left out, with commas")
@@ -109,14 +113,16 @@ def parse_words():
     words.add_argument("--readable", action="store_true", help="no track is unreadable")
     words.add_argument("--without-profile", action="store_true", help="leaves out lists that rest on a choice of the profile")
     words.add_argument("--most", type=int, default=3, help="how many ways to differ are shown")
+    words.add_argument("--seconds", type=float, metavar="N", help="how long an emulator that is a program may be silent")
     words.add_argument("--keep", metavar="FOLDER", help="writes failing lists there")
     words.add_argument("--spoil", choices=sorted(SPOILS), help="spoils the second one's answers, to see that it is seen")
-    return words.parse_args()
+    return words.parse_intermixed_args()
 
 
-def play_all(pair, said):
+def play_all(pair: Pair, said: argparse.Namespace) -> Tuple[int, Counter[str]]:
     """Plays the lists; how many were played, and how many differed in which way. The first of each way is shown, made short."""
-    played, different = 0, Counter()
+    played = 0
+    different: Counter[str] = Counter()
     for seed in range(said.seed, said.seed + said.lists):
         vector = pair.made(seed)
         if vector is None:
@@ -135,10 +141,10 @@ def play_all(pair, said):
     return played, different
 
 
-def main():
+def main() -> int:
     said = parse_words()
     try:
-        with make(said.emulators[0]) as one, make(said.emulators[1]) as second:
+        with make(said.emulators[0], said.seconds) as one, make(said.emulators[1], said.seconds) as second:
             other = Spoiled(second, said.spoil) if said.spoil else second
             pair = Pair(one, other, said)
             played, different = play_all(pair, said)

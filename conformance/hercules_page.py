@@ -4,11 +4,15 @@
   hercules_page.py [--table TITLE=FILE ..] > ../docs/HERCULES.md
 
 A FILE is what run.py printed of a whole run."""
+from __future__ import annotations
+
 import argparse
 import os
 import sys
+from typing import Optional, Sequence
 
 from ask import compared, read_deck
+from suite.adapters import Emulator
 from suite.adapters.hercules import HerculesEmulator
 from suite.vectors import HERE
 
@@ -44,7 +48,7 @@ Seek, and which rest on no choice of this suite. Of 700 seeds 81 made such a lis
 """
 
 
-def section(number, path, emulator):
+def section(number: int, path: str, emulator: Emulator) -> str:
     """A fact: its deck, and both answers."""
     vector, must, said = read_deck(path)
     outcome = emulator.play(vector)
@@ -64,19 +68,19 @@ def section(number, path, emulator):
     return "\n".join(lines)
 
 
-def note(line, answer, wanted, broke):
+def note(line: str, answer: str, wanted: Optional[str], broke: Optional[str]) -> str:
     """What stands behind an event: its answer, or both where they differ."""
     if wanted:
         return "must be %s" % wanted if broke else "Hercules %s   must be %s" % (answer, wanted)
     return "" if broke or line.startswith(("STORE", "KEY", "STEP")) else answer
 
 
-def by_vectors(names):
+def by_vectors(names: Sequence[str]) -> str:
     """The vectors that show a fact too; '-' where none does."""
     return "" if names == ["-"] else ", and by the vector%s %s" % ("s" if len(names) > 1 else "", ", ".join("`%s`" % it for it in names))
 
 
-def tables(files):
+def tables(files: Sequence[str]) -> str:
     """The tables of whole runs."""
     out = ["", "## By rule", "",
            "Vectors by rule: right, wrong, left out (they need what this way of asking lacks), declined (they name storage where the supervisor",
@@ -90,7 +94,7 @@ def tables(files):
     return "\n".join(out)
 
 
-def main():
+def main() -> int:
     words = argparse.ArgumentParser(description=__doc__, formatter_class=argparse.RawDescriptionHelpFormatter)
     words.add_argument("--table", action="append", default=[], metavar="TITLE=FILE")
     said = words.parse_args()

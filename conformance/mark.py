@@ -4,23 +4,27 @@
   mark.py [--check] FILE.vectors ..
 
 `needs pci` is a vector's author's to say, and stays. With --check nothing is written; status 1 where a line would be another."""
+from __future__ import annotations
+
 import argparse
 import sys
+from typing import List, Mapping
 
-from suite.marks import manual_of, needs_of, profile_of, read_rules
+from suite.marks import Rule, manual_of, needs_of, profile_of, read_rules
 from suite.vectors import read_vectors
 
 MARKS = ("manual", "profile", "needs")
 
 
-def marked(path, rules):
+def marked(path: str, rules: Mapping[str, Rule]) -> str:
     """The text of a file with the marks as they must be."""
     vectors = {}
     for vector in read_vectors(path):
         vector.needs = needs_of(vector)
         lines = [("manual", it) for it in manual_of(vector, rules)] + [("profile", it) for it in profile_of(vector)]
         vectors[vector.name] = ["  %s  %s" % it for it in lines] + ["  needs %s" % it for it in vector.needs]
-    out, waiting = [], []
+    out: List[str] = []
+    waiting: List[str] = []
     with open(path, encoding="ascii") as text:
         for line in text.read().split("\n"):
             word = line[2:].split(" ")[0] if line.startswith("  ") else ""
@@ -35,7 +39,7 @@ def marked(path, rules):
     return "\n".join(out)
 
 
-def main():
+def main() -> int:
     words = argparse.ArgumentParser(description=__doc__, formatter_class=argparse.RawDescriptionHelpFormatter)
     words.add_argument("--check", action="store_true")
     words.add_argument("files", nargs="+")

@@ -6,14 +6,17 @@
   volume.py describe FILE ..           prints a description of an image
 
 DESCRIPTION is a file, or - for standard input."""
+from __future__ import annotations
+
 import argparse
 import sys
+from typing import Iterator, List, Sequence, Tuple
 
 from suite.vectors import digest
 from suite.volumes import BadDescription, BadImage, Volume, address, new_track, parse_description, read_slot
 
 
-def read(path):
+def read(path: str) -> Volume:
     """The volume of a description."""
     if path == "-":
         return parse_description(sys.stdin.read())
@@ -21,7 +24,7 @@ def read(path):
         return parse_description(text.read())
 
 
-def named_tracks(volume):
+def named_tracks(volume: Volume) -> Iterator[Tuple[int, int, bytes]]:
     """The tracks that are not as in a fresh volume: cylinder, head and slot."""
     for at, slot in enumerate(volume.slots):
         cylinder, head = divmod(at, volume.model.heads)
@@ -29,14 +32,14 @@ def named_tracks(volume):
             yield cylinder, head, slot
 
 
-def words_of(data):
+def words_of(data: bytes) -> str:
     """Bytes as a description has them: one byte again and again is said once."""
     if len(data) > 1 and len(set(data)) == 1:
         return "%02X*%d" % (data[0], len(data))
     return data.hex().upper()
 
 
-def track_lines(cylinder, head, slot):
+def track_lines(cylinder: int, head: int, slot: bytes) -> List[str]:
     """The lines of a track."""
     lines, track = ["track %d %d" % (cylinder, head)], read_slot(slot)
     own = address(cylinder, head)
@@ -56,9 +59,10 @@ def track_lines(cylinder, head, slot):
     return lines
 
 
-def describe(volume):
+def describe(volume: Volume) -> str:
     """A description of a volume."""
-    firsts, at = [], 0
+    firsts: List[str] = []
+    at = 0
     for number in volume.tracks_in[:-1]:
         at += number
         firsts.append(str(at // volume.model.heads))
@@ -72,7 +76,7 @@ def describe(volume):
     return "\n".join(lines)
 
 
-def main():
+def main() -> int:
     words = argparse.ArgumentParser(description=__doc__, formatter_class=argparse.RawDescriptionHelpFormatter)
     words.add_argument("what", choices=("make", "lines", "describe"))
     words.add_argument("names", nargs="+")
@@ -93,7 +97,7 @@ def main():
     return 0
 
 
-def make(volume, paths):
+def make(volume: Volume, paths: Sequence[str]) -> None:
     """Writes the files of a volume."""
     files = volume.files()
     if len(files) != len(paths):

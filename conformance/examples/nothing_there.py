@@ -1,18 +1,18 @@
 #!/usr/bin/env python3
 """An emulator with no device at all, over the plain protocol: each address answers condition code 3. It shows how one joins."""
 import sys
+from typing import Callable, Dict, List
 
 storage = bytearray()
 
 
-def begin(words):
+def begin(words: List[str]) -> str:
     """A new channel, whose number does not matter, and its storage."""
-    global storage
-    storage = bytearray(int(words[1]))
+    storage[:] = bytes(int(words[1]))
     return "OK"
 
 
-def store(words):
+def store(words: List[str]) -> str:
     at, data = int(words[0], 16), bytes.fromhex("".join(words[1:]))
     if at + len(data) > len(storage):
         return "STORE OUTSIDE"
@@ -20,14 +20,14 @@ def store(words):
     return "STORE OK"
 
 
-def show(words):
+def show(words: List[str]) -> str:
     at, length = int(words[0], 16), int(words[1])
     if at + length > len(storage):
         return "SHOW OUTSIDE"
     return "SHOW %06X %s" % (at, storage[at:at + length].hex().upper())
 
 
-ANSWERS = {
+ANSWERS: Dict[str, Callable[[List[str]], str]] = {
     "HELLO": lambda words: "HELLO 1 nothing-there lacks steps arrivals pci run",
     "BEGIN": begin,
     "VOLUME": lambda words: "OK",

@@ -49,18 +49,23 @@ HOME = (-1, 1)
 SENSE = {
     "invalid command": 0x8000, "write not allowed": 0x8004, "seek not allowed": 0x0004, "out of sequence": 0x8010,
     "head change not allowed": 0x0004, "no record found": 0x0008, "end of cylinder": 0x0020, "unreadable track": 0x0802,
-    "cut short": 0x8000, "bad home address": 0x8000, "seek check": 0x8100, "does not fit": 0x0040,
+    "seek cut short": 0x8000, "cut short": 0x8000, "bad home address": 0x8000, "seek check": 0x8100, "does not fit": 0x0040,
 }
+# the other way of the choices about them: where two bits go together the second alone, and where one stands alone another beside it
+SECOND_ALONE = {"write not allowed": 0x0004, "out of sequence": 0x0010, "unreadable track": 0x0002, "seek check": 0x0100}
+ANOTHER_BESIDE = {"seek not allowed": 0x8004, "head change not allowed": 0x8004, "no record found": 0x000A, "seek cut short": 0x8100}
 
 
 @dataclass
 class Profile:
-    """The choices of the suite's profile. Each is a way that the model can be told to go otherwise; docs/CONFORMANCE.md has them."""
+    """The choices of the suite's profile. Each is a way that the model can be told to go otherwise; FORMAT.md has them."""
     sense_bits: bool = True
+    sense_alone: bool = True
     sense_is_cleared: bool = True
     mask_ignores_bits: bool = True
     mask_holds_recalibrate: bool = True
     seek_head_alone: bool = True
+    own_home_address: bool = True
     write_credit: bool = True
     charges: bool = True
     laps_over_searches: bool = True
@@ -127,8 +132,10 @@ class Drive:
 
     def tell(self, cause: str) -> None:
         bits = SENSE[cause]
-        if not self.profile.sense_bits and bits in (0x8004, 0x8010, 0x0802, 0x8100):
-            bits = {0x8004: 0x0004, 0x8010: 0x0010, 0x0802: 0x0002, 0x8100: 0x0100}[bits]
+        if not self.profile.sense_bits:
+            bits = SECOND_ALONE.get(cause, bits)
+        if not self.profile.sense_alone:
+            bits = ANOTHER_BESIDE.get(cause, bits)
         self.sense |= bits
 
     def sense_bytes(self) -> bytes:
@@ -340,7 +347,7 @@ class Drive:
         if not got:
             return Ending(CHANNEL_END | DEVICE_END)
         if len(got) < 6:
-            return self.checked("cut short")
+            return self.checked("seek cut short")
         cylinder, head = int.from_bytes(got[2:4], "big"), int.from_bytes(got[4:6], "big")
         inside = head < self.volume.model.heads
         if self.name != "seek-head" or not self.profile.seek_head_alone:
@@ -402,7 +409,7 @@ class Drive:
     def close_home(self, got: bytes) -> Ending:
         if got and len(got) < 5:
             return self.checked("cut short")
-        if got and got != b"\0" + address(self.cylinder, self.head):
+        if got and self.profile.own_home_address and got != b"\0" + address(self.cylinder, self.head):
             return self.checked("bad home address")
         self.position = HOME
         if got:

@@ -1,7 +1,10 @@
 """Reports of a run: a table by rule, what was wrong, and JUnit's XML."""
+from __future__ import annotations
+
 import xml.etree.ElementTree as xml
+from collections import Counter
 from dataclasses import dataclass
-from typing import Optional
+from typing import Dict, Iterable, List, Optional, Sequence
 
 from .vectors import Vector
 
@@ -16,16 +19,16 @@ class Result:
     why: Optional[str] = None
 
 
-def count(results, verdict):
+def count(results: Iterable[Result], verdict: str) -> int:
     return sum(it.verdict == verdict for it in results)
 
 
-def row(name, results):
-    numbers = [count(results, it) for it in (RIGHT, WRONG, LEFT_OUT, DECLINED)]
-    return "%-24s %7d %7d %7d %9d %9d" % (name, len(results), *numbers)
+def row(name: str, results: Sequence[Result]) -> str:
+    right, wrong, absent, declined = (count(results, it) for it in (RIGHT, WRONG, LEFT_OUT, DECLINED))
+    return "%-24s %7d %7d %7d %9d %9d" % (name, len(results), right, wrong, absent, declined)
 
 
-def table(results, rules):
+def table(results: Sequence[Result], rules: Iterable[str]) -> str:
     """The table by rule, in the order of the file of rules; a vector stands in the row of each of its rules. Rules that no vector
     of the run names are left away."""
     lines = ["%-24s %7s %7s %7s %9s %9s" % ("Rule", "vectors", "right", "wrong", "left out", "declined")]
@@ -40,19 +43,16 @@ def table(results, rules):
     return "\n".join(lines)
 
 
-def left_out(results):
+def left_out(results: Iterable[Result]) -> List[str]:
     """Why vectors were left out, with their numbers."""
-    reasons = {}
-    for it in results:
-        if it.verdict == LEFT_OUT:
-            reasons[it.why] = reasons.get(it.why, 0) + 1
-    return ["%d left out: %s" % (number, why) for why, number in sorted(reasons.items(), key=lambda it: -it[1])]
+    reasons = Counter(it.why for it in results if it.verdict == LEFT_OUT)
+    return ["%d left out: %s" % (number, why) for why, number in reasons.most_common()]
 
 
-def junit(results, name):
+def junit(results: Sequence[Result], name: str) -> xml.Element:
     """The results as an element `testsuites`, with a suite for each group of vectors."""
     top = xml.Element("testsuites", name=name, tests=str(len(results)), failures=str(count(results, WRONG)))
-    groups = {}
+    groups: Dict[str, List[Result]] = {}
     for it in results:
         groups.setdefault(it.vector.group, []).append(it)
     for group, own in groups.items():
@@ -67,6 +67,6 @@ def junit(results, name):
     return top
 
 
-def clean(text):
+def clean(text: Optional[str]) -> str:
     """The text without what XML can't hold."""
     return "".join(it if it == "\n" or 32 <= ord(it) < 0xD800 else "?" for it in text or "")

@@ -12,6 +12,8 @@ from .volumes import Volume, tidied
 HERE = os.path.dirname(os.path.dirname(os.path.abspath(__file__)))
 # Where the vectors and their images stand.
 FOLDER = os.path.join(HERE, "vectors")
+# The rules that are about the text of decks.
+RULES_OF_TEXT = ("deck-lines", "deck-faults")
 
 
 @dataclass
@@ -38,6 +40,10 @@ class Vector:
     def before(self) -> Dict[int, Volume]:
         """The volumes as they are before the deck runs, by unit, in the order of attachment."""
         return {unit: self.made[unit].copy() if unit in self.made else self.volume(what) for unit, what in self.volumes}
+
+    def is_of_text(self) -> bool:
+        """Whether it is about the text of decks, and is given whole to an emulator that reads decks."""
+        return any(it in RULES_OF_TEXT for it in self.rules)
 
     def volume(self, what: str) -> Volume:
         words = what.split()

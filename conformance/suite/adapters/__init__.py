@@ -5,7 +5,7 @@ gives an Outcome. It never raises for what an emulator does wrong; that is an Ou
 """
 from __future__ import annotations
 
-from typing import FrozenSet
+from typing import Dict, FrozenSet, Optional
 
 from ..vectors import Outcome, Vector
 
@@ -27,22 +27,28 @@ class Emulator:
         self.close()
 
 
-def make(spec: str) -> Emulator:
-    """The emulator that a word names: `model`, `dasd=COMMAND`, `dasd-traced=COMMAND`, `protocol=COMMAND`, `library=FILE`, `hercules` or `hercules=PROGRAM`."""
+def make(spec: str, seconds: Optional[float] = None) -> Emulator:
+    """The emulator that a word names: `model`, `dasd=COMMAND`, `dasd-traced=COMMAND`, `protocol=COMMAND`, `python=FILE:CLASS`,
+    `library=FILE`, `hercules` or `hercules=PROGRAM`. One that is a program may be silent for so many seconds; without a number, for
+    those of its adapter."""
     kind, _, rest = spec.partition("=")
+    patience: Dict[str, float] = {} if seconds is None else {"seconds": seconds}
     if kind == "model":
         from .model import ModelEmulator
         return ModelEmulator()
     if kind in ("dasd", "dasd-traced") and rest:
         from .dasd import DasdProgram
-        return DasdProgram(rest, traced=kind != "dasd")
+        return DasdProgram(rest, traced=kind != "dasd", **patience)
     if kind == "protocol" and rest:
         from .protocol import ProtocolEmulator
-        return ProtocolEmulator(rest)
+        return ProtocolEmulator(rest, **patience)
+    if kind == "python" and rest:
+        from .own import own_adapter
+        return own_adapter(rest)
     if kind == "library":
         from .library import LibraryEmulator
         return LibraryEmulator(rest or None)
     if kind in ("hercules", "hercules-seek-first"):
         from .hercules import HerculesEmulator
-        return HerculesEmulator(rest or "hercules", seek_first=kind != "hercules")
+        return HerculesEmulator(rest or "hercules", seek_first=kind != "hercules", **patience)
     raise ValueError("no such emulator: %s" % spec)

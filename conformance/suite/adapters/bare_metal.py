@@ -3,7 +3,10 @@
 It stands above the storage that decks use, and leaves locations below 4,096 as a deck finds and leaves them, but the new PSW at 78
 while it takes an interruption. Each operation is an entry of 160 bytes.
 """
+from __future__ import annotations
+
 import struct
+from typing import Dict, List, Tuple
 
 SUPERVISOR, ENTRIES, WORDS = 0xE00000, 0xE10000, 0xE80000
 ENTRY = 160
@@ -15,31 +18,33 @@ PATIENCE = 20_000_000
 class Assembler:
     """Instructions into bytes, with labels that register 12 reaches."""
 
-    def __init__(self, origin):
-        self.origin, self.code, self.labels, self.fixes = origin, bytearray(), {}, []
+    def __init__(self, origin: int) -> None:
+        self.origin, self.code = origin, bytearray()
+        self.labels: Dict[str, int] = {}
+        self.fixes: List[Tuple[int, str]] = []
 
-    def label(self, name):
+    def label(self, name: str) -> None:
         self.labels[name] = len(self.code)
 
-    def raw(self, digits):
+    def raw(self, digits: str) -> None:
         self.code += bytes.fromhex(digits)
 
-    def to(self, digits, label, more=""):
+    def to(self, digits: str, label: str, more: str = "") -> None:
         """An instruction with the address of a label behind its first half word or later."""
         self.raw(digits)
         self.fixes.append((len(self.code), label))
         self.raw("0000" + more)
 
-    def branch(self, mask, label):
+    def branch(self, mask: int, label: str) -> None:
         self.to("47%X0" % mask, label)
 
-    def done(self):
+    def done(self) -> bytes:
         for at, label in self.fixes:
             struct.pack_into(">H", self.code, at, 0xC000 | self.labels[label])
         return bytes(self.code)
 
 
-def supervisor():
+def supervisor() -> bytes:
     """Register 12 is the base, 11 the entry, 10 whether a program was started, 3 the unit, 4 the address, 5 length less one."""
     a = Assembler(SUPERVISOR)
     put_loop(a)
@@ -51,7 +56,7 @@ def supervisor():
     return a.done()
 
 
-def put_loop(a):
+def put_loop(a: Assembler) -> None:
     """The entries one after another: each one's number chooses a branch."""
     a.raw("05C0")                                   # BALR 12,0
     a.raw("06C006C0")                               # BCTR 12,0 twice: the base is the first instruction
@@ -69,7 +74,7 @@ def put_loop(a):
         a.branch(15, name)
 
 
-def put_instructions(a):
+def put_instructions(a: Assembler) -> None:
     """Start I/O, perhaps with another channel address word, Test I/O, Halt I/O, Test Channel; and what came of them is kept."""
     a.label("sio")
     a.raw("586000481244")                           # L 6,72: the deck's own channel address word; LTR 4,4
@@ -97,7 +102,7 @@ def put_instructions(a):
     a.branch(15, "next")
 
 
-def put_storage(a):
+def put_storage(a: Assembler) -> None:
     """Bytes into storage, bytes out of it, a key."""
     for name, move in (("store", "mvc in"), ("show", "mvc out")):
         a.label(name)
@@ -108,7 +113,7 @@ def put_storage(a):
     a.branch(15, "more")
 
 
-def put_wait(a):
+def put_wait(a: Assembler) -> None:
     """Where a program was started: until an interruption pends in its channel, or patience ends."""
     a.label("wait")
     a.raw("12AA")                                   # LTR 10,10
@@ -124,7 +129,7 @@ def put_wait(a):
     a.branch(15, "more")
 
 
-def put_interruption(a):
+def put_interruption(a: Assembler) -> None:
     """An interruption is let come, by a new PSW that stands at 120 for that moment."""
     a.label("int")
     a.to("D207", "saved", "0078")                   # MVC saved(8),120
@@ -142,7 +147,7 @@ def put_interruption(a):
     a.branch(15, "more")
 
 
-def put_constants(a):
+def put_constants(a: Assembler) -> None:
     """The end, and what the instructions name."""
     a.label("stop")
     a.to("8200", "wait psw")                        # LPSW
@@ -155,12 +160,12 @@ def put_constants(a):
         a.raw(digits)
 
 
-def entry(operation, unit=0, address=0, length=0, data=b""):
+def entry(operation: int, unit: int = 0, address: int = 0, length: int = 0, data: bytes = b"") -> bytes:
     """An operation's entry; a length of bytes is kept less one, a storage key as it is."""
     return (struct.pack(">HHII", operation, unit, address, length) + bytes(20) + data).ljust(ENTRY, b"\0")
 
 
-def read_entry(data):
+def read_entry(data: bytes) -> Tuple[int, int, bytes, bytes, bytes]:
     """The condition code, the number that stands there, eight bytes of status, eight of an old PSW, and the data of an entry."""
     number = int.from_bytes(data[12:16], "big")
     return data[12] >> 4 & 3, number, data[16:24], data[24:32], data[32:]

@@ -3,22 +3,25 @@
 A traced program also writes a trace of each run: its answers and volumes must be those without, and the trace tells of each Start I/O what
 its answer says.
 """
+from __future__ import annotations
+
 import os
 import shlex
 import subprocess
 import tempfile
+from typing import Dict, Iterable, List, Mapping
 
-from ..vectors import Outcome
+from ..vectors import Outcome, Vector
 from ..volumes import BadImage, Volume
 from . import Emulator
 
 
-def starts(lines):
+def starts(lines: Iterable[str]) -> List[List[str]]:
     """Of each Start I/O that these lines tell of: its unit and its condition code."""
     return [line.replace(",", "").split()[1:4] for line in lines if line.startswith("SIO ")]
 
 
-def tells_of(outcome, trace):
+def tells_of(outcome: Outcome, trace: str) -> bool:
     """Whether a trace has the starts that the answers have. A run that ends with a fault may not have printed its last answers."""
     try:
         with open(trace, encoding="latin1") as text:
@@ -30,21 +33,14 @@ def tells_of(outcome, trace):
 
 
 class DasdProgram(Emulator):
-    def __init__(self, command, traced=False, seconds=60):
-        self.name = "dasd, traced" if traced else "dasd"
+    def __init__(self, command: str, traced: bool = False, seconds: float = 60) -> None:
+        self.name = command + (", traced" if traced else "")
         self.command, self.traced, self.seconds = shlex.split(command), traced, seconds
 
-    def play(self, vector):
+    def play(self, vector: Vector) -> Outcome:
         with tempfile.TemporaryDirectory() as room:
-            words, paths, trace = [], {}, os.path.join(room, "trace")
-            for unit, volume in vector.before().items():
-                paths[unit] = []
-                for number, data in enumerate(volume.files()):
-                    path = os.path.join(room, "%02X_%d.ckd" % (unit, number + 1))
-                    with open(path, "wb") as it:
-                        it.write(data)
-                    paths[unit].append(path)
-                    words.append("%02X=%s" % (unit, path))
+            paths, trace = self.written(vector, room), os.path.join(room, "trace")
+            words = ["%02X=%s" % (unit, path) for unit, files in paths.items() for path in files]
             options = ["run", "--storage", str(vector.storage), "--channel", str(vector.channel)]
             if self.traced:
                 options += ["--trace-to", trace]
@@ -58,7 +54,20 @@ class DasdProgram(Emulator):
             return outcome
 
     @staticmethod
-    def outcome(ran, paths):
+    def written(vector: Vector, room: str) -> Dict[int, List[str]]:
+        """Writes a vector's volumes into a folder; their files by unit."""
+        paths: Dict[int, List[str]] = {}
+        for unit, volume in vector.before().items():
+            paths[unit] = []
+            for number, data in enumerate(volume.files()):
+                path = os.path.join(room, "%02X_%d.ckd" % (unit, number + 1))
+                with open(path, "wb") as it:
+                    it.write(data)
+                paths[unit].append(path)
+        return paths
+
+    @staticmethod
+    def outcome(ran: subprocess.CompletedProcess[bytes], paths: Mapping[int, List[str]]) -> Outcome:
         """What a run's output says. Only the first line on standard error is the fault; what follows explains it to a person."""
         said = ran.stderr.decode("latin1").split("\n")[0]
         if ran.returncode not in (0, 1):

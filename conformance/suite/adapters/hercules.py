@@ -4,16 +4,19 @@ A step waits until the program has ended: Hercules has no units, and its arms ta
 a program that begins with no Seek gets a Seek to where the arm stands, and a transfer to its own first word, before it; it ends
 at its own words, so its status words are the same. Programs that end at Start I/O, and those that begin with Sense, get none.
 """
+from __future__ import annotations
+
 import os
 import subprocess
 import tempfile
 import time
+from typing import List, Optional, Sequence, Tuple, Union
 
 from .. import program
-from ..decks import DeckFault, parse
+from ..decks import DeckFault, Event, parse
 from ..drive import SEEKS
 from ..machine import Machine
-from ..vectors import Outcome
+from ..vectors import Outcome, Vector
 from ..volumes import BadImage, Volume
 from . import Emulator, bare_metal as metal
 
@@ -35,11 +38,11 @@ TRIES = 5
 class HerculesEmulator(Emulator):
     lacks = frozenset(["steps", "arrivals", "reset", "files", "storage", "decks", "zeros", "sense", "run"])
 
-    def __init__(self, command="hercules", seek_first=False, seconds=20):
+    def __init__(self, command: str = "hercules", seek_first: bool = False, seconds: float = 20) -> None:
         self.command, self.seek_first, self.seconds = command, seek_first, seconds
         self.name = "Hercules 3.13" + (", with a Seek before each program" if seek_first else "")
 
-    def play(self, vector):
+    def play(self, vector: Vector) -> Outcome:
         try:
             events = parse(vector.deck)
         except DeckFault as fault:
@@ -49,10 +52,11 @@ class HerculesEmulator(Emulator):
         with tempfile.TemporaryDirectory() as room:
             return self.play_in(room, vector, events)
 
-    def play_in(self, room, vector, events):
+    def play_in(self, room: str, vector: Vector, events: Sequence[Event]) -> Outcome:
         paths = {unit: os.path.join(room, "%02X.ckd" % unit) for unit, _ in vector.volumes}
         entries, words = self.plan(vector, events)
         out = os.path.join(room, "out")
+        broke: Optional[str] = None
         for attempt in range(TRIES):
             for unit, volume in vector.before().items():
                 with open(paths[unit], "wb") as it:
@@ -71,10 +75,11 @@ class HerculesEmulator(Emulator):
         except BadImage as why:
             return Outcome(broke="an image is spoilt: %s" % why)
 
-    def plan(self, vector, events):
+    def plan(self, vector: Vector, events: Sequence[Event]) -> Tuple[bytes, bytes]:
         """The entries of the events, and the words of the programs that begin with a Seek of the adapter's."""
         machine = Machine(vector.channel, STORAGE, list(vector.before().items()), own_clock="step", own_arms=True)
-        entries, words, channel = [], b"", vector.channel << 8
+        entries: List[bytes] = []
+        words, channel = b"", vector.channel << 8
         for event in events:
             if event.name == "SIO":
                 own = self.seek_before(machine, event, len(words)) if self.seek_first else None
@@ -98,7 +103,7 @@ class HerculesEmulator(Emulator):
         return b"".join(entries) + bytes(metal.ENTRY), words
 
     @staticmethod
-    def seek_before(machine, event, at):
+    def seek_before(machine: Machine, event: Event, at: int) -> Optional[Tuple[int, bytes]]:
         """The channel address word and the words of a program with a Seek before it; None where it needs none."""
         unit = machine.unit_of(event.unit) if machine.is_here(event.unit) else None
         caw = bytes(machine.storage.bytes[0x48:0x4C])
@@ -118,9 +123,9 @@ class HerculesEmulator(Emulator):
         transfer = b"\x08" + caw[1:] + bytes(4)
         return caw[0] << 24 | place, seek + transfer + address + bytes(2)
 
-    def write_files(self, room, vector, entries, words):
+    def write_files(self, room: str, vector: Vector, entries: bytes, words: bytes) -> None:
         """What Hercules reads: its configuration, its commands, and storage."""
-        def put(name, data):
+        def put(name: str, data: Union[str, bytes]) -> None:
             with open(os.path.join(room, name), "wb") as it:
                 it.write(data if isinstance(data, bytes) else data.encode("ascii"))
         put("low", bytes(4) + metal.SUPERVISOR.to_bytes(4, "big"))
@@ -137,17 +142,18 @@ class HerculesEmulator(Emulator):
         save = "savecore %s/out %X %X\n" % (room, metal.ENTRIES, last)
         put("end", "sh sleep 0.02\n%ssh sleep 0.1\n%squit\n" % (save, save))
 
-    def run(self, room):
+    def run(self, room: str) -> Optional[str]:
         """Runs Hercules to its end; how it broke, or None."""
         log = os.path.join(room, "log")
         with open(log, "wb") as out:
             ran = subprocess.Popen([self.command, "-f", os.path.join(room, "conf"), "-d"], stdin=subprocess.DEVNULL, stdout=out,
                                    stderr=subprocess.STDOUT, cwd=room, env=dict(os.environ, HERCULES_RC=os.path.join(room, "commands")))
-            start, saved = time.monotonic(), None
+            start = time.monotonic()
+            saved: Optional[float] = None
             while ran.poll() is None:
                 time.sleep(0.02)
-                with open(log, "rb") as it:
-                    if b"Check-Stop" in it.read():
+                with open(log, "rb") as text:
+                    if b"Check-Stop" in text.read():
                         ran.kill()
                         ran.wait()
                         return "Hercules ended by a fault of its own"
@@ -160,7 +166,7 @@ class HerculesEmulator(Emulator):
         return "Hercules ended by signal %d" % -ran.returncode if ran.returncode < 0 else None
 
     @staticmethod
-    def answer(vector, event, data):
+    def answer(vector: Optional[Vector], event: Event, data: bytes) -> str:
         """The answer's line of an event, from its entry."""
         code, number, status, old, shown = metal.read_entry(data)
         name = event.name

@@ -2,19 +2,22 @@
 
 The module is looked for in `python/` of the repository, then where Python looks. A file that is named is the library that it loads.
 """
+from __future__ import annotations
+
 import importlib
 import os
 import sys
+from typing import Any, Callable, Dict, Optional, Sequence
 
-from ..decks import DeckFault, parse
-from ..vectors import HERE, Outcome
+from ..decks import DeckFault, Event, parse
+from ..vectors import HERE, Outcome, Vector
 from ..volumes import BadImage, Volume
 from . import Emulator
 
 MODULE = os.path.join(os.path.dirname(HERE), "python")
 
 
-def load(file):
+def load(file: Optional[str]) -> Any:
     """The module over a library."""
     if file:
         os.environ["DASD_LIBRARY"] = os.path.abspath(file)
@@ -30,11 +33,11 @@ def load(file):
 class LibraryEmulator(Emulator):
     lacks = frozenset(["decks"])
 
-    def __init__(self, file=None):
+    def __init__(self, file: Optional[str] = None) -> None:
         self.dasd = load(file)
         self.name = "libdasd %s" % ".".join(map(str, self.dasd.library_version()))
 
-    def play(self, vector):
+    def play(self, vector: Vector) -> Outcome:
         try:
             events = parse(vector.deck)
         except DeckFault as fault:
@@ -45,8 +48,8 @@ class LibraryEmulator(Emulator):
         except self.dasd.Fault as fault:
             return Outcome(broke="the library refuses a call: %s" % fault)
 
-    def play_at(self, channels, vector, events):
-        counts = {}
+    def play_at(self, channels: Any, vector: Vector, events: Sequence[Event]) -> Outcome:
+        counts: Dict[int, int] = {}
         for unit, volume in vector.before().items():
             channels.attach(vector.channel << 8 | unit, *volume.files())
             counts[unit] = len(volume.tracks_in)
@@ -63,54 +66,54 @@ class LibraryEmulator(Emulator):
 class Player:
     """An event's call, and its answer's line."""
 
-    def __init__(self, dasd, channels, number):
+    def __init__(self, dasd: Any, channels: Any, number: int) -> None:
         self.dasd, self.channels, self.number = dasd, channels, number
 
-    def csw(self):
-        text = self.channels.peek(0x40, 8).hex().upper()
+    def csw(self) -> str:
+        text: str = self.channels.peek(0x40, 8).hex().upper()
         return text[:8] + " " + text[8:]
 
-    def code(self, name, unit, code, status):
+    def code(self, name: str, unit: int, code: int, status: str) -> str:
         return "%s %03X CC %d%s" % (name, unit, code, " " + status if code == 1 else "")
 
-    def sio(self, event):
+    def sio(self, event: Event) -> str:
         code = self.channels.sio(event.unit)
         return self.code("SIO", event.unit, code, self.csw()[9:13])
 
-    def hio(self, event):
+    def hio(self, event: Event) -> str:
         code = self.channels.hio(event.unit)
         return self.code("HIO", event.unit, code, self.csw()[9:13])
 
-    def tio(self, event):
+    def tio(self, event: Event) -> str:
         code = self.channels.tio(event.unit)
         return self.code("TIO", event.unit, code, self.csw())
 
-    def tch(self, event):
+    def tch(self, event: Event) -> str:
         return "TCH CC %d" % self.channels.tch(self.number << 8)
 
-    def step(self, event):
+    def step(self, event: Event) -> str:
         return "%s %d" % (event.name, self.channels.step(self.number, event.number))
 
     run = step
 
-    def arrive(self, event):
+    def arrive(self, event: Event) -> str:
         return "ARRIVE %03X %s" % (event.unit, "YES" if self.channels.arrive(event.unit) else "NO")
 
-    def int(self, event):
+    def int(self, event: Event) -> str:
         address = self.channels.interrupt(0x80 >> self.number)
         return "INT NONE" if address is None else "INT %03X %s" % (address, self.csw())
 
-    def reset(self, event):
+    def reset(self, event: Event) -> str:
         unsaved = self.channels.reset(self.number)
         return "RESET CLEAN" if unsaved is None else "RESET UNSAVED %03X %04X %04X" % unsaved
 
-    def store(self, event):
+    def store(self, event: Event) -> str:
         return "STORE " + self.inside(lambda: self.channels.poke(event.address, event.data))
 
-    def key(self, event):
+    def key(self, event: Event) -> str:
         return "KEY " + self.inside(lambda: self.channels.set_key(event.address, event.number))
 
-    def inside(self, call):
+    def inside(self, call: Callable[[], object]) -> str:
         try:
             call()
         except self.dasd.Fault as fault:
@@ -119,7 +122,7 @@ class Player:
             return "OUTSIDE"
         return "OK"
 
-    def show(self, event):
+    def show(self, event: Event) -> str:
         try:
             return "SHOW %06X %s" % (event.address, self.channels.peek(event.address, event.number).hex().upper())
         except self.dasd.Fault:
