@@ -73,7 +73,7 @@ NO_EVENTS = ("s360_channel/attach_reuses_an_address", "s360_channel/detach_takes
 FILES = "dasd_volumes dasd_archive volume_labels dasd_jobs dasd_run dasd_cmd"
 SUITES = {
     "rows/channel": played("channel", "s360_program s360_channel s360_deck", "channel"),
-    "rows/lists": played("lists failing_lists", "s360_program s360_channel", "test_random_lists"),
+    "rows/lists": played("lists failing_lists", "s360_program s360_channel", "lists"),
     "rows/decks": played("traces cut_programs hostile_decks", "s360_program s360_channel s360_deck", "", leaves=NO_EVENTS),
     "rows/drives": played("drives", DRIVE, "drives"),
     "rows/programs": played("programs", "s360_words s360_program", "programs"),
@@ -81,7 +81,6 @@ SUITES = {
     "rows/tracks": played("tracks", "ckd_track", "tracks"),
     "rows/dasd": played("dasd", "dasd_volumes dasd_jobs dasd_run", "dasd", DASD),
     "rows/files": played("dasd hostile_checks", FILES, "real_files", DASD),
-    "test_random_lists": printing("test_random_lists", "s360_program s360_channel"),
     "test_hostile_images": printing("test_hostile_images", "ckd_track ckd_image"),
     "test_decks": printing("test_decks", "s360_program s360_channel s360_deck"),
     "differ": Suite(("s360_words", *DRIVE.split(), "s360_program", "s360_channel"), DASD,
