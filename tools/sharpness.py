@@ -82,7 +82,6 @@ SUITES = {
     "rows/dasd": played("dasd", "dasd_volumes dasd_jobs dasd_run", "dasd", DASD),
     "rows/files": played("dasd hostile_checks", FILES, "real_files", DASD),
     "test_hostile_images": printing("test_hostile_images", "ckd_track ckd_image"),
-    "test_decks": printing("test_decks", "s360_program s360_channel s360_deck"),
     "differ": Suite(("s360_words", *DRIVE.split(), "s360_program", "s360_channel"), DASD,
                     ("conformance/differ.py", "--lists", "200", "model", "dasd=MADE")),
     "real_files": Suite(tuple(FILES.split()), DASD, ("tools/real_files.py", "--built", "MADE"), "real_files"),
