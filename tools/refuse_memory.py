@@ -1,22 +1,19 @@
 #!/usr/bin/env python3
-"""Refuses the built programs each taking of memory in turn, alone, and looks at what comes back.
-
-`test_refused_memory` makes each call of the libraries that takes memory: a call of which a taking is refused says that there is no
-memory, has left all as it was, and comes out right when it is made again. `dasd` prints `dasd: out of memory` and ends with
-status 1, with a front of what it prints otherwise, in a trace too, and no other file is changed or left.
+"""Refuses the built `dasd` each taking of memory in turn, alone, and looks at what comes back: it prints `dasd: out of memory` and ends
+with status 1, with a front of what it prints otherwise, in a trace too, and no other file is changed or left. The calls of the libraries
+that take memory are made by rows/player/memory.py.
 
 For a word that is misspelled `clap` suggests those that are like it. It collects the letters of each, and where the standard library
 collects items whose number is not known, it asks once more, for less, when it is refused. There, and nowhere else, a refusal changes
 nothing; how often it may is reckoned from the words.
 
-It runs crates/NAME/out/NAME, as `rt ci` or `rt run` leaves it; with --built FOLDER the programs of that folder. It needs a C
+It runs crates/dasd_cmd/out/dasd_cmd, as `rt ci` or `rt run` leaves it; with --built FOLDER the dasd_cmd of that folder. It needs a C
 compiler, $CC or cc. The last line is 'N takings of memory refused, M came out wrong', and the status 1
 where M is not 0.
 """
 
 import argparse
 import os
-import re
 import shutil
 import subprocess
 import sys
@@ -29,7 +26,6 @@ sys.path.insert(0, str(Path(__file__).resolve().parent))
 from real_extracts import SETS, spell
 
 TOP = Path(__file__).resolve().parent.parent
-CALL = re.compile(r"([A-Za-z:]+): ([a-z ,]+)\n")
 DECK = """STORE 48 00000400
 STORE 400 3100050040000005 0800040000000000 1D0006000000000C
 STORE 500 0000000000
@@ -102,45 +98,6 @@ class Program:
             return ran.returncode, ran.stdout.decode(), ran.stderr.decode(), files, noted
 
 
-def places(text, noted):
-    """Each call's name, and the takings before it and behind it: its name and a colon are written before it, a space behind it."""
-    takings, found = [], {}
-    for count, length in noted:
-        takings += [count] * length
-    for call in CALL.finditer(text):
-        colon = call.end(1)
-        found[call[1]] = (takings[colon], takings[colon + 1])
-    return found
-
-
-def check_calls(program):
-    """Refuses each taking of the calls of `test_refused_memory`, and around them; how many were tried, and how many came out wrong."""
-    status, right, faults, _, noted = program.run([], None, 0)
-    if status or faults or set(it[2] for it in CALL.finditer(right)) != {"right"}:
-        sys.exit(f"refuse_memory.py: test_refused_memory without a refusal: status {status}\n{right}{faults}")
-    total, wrong = noted[-1][0], 0
-    calls = places(right, noted)
-    tallies = {name: 0 for name in calls}
-    for number in range(1, total + 1):
-        status, text, faults, _, _ = program.run([], None, number)
-        name = next((it for it, (before, behind) in calls.items() if before < number <= behind), None)
-        said = right.replace(f"{name}: right", f"{name}: out of memory, then right", 1)
-        if name is None:
-            again = re.sub(r"([A-Za-z:]+: ?)?no memory around [A-Za-z:]+\n", "", text)
-            is_right = status == 0 and not faults and again == right
-        else:
-            tallies[name] += 1
-            is_right = status == 0 and not faults and text == said
-        if not is_right:
-            wrong += 1
-            print(f"test_refused_memory, taking {number}, in {name}: status {status}\n{text}{faults}")
-    for name, tried in tallies.items():
-        print(f"{name}: {tried} takings")
-    around = total - sum(tallies.values())
-    print(f"around these calls: {around} takings")
-    return total, wrong
-
-
 def check_dasd(program, name, job, old):
     """Refuses each taking of a job of `dasd`; how many were tried, and how many came out wrong."""
     words, deck, allowed = job
@@ -163,16 +120,14 @@ def check_dasd(program, name, job, old):
 
 def main():
     parser = argparse.ArgumentParser(description=__doc__, formatter_class=argparse.RawDescriptionHelpFormatter)
-    parser.add_argument("--built", metavar="FOLDER", help="the folder of the built programs")
+    parser.add_argument("--built", metavar="FOLDER", help="the folder of the built program")
     built = parser.parse_args().built
-    paths = [str(Path(built or f"{TOP}/crates/{it}/out", it).resolve()) for it in ("test_refused_memory", "dasd_cmd")]
-    for path in paths:
-        if not os.path.isfile(path):
-            sys.exit(f"refuse_memory.py: there is no {path}: rt run in its crate builds it")
+    path = str(Path(built or f"{TOP}/crates/dasd_cmd/out", "dasd_cmd").resolve())
+    if not os.path.isfile(path):
+        sys.exit(f"refuse_memory.py: there is no {path}: rt run in its crate builds it")
     with tempfile.TemporaryDirectory() as folder:
-        refusing = library(folder)
-        calls, dasd = (Program(path, refusing) for path in paths)
-        total, wrong = check_calls(calls)
+        dasd = Program(path, library(folder))
+        total, wrong = 0, 0
         spell(Path(folder, "old.ckd"), SETS[:-1])
         old = Path(folder, "old.ckd").read_bytes()
         for name, job in JOBS.items():

@@ -79,6 +79,7 @@ SUITES = {
     "rows/programs": played("programs", "s360_words s360_program", "programs"),
     "rows/images": played("images", "ckd_image", "images"),
     "rows/tracks": played("tracks", "ckd_track", "tracks"),
+    "rows/memory": played("memory", "", "memory"),
     "rows/dasd": played("dasd", "dasd_volumes dasd_jobs dasd_run", "dasd", DASD),
     "rows/files": played("dasd hostile_checks", FILES, "real_files", DASD),
     "test_hostile_images": printing("test_hostile_images", "ckd_track ckd_image"),
