@@ -70,21 +70,24 @@ DRIVE = "ckd_position ckd_sense ckd_command ckd_slot ckd_drive"
 # calls of a channel for which a deck has no word: `rows/lists` and `rows/channel` make them
 NO_EVENTS = ("s360_channel/attach_reuses_an_address", "s360_channel/detach_takes_a_drive_whose_device_end_is_owed",
              "s360_channel/image_is_that_of_the_first_drive", "s360_channel/storage_is_exchanged_without_its_keys")
+# a drive compares piece by piece, by another function: `rows/tables` asks this one
+NO_SEARCH = ("ckd_position/search_compares_at_most_four_bytes",)
 FILES = "dasd_volumes dasd_archive volume_labels dasd_jobs dasd_run dasd_cmd"
 SUITES = {
     "rows/channel": played("channel", "s360_program s360_channel s360_deck", "channel"),
     "rows/lists": played("lists failing_lists", "s360_program s360_channel", "lists"),
     "rows/decks": played("traces cut_programs hostile_decks", "s360_program s360_channel s360_deck", "", leaves=NO_EVENTS),
-    "rows/drives": played("drives", DRIVE, "drives"),
+    "rows/drives": played("drives", DRIVE, "drives", leaves=NO_SEARCH),
     "rows/programs": played("programs", "s360_words s360_program", "programs"),
     "rows/images": played("images", "ckd_image", "images"),
     "rows/tracks": played("tracks", "ckd_track", "tracks"),
+    "rows/tables": played("tables", "s360_words ckd_position ckd_sense", "tables"),
     "rows/memory": played("memory", "", "memory"),
     "rows/dasd": played("dasd", "dasd_volumes dasd_jobs dasd_run", "dasd", DASD),
     "rows/files": played("dasd hostile_checks", FILES, "real_files", DASD),
     "test_hostile_images": printing("test_hostile_images", "ckd_track ckd_image"),
     "differ": Suite(("s360_words", *DRIVE.split(), "s360_program", "s360_channel"), DASD,
-                    ("conformance/differ.py", "--lists", "200", "model", "dasd=MADE")),
+                    ("conformance/differ.py", "--lists", "200", "model", "dasd=MADE"), leaves=NO_SEARCH),
     "real_files": Suite(tuple(FILES.split()), DASD, ("tools/real_files.py", "--built", "MADE"), "real_files"),
     "fail_calls": Suite((), DASD, ("tools/fail_calls.py", "--built", "MADE"), "fail_calls"),
 }
@@ -93,7 +96,6 @@ NO_RUN_SHOWS = {
     "ckd_image/failure_not_counted": "only proofs read that count",
     "s360_words/caw_takes_any_low_bits": "the fetch of the first word refuses such an address with the same answer",
     "ckd_slot/bytes_behind_the_end_mark_are_left": "no drive puts bytes behind an end mark; the contract alone leaves it open",
-    "ckd_position/search_compares_at_most_four_bytes": "no drive asks that function: it compares piece by piece, by another",
 }
 HEAD = re.compile(r"^(?P<indent> *)(?P<before>(?:pub(?:\([a-z]+\))? )?(?:const )?)fn (?P<name>\w+)", re.M)
 CALL = re.compile(r"^if crate::wrong_body::number\(\) == .*\n", re.M)
