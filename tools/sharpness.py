@@ -3,13 +3,12 @@
 
     tools/sharpness.py [--crates CRATE,..] SUITE..
 
-A suite is rows that are played at the stage or at `dasd` (`rows/channel` is the suite `channel` of rows/play.py); a script that asks a
-built `dasd` (`differ`, lists by chance beside the conformance suite's model, `real_files` and `fail_calls`); or a crate whose program prints what is
-kept in its `stdout`. A script's status is 0 where all is right. For each suite the wrong bodies of the crates that it is meant to
-watch (or of those named) are put beside the right ones, with a number that says which of them is taken. All suites that play one
-program share one unproved build of it (see unproved_dasd.py), and each is run once a number. A wrong body is caught if what the program
-prints or its status is another, or if it does not end in the time that it has. For each suite one line tells how many were caught, and
-then which were not.
+A suite is rows that are played at the stage or at `dasd` (`rows/channel` is the suite `channel` of rows/play.py), or a script that asks a
+built `dasd` (`differ`, lists by chance beside the conformance suite's model, `real_files` and `fail_calls`). Its status is 0 where all is
+right. For each suite the wrong bodies of the crates that it is meant to watch (or of those named) are put beside the right ones, with a
+number that says which of them is taken. All suites that play one program share one unproved build of it (see unproved_dasd.py), and
+each is run once a number. A wrong body is caught if the status is another, or if the suite does not end in the time that it has. For each
+suite one line tells how many were caught, and then which were not.
 
 A suite may have wrong bodies of its own in tools/wrong_bodies/SUITE: files of the form of a must-fail edit, whose `file:` begins at
 `crates`. They stand for what no must-fail edit shows, or none shows any more, and the gate does not look at them.
@@ -44,13 +43,12 @@ DASD, STAGE = "dasd_cmd", "test_stage"
 
 @dataclass(frozen=True)
 class Suite:
-    """A suite: the crates that it is meant to watch; the crate of the program that it plays; the words of its script, where it has one,
-    with MADE for the program; the folder of its own wrong bodies; and those that it leaves to other suites, since it has no word for
-    their calls."""
+    """A suite: the crates that it is meant to watch; the crate of the program that it plays; the words of its script, with MADE for the
+    program; the folder of its own wrong bodies; and those that it leaves to other suites, since it has no word for their calls."""
 
     crates: tuple[str, ...]
     program: str
-    script: tuple[str, ...] = ()
+    script: tuple[str, ...]
     own: str = ""
     leaves: tuple[str, ...] = ()
 
@@ -59,11 +57,6 @@ def played(name: str, crates: str, own: str, program: str = STAGE, leaves: tuple
     """A suite of rows/play.py."""
     words = ("MADE",) if program == STAGE else ("none", "--dasd", "MADE")
     return Suite(tuple(crates.split()), program, ("rows/play.py", *words, "--first", "--seconds", "60", *name.split()), own, leaves)
-
-
-def printing(name: str, crates: str) -> Suite:
-    """A crate whose program prints what is kept."""
-    return Suite(tuple(crates.split()), name, (), name)
 
 
 DRIVE = "ckd_position ckd_sense ckd_command ckd_slot ckd_drive"
@@ -85,7 +78,7 @@ SUITES = {
     "rows/memory": played("memory", "", "memory"),
     "rows/dasd": played("dasd", "dasd_volumes dasd_jobs dasd_run", "dasd", DASD),
     "rows/files": played("dasd hostile_checks", FILES, "real_files", DASD),
-    "test_hostile_images": printing("test_hostile_images", "ckd_track ckd_image"),
+    "rows/hostile": played("hostile_slots images tracks", "ckd_track ckd_image", ""),
     "differ": Suite(("s360_words", *DRIVE.split(), "s360_program", "s360_channel"), DASD,
                     ("conformance/differ.py", "--lists", "200", "model", "dasd=MADE"), leaves=NO_SEARCH),
     "real_files": Suite(tuple(FILES.split()), DASD, ("tools/real_files.py", "--built", "MADE"), "real_files"),
@@ -332,27 +325,18 @@ def build(tools: ModuleType, top: Path, program: str, made: Path, room: Path) ->
     tools.compile_module(tools.kit(), module, made, room / program, reading_the_environment)
 
 
-Verdict = tuple[int, bytes]
-
-
-def verdict(made: Path, suite: Suite, number: int, seconds: float) -> Verdict | None:
-    """What the program printed and its status, or the status of the script; none if it did not end in these seconds."""
-    environment = dict(os.environ, WRONG_BODY=str(number))
-    words, room, given = [word.replace("MADE", str(made)) for word in suite.script], TOP, b""
-    if not words:
-        crate = TOP / "crates" / suite.program
-        room = crate / "data" if (crate / "data").exists() else crate
-        words, given = [str(made)], (crate / "stdin").read_bytes() if (crate / "stdin").exists() else b""
-    running = subprocess.Popen(words, cwd=room, stdin=subprocess.PIPE, stdout=subprocess.PIPE, stderr=subprocess.DEVNULL, env=environment,
-                               start_new_session=True)
+def verdict(made: Path, suite: Suite, number: int, seconds: float) -> int | None:
+    """The status of a suite's script; none if it did not end in these seconds."""
+    words, environment = [word.replace("MADE", str(made)) for word in suite.script], dict(os.environ, WRONG_BODY=str(number))
+    running = subprocess.Popen(words, cwd=TOP, stdin=subprocess.DEVNULL, stdout=subprocess.DEVNULL, stderr=subprocess.DEVNULL,
+                               env=environment, start_new_session=True)
     try:
-        printed, _ = running.communicate(given, timeout=seconds)
+        return running.wait(seconds)
     except subprocess.TimeoutExpired:
-        end_group(running.pid)
-        running.communicate()
         return None
-    end_group(running.pid)
-    return running.returncode, b"" if suite.script else printed
+    finally:
+        end_group(running.pid)
+        running.wait()
 
 
 def end_group(leader: int) -> None:
@@ -376,11 +360,10 @@ def try_all(made: Path, name: str, numbers: dict[str, int], left_out: list[str])
     began = time.monotonic()
     right = verdict(made, suite, 0, SECONDS)
     seconds = 2 + TIMES * (time.monotonic() - began)
-    expected = b"" if suite.script else (TOP / "crates" / suite.program / "stdout").read_bytes()
-    if right is None or right != (0, expected):
+    if right != 0:
         print(f"{name}: does not come out right with the right bodies", flush=True)
         return
-    missed = [it for it, number in numbers.items() if verdict(made, suite, number, seconds) == right]
+    missed = [it for it, number in numbers.items() if verdict(made, suite, number, seconds) == 0]
     print(f"{name}: {len(numbers) - len(missed)} of {len(numbers)} wrong bodies caught, {len(left_out)} not tried", flush=True)
     for it in missed:
         print(f"    not caught: {it}", flush=True)

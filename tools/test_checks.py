@@ -126,7 +126,7 @@ class WrongBodies(unittest.TestCase):
     def plant(self, folder, own):
         """The names that were planted, in the order of their numbers, and those that were left out."""
         planted = sharpness.Planted(Path(folder))
-        suite = sharpness.Suite(("low",), "low", own=own)
+        suite = sharpness.Suite(("low",), "low", (), own=own)
         planted.plant(sharpness.edits_of(Path(folder), suite, ["low"]))
         return list(planted.numbers), sorted(planted.left_out)
 
