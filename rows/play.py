@@ -30,6 +30,8 @@ from player.text import Wrong  # noqa: E402
 
 # a suite is played in so many parts
 PARTS = 8
+# how long a stage may be silent, also that of a slow compiler on a machine that does much beside
+SECONDS = 600
 
 
 @dataclass(frozen=True)
@@ -42,7 +44,7 @@ class Part:
     only: str = ""
     shows: bool = False
     first: bool = False
-    seconds: float = 120
+    seconds: float = SECONDS
 
 
 @dataclass
@@ -103,7 +105,7 @@ def parse_words() -> argparse.Namespace:
     words.add_argument("--only", default="", metavar="NAME", help="rows whose name has this text")
     words.add_argument("--show", action="store_true", help="prints each line and its answer")
     words.add_argument("--first", action="store_true", help="stops at the first row that comes out wrong")
-    words.add_argument("--seconds", type=float, default=120, help="how long the stage may be silent")
+    words.add_argument("--seconds", type=float, default=SECONDS, help="how long the stage may be silent")
     words.add_argument("--processes", type=int, default=os.cpu_count() or 1)
     return words.parse_intermixed_args()
 

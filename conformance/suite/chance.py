@@ -29,7 +29,7 @@ class Chance:
 
     def vector(self) -> Vector:
         """The list, as a vector without answers."""
-        units = self.dice.sample(range(0x80, 0xA0), self.dice.choice((1, 1, 2, 3)))
+        units = self.addresses()
         made = {unit: self.volume() for unit in units}
         vector = Vector("seed-%d" % self.seed, "chance", volumes=[(unit, "made") for unit in units], made=made)
         events: List[Event] = []
@@ -37,6 +37,10 @@ class Chance:
             events += self.program(0x100 | self.dice.choice(units), made, units)
         vector.deck = "".join(it.line() + "\n" for it in events).encode("ascii")
         return vector
+
+    def addresses(self) -> List[int]:
+        """The low bytes of the units' addresses."""
+        return self.dice.sample(range(0x80, 0xA0), self.dice.choice((1, 1, 2, 3)))
 
     # --- volumes ---
 
@@ -74,10 +78,13 @@ class Chance:
         words, operands = self.chain(volume, where)
         events = [Event("STORE", address=WORDS + 8 * at, data=word) for at, word in enumerate(words)]
         events += [Event("STORE", address=at, data=data) for at, data in operands if data]
-        key = 0 if self.plain or self.dice.random() < 0.9 else self.dice.randint(1, 15)
-        events += [Event("STORE", address=0x48, data=(key << 28 | WORDS).to_bytes(4, "big")), Event("SIO", unit=unit)]
+        events += [Event("STORE", address=0x48, data=(self.key() << 28 | WORDS).to_bytes(4, "big")), Event("SIO", unit=unit)]
         events += [Event("STEP", number=65535), Event("INT")] if self.plain else self.turmoil(unit, units)
         return events + self.sense(unit)
+
+    def key(self) -> int:
+        """The key of a program."""
+        return 0 if self.plain or self.dice.random() < 0.9 else self.dice.randint(1, 15)
 
     def sense(self, unit: int) -> List[Event]:
         """A Sense program, and what of storage may have changed."""

@@ -29,6 +29,7 @@ import fcntl
 import os
 import pty
 import re
+import select
 import subprocess
 import tempfile
 import tty
@@ -48,6 +49,8 @@ TRACE = "trace.of.the.row"
 # lines that let calls of the next command fail, and what failing_calls.c knows them by
 FAILING = {"writer": "FAIL_OUTPUT", "flush": "FAIL_FLUSH", "tracer": "FAIL_FILE", "put": "FAIL_PUT"}
 MOST_REFUSED = 400
+# how long the program may be silent before it is ended
+SECONDS = 600
 
 
 class DasdRow:
@@ -241,8 +244,8 @@ class DasdRow:
             running = subprocess.Popen([self.program, *words], cwd=self.folder, env=given, stdin=stdin, stdout=out, stderr=theirs)
             os.close(theirs)
             os.close(stdin)
-            told = read_all(ours)
-            self.status = running.wait(timeout=60)
+            told = read_all(ours, running)
+            self.status = running.wait(timeout=SECONDS)
             out.seek(0)
             return out.read().decode("utf-8"), told
 
@@ -278,10 +281,13 @@ class DasdRow:
         raise Wrong("takings of memory", "fewer than %d" % MOST_REFUSED, "more")
 
 
-def read_all(end: int) -> bytes:
-    """All that is written at the other end of a terminal, which is closed then."""
+def read_all(end: int, running: subprocess.Popen[bytes]) -> bytes:
+    """All that is written at the other end of a terminal, which is closed then; a program that does not end is ended."""
     told = b""
     while True:
+        if not select.select([end], [], [], SECONDS)[0]:
+            running.kill()
+            break
         try:
             piece = os.read(end, 65536)
         except OSError:

@@ -1,5 +1,5 @@
 """Hostile decks: a good deck with lines cut at every byte; readers that give little, fail or never end; writers that take little, or
-fail behind every byte, and whose flush fails; texts at the limits; and lists of thousands of events."""
+fail behind every byte, and whose flush fails; texts at the limits; lists of thousands of events; and runs of thousands of units."""
 from __future__ import annotations
 
 from dataclasses import dataclass, replace
@@ -17,6 +17,7 @@ SIZE = 4096
 READS = LONGEST_DECK + 1
 PIECE = 5
 BLANK = "STATE idle, 90 AtRest"
+RUNS = ("DECK RUN", "DECK COUNTED", "DECK TRACE")
 
 
 @dataclass(frozen=True)
@@ -33,13 +34,15 @@ class Came:
         return not self.written and not any(self.storage) and self.state == BLANK
 
 
-def play(stage: Stage, lines: list[str], *ends: str) -> Came:
-    """Runs a deck, which lines for the stage make, at a channel over a new volume; `ends` say how its reader and its writer are."""
+def play(stage: Stage, lines: list[str], *ends: str, run: str = RUNS[0]) -> Came:
+    """Runs a deck, which lines for the stage make, at a channel over a new volume; `ends` say how its reader and its writer are, and `run`
+    by which call."""
     row = ChannelRow(stage, {"V": Disk("2311", 1)})
     row.makes("channel", "1 %d" % SIZE)
     row.attach(["90", "V"])
-    same("a deck", {"OK"}, set(stage.ask_all([*lines, *ends])))
-    word, _, rest = stage.ask("DECK RUN").partition(" ")
+    # reads are counted from here on
+    same("a deck", {"OK"}, set(stage.ask_all([*lines, "DECK READS 0 0", *ends])))
+    word, _, rest = stage.ask(run).partition(" ")
     written, storage, state, calls = stage.ask_all(["DECK WRITTEN", "PEEK 0 %d" % SIZE, "STATE", "DECK CALLS"])
     return Came(rest if word == "REFUSED" else "", written.partition(" ")[2], answered(storage, "PEEK"), state, int(calls.split()[2]))
 
@@ -49,8 +52,8 @@ def deck_lines(text: bytes) -> list[str]:
     return ["DECK BYTES %s" % spelled(text[at:at + 4096]) for at in range(0, len(text), 4096)] or ["DECK BYTES -"]
 
 
-def play_text(stage: Stage, text: bytes, *ends: str) -> Came:
-    return play(stage, deck_lines(text), *ends)
+def play_text(stage: Stage, text: bytes, *ends: str, run: str = RUNS[0]) -> Came:
+    return play(stage, deck_lines(text), *ends, run=run)
 
 
 def deck() -> bytes:
@@ -106,10 +109,10 @@ def failing_writes(how: str, stage: Stage) -> None:
         same("room for %d bytes: all has run" % room, (whole.storage, whole.state), (came.storage, came.state))
 
 
-def failing_flushes(stage: Stage) -> None:
+def failing_flushes(run: str, stage: Stage) -> None:
     """Writes answers whose flush fails: all has run, and all is written."""
     for text in (deck(), b""):
-        whole, came = play_text(stage, text), play_text(stage, text, "DECK FLUSH")
+        whole, came = play_text(stage, text), play_text(stage, text, "DECK FLUSH", run=run)
         same("the flush fails", replace(whole, fault="write fault", reads=0), replace(came, reads=0))
 
 
@@ -162,6 +165,23 @@ def thousands(lines: tuple[str, ...], changes: int, length: int, stage: Stage) -
     same("events of the serial list", length * changes, serial.count("|"))
 
 
+def is_answered(text: bytes, answers: tuple[str, ...], stage: Stage) -> None:
+    """That a deck is answered so, by each call that runs one."""
+    for run in RUNS[:2]:
+        came = play_text(stage, text, run=run)
+        same(run, ("", "".join(it + "|" for it in answers)), (came.fault, came.written))
+
+
+# the answers to the good deck: behind the first step the search takes seven units, and the write 14
+GOOD_ANSWERS = (
+    *["STORE OK"] * 4, "SIO 190 CC 0", "TCH CC 2", "STEP 7", "ARRIVE 190 NO", "STEP 21", "INT 190 00000420 0C000000", "TIO 190 CC 0",
+    "HIO 190 CC 1 0000", "KEY OK", "SHOW 000040 00000420000000000000040000000000", "SHOW 000601 00000001000004D5D6D7D8" + "00" * 21,
+    "RESET CLEAN")
+# a No-Operation and a transfer back to it: a program without an end
+ENDLESS = (b"STORE 48 00000400\nSTORE 400 0300000040000001 0800040000000000\nSIO 190\nSTEP 65535\nRUN 70000\nRUN 1\nSTEP 0\nTCH\nRESET\nRUN 5\n"
+           b"STEP 5\n")
+ENDLESS_ANSWERS = ("STORE OK", "STORE OK", "SIO 190 CC 0", "STEP 65535", "RUN 70000", "RUN 1", "STEP 0", "TCH CC 2", "RESET CLEAN", "RUN 0",
+                   "STEP 0")
 REFUSED = {
     b"\0": "line 1: unknown event", b"\0\n": "line 1: unknown event", b"TCH\n\xff\n": "line 2: unknown event",
     b"FOO": "line 1: unknown event", b"* x\nSIO 19": "line 2: bad operand", b"STEP 65536": "line 1: bad operand",
@@ -180,12 +200,15 @@ def cases() -> Iterator[Case]:
     yield Case("each read fails in turn", failing_reads)
     for how in ("FAILS", "NONE"):
         yield Case("each write fails in turn: %s" % how, partial(failing_writes, how))
-    yield Case("flushes fail", failing_flushes)
+    for run in RUNS:
+        yield Case("flushes fail: %s" % run, partial(failing_flushes, run))
     for most in (1, 2, 4095, 0):
         yield Case("reads of %d bytes without an end" % most, partial(endless, most))
     yield Case("decks of line feeds at the limit", lengths)
     for text, fault in REFUSED.items():
         yield Case("refused: %r" % text, partial(comes_to, text, fault))
+    yield Case("the good deck is answered", partial(is_answered, deck(), GOOD_ANSWERS))
+    yield Case("steps and runs of thousands of units", partial(is_answered, ENDLESS, ENDLESS_ANSWERS))
     yield Case("stores of 1 to 260 digits", stores)
     yield Case("lines of up to 599 blanks", blanks)
     for length in (1001, 4099):

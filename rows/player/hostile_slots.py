@@ -59,11 +59,14 @@ def replaced() -> Iterator[Hostile]:
 
 
 def odd() -> Iterator[Hostile]:
-    """Slots without an end mark, with records that run over their end or reach it, without records, and with hundreds without data."""
+    """Slots without an end mark, with records that run over their end or reach it, with one that leaves just room for another, without
+    records, and with hundreds without data."""
     usual = slot_of([])[:21]
     slots = [bytes([byte]) * MODEL.slot for byte in (0x00, 0x7F, 0xFE, 0xFF)] + [usual.ljust(MODEL.slot, b"\0")]
     for length in (65535, 4068, 4067, 4066, 4060, 4059, 4058, 3625, 3380, 3379):
         slots.append(slot_of([Record(identifier(1), b"", b"\xc4" * length)]))
+    # behind a key of 4 bytes and 3,356 of data the new record just fits: 81 and 537/512 of 3,360, and 20, are 3,625
+    slots += [slot_of([Record(identifier(1), b"KEY4", b"\xc4" * length)]) for length in (3355, 3356, 3357)]
     slots += [slot_of(empty_records(number)) for number in (1, 100, 500, 507, 508, 509)]
     for slot in slots:
         for sought in (identifier(0), identifier(1), bytes([0, 0, 0, 1, 0xF3])):
@@ -215,7 +218,7 @@ def check_all(program: str, name: str, _: Stage) -> None:
     with tempfile.TemporaryDirectory() as folder:
         path = Path(folder) / "v.ckd"
         path.write_bytes(header_of(MODEL) + b"".join(slots))
-        ran = subprocess.run([program, "check", str(path)], capture_output=True, text=True, timeout=120, check=False)
+        ran = subprocess.run([program, "check", str(path)], capture_output=True, text=True, timeout=600, check=False)
     same("findings", wanted + ["%d findings" % len(wanted)], ran.stdout.splitlines())
     same("status", 1 if wanted else 0, ran.returncode)
 

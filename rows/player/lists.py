@@ -9,13 +9,13 @@ from typing import Callable, Iterator
 from suite.decks import parse
 from suite.machine import Machine
 from suite.shrink import shrink
-from suite.vectors import Vector, changed_tracks
-from suite.volumes import Volume
+from suite.vectors import Vector
 
 from .chance import Trial, failing_trial, long_trial, trial
 from .channels import Left
 from .disks import channel_over
 from .faults import fail_list, past_faults
+from .model import compare_answers, compare_left
 from .serial import compare_with_serial
 from .stage import Broke, Stage
 from .text import Case, Wrong, calls_of, same
@@ -30,21 +30,10 @@ LOOKS = ["STATE", "VIEW", "REGISTERS", "PENDING"]
 
 def beside_model(stage: Stage, case: Trial) -> None:
     """Compares answers, storage and volumes with those of the conformance suite's model."""
-    volumes = case.volumes()
-    machine = Machine(1, SIZE, list(volumes.items()))
-    events = parse(case.vector.deck)
+    machine = Machine(1, SIZE, list(case.volumes().items()))
     row = case.channel(stage)
-    answers = stage.ask_all(case.events)
-    for event, answer in zip(events, answers):
-        same("%s, beside the model" % event.line(), machine.play(event), answer)
-    machine.do_reset()
-    left = row.finish()
-    same("storage, beside the model", True, left.storage == bytes(machine.storage.bytes))
-    for device, volume in volumes.items():
-        came = Volume.read(left.drives[device].files)
-        if came.bytes() != volume.bytes():
-            before = case.vector.made[device]
-            raise Wrong("image %02X, beside the model" % device, changed_tracks(before, volume), changed_tracks(before, came))
+    compare_answers(machine, parse(case.vector.deck), stage.ask_all(case.events))
+    compare_left(machine, case.vector.made, row.finish())
 
 
 def by_serial_list(stage: Stage, case: Trial) -> None:

@@ -1,13 +1,16 @@
 """Refuses the stage each taking of memory in turn, alone, while it does calls of all kinds. A call that is refused for want of memory says
 so, and has left all as it was: made again, with the lines of its group, it comes out right, and so do all lines behind it. Where the
 stage itself finds no memory for a line or its answer, it says that or ends, and the lines behind it are not looked at. Where a collection
-of items asks once more, for less, a refusal changes nothing. `tools/gate/refuse_memory.py` asks more of each call, by a program of its own."""
+of items asks once more, for less, a refusal changes nothing.
+
+Each call that takes memory is also made by itself: some of its takings are refused in the call's own words, and behind each of these all
+is as it was, and the call comes out right when it is made again."""
 from __future__ import annotations
 
 import tempfile
 from functools import partial
 from pathlib import Path
-from typing import Iterator
+from typing import Iterator, NamedTuple
 
 from .preload import library
 from .stage import Broke, Stage
@@ -18,6 +21,7 @@ MOST_TAKINGS = 5000
 CASES = 8
 REFUSED = ("REFUSED out of memory", "REFUSED memory allocation failed")
 # what the stage says where it has none itself: for a line, for what a run writes, for a trace
+OWN = ("NO memory allocation failed", "REFUSED write fault")
 OF_THE_STAGE = ("NO ", "REFUSED write fault", "RAN ")
 DECK = ["DECK LINE STORE 48 00000400", "DECK LINE STORE 400 3100050040000005 0800040000000000 1D0006000000000C",
         "DECK LINE STORE 500 0000000000", "DECK LINE STORE 600 0000000001000004 D5D6D7D8", "DECK LINE SIO 190", "DECK LINE STEP 100",
@@ -35,14 +39,57 @@ GROUPS = (
 )
 
 
+class Call(NamedTuple):
+    """A call that takes memory: the lines before it, those that are made again with it, of which the last makes it, and those that look
+    at what it has left as it was, or has made."""
+    before: tuple[str, ...]
+    again: tuple[str, ...]
+    looks: tuple[str, ...]
+
+
+FILES = ("NEW a 2311 1", "NEW b 2314 1")
+CHANNEL = ("BEGIN 1 8192", "VOLUME 90 2311 a", "VOLUME 91 2314 b")
+AT_CHANNEL = ("STATE", "PENDING", "UNIT 90", "CALLS a", "CALLS b", "PEEK 0 2048", "KEYOF 700")
+# an arm moves while a program writes a record
+BUSY = tuple("DECK LINE %s" % it for it in (
+    "STORE 48 000003F8", "STORE 3F8 1300000000000001", "SIO 191", "STORE 48 00000400",
+    "STORE 400 3100050040000005 0800040000000000 1D0006000000000C", "STORE 500 0000000000", "STORE 600 0000000001000004 D5D6D7D8",
+    "SIO 190", "TCH", "STEP 3", "ARRIVE 191", "TIO 190", "STEP 2", "STEP 65535", "INT", "INT", "SHOW 40 16", "KEY 700 0", "HIO 190",
+    "RESET"))
+CALLS = {
+    "Storage::new": Call((), ("STORAGE NEW 65536",), ("STORAGE SIZE", "STORAGE PEEK 0 100")),
+    "Channel::attach": Call(("NEW a 2311 1", "BEGIN 1 8192"), ("VOLUME 90 2311 a",), ("STATE", "CONTENT a 0 4096")),
+    "Drive::new": Call(("NEW a 2311 1",), ("DRIVE MOUNT a",), ("DRIVE STATE", "CONTENT a 0 4096")),
+    # the deck stays where it is only parsed and driven; where a serial list is refused it has run
+    "parse": Call(FILES + CHANNEL + BUSY, ("DECK PARSE",), AT_CHANNEL),
+    "drive": Call(FILES + CHANNEL + BUSY, ("DECK DRIVE",), AT_CHANNEL),
+    "serial": Call(FILES, (*CHANNEL, *BUSY, "DECK SERIAL"), ()),
+    "run": Call(FILES + CHANNEL, (*BUSY, "DECK RUN"), AT_CHANNEL),
+    "run_counted": Call(FILES + CHANNEL, (*BUSY, "DECK COUNTED"), AT_CHANNEL),
+    "run_watched": Call(FILES + CHANNEL, (*BUSY, "DECK TRACE"), AT_CHANNEL),
+}
+# what is called before it by the same line, and takes memory too
+WITHIN = {"drive": "parse", "serial": "drive", "run": "drive", "run_counted": "drive", "run_watched": "drive"}
+
+
 def play(stage: Stage) -> list[list[str]]:
     """The answers to the lines of each group."""
     return [stage.ask_all(group) for group in GROUPS]
 
 
+def refusing(command: list[str], number: int, log: Path) -> Stage:
+    """A stage that is refused this taking, and logs how many there are."""
+    return Stage(command, environment={"REFUSE_AT": str(number), "REFUSE_LOG": str(log), "LD_PRELOAD": library("refusing")})
+
+
+def has_taken(log: Path, number: int) -> bool:
+    """Whether a stage that has ended has made a taking with this number."""
+    return max((int(it.split()[0]) for it in log.read_text().splitlines()), default=0) >= number
+
+
 def refused(number: int, right: list[list[str]], command: list[str], log: Path) -> bool:
     """Refuses a taking; whether there is one with this number."""
-    stage = Stage(command, environment={"REFUSE_AT": str(number), "REFUSE_LOG": str(log), "LD_PRELOAD": library("refusing")})
+    stage = refusing(command, number, log)
     try:
         for group, wanted in zip(GROUPS, right):
             answers = stage.ask_all(group)
@@ -56,7 +103,7 @@ def refused(number: int, right: list[list[str]], command: list[str], log: Path) 
         return True
     finally:
         stage.end()
-    return max((int(it.split()[0]) for it in log.read_text().splitlines()), default=0) >= number
+    return has_taken(log, number)
 
 
 def refuse(first: int, stage: Stage) -> None:
@@ -69,6 +116,63 @@ def refuse(first: int, stage: Stage) -> None:
     raise Wrong("takings of memory", "fewer than %d" % MOST_TAKINGS, "more")
 
 
+class Course(NamedTuple):
+    """What came of a call: the answers to the lines before it, what is seen before it, its own answers, and what is seen behind it."""
+    before: list[str]
+    seen: list[str]
+    answers: list[str]
+    behind: list[str]
+
+
+def course(stage: Stage, call: Call) -> Course:
+    """Makes a call."""
+    return Course(*(stage.ask_all(it) for it in (call.before, call.looks, call.again, call.looks)))
+
+
+def is_refused(number: int, call: Call, right: Course, stage: Stage) -> bool:
+    """Makes a call at a stage that is refused a taking: whether it is one of the call's, which then must be told by it. Where the stage
+    had none for a line before it, nothing is looked at."""
+    came = course(stage, call)
+    if came[:2] != right[:2] or came.answers[:-1] != right.answers[:-1]:
+        return False
+    answer = came.answers[-1]
+    if answer not in (*REFUSED, *OWN) and not (answer.startswith("RAN ") and right.answers[-1].startswith("TRACE ")):
+        same("taking %d is refused: %s" % (number, call.again[-1]), right.answers[-1], answer)
+    if answer not in REFUSED:
+        return False
+    same("taking %d is refused: what is seen behind it" % number, right.seen, came.behind)
+    same("taking %d is refused, and the call made again" % number, right.answers, stage.ask_all(call.again))
+    same("taking %d is refused: what is seen behind the call" % number, right.behind, stage.ask_all(call.looks))
+    return True
+
+
+def takings_told(call: Call, plain: Stage) -> int:
+    """Refuses each taking of the lines of a call; how many of them the call tells."""
+    plain.stop()
+    right, told, number = course(plain, call), 0, 0
+    with tempfile.TemporaryDirectory() as folder:
+        log = Path(folder) / "log"
+        while number == 0 or has_taken(log, number):
+            number += 1
+            stage = refusing(plain.command, number, log)
+            try:
+                told += is_refused(number, call, right, stage)
+            except Broke:
+                # it found none to read a line
+                log.write_text("%d 0\n" % number)
+            finally:
+                stage.end()
+    return told
+
+
+def refuse_call(name: str, stage: Stage) -> None:
+    """Refuses each taking of a call: it has some of its own, and tells them."""
+    less = takings_told(CALLS[WITHIN[name]], stage) if name in WITHIN else 0
+    same("takings that %s tells: more than %d" % (name, less), True, takings_told(CALLS[name], stage) > less)
+
+
 def cases() -> Iterator[Case]:
+    for name in CALLS:
+        yield Case("takings of memory of %s" % name, partial(refuse_call, name))
     for first in range(1, CASES + 1):
         yield Case("takings of memory %d, %d, .." % (first, first + CASES), partial(refuse, first))

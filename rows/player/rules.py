@@ -152,12 +152,14 @@ def halts(before: Shown, event: Event, answer: str, behind: Shown) -> bool:
 
 
 def is_cut(before: Shown, behind: Shown) -> bool:
-    """Whether the word that pends behind a cut has the place and the count of the program that was seen before it."""
+    """Whether the word that pends behind a cut has the place and the count of the program that was seen before it, and tells of the channel
+    no more than that an interruption was asked for."""
     csw = behind.view.csw
     if csw is None or before.program is None:
         return False
     place = place_of(before.program)
-    return (csw.key, csw.address, csw.count) == (place.key, place.address, place.count)
+    asked = INTERRUPTION if before.view.asks else 0
+    return (csw.key, csw.address, csw.channel, csw.count) == (place.key, place.address, asked, place.count)
 
 
 def is_ended(before: Shown, behind: Shown) -> bool:

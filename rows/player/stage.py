@@ -18,7 +18,7 @@ class Broke(Exception):
 class Stage:
     """A stage, which is started with the first line. With `shows` each line and its answer are printed."""
 
-    def __init__(self, command: Sequence[str], seconds: float = 120, shows: bool = False, environment: dict[str, str] | None = None) -> None:
+    def __init__(self, command: Sequence[str], seconds: float = 600, shows: bool = False, environment: dict[str, str] | None = None) -> None:
         self.command, self.seconds, self.shows = list(command), seconds, shows
         self.environment = dict(os.environ, **(environment or {}))
         # what a stage says on standard error is let go where its memory is refused

@@ -5,7 +5,7 @@ from dataclasses import dataclass
 from functools import partial
 from typing import Callable, Iterator, NamedTuple
 
-from . import (channels, cut_programs, dasd, drives, hostile_decks, hostile_slots, images, lines, lists, memory, programs, serial, sweeps,
+from . import (channels, cut_programs, dasd, drives, extracts, hostile_decks, hostile_slots, images, lines, lists, memory, programs, serial, sweeps,
                traces)
 from .stage import Stage
 from .text import Block, Case, Disk, disk_of, read_blocks
@@ -85,6 +85,7 @@ SUITES = {
     "hostile_slots": Suite(hostile_slots.cases),
     "hostile_checks": Suite(dasd_cases=hostile_slots.dasd_cases),
     "dasd": Suite(dasd_cases=dasd.cases, wants_libraries=True),
+    "extracts": Suite(dasd_cases=extracts.cases),
 }
 
 

@@ -53,7 +53,7 @@ def read_blocks(name: str) -> list[Block]:
     """The blocks of a file of rows."""
     blocks: list[Block] = []
     lines: list[str] = []
-    for number, line in enumerate((DATA / name).read_text(encoding="ascii").split("\n") + [""], 1):
+    for number, line in enumerate((DATA / name).read_text(encoding="utf-8").split("\n") + [""], 1):
         if line:
             lines.append(line)
         elif lines:

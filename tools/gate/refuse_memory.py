@@ -1,21 +1,18 @@
-"""Refuses the built programs each taking of memory in turn, alone, and looks at what comes back.
-
-`test_refused_memory` makes each call of the libraries that takes memory: a call of which a taking is refused says that there is no
-memory, has left all as it was, and comes out right when it is made again. `dasd` prints `dasd: out of memory` and ends with
-status 1, with a front of what it prints otherwise, in a trace too, and no other file is changed or left.
+"""Refuses the built `dasd` each taking of memory in turn, alone, and looks at what comes back: it prints `dasd: out of memory` and ends
+with status 1, with a front of what it prints otherwise, in a trace too, and no other file is changed or left. The calls of the libraries
+that take memory are made by rows/player/memory.py.
 
 For a word that is misspelled `clap` suggests those that are like it. It collects the letters of each, and where the standard library
 collects items whose number is not known, it asks once more, for less, when it is refused. There, and nowhere else, a refusal changes
 nothing; how often it may is reckoned from the words.
 
-It runs crates/NAME/out/NAME, as `rt ci` or `rt run` leaves it; with --built FOLDER the programs of that folder. It needs a C
+It runs crates/dasd_cmd/out/dasd_cmd, as `rt ci` or `rt run` leaves it; with --built FOLDER the dasd_cmd of that folder. It needs a C
 compiler, $CC or cc. The last line is 'N takings of memory refused, M came out wrong', and the status 1
 where M is not 0.
 """
 
 import argparse
 import os
-import re
 import shutil
 import subprocess
 import sys
@@ -27,7 +24,6 @@ from typing import NamedTuple
 from tools import TOP
 from tools.gate.real_extracts import SETS, spell
 
-CALL = re.compile(r"([A-Za-z:]+): ([a-z ,]+)\n")
 DECK = """STORE 48 00000400
 STORE 400 3100050040000005 0800040000000000 1D0006000000000C
 STORE 500 0000000000
@@ -120,45 +116,6 @@ class Program:
         return Came(ran.returncode, ran.stdout.decode(), ran.stderr.decode(), files), noted
 
 
-def places(text: str, noted: Noted) -> dict[str, tuple[int, int]]:
-    """Each call's name, and the takings before it and behind it: its name and a colon are written before it, a space behind it."""
-    takings: list[int] = []
-    for count, length in noted:
-        takings += [count] * length
-    return {call[1]: (takings[call.end(1)], takings[call.end(1) + 1]) for call in CALL.finditer(text)}
-
-
-def is_right_with_one_refused(came: Came, right: str, name: str | None) -> bool:
-    """Whether `test_refused_memory` says what it must where a taking in this call is refused, or one around all calls."""
-    if came.status or came.told:
-        return False
-    if name is None:
-        return re.sub(r"([A-Za-z:]+: ?)?no memory around [A-Za-z:]+\n", "", came.printed) == right
-    return came.printed == right.replace(f"{name}: right", f"{name}: out of memory, then right", 1)
-
-
-def check_calls(program: Program) -> tuple[int, int]:
-    """Refuses each taking of the calls of `test_refused_memory`, and around them; how many were tried, and how many came out wrong."""
-    good, noted = program.run(Job([]), 0)
-    if good.status or good.told or set(it[2] for it in CALL.finditer(good.printed)) != {"right"}:
-        sys.exit(f"refuse_memory.py: test_refused_memory without a refusal: status {good.status}\n{good.printed}{good.told}")
-    total, wrong = noted[-1][0], 0
-    calls = places(good.printed, noted)
-    tallies = {name: 0 for name in calls}
-    for number in range(1, total + 1):
-        came, _ = program.run(Job([]), number)
-        name = next((it for it, (before, behind) in calls.items() if before < number <= behind), None)
-        if name is not None:
-            tallies[name] += 1
-        if not is_right_with_one_refused(came, good.printed, name):
-            wrong += 1
-            print(f"test_refused_memory, taking {number}, in {name}: status {came.status}\n{came.printed}{came.told}")
-    for name, tried in tallies.items():
-        print(f"{name}: {tried} takings")
-    print(f"around these calls: {total - sum(tallies.values())} takings")
-    return total, wrong
-
-
 def is_told(came: Came, good: Came, old: bytes, stays: dict[str, bytes]) -> bool:
     """Whether `dasd` said that there is no memory, printed a front of what it prints, and left all as it was, but for what stays."""
     left = dict(came.files)
@@ -189,16 +146,14 @@ def check_dasd(program: Program, name: str, old: bytes) -> tuple[int, int]:
 def main() -> int:
     """Refuses all of it."""
     parser = argparse.ArgumentParser(description=__doc__, formatter_class=argparse.RawDescriptionHelpFormatter)
-    parser.add_argument("--built", metavar="FOLDER", help="the folder of the built programs")
+    parser.add_argument("--built", metavar="FOLDER", help="the folder of the built program")
     built = parser.parse_args().built
-    paths = [str(Path(built or f"{TOP}/crates/{it}/out", it).resolve()) for it in ("test_refused_memory", "dasd_cmd")]
-    for path in paths:
-        if not os.path.isfile(path):
-            sys.exit(f"refuse_memory.py: there is no {path}: rt run in its crate builds it")
+    path = str(Path(built or f"{TOP}/crates/dasd_cmd/out", "dasd_cmd").resolve())
+    if not os.path.isfile(path):
+        sys.exit(f"refuse_memory.py: there is no {path}: rt run in its crate builds it")
     with tempfile.TemporaryDirectory() as folder:
-        refusing = library(folder)
-        calls, dasd = (Program(path, refusing) for path in paths)
-        total, wrong = check_calls(calls)
+        dasd = Program(path, library(folder))
+        total, wrong = 0, 0
         spell(Path(folder, "old.ckd"), SETS[:-1])
         old = Path(folder, "old.ckd").read_bytes()
         for name in JOBS:

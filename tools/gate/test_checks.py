@@ -124,7 +124,7 @@ class WrongBodies(unittest.TestCase):
     def plant(self, folder: str, own: str) -> tuple[list[str], list[str]]:
         """The names that were planted, in the order of their numbers, and those that were left out."""
         planted = sharpness.Planted(Path(folder))
-        suite = sharpness.Suite(("low",), "low", own=own)
+        suite = sharpness.Suite(("low",), "low", (), own=own)
         planted.plant(sharpness.edits_of(Path(folder), suite, ["low"]))
         return list(planted.numbers), sorted(planted.left_out)
 
