@@ -84,7 +84,7 @@ def ask_volume(answer: Answer, volume: Volume) -> None:
     try:
         ask_findings(answer, volume)
     except Fault as fault:
-        answer.faults.append(("check", str(fault)))
+        put_fault(answer, "check", fault)
         if not answer.volume:
             return
     answer.state = "volume"
@@ -92,8 +92,16 @@ def ask_volume(answer: Answer, volume: Volume) -> None:
         try:
             part(answer, volume)
         except Fault as fault:
-            answer.faults.append((name, str(fault)))
+            put_fault(answer, name, fault)
     said_of(answer, volume)
+
+
+def put_fault(answer: Answer, command: str, fault: Fault) -> None:
+    """Tells that a command came to no end. Where that is not the volume's own fault, it is asked again by the next scan."""
+    if fault.is_of_volume:
+        answer.faults.append((command, str(fault)))
+    else:
+        answer.faults.append((HERE, f"{command}: {fault}"))
 
 
 def ask_findings(answer: Answer, volume: Volume) -> None:

@@ -3,6 +3,7 @@
 from __future__ import annotations
 
 import argparse
+import io
 import json
 import os
 import signal
@@ -30,6 +31,8 @@ Words = argparse.Namespace
 def main() -> int:
     """Runs the command; 0, or 1 where something was found or went wrong, as each command says, or 2 for bad words."""
     signal.signal(signal.SIGTERM, lambda *_: sys.exit(1))
+    if isinstance(sys.stdout, io.TextIOWrapper):
+        sys.stdout.reconfigure(encoding="utf-8", errors="replace")
     words = parser().parse_args()
     try:
         run: Callable[[Words], int] = words.run
@@ -126,7 +129,7 @@ def run_scan(words: Words) -> int:
     paths = [os.fsencode(it) for it in words.paths]
     came = scan(Wanted(words.database, paths, engine, way, words.again, words.quiet))
     states = ", ".join(f"{count} {state}" for state, count in came.states.items())
-    print(f"{came.known} names: {states}")
+    print(f"{came.known} names: {states}", flush=True)
     rate = came.asked / came.seconds if came.seconds else 0.0
     if not words.quiet:
         print(f"{came.asked} asked in {came.seconds:.1f} seconds, {rate:.1f} a second", file=sys.stderr)

@@ -40,7 +40,7 @@ def clean(text: str) -> str:
 
 def plain_name(file_name: str) -> str:
     """The name on the volume for the name of a file that `dasd extract --all` made: `%4D` is a parenthesis again. A byte that is no printable
-    character is a period, as in what `dasd vtoc` prints."""
+    character is a period."""
     return "".join(_plain_character(it) for it in SAFE.finditer(file_name)).rstrip(" ")
 
 
@@ -54,7 +54,16 @@ def _plain_character(found: re.Match[str]) -> str:
 def fits(name: str, file_name: str) -> bool:
     """Whether `dasd vtoc` may print this name for what `dasd extract --all` calls so: a period there stands for any character that can't be
     printed."""
-    return name.rstrip(" ") == plain_name(file_name)
+    found = list(SAFE.finditer(file_name))
+    name = name.ljust(len(found))
+    return len(name.rstrip(" ")) <= len(found) and all(_fits_character(*it) for it in zip(name, found))
+
+
+def _fits_character(character: str, found: re.Match[str]) -> bool:
+    if not found[1]:
+        return character == found[2]
+    spelled = bytes([int(found[1], 16)]).decode(CODE_PAGE)
+    return character == spelled or (character == "." and not (spelled.isascii() and spelled.isprintable()))
 
 
 def split_name(file_name: str) -> tuple[str, str]:

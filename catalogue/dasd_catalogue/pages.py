@@ -13,6 +13,8 @@ from .queries import Place, described, name_of
 
 #: So many rows stand on a page.
 ROWS = 200
+#: So many copies, and others of a name, are shown of one thing.
+BESIDE = 20
 MOST_TEXT = 400_000
 
 
@@ -153,18 +155,22 @@ class View:
         """Where the same is said."""
         if not said:
             return Html()
-        group = queries.Copies(kind, said, 0, 0, 0)
-        places = [it for it in group.places(self.connection) if it != place]
+        found = queries.Copies(kind, said, 0, 0, 0).places(self.connection, BESIDE + 2)
+        places = [it for it in found if it != place]
         if not places:
             return joined([tag("h2", "Copies"), tag("p", "Nothing else says the same.")])
-        return joined([tag("h2", "Copies"), tag("ul", *(tag("li", self.named(it, place)) for it in places[:ROWS]))])
+        return joined([tag("h2", "Copies"), self.listed(places, place)])
+
+    def listed(self, places: list[Place], beside: Place | None) -> Html:
+        """The first of these places, as a list."""
+        more = tag("li", "and more") if len(places) > BESIDE else None
+        return tag("ul", *(tag("li", self.named(it, beside)) for it in places[:BESIDE]), more)
 
     def named(self, place: Place, beside: Place | None = None) -> Html:
         """The name of what stands at a place, with links to it, and to both side by side."""
-        it = described(self.connection, place)
-        shown = joined([it["path"], ": ", name_of(it)])
-        compare = self.links.compare(beside, place) if beside else ""
-        return joined([link(self.links.place(place), shown), " " if compare else None, link(compare, "side by side") if compare else None])
+        compare = self.links.compare(beside, place) if beside and beside != place else ""
+        shown = link(self.links.place(place), queries.label_of(self.connection, place))
+        return joined([shown, " ", link(compare, "side by side")]) if compare else shown
 
     def data_set(self, place: Place) -> str:
         """A data set: its fields, its members, or its text."""
@@ -207,11 +213,11 @@ class View:
         title = name_of(described(self.connection, place))
         size = tag("p", f"{it['size']} bytes{'' if it['whole'] else ', not whole'}", class_="soft")
         alike = self.connection.execute(
-            "SELECT volume, data_set, number FROM members WHERE name = ? AND said <> ? ORDER BY 1, 2, 3 LIMIT ?", (it["name"], it["said"], ROWS)
+            "SELECT volume, data_set, number FROM members WHERE name = ? AND said <> ? ORDER BY 1, 2, 3 LIMIT ?", (it["name"], it["said"], BESIDE + 1)
         ).fetchall()
         named: Child = None
         if alike:
-            named = joined([tag("h2", "Others of this name"), tag("ul", *(tag("li", self.named(Place(*row), place)) for row in alike))])
+            named = joined([tag("h2", "Others of this name"), self.listed([Place(*row) for row in alike], place)])
         return self.page(title, self.where(place), size, self.text(it["text"]), self.others(place, "member", it["said"]), named)
 
     def broken(self, page: int = 0) -> str:
@@ -231,9 +237,9 @@ class View:
 
     def group(self, group: queries.Copies) -> Html:
         """A group of copies."""
-        places = group.places(self.connection)
+        places = group.places(self.connection, BESIDE + 1)
         heads = tag("h3", f"{group.count} of {group.size} bytes", f", {group.names} names" if group.names > 1 else None)
-        return tag("section", heads, tag("ul", *(tag("li", self.named(it, places[0] if it != places[0] else None)) for it in places[: ROWS // 4])))
+        return tag("section", heads, self.listed(places, places[0]))
 
 
 def place_text(it: sqlite3.Row | Object) -> str:

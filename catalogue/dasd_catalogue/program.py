@@ -15,6 +15,8 @@ Object = dict[str, Any]
 VARIABLE = "DASD_PROGRAM"
 LINES, FAULTS = b"lines", b"faults"
 MOST_FAULT = 2000
+#: How faults begin that may be gone another time: the first four are said here, the others by the program.
+PASSING = ("it took", "it was ended", "it ended", "it printed", "read fault", "write fault", "no memory")
 #: What the file of a volume is called where it is asked; those of one in several files have a number behind it.
 NAME = "volume"
 
@@ -80,6 +82,11 @@ class Volume:
 
 class Fault(Exception):
     """Why a command of the program came to no end: its own words."""
+
+    @property
+    def is_of_volume(self) -> bool:
+        """Whether it is the volume's, and will be there another time too; if not, it is that of the machine at this time."""
+        return not str(self).startswith(PASSING)
 
 
 def text_of_fault(path: bytes) -> str:

@@ -15,6 +15,7 @@ from .program import Object
 
 #: So many lines of a text are told in which a word stands.
 LINES = 3
+NO_LABEL = "(no label)"
 #: What copies are looked for among: tables, by the kind that is told.
 KINDS = ("volume", "data set", "member")
 SAME = {
@@ -73,11 +74,25 @@ def described(connection: sqlite3.Connection, place: Place) -> Object:
     return {**found, "bytes": held["size"], "hash": held["said"].hex() if held["said"] else None, "whole": whole, "file_name": held["file_name"]}
 
 
+def label_of(connection: sqlite3.Connection, place: Place) -> str:
+    """The path of a place's file, and the name of what stands there, for people."""
+    row = connection.execute(
+        """SELECT shown, serial, data_sets.name, members.name FROM files JOIN volumes ON file = id
+        LEFT JOIN data_sets ON data_sets.volume = file AND data_sets.number = ?
+        LEFT JOIN members ON members.volume = file AND data_set = data_sets.number AND members.number = ? WHERE file = ?""",
+        (place.data_set, place.member, place.volume),
+    ).fetchone()
+    if row is None:
+        raise NothingThere
+    name = row[1] or NO_LABEL if row[2] is None else row[2] if row[3] is None else f"{row[2]}({row[3]})"
+    return f"{row[0]}: {name}"
+
+
 def name_of(found: Object) -> str:
     """What is called so for people: a serial number, a data set, or a member in parentheses behind its data set."""
     if "member" in found:
         return f"{found['data_set']}({found['member']})"
-    return str(found.get("data_set", found["serial"] or "(no label)"))
+    return str(found.get("data_set", found["serial"] or NO_LABEL))
 
 
 def pattern_of(text: str) -> str:
@@ -136,10 +151,10 @@ class Copies:
     count: int
     names: int
 
-    def places(self, connection: sqlite3.Connection) -> list[Place]:
-        """The places."""
-        rows = connection.execute(f"SELECT * FROM ({SAME[self.kind]}) WHERE said = ? ORDER BY volume, data_set, member", (self.said,))
-        return [Place(row["volume"], row["data_set"], row["member"]) for row in rows]
+    def places(self, connection: sqlite3.Connection, most: int = -1) -> list[Place]:
+        """The places, or so many of them."""
+        query = f"SELECT * FROM ({SAME[self.kind]}) WHERE said = ? ORDER BY volume, data_set, member LIMIT ?"
+        return [Place(row["volume"], row["data_set"], row["member"]) for row in connection.execute(query, (self.said, most))]
 
 
 def groups(connection: sqlite3.Connection, kind: str, has_other_names: bool = False, most: int = -1, first: int = 0) -> list[Copies]:

@@ -17,7 +17,6 @@ from .merge import Merge
 from .names import Places
 from .program import version_of
 from .progress import Progress
-from .scratch import clear_left, parent_for
 from .store import Store
 from .walk import walk
 
@@ -52,7 +51,6 @@ class Sum:
 
 def scan(wanted: Wanted) -> Sum:
     """Scans."""
-    clear_left(parent_for(0, wanted.way.scratch))
     with open_to_write(wanted.database) as connection:
         return Scan(connection, wanted).run()
 

@@ -6,6 +6,7 @@ Each folder is held locked as long as its process lives. A folder that nobody ho
 from __future__ import annotations
 
 import fcntl
+import functools
 import os
 import shutil
 import stat
@@ -32,7 +33,8 @@ def parent_for(size: int, asked: str) -> str:
 
 @contextmanager
 def scratch_folder(parent: str) -> Iterator[bytes]:
-    """An empty folder of one's own."""
+    """An empty folder of one's own. The first time in a process, those that killed ones left there are cleared."""
+    clear_left(parent)
     folder = os.fsencode(tempfile.mkdtemp(prefix=PREFIX, dir=parent))
     held = os.open(folder, os.O_RDONLY | os.O_DIRECTORY)
     try:
@@ -52,6 +54,7 @@ def is_own_and_old(entry: os.DirEntry[str]) -> bool:
     return stat.S_ISDIR(found.st_mode) and found.st_uid == os.getuid() and found.st_mtime < time.time() - GRACE
 
 
+@functools.cache
 def clear_left(parent: str) -> None:
     """Takes away the folders of processes of this user that were killed."""
     for entry in os.scandir(parent):

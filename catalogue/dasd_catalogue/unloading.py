@@ -47,11 +47,11 @@ def library(found: Set) -> Unloaded:
 
 
 class Unload:
-    """What was unloaded as blocks so far. Files come in the order of the table of contents, so each belongs to the data set of the last one, or to
-    one behind it."""
+    """What was unloaded as blocks so far. Files come in the order of the table of contents, so each belongs to the data set of the last one, if that
+    was called the same, or to one behind it."""
 
     def __init__(self, answer: Answer, volume: Volume) -> None:
-        self.answer, self.volume, self.at = answer, volume, 0
+        self.answer, self.volume, self.at, self.last = answer, volume, -1, ""
         self.unloaded: dict[str, Unloaded] = {}
 
     def take(self, told: Object) -> None:
@@ -84,11 +84,13 @@ class Unload:
             found.own = unloaded
 
     def _set_of(self, data_set: str) -> Set | None:
-        """The data set of a file, from the last one on."""
+        """The data set of a file."""
         sets = self.answer.sets
-        for at in range(self.at, len(sets)):
+        if data_set == self.last and self.at >= 0:
+            return sets[self.at]
+        for at in range(self.at + 1, len(sets)):
             if fits(sets[at].told["name"], data_set):
-                self.at = at
+                self.at, self.last = at, data_set
                 return sets[at]
         return None
 
@@ -107,7 +109,10 @@ def unload_texts(answer: Answer, volume: Volume) -> dict[str, bytes]:
                 answer.texts[text.digest] = text
                 digests[it["name"]] = text.digest
     except Fault as fault:
-        answer.faults.append(("text", str(fault)))
+        if fault.is_of_volume:
+            answer.faults.append(("text", str(fault)))
+        else:
+            raise
     return digests
 
 

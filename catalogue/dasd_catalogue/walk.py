@@ -42,7 +42,20 @@ def walk(roots: list[bytes], left_out: frozenset[bytes]) -> Iterator[Met]:
 
 
 def walk_folder(folder: bytes, left_out: frozenset[bytes]) -> Iterator[Met]:
-    """What is in a folder and below it, in the order of the bytes of its names."""
+    """What is in a folder and below it, in the order of the bytes of its names, however deep."""
+    under_way = [entries_of(folder, left_out)]
+    while under_way:
+        found = next(under_way[-1], None)
+        if found is None:
+            under_way.pop()
+        elif isinstance(found, Met):
+            yield found
+        else:
+            under_way.append(entries_of(found, left_out))
+
+
+def entries_of(folder: bytes, left_out: frozenset[bytes]) -> Iterator[Met | bytes]:
+    """What is in a folder: the path of each folder, and what there is at each other path."""
     try:
         with os.scandir(folder) as entries:
             found = sorted(entries, key=lambda it: it.name)
@@ -54,7 +67,7 @@ def walk_folder(folder: bytes, left_out: frozenset[bytes]) -> Iterator[Met]:
         if entry.path in left_out:
             continue
         if entry.is_dir(follow_symlinks=False):
-            yield from walk_folder(entry.path, left_out)
+            yield entry.path
         else:
             first, part = parts.get(entry.name, (b"", 1))
             yield met(entry.path, first=os.path.join(folder, first) if first else b"", part=part)

@@ -148,7 +148,7 @@ def sides(browser: Browser) -> None:
     """Two members that differ."""
     browser.open("/search?q=SYS1.MACLIB(GET)")
     browser.press("packs/001.ckd: SYS1.MACLIB(GET)")
-    browser.ask("[...document.querySelectorAll('a')].filter(it => it.textContent === 'side by side').pop().click()")
+    browser.ask("[...document.querySelectorAll('li')].find(it => it.textContent.startsWith('packs/003.ckd')).lastElementChild.click()")
 
 
 PICTURES: dict[str, Callable[[Browser], None]] = {"catalogue-volume": volume, "catalogue-sides": sides}

@@ -2,9 +2,11 @@
 
 from __future__ import annotations
 
+import fcntl
 import gzip
 import os
 import sqlite3
+import subprocess
 import unittest
 from collections.abc import Iterable, Iterator
 from dataclasses import replace
@@ -12,15 +14,18 @@ from pathlib import Path
 from unittest import mock
 
 from archive import COUNT, Case, catalogue, packs, program, reading, scanned, typed, way
-from make_packs import kind_of, make, pack, plain, with_leftovers
+from make_packs import kind_of, make, new_image, pack, plain, put_library, put_sequential, with_leftovers
 from rows import differences, rows_of
 from suite.volumes import Volume
+from volume_layouts import count_free
+from written_labels import put_label
 
 from dasd_catalogue import says
 from dasd_catalogue.answers import Answer, Task, Way
 from dasd_catalogue.database import BadCatalogue, open_to_write
 from dasd_catalogue.engines import DIED, Alone, Pool
 from dasd_catalogue.scan import Wanted, scan
+from dasd_catalogue.scratch import scratch_folder
 
 #: A `dasd` in front of the real one that ends the process that asks a pack of this name.
 DEADLY = """#!/bin/sh
@@ -293,6 +298,67 @@ class Again(Case):
 class Files(Case):
     """Single files."""
 
+    def test_names_of_all_bytes(self) -> None:
+        """Data sets and members whose names have each byte there is: all are unloaded, and belong where they are."""
+        image = new_image(2)
+        sets = [
+            put_sequential(image, bytes(range(first, min(first + 44, 256))).decode("cp037"), [f"SET {first}"], [(2 + at, 2 + at)])
+            for at, first in enumerate(range(0, 256, 44))
+        ]
+        members = {bytes(range(first, first + 7)).decode("cp037"): [f"MEMBER {first}"] for first in range(0, 252, 18)}
+        sets.append(put_library(image, "LIB", members, [(8, 10)]))
+        put_label(image, "2311", "ALLBYT", sets)
+        count_free(image)
+        (self.folder / "1.ckd").write_bytes(bytes(image.bytes))
+        scanned(self.database, [self.folder / "1.ckd"])
+        self.assertEqual(self.rows("SELECT * FROM faults"), [])
+        self.assertEqual(self.rows("SELECT COUNT(*) FROM data_sets WHERE said IS NOT NULL AND whole"), [(7,)])
+        self.assertEqual(self.rows("SELECT COUNT(DISTINCT said), COUNT(DISTINCT file_name) FROM members"), [(14, 15)])
+        texts = self.rows("SELECT number, text FROM data_sets WHERE text IS NOT NULL ORDER BY number")
+        self.assertEqual([it[0] for it in texts], list(range(6)))
+
+    def test_folders_deeper_than_any_stack(self) -> None:
+        """A pack at the end of a thousand and some folders; the part whose path is too long is a fault."""
+        here = os.getcwd()
+        self.addCleanup(os.chdir, here)
+        os.chdir(self.folder)
+        for _ in range(1200):
+            os.mkdir("a")
+            os.chdir("a")
+        Path("1.ckd").write_bytes(plain(1))
+        os.chdir(here)
+        self.addCleanup(subprocess.run, ["rm", "-rf", str(self.folder / "a")], check=True)
+        scanned(self.database, [self.folder])
+        self.assertEqual(self.rows("SELECT state, COUNT(*) FROM files GROUP BY state"), [("volume", 1)])
+
+    def test_folders_that_a_killed_process_left(self) -> None:
+        """They go, but for those that one holds that lives, and others' folders."""
+        names = ["dasd-catalogue-left", "dasd-catalogue-held", "another"]
+        for name in names:
+            (self.folder / name).mkdir()
+            (self.folder / name / "x").write_bytes(b"x")
+            os.utime(self.folder / name, (1, 1))
+        held = os.open(self.folder / names[1], os.O_RDONLY)
+        fcntl.flock(held, fcntl.LOCK_EX)
+        with scratch_folder(str(self.folder)) as own:
+            self.assertEqual({it.name for it in self.folder.iterdir()}, {*names[1:], Path(os.fsdecode(own)).name})
+        os.close(held)
+        self.assertEqual({it.name for it in self.folder.iterdir()}, set(names[1:]))
+
+    def test_a_full_disk_is_not_the_fault_of_a_volume(self) -> None:
+        """It is asked again by the next scan, where nothing has changed."""
+        failing = self.folder / "dasd"
+        failing.write_text('#!/bin/sh\ncase $1 in extract) echo "dasd: write fault" >&2; exit 1;; esac\nexec ' + program() + ' "$@"\n', encoding="utf-8")
+        failing.chmod(0o755)
+        (self.folder / "1.ckd").write_bytes(plain(1))
+        with mock.patch("dasd_catalogue.scan.version_of", return_value=""):
+            scan(Wanted(str(self.database), [os.fsencode(self.folder / "1.ckd")], Alone(), Way(str(failing)), is_silent=True))
+        self.assertEqual(self.rows("SELECT stage, text FROM faults"), [("here", "extract: write fault")])
+        self.assertEqual(self.states(), {"1.ckd": "volume"})
+        self.assertEqual(scanned(self.database, []).asked, 1)
+        self.assertEqual(self.rows("SELECT * FROM faults"), [])
+        self.assertEqual(scanned(self.database, []).asked, 0)
+
     def test_a_file_that_is_named_is_asked(self) -> None:
         """Whatever it is called and holds; in a folder it is told as another thing."""
         (self.folder / "letter").write_text("Dear archive,\n", encoding="utf-8")
@@ -322,7 +388,7 @@ class Files(Case):
         (self.folder / "1.ckd").write_bytes(plain(1))
         with mock.patch("dasd_catalogue.scan.version_of", return_value=""):
             scan(Wanted(str(self.database), [os.fsencode(self.folder / "1.ckd")], Alone(), Way(str(slow), patience=0.2), is_silent=True))
-        self.assertEqual(self.rows("SELECT stage, text FROM faults"), [("check", "it took more than 0.2 seconds")])
+        self.assertEqual(self.rows("SELECT stage, text FROM faults"), [("here", "check: it took more than 0.2 seconds")])
 
     def test_the_command_line(self) -> None:
         """A scan by the command, in one process and with its progress on a stream that is no terminal."""
