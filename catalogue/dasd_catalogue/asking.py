@@ -1,7 +1,8 @@
 """One volume is asked once: its findings, its tracks, its contents, and all of its data sets and members with their hashes and texts.
 
-It is read only: `dasd` gets a link to each file, in a folder of its own, so that no name of the archive is a word of a command; a packed file is
-unpacked there. Whatever goes wrong is a fault in the answer, so no volume is lost, and no volume stops the others.
+It is only read: `dasd` gets a link to each file, in a folder of its own, so that no name of the archive is a word of a command; a packed file is
+unpacked there. Objects of a kind that isn't known here are left alone. Whatever goes wrong is a fault in the answer, so no volume is lost, and no
+volume stops the others.
 """
 
 from __future__ import annotations
@@ -110,9 +111,9 @@ def ask_findings(answer: Answer, volume: Volume) -> None:
     for it in volume.ask("check", "--strict"):
         if "errors" in it:
             answer.volume.update({name: it[name] for name in ("errors", "warnings", "notes")})
-        elif it["severity"] == "note":
+        elif it.get("severity") == "note":
             notes[it["kind"]] += 1
-        else:
+        elif "severity" in it:
             answer.findings.append(Finding("check", it["severity"], it))
     answer.counts = dict(notes)
 
@@ -123,8 +124,10 @@ def ask_tracks(answer: Answer, volume: Volume) -> None:
     for it in volume.ask("list"):
         if "model" in it:
             answer.volume.update({name: it[name] for name in ("model", "cylinders", "heads", "slot_size")})
-        else:
-            tracks.append(None if "unreadable" in it else [it["used"], len(it["records"])])
+        elif "unreadable" in it:
+            tracks.append(None)
+        elif "records" in it:
+            tracks.append([it["used"], len(it["records"])])
     answer.tracks = zlib.compress(json.dumps(tracks, separators=(",", ":")).encode())
 
 

@@ -141,7 +141,7 @@ def told(found: Iterable[Object], words: Words, line: Callable[[Object], str]) -
     count = 0
     for it in found:
         count += 1
-        print(json.dumps(it, ensure_ascii=False) if words.json else line(it))
+        print(json.dumps(it) if words.json else line(it))
     return count
 
 

@@ -210,11 +210,11 @@ def texts_with(connection: sqlite3.Connection, words: list[str], most: int = -1)
 
 
 def lines_with(text: str, words: list[str], most: int = LINES) -> list[tuple[int, str]]:
-    """The first lines of a text in which one of the words stands, each with its number."""
-    wanted = [it.rstrip("*").casefold() for it in words if it.rstrip("*")]
+    """The first lines of a text in which one of the words stands, each with its number; blanks between words are as many as there are."""
+    wanted = [it for it in (" ".join(word.rstrip("*").casefold().split()) for word in words) if it]
     found = []
     for number, line in enumerate(text.splitlines(), 1):
-        folded = line.casefold()
+        folded = " ".join(line.casefold().split())
         if any(it in folded for it in wanted):
             found.append((number, line))
             if len(found) == most:

@@ -58,7 +58,7 @@ class Unload:
         """Takes an object that the program printed."""
         if "bytes" in told:
             self._take_file(told["name"], told["bytes"])
-        elif "text" in told and told["name"] != TABLE:
+        elif "text" in told and told.get("name", TABLE) != TABLE:
             found = self._set_of(split_name(told["name"])[0])
             is_endless = found is not None and found.told["organisation"][:2] in ENDLESS
             self.answer.findings.append(Finding("extract", "warning" if is_endless else "error", told))

@@ -25,8 +25,8 @@ from dasd_catalogue.engines import Alone, Engine, Pool  # noqa: E402
 from dasd_catalogue.program import find_program  # noqa: E402
 from dasd_catalogue.scan import Sum, Wanted, scan  # noqa: E402
 
-#: How many packs the shared archive has; catalogue/check says another number.
-COUNT = int(os.environ.get("CATALOGUE_PACKS", "300"))
+#: How many packs the shared archive has; catalogue/check says another number. Among a hundred there is each kind.
+COUNT = max(100, int(os.environ.get("CATALOGUE_PACKS", "300")))
 
 
 @functools.cache

@@ -133,6 +133,11 @@ class Texts(unittest.TestCase):
         self.assertEqual({it["data_set"] for it in objects("text", "perso*")}, {"PERSONNEL.SOURCE", "PERSONNEL.JOBS"})
         self.assertEqual(typed("text", "nowhere").returncode, 1)
 
+    def test_words_behind_each_other(self) -> None:
+        """However many blanks are between them."""
+        found = objects("text", "svc 20")
+        self.assertEqual({it["lines"][0]["text"] for it in found}, {"         SVC   20"})
+
     def test_words_that_would_be_something_else(self) -> None:
         """Operators and quotes of the index are words, and markup is text."""
         for word in ('"', "AND", "NEAR(", "text:", "a OR b", "-", "*", "", "\u00e9", "^", "{", "'"):

@@ -32,6 +32,11 @@ DEADLY = """#!/bin/sh
 case "$(readlink volume)" in *deadly*) kill -9 $PPID; sleep 5;; esac
 exec {program} "$@"
 """
+#: One that finds no room for what is unloaded.
+FULL = """#!/bin/sh
+case $1 in extract) echo "dasd: write fault" >&2; exit 1;; esac
+exec {program} "$@"
+"""
 
 
 class Ended(Alone):
@@ -327,7 +332,7 @@ class Files(Case):
             os.chdir("a")
         Path("1.ckd").write_bytes(plain(1))
         os.chdir(here)
-        self.addCleanup(subprocess.run, ["rm", "-rf", str(self.folder / "a")], check=True)
+        self.addCleanup(lambda: subprocess.run(["rm", "-rf", str(self.folder / "a")], check=True))
         scanned(self.database, [self.folder])
         self.assertEqual(self.rows("SELECT state, COUNT(*) FROM files GROUP BY state"), [("volume", 1)])
 
@@ -348,7 +353,7 @@ class Files(Case):
     def test_a_full_disk_is_not_the_fault_of_a_volume(self) -> None:
         """It is asked again by the next scan, where nothing has changed."""
         failing = self.folder / "dasd"
-        failing.write_text('#!/bin/sh\ncase $1 in extract) echo "dasd: write fault" >&2; exit 1;; esac\nexec ' + program() + ' "$@"\n', encoding="utf-8")
+        failing.write_text(FULL.format(program=program()), encoding="utf-8")
         failing.chmod(0o755)
         (self.folder / "1.ckd").write_bytes(plain(1))
         with mock.patch("dasd_catalogue.scan.version_of", return_value=""):
