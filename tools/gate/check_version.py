@@ -22,6 +22,7 @@ COPIES = {
     "rust/Cargo.toml": r'^version = "([^"]*)"$',
     "rust/dasd/Cargo.toml": r'^dasd-sys = \{ version = "=([^"]*)"',
     "python/dasd/__init__.py": r'^__version__ = "([^"]*)"$',
+    "catalogue/dasd_catalogue/__init__.py": r'^__version__ = "([^"]*)"$',
     "CITATION.cff": r'^version: "([^"]*)"$',
 }
 

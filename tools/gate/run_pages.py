@@ -3,8 +3,9 @@
     tools/run gate/run_pages [--built FILE] [--with WORD] [PAGE ..]
 
 PAGES below has the pages; `--help` is the help of the program and of each command. How an example is told from other blocks says
-tools/gate/page_examples.py. Each page has an empty folder of its own, in which its examples run one after another by bash: with `dasd` on
-the path, the folders of the repository under their names, and the sample pack as pack.ckd, and as big_1.ckd and big_2.ckd in two files.
+tools/gate/page_examples.py. Each page has an empty folder of its own, in which its examples run one after another by bash: with `dasd` and
+`dasd-catalogue` on the path, the folders of the repository under their names, and the sample pack as pack.ckd, and as big_1.ckd and
+big_2.ckd in two files.
 Their output is what standard output and standard error have together.
 
 The program is crates/dasd_cmd/out/dasd_cmd, or FILE. What an example needs beside it, and where that is to be had, says NEEDS below;
@@ -32,6 +33,7 @@ PAGES = [
     "docs/DECKS.md",
     "docs/TRACING.md",
     "docs/ARCHIVES.md",
+    "docs/CATALOGUE.md",
     "docs/JSON.md",
     "docs/EMBEDDING.md",
     "docs/CALLING.md",
@@ -42,7 +44,7 @@ PAGES = [
     "docs/dasd.1",
     HELP,
 ]
-FOLDERS = ["c", "conformance", "crates", "docs", "python", "release", "rust", "sample", "tools", "web"]
+FOLDERS = ["c", "catalogue", "conformance", "crates", "docs", "python", "release", "rust", "sample", "tools", "web"]
 # So many lines are shown of what an example printed that ended as it must not.
 LAST_LINES = 20
 # How long an example may take, in seconds: one for the kit may build and prove, and Hercules is started anew for each vector.
@@ -121,6 +123,7 @@ class Reader:
         self.folder.mkdir()
         commands.mkdir()
         (commands / "dasd").symlink_to(dasd)
+        (commands / "dasd-catalogue").symlink_to(TOP / "catalogue/dasd-catalogue")
         for name in FOLDERS:
             if (TOP / name).is_dir():
                 (self.folder / name).symlink_to(TOP / name)

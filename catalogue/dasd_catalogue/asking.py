@@ -1,0 +1,150 @@
+"""One volume is asked once: its findings, its tracks, its contents, and all of its data sets and members with their hashes and texts.
+
+It is only read: `dasd` gets a link to each file, in a folder of its own, so that no name of the archive is a word of a command; a packed file is
+unpacked there. Objects of a kind that isn't known here are left alone. Whatever goes wrong is a fault in the answer, so no volume is lost, and no
+volume stops the others.
+"""
+
+from __future__ import annotations
+
+import json
+import os
+import zlib
+from collections import Counter
+
+from . import says
+from .answers import Answer, Finding, Set, Stamp, Task, Way
+from .images import MAGIC, BadPacking, first_bytes, is_called_image, opened, unpack
+from .program import NAME, Fault, Object, Volume
+from .scratch import parent_for, scratch_folder
+from .unloading import unload
+
+#: Faults of this stage are of the machine at that time, and not of the volume: it is asked again by the next scan.
+HERE = "here"
+
+
+def ask(task: Task, way: Way) -> Answer:
+    """Asks the volume of a task."""
+    answer = Answer(task)
+    try:
+        before = [stamp_of(it) for it in task.paths]
+        _ask_files(answer, way)
+        answer.stamps = [Stamp(size, modified, says.unloaded_hash(path)) for path, (size, modified) in zip(task.paths, before)]
+        if before != [stamp_of(it) for it in task.paths]:
+            answer = Answer(task, "waiting", faults=[(HERE, "it changed while it was read")])
+    except OSError as fault:
+        answer = Answer(task, faults=[(HERE, os.strerror(fault.errno) if fault.errno else str(fault))])
+    except Exception as fault:  # pylint: disable=broad-exception-caught
+        answer = Answer(task, faults=[(HERE, f"{type(fault).__name__}: {fault}")])
+    return answer
+
+
+def stamp_of(path: bytes) -> tuple[int, int]:
+    """A file's size and the time of its last change."""
+    found = os.stat(path)
+    return found.st_size, found.st_mtime_ns
+
+
+def _ask_files(answer: Answer, way: Way) -> None:
+    """Asks the files of a task, if they are an image and not what they were."""
+    task = answer.task
+    if task.digest and len(task.paths) == 1 and says.unloaded_hash(task.paths[0]) == task.digest:
+        answer.state = "same"
+        return
+    is_image = first_bytes(task.paths[0], len(MAGIC)) == MAGIC
+    if not (is_image or task.is_named or is_called_image(task.paths[0])):
+        answer.state = "other"
+        return
+    size = sum(os.stat(it).st_size for it in task.paths)
+    with scratch_folder(parent_for(size, way.scratch)) as folder:
+        try:
+            names = put_files(answer, folder, way)
+        except BadPacking as fault:
+            answer.faults.append(("unpack", str(fault)))
+            return
+        ask_volume(answer, Volume(way.program, folder, names, way.patience))
+
+
+def put_files(answer: Answer, folder: bytes, way: Way) -> tuple[str, ...]:
+    """Puts links to the files of a task into a folder, or what they hold where they are packed; their names there."""
+    paths = answer.task.paths
+    names = [NAME] if len(paths) == 1 else [f"{NAME}_{number}" for number in range(1, len(paths) + 1)]
+    for path, name in zip(paths, names):
+        target = os.path.join(folder, os.fsencode(name))
+        with open(path, "rb") as file:
+            answer.packing = opened(file)[0]
+        if answer.packing:
+            unpack(path, target, way.most)
+        else:
+            os.symlink(os.path.abspath(path), target)
+    return tuple(names)
+
+
+def ask_volume(answer: Answer, volume: Volume) -> None:
+    """Asks all that there is to ask. Where the program can't check it, it can't be read at all."""
+    try:
+        ask_findings(answer, volume)
+    except Fault as fault:
+        put_fault(answer, "check", fault)
+        if not answer.volume:
+            return
+    answer.state = "volume"
+    for name, part in (("list", ask_tracks), ("vtoc", ask_contents), ("extract", unload)):
+        try:
+            part(answer, volume)
+        except Fault as fault:
+            put_fault(answer, name, fault)
+    said_of(answer, volume)
+
+
+def put_fault(answer: Answer, command: str, fault: Fault) -> None:
+    """Tells that a command came to no end. Where that is not the volume's own fault, it is asked again by the next scan."""
+    if fault.is_of_volume:
+        answer.faults.append((command, str(fault)))
+    else:
+        answer.faults.append((HERE, f"{command}: {fault}"))
+
+
+def ask_findings(answer: Answer, volume: Volume) -> None:
+    """What is wrong with its tracks. Notes are counted by their kind, since each data set and each member has one for its end of file."""
+    notes: Counter[str] = Counter()
+    for it in volume.ask("check", "--strict"):
+        if "errors" in it:
+            answer.volume.update({name: it[name] for name in ("errors", "warnings", "notes")})
+        elif it.get("severity") == "note":
+            notes[it["kind"]] += 1
+        elif "severity" in it:
+            answer.findings.append(Finding("check", it["severity"], it))
+    answer.counts = dict(notes)
+
+
+def ask_tracks(answer: Answer, volume: Volume) -> None:
+    """Its geometry, and of each track the bytes that are used and the number of records."""
+    tracks: list[list[int] | None] = []
+    for it in volume.ask("list"):
+        if "model" in it:
+            answer.volume.update({name: it[name] for name in ("model", "cylinders", "heads", "slot_size")})
+        elif "unreadable" in it:
+            tracks.append(None)
+        elif "records" in it:
+            tracks.append([it["used"], len(it["records"])])
+    answer.tracks = zlib.compress(json.dumps(tracks, separators=(",", ":")).encode())
+
+
+def ask_contents(answer: Answer, volume: Volume) -> None:
+    """Its label, its data sets, and what is wrong with its table of contents."""
+    for it in volume.ask("vtoc"):
+        if "serial" in it:
+            answer.volume.update({name: it[name] for name in ("serial", "owner", "contents", "free_tracks", "free_blocks")})
+        elif "organisation" in it:
+            answer.sets.append(Set(it))
+        elif "kind" in it:
+            answer.findings.append(Finding("vtoc", "error", it))
+
+
+def said_of(answer: Answer, volume: Volume) -> None:
+    """The hash of what it says, where its geometry is known."""
+    known: Object = answer.volume
+    if "slot_size" in known:
+        geometry = says.Geometry(known["model"], known["heads"], known["cylinders"], known["slot_size"])
+        answer.said = says.volume_hash([os.path.join(volume.folder, os.fsencode(it)) for it in volume.names], geometry)

@@ -1,0 +1,95 @@
+"""What was found is taken out of the packs: each to a file of a folder, by `dasd extract`."""
+
+from __future__ import annotations
+
+import os
+import shutil
+import sqlite3
+from collections.abc import Iterable, Iterator
+from dataclasses import dataclass
+from itertools import groupby
+
+from .answers import Answer, Task, Way
+from .asking import put_files
+from .images import BadPacking
+from .names import Places
+from .program import Fault, Object, Volume
+from .queries import Place, described
+from .says import unloaded_hash
+from .scratch import parent_for, scratch_folder
+
+ALL = "all"
+
+
+@dataclass(frozen=True)
+class Taking:
+    """Where what is taken goes, how volumes are asked, and whether as lines of text."""
+
+    folder: str
+    places: Places
+    way: Way
+    is_text: bool
+
+
+def take(connection: sqlite3.Connection, found: Iterable[Place], taking: Taking) -> Iterator[Object]:
+    """Takes out what stands at these places, volume by volume; of each what it is, and `file`, where it was put, or `fault`, why it was not. A data
+    set with members is all of its members. A file that is there stays."""
+    wanted = sorted({it for place in found for it in taken_at(connection, place)}, key=lambda it: (it.volume, it.data_set or 0, it.member or 0))
+    for volume, places in groupby(wanted, key=lambda it: it.volume):
+        told = [described(connection, it) for it in places]
+        yield from take_of_volume(connection, volume, told, taking)
+
+
+def taken_at(connection: sqlite3.Connection, place: Place) -> list[Place]:
+    """The data sets without members and the members at a place."""
+    if place.member is not None:
+        return [place]
+    rows = connection.execute(
+        """SELECT volume, number, NULL FROM data_sets WHERE volume = ?1 AND (?2 IS NULL OR number = ?2) AND organisation NOT GLOB 'PO*'
+        AND said IS NOT NULL UNION ALL SELECT volume, data_set, number FROM members WHERE volume = ?1 AND (?2 IS NULL OR data_set = ?2)""",
+        (place.volume, place.data_set),
+    )
+    return [Place(*row) for row in rows]
+
+
+def take_of_volume(connection: sqlite3.Connection, volume: int, told: list[Object], taking: Taking) -> Iterator[Object]:
+    """Takes these out of one volume."""
+    rows = connection.execute("SELECT id, path, size FROM files WHERE id = ?1 OR (of = ?1 AND state = 'part') ORDER BY part", (volume,)).fetchall()
+    task = Task(tuple(it["id"] for it in rows), tuple(taking.places.found(it["path"]) for it in rows))
+    size = sum(it["size"] or 0 for it in rows)
+    with scratch_folder(parent_for(size, taking.way.scratch)) as folder:
+        try:
+            unload_all(task, folder, taking)
+            fault = ""
+        except (OSError, Fault, BadPacking) as why:
+            fault = str(why)
+        for it in told:
+            yield {**it, **put_file(it, folder, taking, fault)}
+
+
+def unload_all(task: Task, folder: bytes, taking: Taking) -> None:
+    """Unloads all of a volume into a folder."""
+    names = put_files(Answer(task), folder, taking.way)
+    os.mkdir(os.path.join(folder, os.fsencode(ALL)))
+    words = ["--text"] if taking.is_text else []
+    for _ in Volume(taking.way.program, folder, names, taking.way.patience).ask("extract", "--all", ALL, *words):
+        pass
+
+
+def put_file(it: Object, folder: bytes, taking: Taking, fault: str) -> Object:
+    """Puts what was unloaded where it belongs: a folder for its volume, by its number, and the name that `dasd` gives it."""
+    source = os.path.join(folder, os.fsencode(ALL), os.fsencode(it["file_name"]))
+    if not os.path.exists(source):
+        return {"fault": fault or "the pack has it no more"}
+    if not taking.is_text and unloaded_hash(source).hex() != it["hash"]:
+        return {"fault": "the pack says something else since it was scanned"}
+    target = os.path.join(taking.folder, str(it["volume"]), it["file_name"])
+    try:
+        os.makedirs(os.path.dirname(target), exist_ok=True)
+        with open(source, "rb") as held, open(target, "xb") as out:
+            shutil.copyfileobj(held, out)
+    except FileExistsError:
+        return {"fault": f"{target} is there"}
+    except OSError as why:
+        return {"fault": str(why)}
+    return {"file": target}

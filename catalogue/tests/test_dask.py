@@ -1,0 +1,117 @@
+"""The same rows over Dask, with a worker that is killed in the middle: a scheduler and three workers, each a process of its own."""
+
+from __future__ import annotations
+
+import importlib
+import importlib.util
+import json
+import os
+import signal
+import subprocess
+import sys
+import time
+import unittest
+from pathlib import Path
+from typing import Any
+from unittest import mock
+
+from archive import COUNT, HERE, Case, catalogue, packs, scanned
+from rows import differences, rows_of
+
+from dasd_catalogue.engines import BadEngine, Dask
+from dasd_catalogue.store import Store
+
+HAS_DASK = importlib.util.find_spec("distributed") is not None
+WORKERS = 3
+PATIENCE = 120.0
+
+
+class Cluster:
+    """A scheduler and its workers."""
+
+    def __init__(self, folder: Path) -> None:
+        self.folder, self.file = folder, folder / "scheduler.json"
+        self.processes: list[subprocess.Popen[bytes]] = []
+        self.start("dask_scheduler", "--host", "127.0.0.1", "--port", "0", "--no-dashboard")
+        until(self.file.exists, "the scheduler did not come")
+
+    def start(self, module: str, *words: str) -> subprocess.Popen[bytes]:
+        """Starts a process."""
+        environment = {**os.environ, "PYTHONPATH": str(HERE.parent), "DASK_DISTRIBUTED__WORKER__MEMORY__TERMINATE": "False"}
+        line = [sys.executable, "-m", f"distributed.cli.{module}", "--scheduler-file", str(self.file), *words]
+        with open(self.folder / f"log-{len(self.processes)}", "wb") as log:
+            process = subprocess.Popen(line, cwd=self.folder, env=environment, stdout=log, stderr=log)
+        self.processes.append(process)
+        return process
+
+    def start_workers(self, count: int) -> None:
+        """Starts workers of one thread each."""
+        for number in range(count):
+            folder = self.folder / f"worker-{len(self.processes)}-{number}"
+            words = ["--nthreads", "1", "--no-nanny", "--no-dashboard", "--local-directory", str(folder), "--host", "127.0.0.1"]
+            self.start("dask_worker", *words)
+
+    @property
+    def address(self) -> str:
+        """Where the scheduler is."""
+        return str(json.loads(self.file.read_text(encoding="utf-8"))["address"])
+
+    def await_workers(self, count: int) -> None:
+        """Waits until so many workers are there."""
+        distributed: Any = importlib.import_module("distributed")
+        with distributed.Client(self.address, set_as_default=False) as client:
+            client.wait_for_workers(count, timeout=PATIENCE)
+
+    def close(self) -> None:
+        """Ends all, by their ids."""
+        for process in reversed(self.processes):
+            if process.poll() is None:
+                process.kill()
+            process.wait()
+
+
+def until(holds: object, why: str) -> None:
+    """Waits until something holds."""
+    assert callable(holds)
+    end = time.monotonic() + PATIENCE
+    while not holds():
+        if time.monotonic() > end:
+            raise AssertionError(why)
+        time.sleep(0.05)
+
+
+@unittest.skipUnless(HAS_DASK, "Debian's python3-distributed is not here")
+class OverDask(Case):
+    """Scans over a cluster of this machine."""
+
+    def test_the_same_rows_although_a_worker_is_killed(self) -> None:
+        """One of three, when a third has been answered; its packs are asked by the others."""
+        cluster = Cluster(self.folder)
+        self.addCleanup(cluster.close)
+        with self.assertRaisesRegex(BadEngine, "no workers"):
+            scanned(self.database, [packs()], Dask(cluster.address))
+        cluster.start_workers(WORKERS)
+        cluster.await_workers(WORKERS)
+        victim, put, count = cluster.processes[2], Store.put, 0
+
+        def put_and_kill(store: Store, answer: object) -> None:
+            nonlocal count
+            count += 1
+            if count == COUNT // 3:
+                victim.send_signal(signal.SIGKILL)
+            put(store, answer)  # type: ignore[arg-type]
+
+        database = catalogue().parent / "dask.db"
+        with mock.patch.object(Store, "put", put_and_kill):
+            came = scanned(database, [packs()], Dask(cluster.address))
+        victim.wait()
+        self.assertEqual(victim.returncode, -signal.SIGKILL)
+        self.assertEqual(came.asked, COUNT + 3)
+        self.assertEqual(differences(rows_of(catalogue()), rows_of(database)), [])
+        with mock.patch("dasd_catalogue.engines.__version__", "0.0"):
+            with self.assertRaisesRegex(BadEngine, "without this version"):
+                scanned(self.database, [packs()], Dask(cluster.address))
+
+
+if __name__ == "__main__":
+    unittest.main()
