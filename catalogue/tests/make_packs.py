@@ -5,7 +5,7 @@ There are so many packs of the 2311, of one or two cylinders each, by their numb
 say the same and differ behind end marks, broken ones, packed ones, images in two files, links, and names of odd bytes; beside them what is no pack.
 `dasd` takes no part. What each pack is, says the table KINDS.
 
-Layouts: System Control Blocks (GC28-6628), by tools/written_labels.py and tools/volume_layouts.py; record formats by tools/record_forms.py."""
+Layouts: System Control Blocks (GC28-6628), by tools/common/written_labels.py and volume_layouts.py; record formats by record_forms.py there."""
 
 from __future__ import annotations
 
@@ -18,13 +18,14 @@ from pathlib import Path
 
 sys.dont_write_bytecode = True
 TOP = Path(__file__).resolve().parent.parent.parent
-for _folder in ("tools", "conformance"):
-    sys.path.append(str(TOP / _folder))
+for _folder in (TOP, TOP / "conformance"):
+    sys.path.append(str(_folder))
 
-from record_forms import fixed_blocks, variable_blocks  # noqa: E402
 from suite.volumes import Volume  # noqa: E402
-from volume_layouts import Extents, Image, Member, count_free, partition  # noqa: E402
-from written_labels import DataSet, put_label  # noqa: E402
+from tools.common.images import Image  # noqa: E402
+from tools.common.record_forms import fixed_blocks, variable_blocks  # noqa: E402
+from tools.common.volume_layouts import Extents, Member, count_free, partition  # noqa: E402
+from tools.common.written_labels import DataSet, put_label  # noqa: E402
 
 MODEL, HEADS = "2311", 10
 HEADER, SLOT = 512, 4096
@@ -43,7 +44,7 @@ def cards(lines: list[str]) -> list[bytes]:
 
 def put_sequential(image: Image, name: str, lines: list[str], runs: list[tuple[int, int]]) -> DataSet:
     """A sequential data set of blocked cards."""
-    extents = Extents(image, MODEL, runs)
+    extents = Extents(image, runs)
     for block in [*fixed_blocks(cards(lines), 800), b""]:
         extents.append(b"", block)
     extents.save()
@@ -52,7 +53,7 @@ def put_sequential(image: Image, name: str, lines: list[str], runs: list[tuple[i
 
 def put_notes(image: Image, name: str, lines: list[str], runs: list[tuple[int, int]]) -> DataSet:
     """A sequential data set of records of variable length."""
-    extents = Extents(image, MODEL, runs)
+    extents = Extents(image, runs)
     for block in [*variable_blocks([line.encode("cp037") for line in lines], 260), b""]:
         extents.append(b"", block)
     extents.save()
@@ -61,7 +62,7 @@ def put_notes(image: Image, name: str, lines: list[str], runs: list[tuple[int, i
 
 def put_library(image: Image, name: str, members: dict[str, list[str]], runs: list[tuple[int, int]]) -> DataSet:
     """A partitioned data set of cards; its first member has another name too."""
-    extents = Extents(image, MODEL, runs)
+    extents = Extents(image, runs)
     first = next(iter(members))
     made = {it: Member(fixed_blocks(cards(lines), 400), ("ALIAS",) if it == first else ()) for it, lines in members.items()}
     partition(extents, made, 2)
@@ -86,31 +87,30 @@ def pack(number: int, cylinders: int = 0) -> Image:
     ]
     if number % 5 == 0:
         sets.append(put_notes(image, f"NOTES.N{number:05}", [f"Pack {number} was read from tape {number // 10}.", *HOSTILE], [(7, 7)]))
-    put_label(image, MODEL, f"P{number % 100000:05}", sets, who[:10])
+    put_label(image, f"P{number % 100000:05}", sets, who[:10])
     count_free(image)
     return image
 
 
 def plain(number: int) -> bytes:
     """An ordinary pack."""
-    return bytes(pack(number).bytes)
+    return pack(number).volume.bytes()
 
 
 def with_leftovers(number: int) -> bytes:
     """The ordinary pack of the number before, with bytes left behind an end mark, and a reserved byte of the header."""
-    image = pack(number - 1)
+    held = bytearray(plain(number - 1))
     at = HEADER + 9 * SLOT
-    image.bytes[at + SLOT - 100 : at + SLOT] = bytes([number % 255 + 1]) * 100
-    image.bytes[40] = 1
-    return bytes(image.bytes)
+    held[at + SLOT - 100 : at + SLOT] = bytes([number % 255 + 1]) * 100
+    held[40] = 1
+    return bytes(held)
 
 
 def with_broken_track(number: int) -> bytes:
     """A pack with a record length that leads out of the slot of its library's second track."""
     image = pack(number)
-    at = HEADER + 3 * SLOT + 11
-    image.bytes[at : at + 2] = b"\xff\xff"
-    return bytes(image.bytes)
+    image.put_bytes(3, 11, b"\xff\xff")
+    return image.volume.bytes()
 
 
 def without_label(number: int) -> bytes:
@@ -149,9 +149,9 @@ def hostile(number: int) -> bytes:
         put_sequential(image, "A\x1b[31mB", ["RED"], [(5, 5)]),
         put_library(image, "LIB", {"<I>": ["ITALIC"], "'OR''1'": ["SQL"], f"M{number}": ["PLAIN"]}, [(6, 7)]),
     ]
-    put_label(image, MODEL, "<B>&'\"", sets, "<SCRIPT>")
+    put_label(image, "<B>&'\"", sets, "<SCRIPT>")
     count_free(image)
-    return bytes(image.bytes)
+    return image.volume.bytes()
 
 
 #: What the pack of a number is: the first row whose number divides it, beginning with those that are rare.
@@ -217,7 +217,7 @@ def put_beside(root: bytes) -> None:
     os.mkdir(os.path.join(root, b"folder.ckd"))
     os.mkfifo(os.path.join(root, b"pipe.ckd"))
     put(os.path.join(root, b"README.TXT"), b"Packs that were read from tape.\n")
-    whole = bytes(pack(1, 3).bytes)
+    whole = pack(1, 3).volume.bytes()
     put(os.path.join(root, b"whole.ckd"), whole)
     for number, held in enumerate(Volume.read([whole]).split(2).files(), 1):
         put(os.path.join(root, b"big_%d.ckd" % number), held)

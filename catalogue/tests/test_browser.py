@@ -127,7 +127,7 @@ def example() -> Path:
     folder = room() / "archive"
     (folder / "packs").mkdir(parents=True)
     for number in range(1, 25):
-        (folder / f"packs/{number:03}.ckd").write_bytes(bytes(pack(number).bytes))
+        (folder / f"packs/{number:03}.ckd").write_bytes(pack(number).volume.bytes())
     make_large(folder / "packs/large.ckd")
     scanned(folder / "catalogue.db", [folder / "packs"])
     return folder / "catalogue.db"

@@ -47,7 +47,7 @@ class Says(Case):
 
     def test_in_how_many_files_says_nothing(self) -> None:
         """One or two."""
-        whole = bytes(pack(1, 3).bytes)
+        whole = pack(1, 3).volume.bytes()
         self.assertEqual(self.said(whole, cylinders=3), self.said(*Volume.read([whole]).split(2).files(), cylinders=3))
 
     def test_each_byte_up_to_the_end_mark_says_something(self) -> None:

@@ -17,8 +17,8 @@ from archive import COUNT, Case, catalogue, packs, program, reading, scanned, ty
 from make_packs import kind_of, make, new_image, pack, plain, put_library, put_sequential, with_leftovers
 from rows import differences, rows_of
 from suite.volumes import Volume
-from volume_layouts import count_free
-from written_labels import put_label
+from tools.common.volume_layouts import count_free
+from tools.common.written_labels import put_label
 
 from dasd_catalogue import says
 from dasd_catalogue.answers import Answer, Task, Way
@@ -181,7 +181,7 @@ class Again(Case):
         (self.packs / "inner").mkdir(parents=True)
         for number in (1, 2, 3):
             (self.packs / f"{number}.ckd").write_bytes(plain(number))
-        for number, held in enumerate(Volume.read([bytes(pack(1, 3).bytes)]).split(2).files(), 1):
+        for number, held in enumerate(Volume.read([pack(1, 3).volume.bytes()]).split(2).files(), 1):
             (self.packs / f"inner/big_{number}.ckd").write_bytes(held)
         (self.packs / "a-link.ckd").symlink_to("1.ckd")
         self.assertEqual(scanned(self.database, [self.packs]).asked, 4)
@@ -312,9 +312,9 @@ class Files(Case):
         ]
         members = {bytes(range(first, first + 7)).decode("cp037"): [f"MEMBER {first}"] for first in range(0, 252, 18)}
         sets.append(put_library(image, "LIB", members, [(8, 10)]))
-        put_label(image, "2311", "ALLBYT", sets)
+        put_label(image, "ALLBYT", sets)
         count_free(image)
-        (self.folder / "1.ckd").write_bytes(bytes(image.bytes))
+        (self.folder / "1.ckd").write_bytes(image.volume.bytes())
         scanned(self.database, [self.folder / "1.ckd"])
         self.assertEqual(self.rows("SELECT * FROM faults"), [])
         self.assertEqual(self.rows("SELECT COUNT(*) FROM data_sets WHERE said IS NOT NULL AND whole"), [(7,)])

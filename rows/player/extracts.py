@@ -1,7 +1,7 @@
 """Rows of what `dasd` takes out of a volume, and volumes with bytes replaced.
 
 A row is its name, a volume, and what is asked of it. `track 3 21 C1*80` puts bytes into the slot of a track of a new 2311 of two
-cylinders, or of as many as a line `volume 60` says. The first rows are the volume SMALL1 of tools/hercules_volumes.py, whose label, volume
+cylinders, or of as many as a line `volume 60` says. The first rows are the volume SMALL1 of tools/make/hercules_volumes.py, whose label, volume
 table of contents and sequential data set Hercules' `dasdload` wrote: what is wanted is what was put into them. Where a row has a line
 `set`, a label and a volume table of contents stand beside (System Control Blocks, GC28-6628, 'Volume Label' and 'Data Set Control Block'):
 
