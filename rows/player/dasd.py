@@ -192,7 +192,7 @@ class DasdRow:
             behind = self.stamps()
             order = [Path(it).name for it in puts.read_text().splitlines()]
         others = [it for it in behind if it != traces and it not in order and behind[it] != before.get(it)]
-        self.replaced = [it for it in order if it in behind] + others
+        self.replaced = [it for it in order if it in behind] + sorted(others)
         self.shown = [it.decode("ascii") for it in SHOWN.findall(told)]
         if self.shown and self.shown[-1] == "":
             self.shown = [it for it in self.shown if it]
