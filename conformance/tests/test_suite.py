@@ -222,10 +222,17 @@ class Runner(unittest.TestCase):
             self.assertIsNone(difference(vectors["deck-bad-key"], emulator.play(vectors["deck-bad-key"])))
 
     def test_silence_ends_an_emulator(self) -> None:
-        code = "import time; print(input().replace('1', '1 x'), flush=True); time.sleep(60)"
-        text, status = run("protocol=%s -c \"%s\"" % (sys.executable, code), "--seconds", "0.5", "--only", "worked-sense")
-        self.assertIn("was silent for 0.5 s, at BEGIN 1 65536", text)
-        self.assertEqual(status, 1)
+        code = "import time; print(input().replace('1', '1 x'), flush=True); time.sleep(600)"
+        emulator = ProtocolEmulator("%s -c \"%s\"" % (sys.executable, code))
+        self.addCleanup(emulator.close)
+        emulator.seconds = 0.5
+        self.assertIn("was silent for 0.5 s, at BEGIN 1 65536", emulator.play(VECTORS[0]).broke or "")
+
+    def test_how_long_silence_may_be_is_said_by_an_option(self) -> None:
+        silent = "protocol=%s -c 'import time; time.sleep(600)'" % sys.executable
+        for words in (["run.py", silent], ["differ.py", "model", silent], ["ask.py", silent, os.path.join(HERE, "hercules", "20-halt-idle.deck")]):
+            ran = subprocess.run([sys.executable, os.path.join(HERE, words[0]), *words[1:], "--seconds", "0.5"], capture_output=True, text=True)
+            self.assertEqual((ran.stderr[-44:], ran.returncode), (" ended, or was silent for 0.5 s, at HELLO 1\n", 2), words)
 
     def test_a_program_that_says_no_hello_is_refused(self) -> None:
         with self.assertRaises(Broke):
