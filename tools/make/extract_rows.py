@@ -12,8 +12,8 @@ import sys
 import tempfile
 from collections.abc import Callable, Iterator
 
-from tools import TOP
 from conformance.suite.volumes import END, Record, address
+from tools import TOP
 from tools.common import volume_layouts as layouts
 from tools.common.images import Image
 from tools.make import hercules_volumes as volumes
@@ -141,7 +141,8 @@ def small_rows() -> list[Row]:
          "raw 0 0 65535 0:4-0:4 0:2-0:2", ["C1C1C2C2", ends(1, "end of file")]),
         ("a track of record 0 alone is passed", [put(1, record(1, 1, a)), put(3, record(3, 1, b), record(3, 2, end))],
          "raw 0 0 65535 0:1-0:3", ["C1C1C2C2", ends(2, "end of file")]),
-        ("from a block on, and from the first of each track behind it", [put(1, record(1, 1, a), record(1, 2, b)), put(2, record(2, 1, c), record(2, 2, end))],
+        ("from a block on, and from the first of each track behind it",
+         [put(1, record(1, 1, a), record(1, 2, b)), put(2, record(2, 1, c), record(2, 2, end))],
          "raw 0 2 65535 0:1-0:2", ["C2C2C3C3", ends(1, "end of file")]),
         ("what stands behind an end of file is not written", [put(1, record(1, 1, a), record(1, 2, end), record(1, 3, b), record(1, 4, end))],
          "raw 0 1 65535 0:1-0:1", ["C1C1", ends(0, "end of file")]),
@@ -153,14 +154,16 @@ def small_rows() -> list[Row]:
         ("no such block", [put(1, record(1, 1, a))], "raw 0 9 65535 0:1-0:1", ["", ends(0, "no block 9")]),
         ("an extent that ends before it begins", [], "raw 0 0 65535 0:3-0:1", ["", ends(0, "an extent is no run of tracks")]),
         ("a head that the drive has not", [], "raw 0 0 65535 0:3-0:10", ["", ends(0, "an extent is no run of tracks")]),
-        ("an extent that leaves the volume", [put(19, record(19, 1, a))], "raw 0 0 65535 1:9-2:0", ["C1C1", ends(1, "an extent has a track that the volume has not")]),
+        ("an extent that leaves the volume",
+         [put(19, record(19, 1, a))], "raw 0 0 65535 1:9-2:0", ["C1C1", ends(1, "an extent has a track that the volume has not")]),
         ("a track that can't be read", [put(1, record(1, 1, a)), f"track 2 {RECORDS} 000000020100FFFF"],
          "raw 0 0 65535 0:1-0:3", ["C1C1", ends(1, "unreadable record past end at 21")]),
         ("so many tracks at most", [put(1, record(1, 1, a)), put(2, record(2, 1, b), record(2, 2, end))],
          "raw 0 0 1 0:1-0:2", ["C1C1", ends(1, "more tracks than are read")]),
         ("a block of no directory", [put(1, record(1, 1, bytes(256), bytes(8)), record(1, 2, a))],
          "directory 0 0 65535 0:1-0:1", ["00" * 256, ends(0, "block 2 is none of a directory")]),
-        ("lines without the blanks at their end", [put(1, record(1, 1, layouts.ebcdic("  AB", 8) + layouts.ebcdic("", 8) + layouts.ebcdic("A¬B¢", 8)), record(1, 2, end))],
+        ("lines without the blanks at their end",
+         [put(1, record(1, 1, layouts.ebcdic("  AB", 8) + layouts.ebcdic("", 8) + layouts.ebcdic("A¬B¢", 8)), record(1, 2, end))],
          "fixed:8 0 0 65535 0:1-0:1", ["  AB", "", "A¬B¢", ends(0, "end of file")]),
         ("a control character", [put(1, record(1, 1, b"\xc1\x27\x25\x07\xc2\x40"), record(1, 2, end))],
          "fixed:6 0 0 65535 0:1-0:1", ["A\ufffd\ufffd\ufffdB", ends(0, "end of file")]),
@@ -223,9 +226,9 @@ def block_end(data: bytes) -> int:
 def tally(data: bytes, kinds: int, reading: Callable[[bytes], int]) -> list[int]:
     """How often each kind is read, while each byte is replaced in turn."""
     counts = [0] * kinds
-    for i in range(len(data)):
+    for at, byte in enumerate(data):
         for pattern in PATTERNS:
-            counts[reading(data[:i] + bytes([data[i] ^ pattern]) + data[i + 1 :])] += 1
+            counts[reading(data[:at] + bytes([byte ^ pattern]) + data[at + 1 :])] += 1
     return counts
 
 
