@@ -73,10 +73,15 @@ def has_module() -> bool:
     return (TOP / "web/out/program.wasm").exists() and bool(shutil.which("node"))
 
 
+def has_shared() -> bool:
+    """Whether there is the shared library."""
+    return (TOP / "c/libdasd.so.1").exists()
+
+
 NEEDS = {
     "kit": Need("the kit", has("rt"), True),
     "library": Need("c/libdasd.a, which `make -C c` makes, a C compiler and pkg-config", has_library),
-    "shared": Need("c/libdasd.so.1, which `make -C c` makes", lambda: (TOP / "c/libdasd.so.1").exists()),
+    "shared": Need("c/libdasd.so.1, which `make -C c` makes", has_shared),
     "web": Need("web/out/program.wasm, which `make -C web` makes, and node", has_module),
     "hercules": Need("Hercules", has("hercules"), True),
     "sqlite3": Need("sqlite3", has("sqlite3")),
