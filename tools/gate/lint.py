@@ -18,6 +18,7 @@ import tempfile
 from collections.abc import Callable
 from concurrent.futures import ThreadPoolExecutor
 from dataclasses import dataclass, field
+from functools import partial
 from pathlib import Path
 
 from tools import TOP
@@ -33,13 +34,20 @@ class Tree:
 
     begins: tuple[str, ...]
     imports: tuple[str, ...]
+    leaves: tuple[str, ...] = ()  # what pylint would say beside the settings' own, and is not held to yet
     files: list[str] = field(default_factory=list)
 
 
+# The suite's own programs are to be held to these too.
+LEFT_OPEN = (
+    *("missing-class-docstring", "missing-function-docstring", "too-many-arguments", "inconsistent-return-statements", "unused-argument"),
+    *("subprocess-run-check", "import-outside-toplevel", "cyclic-import", "redefined-outer-name", "cell-var-from-loop", "no-member"),
+    *("unpacking-non-sequence", "consider-using-enumerate", "unused-import", "global-statement"),
+)
 # A file is of the first tree whose begins it has.
 TREES = [
     Tree(("tools/", "sample/"), (".",)),
-    Tree(("conformance/",), ("conformance",)),
+    Tree(("conformance/",), ("conformance",), LEFT_OPEN),
     Tree(("rows/",), ("rows", "conformance")),
     Tree(("release/",), ("release", "release/tests", ".")),
     Tree(("python/",), ("python",)),
@@ -96,22 +104,23 @@ def by_pylint(files: Files) -> list[str]:
     """What good Python is, and functions that do too much."""
     paths = [":".join(str(TOP / name) for name in it.imports) for it in files.trees]
     words = ["pylint", "--score=n", "--output-format=text"]
-    return all_of([lambda it=it, path=path: ran([*words, *it.files], PYTHONPATH=path) for it, path in zip(files.trees, paths)])
+    given = [[*words, *(f"--disable={name}" for name in it.leaves), *it.files] for it in files.trees]
+    return all_of([partial(ran, command, PYTHONPATH=path) for command, path in zip(given, paths)])
 
 
 def by_shellcheck(files: Files) -> list[str]:
     """Shell scripts."""
-    return all_of([lambda: ran(["shellcheck", "--external-sources", *files.shell])])
+    return all_of([partial(ran, ["shellcheck", "--external-sources", *files.shell])])
 
 
 def by_clang_format(files: Files) -> list[str]:
     """How C is laid out."""
-    return all_of([lambda: ran(["clang-format", "--dry-run", "-Werror", *files.c])])
+    return all_of([partial(ran, ["clang-format", "--dry-run", "-Werror", *files.c])])
 
 
 def by_clang_tidy(files: Files) -> list[str]:
     """C, file by file."""
-    return all_of([lambda it=it: ran(["clang-tidy", "--quiet", it, "--", *C_WORDS]) for it in files.c if it.endswith(".c")])
+    return all_of([partial(ran, ["clang-tidy", "--quiet", it, "--", *C_WORDS]) for it in files.c if it.endswith(".c")])
 
 
 def by_size(files: Files) -> list[str]:
