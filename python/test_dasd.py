@@ -32,6 +32,8 @@ def made() -> dasd.Subsystem:
 
 
 class Calls(unittest.TestCase):
+    """Each call, over one handle."""
+
     def refused(self, name: str, call: Callable[..., object], *arguments: object) -> None:
         """A call raises the Fault of this name."""
         with self.assertRaises(dasd.Fault) as caught:
@@ -75,7 +77,8 @@ class Calls(unittest.TestCase):
             self.assertEqual(disks.sio(0x190), 0)
             disks.run_on(1, 1000)
             disks.interrupt()
-            self.assertEqual(disks.drive(0x190), dict(model=2314, cylinders=2, cylinder=1, head=3, arm=dasd.Arm.IN_MOTION, sense=bytes(6)))
+            self.assertEqual(disks.drive(0x190), {"model": 2314, "cylinders": 2, "cylinder": 1, "head": 3, "arm": dasd.Arm.IN_MOTION,
+                                                  "sense": bytes(6)})
             self.assertEqual((disks.arrive(0x190), disks.arrive(0x190)), (True, False))
             state = disks.channel(1)
             self.assertEqual((state["subchannel"], state["drives"]), (dasd.Subchannel.AVAILABLE, [(0x90, dasd.Arm.ARRIVED)]))
@@ -94,7 +97,7 @@ class Calls(unittest.TestCase):
             self.assertEqual((bytes(disks.storage[0x300:0x302]), disks.key(4095), disks.key(0)), (b"ab", 7, 0))
         self.refused("NOTHING_HELD", disks.sio, 0x190)
         with self.assertRaises(dasd.Fault):
-            disks.storage
+            _ = disks.storage
         disks.close()
         self.refused("BAD_SIZE", dasd.Subsystem, 1000, 1)
         self.refused("BAD_CHANNELS", dasd.Subsystem, 4096, 7)
@@ -208,10 +211,10 @@ def parse(line: bytes) -> Union[None, str, Event]:
     return name, operands
 
 
-def csw(disks: dasd.Subsystem, whole: bool = True) -> str:
+def csw(disks: dasd.Subsystem, both: bool = True) -> str:
     """The channel status word that stands in storage, or its status bytes alone."""
     halves = disks.peek(64, 8)
-    return f"{halves[:4].hex()} {halves[4:].hex()}".upper() if whole else halves[4:6].hex().upper()
+    return f"{halves[:4].hex()} {halves[4:].hex()}".upper() if both else halves[4:6].hex().upper()
 
 
 def condition(disks: dasd.Subsystem, name: str, address: int, code: int) -> str:
@@ -318,6 +321,8 @@ def comes_out(lines: List[Line], folder: str) -> bool:
 
 
 class Vectors(unittest.TestCase):
+    """The vectors of the conformance suite, where they are."""
+
     def test_vectors(self) -> None:
         folder = os.environ.get("DASD_VECTORS")
         if not folder:

@@ -98,6 +98,7 @@ def told(part: Part, name: str, text: str) -> str:
 
 
 def parse_words() -> argparse.Namespace:
+    """The words of the command."""
     words = argparse.ArgumentParser(description=__doc__, formatter_class=argparse.RawDescriptionHelpFormatter)
     words.add_argument("stage", metavar="STAGE")
     words.add_argument("suites", nargs="*", metavar="SUITE", help=", ".join(SUITES))
@@ -116,7 +117,7 @@ def main() -> int:
     unknown = [it for it in said.suites if it not in SUITES]
     if unknown:
         sys.exit("play.py: no such suite: %s" % ", ".join(unknown))
-    suites = said.suites or [it for it in SUITES if programs.dasd or not SUITES[it].wants_dasd]
+    suites = said.suites or [name for name, it in SUITES.items() if programs.dasd or not it.wants_dasd]
     alone = bool(said.only) or said.show
     parts = [Part(suite, rest, 1 if alone else PARTS, programs, said.only, said.show, said.first, said.seconds)
              for rest in range(1 if alone else PARTS) for suite in suites]

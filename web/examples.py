@@ -153,7 +153,7 @@ def main() -> None:
     add_hercules(all_)
     for vector in all_vectors():
         all_.add("vector", vector)
-    Path(sys.argv[1]).write_text(json.dumps({"images": all_.images, "examples": all_.examples}, separators=(",", ":")) + "\n")
+    Path(sys.argv[1]).write_text(json.dumps({"images": all_.images, "examples": all_.examples}, separators=(",", ":")) + "\n", encoding="utf-8")
 
 
 if __name__ == "__main__":

@@ -111,10 +111,10 @@ def main() -> None:
     if len(sys.argv) != 3:
         sys.exit(__doc__)
     try:
-        made = to_wasm(Path(sys.argv[1]).read_text(), imports_of(Path(__file__).resolve().parent / "imports.txt"))
+        made = to_wasm(Path(sys.argv[1]).read_text(encoding="utf-8"), imports_of(Path(__file__).resolve().parent / "imports.txt"))
     except Refused as why:
         sys.exit(f"to_wasm.py: {sys.argv[1]}: {why}")
-    Path(sys.argv[2]).write_text(made)
+    Path(sys.argv[2]).write_text(made, encoding="utf-8")
 
 
 if __name__ == "__main__":

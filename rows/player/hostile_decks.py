@@ -192,6 +192,7 @@ TURNS = ((("STORE 400 00",), 1), (("TCH",), 0), (("KEY 400 0", "SHOW 400 1"), 1)
 
 
 def cases() -> Iterator[Case]:
+    """All decks that are cut, or at their limits."""
     for number, line in enumerate(deck().split(b"\n")[:-1]):
         yield Case("line %d is cut at every byte: %s" % (number + 1, line.decode("ascii").strip()), partial(cut_line, number))
     for most in range(1, 20):

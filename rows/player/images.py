@@ -153,6 +153,7 @@ def fault_of_byte(at: int, byte: int) -> str:
 
 
 def every_byte_of_a_header(stage: Stage) -> None:
+    """Each byte of a header in turn is another, and what a mount says of it."""
     lines = ["FILE new %s" % spelled(new_file())]
     changes = [(at, byte) for at in range(HEADER) for byte in (0x00, 0x7F, 0xFF)]
     for at, byte in changes:
@@ -181,6 +182,7 @@ def slot_begins(stage: Stage, track: int, wanted: bytes) -> None:
 
 
 def loads_and_saves(stage: Stage) -> None:
+    """What a load answers, and what a save leaves in the file."""
     new = new_file("2311", 2)
     begin(stage, 0, False, {"x": new})
     same("SAVE", "OK", stage.ask("SAVE 13 D7*4096"))
@@ -217,6 +219,7 @@ def the_read_of_a_mount_fails(stage: Stage) -> None:
 
 
 def a_load_fails(stage: Stage) -> None:
+    """A load whose store fails, once or for good."""
     for for_good in (False, True):
         begin(stage, 3, for_good, {"x": new_file()})
         slot_begins(stage, 4, bytes.fromhex("000000000400"))
@@ -228,6 +231,7 @@ def a_load_fails(stage: Stage) -> None:
 
 
 def a_save_fails(stage: Stage) -> None:
+    """A save whose store fails, once or for good."""
     for for_good in (False, True):
         begin(stage, 2, for_good, {"x": new_file()})
         same("SAVE 5", refused(STORE, ""), stage.ask("SAVE 5 D7*4096"))
@@ -326,6 +330,7 @@ def each_save_goes_to_one_file(stage: Stage) -> None:
 
 
 def a_load_or_a_save_of_one_file_fails(stage: Stage) -> None:
+    """Of two files the store of one fails, and the other goes on."""
     put(stage, "a", A)
     put(stage, "b", B)
     lines = {"FAIL a 2": "OK", "FAIL b 3": "OK", "MOUNT a b": image("2311", 3), "LOAD 19": refused(STORE, "")}
@@ -346,6 +351,7 @@ CASES = (lengths, formats_and_mounts, refuses_to_format, short_files, no_prefix_
 
 
 def cases() -> Iterator[Case]:
+    """All that is tried of images."""
     yield Case("a new 2311", partial(new_image, "2311", 2, b"CKD_P370\x0a\0\0\0\0\x10\0\0\x11\0\0\0", 4096))
     yield Case("a new 2314", partial(new_image, "2314", 1, b"CKD_P370\x14\0\0\0\0\x1e\0\0\x14\0\0\0", 7680))
     for it in CASES:

@@ -86,9 +86,9 @@ def goes_on(seed: int, stage: Stage) -> None:
 def attaches_once(stage: Stage) -> None:
     """That a drive is attached at the address 0, and another one there is refused."""
     row = channel_over(stage, 0)
-    for told in ("", "a drive with this address is attached"):
+    for wanted in ("", "a drive with this address is attached"):
         row.attach(["00", "0"])
-        same("attach 00", told, row.told)
+        same("attach 00", wanted, row.told)
 
 
 # --- made short ---

@@ -269,6 +269,7 @@ class Ledger:
         entry.device_ends += bool(unit & DEVICE_END)
 
     def is_balanced(self, address: int, view: View) -> bool:
+        """Whether what a drive was given and what it still owes come to the same."""
         entry, device = self.entries.get(address, Entry()), address & 0xFF
         channel, by_arm = 0, int(view.arm(device) is not Arm.AT_REST)
         if view.kind == "working" and view.device == device:

@@ -78,11 +78,15 @@ def directory_blocks(entries: list[tuple[bytes, bytes]], count: int) -> list[tup
     return made + [(bytes(8), bytes([0, 2]).ljust(256, b"\0"))] * (count - len(made))
 
 
+@dataclass
 class Member:
-    """A member: its blocks, the names that it has beside its own, and whether it begins a track."""
+    """A member: its blocks, the names that it has beside its own, whether it begins a track, its user data, and how many notes are there."""
 
-    def __init__(self, blocks: list[bytes], aliases: tuple[str, ...] = (), turns: bool = False, user: bytes = b"", notes: int = 0):
-        self.blocks, self.aliases, self.turns, self.user, self.notes = blocks, aliases, turns, user, notes
+    blocks: list[bytes]
+    aliases: tuple[str, ...] = ()
+    turns: bool = False
+    user: bytes = b""
+    notes: int = 0
 
     def data(self) -> bytes:
         return b"".join(self.blocks)
@@ -98,8 +102,7 @@ def partition(extents: Extents, members: dict[str, Member], count: int) -> None:
         if member.turns:
             extents.turn()
         places = [extents.append(b"", block) for block in member.blocks + [b""]]
-        track, number = places[0]
-        address = track.to_bytes(2, "big") + bytes([number])
+        address = places[0][0].to_bytes(2, "big") + bytes([places[0][1]])
         for other in (name, *member.aliases):
             lengths = (128 if other != name else 0) + member.notes * 32 + len(member.user) // 2
             entries.append((ebcdic(other, 8), address + bytes([lengths]) + member.user))

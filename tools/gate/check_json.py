@@ -26,7 +26,7 @@ from tools import TOP
 
 DEBIAN = "/usr/bin/python3"
 try:
-    import jsonschema  # type: ignore[import]
+    import jsonschema
 except ImportError:
     # a Python beside the system's does not see Debian's package
     if Path(DEBIAN).exists() and not os.path.samefile(DEBIAN, sys.executable):

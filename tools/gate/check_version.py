@@ -39,7 +39,7 @@ def main() -> int:
     """Compares them all."""
     version = (TOP / "VERSION").read_text(encoding="utf-8").strip()
     wrong = 0
-    copies = {name: pattern for name, pattern in COPIES.items() if (TOP / name.split("/")[0]).exists()}
+    copies = {name: pattern for name, pattern in COPIES.items() if (TOP / name.partition("/")[0]).exists()}
     for name, pattern in copies.items():
         shown = copy_in(TOP / name, pattern)
         if shown != version:

@@ -114,8 +114,8 @@ class Extraction:
         """All that is compared of a volume."""
         for piece in self.pieces:
             self.compare_piece(piece)
-        for name, library in self.plan.partitioned.items():
-            self.compare_library(name, library)
+        for name in self.plan.partitioned:
+            self.compare_library(name)
         for options in ((), ("--json",), ("--text",), ("--text", "--json")):
             self.compare_all(options)
         self.compare_refusals()
@@ -151,7 +151,7 @@ class Extraction:
             lines = readings.records_by_dasdseq(self.image, piece.name, "-ascii")
             self.same(f"{piece.name} text", text.decode().encode("latin-1"), lines, "dasdseq -ascii")
 
-    def compare_library(self, name: str, library: volumes.Library) -> None:
+    def compare_library(self, name: str) -> None:
         """The members of a partitioned data set, beside dasdcat and dasdpdsu."""
         pieces = {it.name.removeprefix(f"{name}(")[:-1]: it for it in self.pieces if it.name.startswith(f"{name}(")}
         self.same(f"{name} members", sorted(pieces), sorted(readings.members_by_dasdcat(self.image, name)), "dasdcat")
@@ -182,9 +182,8 @@ class Extraction:
         self.same(f"{title} status", (ended.returncode, ended.stderr), (1 if findings else 0, b""), "this script")
         read = read_objects if "--json" in options else read_lines
         printed, told, last = read(ended.stdout.decode().splitlines())
-        sizes = {file: len(body) for file, body in wanted.items()}
-        self.same(f"{title} sizes", printed, sizes, "what was put there")
-        self.same(f"{title} findings and last line", (told, last), (findings, (len(sizes), findings)), "this script")
+        self.same(f"{title} sizes", printed, {file: len(body) for file, body in wanted.items()}, "what was put there")
+        self.same(f"{title} findings and last line", (told, last), (findings, (len(wanted), findings)), "this script")
 
     def compare_refusals(self) -> None:
         """What is not there, and what is there already."""

@@ -6,8 +6,8 @@ A command is run once as it is, and what it printed and left is kept; then once 
 fail, once or from there on (by Debian's `strace --inject`), and once more for each, killed there. Wanted is:
 
 - With status 0 the command printed what it prints, and left what it leaves: no failure is told as success, and no byte that the file did not hold is printed.
-- With another status a fault is told on standard error (that of a read, where reads fail from there on), what was printed is the beginning of what it prints, and each file
-  is the old one or the new one, whole; no file stays behind.
+- With another status a fault is told on standard error (that of a read, where reads fail from there on), what was printed is the beginning of
+  what it prints, and each file is the old one or the new one, whole; no file stays behind.
 - Where only the call fails that takes a file's first, hidden name away, all is as it was meant to be, and that name stays beside the other.
 - A program that is killed leaves each file the old one or the new one, whole. What it had begun to write may stay, under a name that begins with `.dasd-`.
 - Where a file takes its place, it was synced before that, and its folder is synced behind it.
@@ -135,7 +135,7 @@ def play(dasd: Path, command: Command, tracing: list[str]) -> Came:
         folder = Path(room)
         fill(folder)
         words = ["strace", "-qq", *tracing, str(dasd), *command.words]
-        done = subprocess.run(words, cwd=folder, input=command.given, capture_output=True, timeout=60)
+        done = subprocess.run(words, cwd=folder, input=command.given, capture_output=True, timeout=60, check=False)
         return Came(done.returncode, done.stdout, done.stderr, files_in(folder))
 
 
@@ -150,7 +150,7 @@ def traced(dasd: Path, command: Command) -> tuple[Came, list[str]]:
     """A command as it is, and the lines of its calls."""
     with tempfile.NamedTemporaryFile(prefix="fail_calls-") as trace:
         came = play(dasd, command, ["-o", trace.name, "-s", "200"])
-        return came, Path(trace.name).read_text(errors="replace").splitlines()
+        return came, Path(trace.name).read_text(encoding="utf-8", errors="replace").splitlines()
 
 
 def failures_of(lines: list[str]) -> list[Failure]:

@@ -3,7 +3,8 @@
 tools/gate/rows/archives.rows has rows, with an empty line between. The first line of a row is its name. A line such as `track 3 21 C1*80`
 puts bytes into the slot of a track of a new 2311 of one cylinder, from a place on; one that begins with `other` does so with the
 volume that a comparison is made with. A line `check`, `dump` or `compare` is a command over the volumes as the lines of the whole row
-make them; one that must end with another status than 0 has it at its end, as `status 1`. tools/gate/rows/archives.answers has for each row its name, and then what its commands print. Both were worked out by hand."""
+make them; one that must end with another status than 0 has it at its end, as `status 1`. tools/gate/rows/archives.answers has
+for each row its name, and then what its commands print. Both were worked out by hand."""
 
 from pathlib import Path
 

@@ -2,6 +2,7 @@
 
 The volume is spelled here, by the layouts of tools/common/written_labels.py: a sequential data set, a partitioned one over two extents, one whose
 name would lead out of a folder, one that has no end of file, one of a format that has no records, and two of one name."""
+# pylint: disable=missing-function-docstring  # the name of a row says what it is
 
 import json
 import os
@@ -18,14 +19,14 @@ END_OF_FILE = (b"", b"")
 CARDS, LIBRARY, OUTSIDE, ENDLESS, SHAPELESS, TWIN = [(2, 2)], [(3, 3), (5, 5)], [(6, 6)], [(7, 7)], [(8, 8)], [(9, 9)]
 # A data set that is to be: its name, its organisation and its tracks.
 Set = tuple[str, str, list[Run]]
-SETS: list[Set] = [
+SETS: tuple[Set, ...] = (
     ("PAY.CARDS", "PS", CARDS),
     ("SYS1.MACLIB", "PO", LIBRARY),
     ("../../ETC/PASSWD", "PS", OUTSIDE),
     ("OPEN.END", "PS", ENDLESS),
     ("NO.FORM", "PS", SHAPELESS),
     ("PAY.CARDS", "PS", TWIN),
-]
+)
 LINES = ["//CARDS    JOB", "FIRST  CARD", "", "LAST CARD"]
 
 
@@ -60,7 +61,7 @@ def put_library(image: Image) -> None:
     extents.save()
 
 
-def spell(path: Path, sets: list[Set] = SETS) -> None:
+def spell(path: Path, sets: tuple[Set, ...] = SETS) -> None:
     """Makes the file of the volume, with the control blocks of these data sets."""
     path.write_bytes(volume(MODEL, 2))
     image = Image(path)

@@ -2,13 +2,15 @@
 
 Each row makes files, runs commands and says what they print, end with and leave: links, pipes, devices, modes, owners, full
 disks, broken pipes, odd names and files that are no images; kills, runs at once and traces in tools/gate/real_runs.py, `dasd extract` in
-tools/gate/real_extracts.py, strict checks, dumps and comparisons in tools/gate/real_archives.py, findings in tools/gate/real_findings.py, and lists in tools/gate/real_lists.py. A row that needs root, a small file
+tools/gate/real_extracts.py, strict checks, dumps and comparisons in tools/gate/real_archives.py, findings in tools/gate/real_findings.py,
+and lists in tools/gate/real_lists.py. A row that needs root, a small file
 system of its own or a device, where these can't be had, is skipped, with a word.
 
 It runs crates/dasd_cmd/out/dasd_cmd, as `rt ci` or `rt run` leaves it; with --built FILE that program; with words behind, the
 rows whose names have one of them. The last line is 'N rows over real files, M came out wrong, K skipped', and the status 1 where M
 is not 0.
 """
+# pylint: disable=missing-function-docstring  # the name of a row says what it is
 
 import argparse
 import os
@@ -185,7 +187,7 @@ def disk_that_is_full(s: Scratch) -> None:
     s.path("small").mkdir()
     if shutil.which("mount") is None:
         raise Skipped("there is no mount")
-    mounted = subprocess.run(["mount", "-t", "tmpfs", "-o", "size=80k", "none", s.path("small")], capture_output=True)
+    mounted = subprocess.run(["mount", "-t", "tmpfs", "-o", "size=80k", "none", s.path("small")], capture_output=True, check=False)
     if mounted.returncode:
         raise Skipped("no file system can be mounted")
     try:

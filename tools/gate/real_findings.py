@@ -2,6 +2,7 @@
 
 A volume is that of tools/gate/real_extracts.py, a 2311 of two cylinders, with one thing wrong. Its table is track 1: record 1 is the control block of format 4,
 record 2 that of format 5, records 3 to 8 those of six data sets (System Control Blocks, GC28-6628, 'Data Set Control Block')."""
+# pylint: disable=missing-function-docstring  # the name of a row says what it is
 
 import os
 import shutil
@@ -163,16 +164,16 @@ def library_of_many_members_is_read_to_its_last(s: Scratch) -> None:
 # Files of one image.
 
 
-def cylinder(number: int) -> bytes:
+def new_cylinder(number: int) -> bytes:
     """The slots of a new cylinder."""
     return b"".join(Volume.new(MODEL, number + 1).slots[-10:])
 
 
 @row
 def reserved_byte_of_the_second_file_is_found_there(s: Scratch) -> None:
-    second = bytearray(header(MODEL, 2, 0) + cylinder(2))
+    second = bytearray(header(MODEL, 2, 0) + new_cylinder(2))
     second[20] = 1
-    s.put("a.ckd", header(MODEL, 1, 1) + cylinder(0) + cylinder(1))
+    s.put("a.ckd", header(MODEL, 1, 1) + new_cylinder(0) + new_cylinder(1))
     s.put("b.ckd", bytes(second))
     status, printed, told = s.dasd("check", "--strict", "a.ckd", "b.ckd")
     same((status, printed.splitlines(), told), (0, ["warning header of file 2 reserved byte at 20 is not zero", "0 errors, 1 warnings, 0 notes"], ""))
@@ -182,9 +183,9 @@ def reserved_byte_of_the_second_file_is_found_there(s: Scratch) -> None:
 def header_alone_and_files_of_one_highest_cylinder_have_their_reason(s: Scratch) -> None:
     s.put("head.ckd", header(MODEL))
     same(s.dasd("list", "--verbose", "head.ckd"), fault("wrong length\n  head.ckd: its length is 512 bytes"))
-    s.put("a.ckd", header(MODEL, 1, 1) + cylinder(0) + cylinder(1))
-    s.put("b.ckd", header(MODEL, 2, 1) + cylinder(2))
-    s.put("c.ckd", header(MODEL, 3, 0) + cylinder(3))
+    s.put("a.ckd", header(MODEL, 1, 1) + new_cylinder(0) + new_cylinder(1))
+    s.put("b.ckd", header(MODEL, 2, 1) + new_cylinder(2))
+    s.put("c.ckd", header(MODEL, 3, 0) + new_cylinder(3))
     told = fault("image in several files\n  b.ckd: its highest cylinder is 1, and 1 more follow")
     same(s.dasd("list", "--verbose", "a.ckd", "b.ckd", "c.ckd"), told)
 

@@ -1,4 +1,5 @@
 """Rows of tools/gate/real_files.py: what is listed and compared of volumes of several cylinders, and a data set of more than three extents."""
+# pylint: disable=missing-function-docstring  # the name of a row says what it is
 
 from collections.abc import Iterable
 

@@ -1,4 +1,5 @@
 """Rows of tools/gate/real_files.py: programs that are killed, several at once, and traces beside answers."""
+# pylint: disable=missing-function-docstring  # the name of a row says what it is
 
 import os
 import signal

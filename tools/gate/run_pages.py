@@ -65,18 +65,6 @@ def has(*commands: str) -> Callable[[], bool]:
     return lambda: all(shutil.which(it) for it in commands)
 
 
-NEEDS = {
-    "kit": Need("the kit", has("rt"), True),
-    "library": Need("c/libdasd.a, which `make -C c` makes, a C compiler and pkg-config", lambda: has_library()),
-    "shared": Need("c/libdasd.so.1, which `make -C c` makes", lambda: (TOP / "c/libdasd.so.1").exists()),
-    "web": Need("web/out/program.wasm, which `make -C web` makes, and node", lambda: has_module()),
-    "hercules": Need("Hercules", has("hercules"), True),
-    "sqlite3": Need("sqlite3", has("sqlite3")),
-    "release": Need("the files of a release", lambda: False),
-    "gate": Need("hours, and the kit", has("rt"), True),
-}
-
-
 def has_library() -> bool:
     """Whether a program of C can be linked with the library."""
     return (TOP / "c/libdasd.a").exists() and bool(shutil.which("cc")) and bool(shutil.which("pkg-config"))
@@ -85,6 +73,23 @@ def has_library() -> bool:
 def has_module() -> bool:
     """Whether the program's module for WebAssembly can be run."""
     return (TOP / "web/out/program.wasm").exists() and bool(shutil.which("node"))
+
+
+def has_shared() -> bool:
+    """Whether there is the shared library."""
+    return (TOP / "c/libdasd.so.1").exists()
+
+
+NEEDS = {
+    "kit": Need("the kit", has("rt"), True),
+    "library": Need("c/libdasd.a, which `make -C c` makes, a C compiler and pkg-config", has_library),
+    "shared": Need("c/libdasd.so.1, which `make -C c` makes", has_shared),
+    "web": Need("web/out/program.wasm, which `make -C web` makes, and node", has_module),
+    "hercules": Need("Hercules", has("hercules"), True),
+    "sqlite3": Need("sqlite3", has("sqlite3")),
+    "release": Need("the files of a release", lambda: False),
+    "gate": Need("hours, and the kit", has("rt"), True),
+}
 
 
 def put_library(folder: Path) -> Path:

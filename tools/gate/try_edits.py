@@ -7,8 +7,8 @@ They stand in tools/edits/CRATE, in the form of those in crates/CRATE/must-fail,
 a version is tagged. With names, those of these crates: by whoever changes one of them. What the crates stand on is proved first, as far as it is
 not kept on this machine; a crate with edits is checked from nothing once more, so all of them take about an hour and a half of processor time.
 
-All is done in a copy, and the repository stays as it is. Status 1 where an edit was let through, can't be applied or was not tried. With --texts nothing is tried: it
-is only looked whether each edit, the gate's too, still fits its file, in which each of its old texts stands once.
+All is done in a copy, and the repository stays as it is. Status 1 where an edit was let through, can't be applied or was not
+tried. With --texts nothing is tried: it is only looked whether each edit, the gate's too, still fits its file, in which each of its old texts stands once.
 """
 
 import re

@@ -217,15 +217,15 @@ class Plan:
             put_last(image, place, extents.last())
 
 
-def words(chance: random.Random, length: int) -> bytes:
+def text(chance: random.Random, length: int) -> bytes:
     """A record of characters of code page 037, with blanks at its end now and then."""
     blanks = chance.choice([0, 0, 1, length // 2, length])
     return bytes(chance.randrange(0x40, 0xFF) for _ in range(length - blanks)).ljust(length, b"\x40")
 
 
-def lines(chance: random.Random, count: int, longest: int) -> list[bytes]:
+def texts(chance: random.Random, count: int, longest: int) -> list[bytes]:
     """Records of lengths by chance."""
-    return [words(chance, chance.randrange(1, longest + 1)) for _ in range(count)]
+    return [text(chance, chance.randrange(1, longest + 1)) for _ in range(count)]
 
 
 def numbered_cards(chance: random.Random, count: int) -> list[bytes]:
@@ -237,22 +237,22 @@ def add_record_forms(plan: Plan, chance: random.Random) -> None:
     """Sequential and direct data sets, one of each record format, over one to sixteen extents."""
     full = MODELS[plan.model].capacity
     plan.add_sequential("FORM.CARDS", b"".join(numbered_cards(chance, 60)), "CYL 1 1", "PS FB 80 3200 0")
-    plan.add_blocks("FORM.F", [words(chance, 100) for _ in range(40)], [3], "PS F 100 100 0")
+    plan.add_blocks("FORM.F", [text(chance, 100) for _ in range(40)], [3], "PS F 100 100 0")
     plan.add_blocks("FORM.FB", fixed_blocks(numbered_cards(chance, 230), 720), [2, 1, 5], "PS FB 80 720 0")
-    plan.add_blocks("FORM.FBA", fixed_blocks([words(chance, 133) for _ in range(30)], 1330), [3], "PS FBA 133 1330 0")
-    plan.add_blocks("FORM.FBM", fixed_blocks([words(chance, 121) for _ in range(30)], 1210), [3], "PS FBM 121 1210 0")
-    plan.add_blocks("FORM.FBS", fixed_blocks([words(chance, 50) for _ in range(120)], 500), [2, 2], "PS FBS 50 500 0")
-    plan.add_blocks("FORM.V", [block for it in lines(chance, 20, 196) for block in variable_blocks([it], 204)], [2], "PS V 200 204 0")
-    plan.add_blocks("FORM.VB", variable_blocks(lines(chance, 90, 196), 1000), [3, 2], "PS VB 200 1000 0")
-    plan.add_blocks("FORM.VBA", variable_blocks(lines(chance, 40, 133), 700), [3], "PS VBA 137 700 0")
-    plan.add_blocks("FORM.VBS", spanned_blocks(lines(chance, 50, 900), 300), [4, 1, 30], "PS VBS 904 300 0")
+    plan.add_blocks("FORM.FBA", fixed_blocks([text(chance, 133) for _ in range(30)], 1330), [3], "PS FBA 133 1330 0")
+    plan.add_blocks("FORM.FBM", fixed_blocks([text(chance, 121) for _ in range(30)], 1210), [3], "PS FBM 121 1210 0")
+    plan.add_blocks("FORM.FBS", fixed_blocks([text(chance, 50) for _ in range(120)], 500), [2, 2], "PS FBS 50 500 0")
+    plan.add_blocks("FORM.V", [block for it in texts(chance, 20, 196) for block in variable_blocks([it], 204)], [2], "PS V 200 204 0")
+    plan.add_blocks("FORM.VB", variable_blocks(texts(chance, 90, 196), 1000), [3, 2], "PS VB 200 1000 0")
+    plan.add_blocks("FORM.VBA", variable_blocks(texts(chance, 40, 133), 700), [3], "PS VBA 137 700 0")
+    plan.add_blocks("FORM.VBS", spanned_blocks(texts(chance, 50, 900), 300), [4, 1, 30], "PS VBS 904 300 0")
     plan.add_blocks("FORM.U", [chance.randbytes(chance.randrange(1, 3001)) for _ in range(9)], [2, 1, 1, 3, 9], "PS U 0 3000 0")
     plan.add_blocks("FORM.SPREAD", fixed_blocks(numbered_cards(chance, 14 * full // 120), 400), [1] * 16, "PS FB 80 400 0")
     plan.add_blocks("FORM.FULL", [chance.randbytes(full) for _ in range(3)], [4], f"PS F {full} {full} 0")
     plan.add_blocks("FORM.LABELS", fixed_blocks(numbered_cards(chance, 40), 400), [1, 2], "PS FB 80 400 0")
     keys = [ebcdic(f"KEY{number:03}", 10) for number in range(20)]
-    plan.add_blocks("FORM.KEYS", [words(chance, 80) for _ in keys], [2], "PS F 80 80 10", keys)
-    plan.add_blocks("FORM.DIRECT", [words(chance, 80) for _ in keys], [1, 1], "DA F 80 80 10", keys)
+    plan.add_blocks("FORM.KEYS", [text(chance, 80) for _ in keys], [2], "PS F 80 80 10", keys)
+    plan.add_blocks("FORM.DIRECT", [text(chance, 80) for _ in keys], [1, 1], "DA F 80 80 10", keys)
 
 
 def add_libraries(plan: Plan, chance: random.Random) -> None:
@@ -308,7 +308,8 @@ def plans() -> list[Plan]:
     large.add_sequential("MY.CARDS", cards(chance, 400), "TRK 20 0", "PS FB 80 800 0")
     large.add_sequential("MY.BYTES", chance.randbytes(100 * 60), "TRK 8 0", "PS F 100 100 0")
     large.add_partitioned("MY.LIB", members_of(chance, 40, lambda i: cut(cards(chance, 1 + 7 * i % 50), 800)), 6, [40], "FB 80 800 0")
-    large.add_partitioned("MY.LOAD", members_of(chance, 25, lambda i: [chance.randbytes(chance.randrange(1, 3000)) for _ in range(i % 9 + 1)]), 9, [60, 20, 60], "U 0 3625 0")
+    modules = members_of(chance, 25, lambda i: [chance.randbytes(chance.randrange(1, 3000)) for _ in range(i % 9 + 1)])
+    large.add_partitioned("MY.LOAD", modules, 9, [60, 20, 60], "U 0 3625 0")
     large.add_partitioned("MY.VARY", members_of(chance, 30, lambda i: variable(chance, i % 12 + 1)), 7, [5, 3, 50], "VB 100 600 0")
     wide = Plan("WIDE14", "2314", 20)
     wide.add_sequential("WIDE.CARDS", cards(chance, 900), "TRK 20 0", "PS FB 80 1600 0")

@@ -2,10 +2,10 @@
 
     tools/run measure/bench [--bench FILE] [--handle FILE] [WORK..]
 
-FILE is the built bench (crates/bench/out/bench, as `rt run` leaves it there; c/out/bench, as `make -C c bench` does); where the second is not there, its column is
-empty. A count is what callgrind counts for one pass over a full volume of a 2314 with 203 cylinders, less what it counts for none, in millions of
-instructions: the same on every machine. The C library's `rep stosb` is turned off, since callgrind counts that one instruction once for each byte that
-it clears. Wants Debian's `valgrind`; half a minute for a work.
+FILE is the built bench (crates/bench/out/bench, as `rt run` leaves it there; c/out/bench, as `make -C c bench` does); where the second is
+not there, its column is empty. A count is what callgrind counts for one pass over a full volume of a 2314 with 203 cylinders, less what it
+counts for none, in millions of instructions: the same on every machine. The C library's `rep stosb` is turned off, since callgrind counts
+that one instruction once for each byte that it clears. Wants Debian's `valgrind`; half a minute for a work.
 """
 
 import argparse
@@ -36,7 +36,7 @@ NO_REP_STOSB = "glibc.cpu.x86_rep_stosb_threshold=1000000"
 def executed(words: list[str]) -> int:
     """The instructions that a command executes."""
     command = ["valgrind", "--tool=callgrind", "--callgrind-out-file=/dev/null", *words]
-    done = subprocess.run(command, capture_output=True, text=True, env={**os.environ, "GLIBC_TUNABLES": NO_REP_STOSB})
+    done = subprocess.run(command, capture_output=True, text=True, env={**os.environ, "GLIBC_TUNABLES": NO_REP_STOSB}, check=False)
     found = COLLECTED.search(done.stderr)
     if done.returncode or not found:
         sys.exit(f"bench.py: {' '.join(words)}: status {done.returncode}\n{done.stderr[-400:]}")

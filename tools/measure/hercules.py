@@ -104,18 +104,18 @@ class Program:
         """The address behind the last word."""
         return self.at + len(self.words)
 
-    def add(self, code: int, address: int, count: int, flags: int = COMMAND_CHAINING) -> None:
-        self.words += bytes([code]) + address.to_bytes(3, "big") + bytes([flags, 0]) + count.to_bytes(2, "big")
+    def add(self, code: int, at: int, length: int, flags: int = COMMAND_CHAINING) -> None:
+        self.words += bytes([code]) + at.to_bytes(3, "big") + bytes([flags, 0]) + length.to_bytes(2, "big")
 
-    def search(self, code: int, count: int) -> None:
+    def search(self, code: int, length: int) -> None:
         """A search that is done again until it is satisfied; the home address begins its argument."""
         at = self.next()
-        self.add(code, self.operands + 2, count)
+        self.add(code, self.operands + 2, length)
         self.add(TRANSFER, at, 0, 0)
 
-    def read(self, times: int, code: int, count: int) -> None:
+    def read(self, times: int, code: int, length: int) -> None:
         for _ in range(times):
-            self.add(code, BUFFER, count)
+            self.add(code, BUFFER, length)
 
     def format(self) -> None:
         """Records behind R0: the count area of each is chained to its data."""

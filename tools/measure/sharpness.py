@@ -312,7 +312,7 @@ def reading_the_environment(text: str) -> str:
     text += f'@wrong_body_name = private constant [{len(name)} x i8] c"WRONG_BODY\\00"\n'
     text += "@wrong_body_number = internal global i32 -1\n"
     for declared in ("declare ptr @getenv(ptr)", "declare i32 @atoi(ptr)"):
-        if not re.search(re.escape(declared.split("(")[0]) + r"\(", text):
+        if not re.search(re.escape(declared.partition("(")[0]) + r"\(", text):
             text += declared + "\n"
     return text
 

@@ -60,7 +60,7 @@ def spoilt(data: bytes, chance: random.Random) -> bytes:
 
 def ran(command: list[str], words: list[str], folder: Path) -> tuple[int, bytes, bytes]:
     """What a command answers: its status, and what it prints on both outputs."""
-    ended = subprocess.run([*command, *words], cwd=folder, stdin=subprocess.DEVNULL, capture_output=True, timeout=SECONDS)
+    ended = subprocess.run([*command, *words], cwd=folder, stdin=subprocess.DEVNULL, capture_output=True, timeout=SECONDS, check=False)
     return ended.returncode, ended.stdout, ended.stderr
 
 

@@ -88,6 +88,11 @@ def check_help(browser: Browser, checks: Checks) -> None:
         ),
         browser.text("#deck-help"),
     )
+    check_builder(browser, checks)
+
+
+def check_builder(browser: Browser, checks: Checks) -> None:
+    """A word is made of names; and a deck with a fault is run."""
     browser.click(".builder summary")
     browser.until("document.querySelectorAll('.builder select option').length > 20", 30)
     browser.ask(

@@ -61,6 +61,12 @@ def check_keys(browser: Browser, native: Native, checks: Checks) -> None:
             break
     browser.press(Keys.ENTER)
     checks.that("the example is opened by keys", browser.until("document.querySelectorAll('#contents tbody tr').length > 3"))
+    check_keys_of_picture(browser, checks)
+    check_keys_of_deck(browser, native, checks)
+
+
+def check_keys_of_picture(browser: Browser, checks: Checks) -> None:
+    """From the example's picture to its findings."""
     for _ in range(40):
         browser.press(Keys.TAB)
         if browser.ask("document.activeElement.id") == "pointer":
@@ -77,6 +83,10 @@ def check_keys(browser: Browser, native: Native, checks: Checks) -> None:
         browser.until("document.getElementById('told').textContent.startsWith('Cylinder 45, head 7')", 20),
         browser.text("#told"),
     )
+
+
+def check_keys_of_deck(browser: Browser, native: Native, checks: Checks) -> None:
+    """From the view of a volume to a step of a deck."""
     browser.ask("document.getElementById('tab-volume').focus()")
     browser.press(Keys.ARROW_RIGHT)
     checks.that(

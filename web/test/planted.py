@@ -147,7 +147,7 @@ class Copy:
                 raise SystemExit(f"planted.py: {fault.file} has not once: {fault.old}")
             path.write_text(text.replace(fault.old, fault.new))
             making = ["make", "-s", f"MODULES={self.modules}", *fault.made]
-            if fault.made and subprocess.run(making, cwd=web, capture_output=True).returncode:
+            if fault.made and subprocess.run(making, cwd=web, capture_output=True, check=False).returncode:
                 return "the making of its module"
             for command, limit in zip(fault.tests, limits):
                 status = status_within(command, web, limit)

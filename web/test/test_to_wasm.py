@@ -38,6 +38,8 @@ IMPORTS = {"write"}
 
 
 class ToWasm(unittest.TestCase):
+    """What becomes of a module, and what is refused."""
+
     def test_what_changes(self) -> None:
         made = to_wasm(MODULE, IMPORTS)
         self.assertIn('target triple = "wasm64-unknown-unknown"', made)
