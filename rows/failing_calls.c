@@ -5,6 +5,7 @@
 // FAIL_FLUSH    with any value, the first write to standard output is made, and is told as one that failed; each later one fails
 // FAIL_NAME     the path of a file, as it is opened
 // FAIL_FILE     behind so many bytes a write to that file fails
+// FAIL_ONCE     with any value, only the first such write to that file fails, and the others are made
 // FAIL_PUT      the name of a file, without folders, in whose place no file can be put
 // FAIL_READ     the read with this number, of those at a place in a file, fails, and each later one
 // FAIL_READS    the path of a file to which each such read adds a byte
@@ -90,7 +91,11 @@ ssize_t write(int to, const void *bytes, size_t length) {
         return write_into(&output_room, to, bytes, length);
     }
     if (to == failing_file) {
-        return write_into(&file_room, to, bytes, length);
+        ssize_t written = write_into(&file_room, to, bytes, length);
+        if (written < 0 && getenv("FAIL_ONCE") != NULL) {
+            file_room = (size_t)-1;
+        }
+        return written;
     }
     return next_write(to, bytes, length);
 }

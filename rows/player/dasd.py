@@ -9,7 +9,7 @@
 | `> SIO 190`, `>bytes 0A` | a line, or bytes, of the deck on standard input of the next command |
 | `reader` | standard input can't be read |
 | `writer 12`, `flush` | a write to standard output fails, behind so many bytes, or as it is flushed |
-| `tracer 40` | a write to the trace fails behind so many bytes |
+| `tracer 40`, `once 40` | a write to the trace fails behind so many bytes, and each behind it; that write alone |
 | `put a` | the file can't be put in its place |
 | `dasd list a` | a command |
 | `< line`, `< ...` | a line that it prints; all that are left |
@@ -110,6 +110,8 @@ class DasdRow:
             self.deck_fails = True
         elif word in FAILING:
             self.environment[FAILING[word]] = rest or "1"
+        elif word == "once":
+            self.environment.update(FAIL_FILE=rest, FAIL_ONCE="1")
         else:
             return False
         return True

@@ -95,7 +95,7 @@ fn answer(
             alloc,
             list.as_slice(),
             files,
-            &mut rt.reader(),
+            &mut Counted::new(rt.reader()),
             writer,
             &mut progress,
         )
@@ -104,7 +104,7 @@ fn answer(
             alloc,
             &STORED_RUN,
             files,
-            &mut &STORED_DECK[..],
+            &mut Counted::new(&STORED_DECK[..]),
             writer,
             &mut progress,
         )

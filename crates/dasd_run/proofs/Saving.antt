@@ -10,7 +10,7 @@ use Rattle.dasd_jobs.specs.Written.{Replaced}
 use Rattle.dasd_jobs.specs.declared.faults.JobFault.{JobFault}
 use Rattle.dasd_words.specs.declared.volumes.Volume.{Volume}
 use Rattle.dasd_run.specs.declared.fault.ProgramFault.{ProgramFault}
-use Rattle.dasd_run.specs.declared.fault.ProgramFault.TheVariants.{Job}
+use Rattle.dasd_run.specs.declared.fault.ProgramFault.TheVariants.{Save}
 use Rattle.dasd_run.specs.Faults.{keeps_files}
 use Rattle.dasd_run.specs.Saves.{SavesAll, SavesVolume}
 
@@ -65,9 +65,9 @@ saved_there r vs ds i v d before between now inside there here rest =
     (inl (between, here, rest))
 
 -- a volume that can't be
-pub stops_there : (f : JobFault) (vs : List Volume) (ds : List Given) (i : ℕ) (v : Volume) (d : ℕ × ImageState) (before now : List Replaced) → i < length vs → get_or ds i None ≡ Some d → SavesVolume (Err f) (get_or vs i v) d.1 before now → SavesAll (Err (Job f)) (drop i (zip vs ds)) before now
+pub stops_there : (f : JobFault) (vs : List Volume) (ds : List Given) (i : ℕ) (v : Volume) (d : ℕ × ImageState) (before now : List Replaced) → i < length vs → get_or ds i None ≡ Some d → SavesVolume (Err f) (get_or vs i v) d.1 before now → SavesAll (Err (Save f)) (drop i (zip vs ds)) before now
 stops_there f vs ds i v d before now inside there here =
-    subst (λ (l : List (Volume × Given)). SavesAll (Err (Job f)) l before now) (sym (pair_there vs ds i v d inside there))
+    subst (λ (l : List (Volume × Given)). SavesAll (Err (Save f)) l before now) (sym (pair_there vs ds i v d inside there))
     (inr (f, refl, here))
 
 -- and behind the last one
@@ -77,8 +77,8 @@ none_left vs ds i now past =
     (sym (drop_all i (zip vs ds) (omega (arith, length-zip vs ds)))) (refl, refl)
 
 -- the fault that is told is a file's
-fault_of_file : (e : ProgramFault) (f : JobFault) → ◌≡◌ {A = Result (Unit {0}) ProgramFault} (Err e) (Err (Job f)) → keeps_files e ≡ false
-fault_of_file e f told = let same : e ≡ Job f = cc in rw same refl
+fault_of_file : (e : ProgramFault) (f : JobFault) → ◌≡◌ {A = Result (Unit {0}) ProgramFault} (Err e) (Err (Save f)) → keeps_files e ≡ false
+fault_of_file e f told = let same : e ≡ Save f = cc in rw same refl
 
 pub fault_of_files : (r : Result (Unit {0}) ProgramFault) (ps : List (Volume × Given)) (before now : List Replaced) → SavesAll r ps before now → IfErr r (λ e. keeps_files e ≡ false)
 fault_of_files (Ok done) ps before now saved = search rules

@@ -2,6 +2,12 @@
 use Rattle.std.specs.Prelude.{ℕ, Bool, true, false}
 use Rattle.s360_deck.specs.declared.runs.RunFault.{RunFault}
 use Rattle.s360_deck.specs.declared.runs.RunFault.TheVariants as run
+use Rattle.s360_channel.specs.declared.faults.AttachFault.{AttachFault}
+use Rattle.s360_channel.specs.declared.faults.AttachFault.TheVariants as attach
+use Rattle.dasd_jobs.specs.declared.faults.JobFault.{JobFault}
+use Rattle.dasd_jobs.specs.declared.faults.JobFault.TheVariants as job
+use Rattle.dasd_jobs.specs.declared.files.FileFault.{FileFault}
+use Rattle.dasd_jobs.specs.declared.files.FileFault.TheVariants as file
 use Rattle.dasd_unload.specs.declared.fault.UnloadFault.{UnloadFault}
 use Rattle.dasd_unload.specs.declared.fault.UnloadFault.TheVariants as unload
 use Rattle.dasd_run.specs.declared.fault.ProgramFault.{ProgramFault}
@@ -22,7 +28,14 @@ keeps_unloaded unload.NoRecordFormat = true
 keeps_unloaded (unload.NotWhole _) = false
 keeps_unloaded (unload.Job _) = false
 
--- words are wrong, there is nothing of the kind, a channel is not made, or its deck is not run
+-- Of the faults of a job over files only that of a write may come behind a file that was put in its place: the line that says so is
+-- then not printed.
+abbrev pub keeps_of_job : JobFault → Bool
+keeps_of_job job.Write = false
+keeps_of_job f = true
+
+-- Words are wrong, there is nothing of the kind, a file can't be opened, read, locked or mounted, there is no memory, a channel is not
+-- made, or its deck is not run.
 abbrev pub keeps_files : ProgramFault → Bool
 keeps_files (fault.Words _) = true
 keeps_files (fault.Help _) = true
@@ -35,8 +48,9 @@ keeps_files fault.NoTrack = true
 keeps_files fault.TraceNotOpened = true
 keeps_files fault.TraceInUse = true
 keeps_files (fault.Run f) = is_not_run f
-keeps_files fault.OutOfMemory = false
-keeps_files (fault.Job _) = false
+keeps_files fault.OutOfMemory = true
+keeps_files (fault.Job f) = keeps_of_job f
+keeps_files (fault.Save _) = false
 keeps_files fault.TraceWrite = false
 keeps_files (fault.Unload f) = keeps_unloaded f
 
@@ -56,4 +70,24 @@ status_of fault.TraceInUse = 1
 status_of fault.TraceWrite = 1
 status_of (fault.Unload _) = 1
 status_of (fault.Job _) = 1
+status_of (fault.Save _) = 1
 status_of (fault.Run _) = 1
+
+-- what a fault of attaching is to the program
+abbrev pub attach_fault : AttachFault → ProgramFault
+attach_fault attach.UnitTaken = fault.AddressTaken
+attach_fault attach.Full = fault.TooManyDrives
+attach_fault (attach.OutOfMemory _) = fault.OutOfMemory
+
+-- what a fault of the file of a trace is to the program
+abbrev pub opening_fault : FileFault → ProgramFault
+opening_fault file.OutOfMemory = fault.OutOfMemory
+opening_fault file.Refused = fault.TraceNotOpened
+opening_fault file.InUse = fault.TraceInUse
+opening_fault file.Twice = fault.TraceInUse
+opening_fault file.Exists = fault.TraceInUse
+
+-- what the fault of a volume that is not opened is to the program, by whether its address is taken
+abbrev pub volume_fault : JobFault → (is_taken : Bool) → ProgramFault
+volume_fault job.InUse true = fault.AddressTaken
+volume_fault f is_taken = fault.Job f

@@ -1,3 +1,5 @@
 pub mod Faults
+pub mod Built
+pub mod Decks
 pub mod Runs
 pub mod Saves

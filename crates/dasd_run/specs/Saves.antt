@@ -33,7 +33,7 @@ SavesAll result [] before now = IsOk result × (now ≡ before)
 SavesAll result ((v, None) ∷ rest) before now = SavesAll result rest before now
 SavesAll result ((v, Some given) ∷ rest) before now =
     ((between : List Replaced) × SavesVolume (Ok tt) v given.1 before between × SavesAll result rest between now)
-    ⊎ ((f : JobFault) × (result ≡ Err (fault.Job f)) × SavesVolume (Err f) v given.1 before now)
+    ⊎ ((f : JobFault) × (result ≡ Err (fault.Save f)) × SavesVolume (Err f) v given.1 before now)
 
 -- The channel is finished, and then the volumes are saved, in the order of the words, from the images of its drives in theirs.
 pub record SavesRun (result : Result (Unit {0}) ProgramFault) (volumes : List Volume) (channel : ChannelState) (before now : List Replaced) : Type 0 where

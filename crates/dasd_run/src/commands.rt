@@ -7,7 +7,7 @@ ghost use Rattle.dasd_run.specs.Runs.{RunsOrStops, Tells};
 ghost use Rattle.dasd_run.specs.Saves.{Concludes};
 
 use crate::archive::{check_strictly, compare_both, dump_part};
-use crate::decks::{read_deck, run_text, tell_fault};
+use crate::decks::{read_deck, run_deck, tell_fault};
 use crate::explain::explain;
 use crate::fault::ProgramFault;
 use crate::list::list_part;
@@ -32,17 +32,20 @@ pub enum Ending {
 }
 
 /// Does what these words ask, the first of which is the program's name. A deck is read from `reader`, where the words name no
-/// file of it; `writer` takes what is printed, with its failures counted, and `progress` what is shown while a job over a large volume goes on.
+/// file of it; `writer` takes what is printed, and of both the failures are counted; `progress` takes what is shown while a job over a
+/// large volume goes on.
 ///
 /// # Errors
 ///
-/// Wrong words, before any file is read or written; or what stopped the command. A run whose deck was not run writes no file; one
-/// whose trace can't be written ends as without it, and then reports that.
+/// Wrong words, before any file is read or written; or what stopped the command. No file is written with a fault of the deck; nor, but
+/// where data sets are unloaded, with one of a file that is opened, read, locked or mounted. With a write fault a format may have
+/// written its file, and its line is not printed. A run that can't save a volume has saved those before it; one whose trace can't be
+/// written ends as without it, and then reports that.
 pub fn obey<F: Traces, R: Read, W: Write, P: Progress>(
     alloc: Global,
     words: &[&str],
     files: &mut F,
-    reader: &mut R,
+    reader: &mut Counted<R>,
     writer: &mut Counted<W>,
     progress: &mut P,
 ) -> Result<Ending, ProgramFault>
@@ -64,7 +67,7 @@ fn answer<F: Traces, R: Read, W: Write, P: Progress>(
     alloc: Global,
     request: Request,
     files: &mut F,
-    reader: &mut R,
+    reader: &mut Counted<R>,
     writer: &mut Counted<W>,
     progress: &mut P,
 ) -> Result<Ending, ProgramFault>
@@ -127,19 +130,22 @@ fn list_volume<F: ImageFiles, W: Write>(
 fn run_volumes<F: Traces, R: Read, W: Write>(
     alloc: Global,
     files: &mut F,
-    reader: &mut R,
+    reader: &mut Counted<R>,
     writer: &mut Counted<W>,
     asked: DeckRun,
 ) -> Result<Ending, ProgramFault>
     ensures keeps { IfErr result (λ e. keeps_files e ≡ true → F.written files.new ≡ F.written files.old) }
-    ensures runs { RunsOrStops result asked.entry.volumes.items (F.written files.old) (F.written files.new)
-        (seen_by W.contents writer.old) (seen_by W.contents writer.new) }
+    ensures runs { RunsOrStops result asked.entry (seen_by R.remaining reader.old) (seen_by R.remaining reader.new)
+        (F.written files.old) (F.written files.new) (seen_by W.contents writer.old) (seen_by W.contents writer.new) }
 {
     let volumes = asked.volumes.as_slice();
     let mut tracer = begin_trace(alloc, files, &asked)?;
     let mut channel = build(alloc, files, asked.storage, asked.channel, volumes)?;
-    let text = read_deck(alloc, files, reader, asked.deck).map_err(ProgramFault::Run)?;
-    let run = run_text(alloc, writer, text.as_slice(), &mut channel, &mut tracer);
+    let text = match read_deck(alloc, files, reader, asked.deck) {
+        Ok(text) => text,
+        Err(fault) => return Err(ProgramFault::Run(fault)),
+    };
+    let run = run_deck(alloc, writer, text.as_slice(), &mut channel, &mut tracer);
     tell_fault(files, text.as_slice(), run);
     let traced = end_trace(tracer, run);
     let concluded = conclude(alloc, files, volumes, channel, run);

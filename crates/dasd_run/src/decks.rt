@@ -1,16 +1,17 @@
 //! A deck is read and run, and its faults are told in more words.
 
-ghost use Rattle.std.specs.Prelude.{◌≡◌};
+ghost use Rattle.std.specs.Prelude.{◌≡◌, IfOk, IfErr, option_map};
 ghost use Rattle.counted_io.specs.Streams.{seen_by};
 ghost use Rattle.s360_deck.specs.Runs.{StaysUnlessRun};
-ghost use Rattle.dasd_run.specs.Runs.{RunsText};
+ghost use Rattle.s360_deck.specs.Texts.{RunsText};
+ghost use Rattle.dasd_run.specs.Decks.{ReadsDeck, NotRead};
 
 use crate::remarks::{Remark, first_word};
 use crate::runs::Disks;
 use counted_io::Counted;
 use dasd_jobs::{FileFault, ImageFiles};
 use dasd_words::operand_rule;
-use s360_deck::{DeckFault, RunFault, run_counted, run_watched};
+use s360_deck::{DeckFault, ReadFault, RunFault, read_text, run_text, run_text_watched};
 use std::alloc::Global;
 use std::io::{Read, Write};
 use trace_lines::Tracer;
@@ -18,28 +19,26 @@ use trace_lines::Tracer;
 /// The most bytes of a deck, and one more.
 const PAST_DECK: usize = 1_048_577;
 
-/// How many bytes a read may give.
-const PIECE: usize = 4_096;
-
-/// The text of the deck of a file, or else of the reader; of one that is too long its first bytes, one more than it may have.
+/// The text of the deck: all that the reader has, or else the bytes of the file at this path; of a file that is too long its first
+/// bytes, one more than a deck may have.
 ///
 /// # Errors
 ///
-/// It can't be read, or there is no memory.
+/// It can't be read, or the reader has more than a deck may have, or there is no memory.
 pub(crate) fn read_deck<F: ImageFiles, R: Read>(
     alloc: Global,
     files: &mut F,
-    reader: &mut R,
+    reader: &mut Counted<R>,
     deck: Option<&str>,
 ) -> Result<Vec<u8>, RunFault>
-    ensures { F.written files.new ≡ F.written files.old }
+    ensures kept { F.written files.new ≡ F.written files.old }
+    ensures read { IfOk result (λ text. ReadsDeck (option_map (λ path. path.now) deck.entry)
+        (seen_by R.remaining reader.old) (seen_by R.remaining reader.new) text.items) }
+    ensures not_read { IfErr result (λ fault. NotRead fault (option_map (λ path. path.now) deck.entry)
+        (seen_by R.remaining reader.old) (seen_by R.remaining reader.new)) }
 {
     let Some(path) = deck else {
-        let text = read_text(alloc, reader);
-        if matches!(&text, Err(RunFault::Read)) {
-            files.remark(&Remark::NoDeck);
-        }
-        return text;
+        return read_input(alloc, files, reader);
     };
     match files.read(alloc, path, PAST_DECK) {
         Ok(text) => Ok(text),
@@ -48,12 +47,38 @@ pub(crate) fn read_deck<F: ImageFiles, R: Read>(
     }
 }
 
+// All that the reader has, if it is no more than a deck may have.
+fn read_input<F: ImageFiles, R: Read>(
+    alloc: Global,
+    files: &mut F,
+    reader: &mut Counted<R>,
+) -> Result<Vec<u8>, RunFault>
+    ensures kept { F.written files.new ≡ F.written files.old }
+    ensures read { IfOk result (λ text. ReadsDeck None
+        (seen_by R.remaining reader.old) (seen_by R.remaining reader.new) text.items) }
+    ensures not_read { IfErr result (λ fault. NotRead fault None
+        (seen_by R.remaining reader.old) (seen_by R.remaining reader.new)) }
+{
+    match read_text(alloc, reader) {
+        Ok(text) => Ok(text),
+        Err(ReadFault::OutOfMemory) => Err(RunFault::Deck(DeckFault::OutOfMemory)),
+        Err(ReadFault::Failed) => {
+            files.remark(&Remark::NoDeck);
+            Err(RunFault::Read)
+        }
+        Err(ReadFault::TooLong) => {
+            files.remark(&Remark::LongDeck);
+            Err(RunFault::Read)
+        }
+    }
+}
+
 /// Runs the deck that this text is, with the same promise whether it is traced or not.
 ///
 /// # Errors
 ///
 /// What stopped it. No event has run, but with a write fault, which comes exactly where a write failed or the last flush.
-pub(crate) fn run_text<W: Write, T: Write + Drop>(
+pub(crate) fn run_deck<W: Write, T: Write + Drop>(
     alloc: Global,
     writer: &mut Counted<W>,
     text: &[u8],
@@ -64,10 +89,9 @@ pub(crate) fn run_text<W: Write, T: Write + Drop>(
     ensures no_event { StaysUnlessRun result channel.old channel.new }
     ensures nothing_written { StaysUnlessRun result writer.old writer.new }
 {
-    let mut unread = Counted::new(text);
     match tracer {
-        Some(tracer) => run_watched(alloc, &mut unread, writer, channel, tracer),
-        None => run_counted(alloc, &mut unread, writer, channel),
+        Some(tracer) => run_text_watched(alloc, text, writer, channel, tracer),
+        None => run_text(alloc, text, writer, channel),
     }
 }
 
@@ -95,22 +119,4 @@ fn remark_of(text: &[u8], fault: RunFault) -> Option<Remark<'_>> {
         RunFault::Deck(DeckFault::LineTooLong(line)) => Some(Remark::LongLine(line)),
         RunFault::Deck(DeckFault::OutOfMemory) | RunFault::Write => None,
     }
-}
-
-// All that a reader has, or the first bytes of it, one more than a deck may have.
-fn read_text<R: Read>(alloc: Global, reader: &mut R) -> Result<Vec<u8>, RunFault> {
-    let mut text = Vec::new(alloc);
-    let mut piece = [0; PIECE];
-    for _ in 0..PAST_DECK {
-        let Ok(count) = reader.read(&mut piece) else {
-            return Err(RunFault::Read);
-        };
-        if count == 0 || text.len() >= PAST_DECK {
-            break;
-        }
-        if text.extend_from_slice(&piece[..count]).is_err() {
-            return Err(RunFault::Deck(DeckFault::OutOfMemory));
-        }
-    }
-    Ok(text)
 }

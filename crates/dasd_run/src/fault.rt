@@ -1,12 +1,14 @@
 //! Why `dasd` did not do what it was asked.
 
+ghost use Rattle.std.specs.Prelude.{◌≡◌};
+ghost use Rattle.dasd_run.specs.Faults.{attach_fault, volume_fault};
+
 use dasd_jobs::JobFault;
 use dasd_unload::UnloadFault;
 use dasd_volumes::VolumeFault;
 use dasd_words::WordFault;
-use s360_channel::{AttachFault, NewFault};
+use s360_channel::AttachFault;
 use s360_deck::{DeckFault, RunFault};
-use s360_words::StorageFault;
 use std::alloc::AllocError;
 use thiserror::Error;
 
@@ -52,9 +54,12 @@ pub enum ProgramFault {
     /// Data sets are not unloaded, or not as a whole.
     #[error(transparent)]
     Unload(UnloadFault),
-    /// An image file or its image is faulty.
+    /// An image file or its image is faulty, or what was asked for can't be written.
     #[error(transparent)]
     Job(JobFault),
+    /// The deck was run, and a volume that it changed can't be written back, or not all its files: those before it are replaced.
+    #[error(transparent)]
+    Save(JobFault),
     /// The deck is faulty, or can't be read, or its answers can't be written.
     #[error(transparent)]
     Run(RunFault),
@@ -87,6 +92,11 @@ impl From<WordFault> for ProgramFault {
 }
 
 impl From<AllocError> for ProgramFault {
+    ghost use Rattle.std.specs.Prelude.{◌≡◌};
+    ghost use Rattle.dasd_run.specs.declared.fault.ProgramFault.TheVariants.{OutOfMemory};
+
+    ghost from_gives = { λ _ e. e ≡ OutOfMemory };
+
     fn from(_fault: AllocError) -> ProgramFault {
         ProgramFault::OutOfMemory
     }
@@ -108,26 +118,23 @@ impl From<VolumeFault> for ProgramFault {
     }
 }
 
-/// What a fault of main storage is to the program.
-pub(crate) fn of_storage(fault: StorageFault) -> ProgramFault {
-    match fault {
-        StorageFault::BadSize => ProgramFault::StorageSize,
-        StorageFault::OutOfMemory => ProgramFault::OutOfMemory,
-    }
-}
-
-/// What a fault of a channel is to the program.
-pub(crate) fn of_channel(fault: NewFault) -> ProgramFault {
-    match fault {
-        NewFault::BadNumber => ProgramFault::ChannelNumber,
-    }
-}
-
 /// What a fault of attaching is to the program.
-pub(crate) fn of_attach(fault: AttachFault) -> ProgramFault {
+pub(crate) fn of_attach(fault: AttachFault) -> ProgramFault
+    ensures { result ≡ attach_fault fault }
+{
     match fault {
         AttachFault::UnitTaken => ProgramFault::AddressTaken,
         AttachFault::Full => ProgramFault::TooManyDrives,
         AttachFault::OutOfMemory(_) => ProgramFault::OutOfMemory,
+    }
+}
+
+/// What the fault of a volume that is not opened is to the program. A file that is named for an address again is not told to be in use.
+pub(crate) fn of_volume(fault: JobFault, is_taken: bool) -> ProgramFault
+    ensures { result ≡ volume_fault fault is_taken }
+{
+    match (fault, is_taken) {
+        (JobFault::InUse, true) => ProgramFault::AddressTaken,
+        (fault, _) => ProgramFault::Job(fault),
     }
 }

@@ -1,26 +1,28 @@
 //! A channel over the volumes that words name, and what becomes of their files.
 
-ghost use Rattle.std.specs.Prelude.{◌≡◌, false, IfOk, IfErr, OnOk};
+ghost use Rattle.std.specs.Prelude.{◌≡◌, ◌<◌, [], true, false, position, IfOk, IfErr, OnOk};
 ghost use Rattle.std.specs.List.{AllZip};
+ghost use Rattle.s360_words.specs.Storage.{is_size};
+ghost use Rattle.dasd_run.specs.Built.{IsNewChannel, NotMade, is_addressed, NotAttached, NotBuilt};
 ghost use Rattle.dasd_run.specs.Faults.{keeps_files};
 ghost use Rattle.dasd_run.specs.Runs.{Opens, IsDriveOf, AttachesOne};
 ghost use Rattle.dasd_run.specs.Saves.{SavesRun};
 
-use crate::fault::{ProgramFault, of_attach, of_channel, of_storage};
+use crate::fault::{ProgramFault, of_attach, of_volume};
 use crate::remarks::Remark;
 use crate::saves::save_all;
 use ckd_image::Image;
 use dasd_files::VolumeFile;
 use dasd_jobs::{ImageFiles, JobFault, new_image, read_image};
 use dasd_words::{Volume, VolumeSource};
-use s360_channel::{Channel, Finished, SubchannelView};
-use s360_words::Storage;
+use s360_channel::{Channel, Finished, NewFault, SubchannelView};
+use s360_words::{Storage, StorageFault};
 use std::alloc::Global;
 
 /// A channel over images that were read from files.
 pub type Disks = Channel<VolumeFile>;
 
-/// A channel with this number, over main storage of this size, with a drive for each volume in the order of the words. No
+/// A channel with this number, over cleared main storage of this size, with a drive for each volume in the order of the words. No
 /// file is written.
 ///
 /// # Errors
@@ -35,45 +37,69 @@ pub fn build<F: ImageFiles>(
     volumes: &[Volume],
 ) -> Result<Disks, ProgramFault>
     ensures kept { F.written files.new ≡ F.written files.old }
+    ensures is_new { IfOk result (λ c. IsNewChannel storage number c) }
     ensures drives { IfOk result (λ c. AllZip IsDriveOf volumes.now c.drives) }
+    ensures not_built { IfErr result (λ e. NotBuilt e storage number volumes.now) }
 {
-    let storage = Storage::new(alloc, storage).map_err(|fault| of_storage(fault))?;
-    let mut channel = match Channel::new(number, storage) {
-        Ok(channel) => channel,
-        Err((fault, _)) => return Err(of_channel(fault)),
-    };
-    for volume in volumes {
-        attach(alloc, files, &mut channel, volume)?;
+    let mut channel = new_channel(alloc, storage, number)?;
+    for i in 0..volumes.len() {
+        attach(alloc, files, &mut channel, &volumes[..i], &volumes[i])?;
     }
     Ok(channel)
 }
 
-// One drive more.
+// A channel without drives.
+fn new_channel(alloc: Global, storage: u32, number: u8) -> Result<Disks, ProgramFault>
+    ensures is_new { IfOk result (λ c. IsNewChannel storage number c) }
+    ensures no_drives { IfOk result (λ c. c.drives ≡ []) }
+    ensures sound { IfOk result (λ c. (is_size storage ≡ true) × (number < 7)) }
+    ensures not_made { IfErr result (λ e. NotMade e storage number) }
+{
+    let storage = match Storage::new(alloc, storage) {
+        Ok(storage) => storage,
+        Err(StorageFault::BadSize) => return Err(ProgramFault::StorageSize),
+        Err(StorageFault::OutOfMemory) => return Err(ProgramFault::OutOfMemory),
+    };
+    match Channel::new(number, storage) {
+        Ok(channel) => Ok(channel),
+        Err((NewFault::BadNumber, _)) => Err(ProgramFault::ChannelNumber),
+    }
+}
+
+// One drive more, behind those of the volumes before.
 fn attach<F: ImageFiles>(
     alloc: Global,
     files: &mut F,
     channel: &mut Disks,
+    before: &[Volume],
     volume: &Volume,
 ) -> Result<(), ProgramFault>
+    requires { AllZip IsDriveOf before.now channel.old.drives }
     ensures kept { F.written files.new ≡ F.written files.old }
     ensures drive { OnOk result (AttachesOne volume.now channel.old channel.new) }
+    ensures not_attached { IfErr result (λ e. NotAttached e before.now volume.now) }
 {
     let image = match open(alloc, files, &volume.source) {
-        Err(ProgramFault::Job(JobFault::InUse)) if is_attached(channel, volume.device) => {
-            return Err(ProgramFault::AddressTaken);
+        Ok(image) => image,
+        Err(fault) => {
+            let is_taken = place_of(before, volume.device).is_some();
+            return Err(of_volume(fault, is_taken));
         }
-        opened => opened?,
     };
-    match channel.attach(alloc, volume.device, image) {
-        Ok(()) => Ok(()),
-        Err((fault, _)) => Err(of_attach(fault)),
-    }
+    let Err((fault, _)) = channel.attach(alloc, volume.device, image) else {
+        return Ok(());
+    };
+    Err(of_attach(fault))
 }
 
-// Whether a drive has this address already, so that a file which is named for it again is not told to be in use.
-fn is_attached(channel: &Disks, device: u8) -> bool {
-    channel.state().drives.iter().any(
-        |drive| matches!(drive, Some((attached, _)) if *attached == device),
+// The place of the first of these volumes that has this address.
+fn place_of(volumes: &[Volume], device: u8) -> Option<usize>
+    ensures { result ≡ position (is_addressed device) volumes.now }
+{
+    volumes.iter().position(
+        |volume: &Volume| -> bool
+            ensures { result ≡ is_addressed device volume.now }
+        { volume.device == device },
     )
 }
 
@@ -82,17 +108,13 @@ fn open<F: ImageFiles>(
     alloc: Global,
     files: &mut F,
     source: &VolumeSource,
-) -> Result<Image<VolumeFile>, ProgramFault>
+) -> Result<Image<VolumeFile>, JobFault>
     ensures kept { F.written files.new ≡ F.written files.old }
     ensures opens { IfOk result (λ image. Opens source.now image) }
 {
     match source {
-        VolumeSource::Files(paths) => read_image(alloc, files, paths.as_slice()).map_err(
-            ProgramFault::Job,
-        ),
-        VolumeSource::New { model, cylinders } => {
-            new_image(alloc, *model, *cylinders).map_err(ProgramFault::Job)
-        }
+        VolumeSource::Files(paths) => read_image(alloc, files, paths.as_slice()),
+        VolumeSource::New { model, cylinders } => new_image(alloc, *model, *cylinders),
     }
 }
 

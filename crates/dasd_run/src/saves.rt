@@ -31,7 +31,7 @@ pub(crate) fn save_all<F: ImageFiles>(
         if let Some((_, image)) = take_image(images, i) {
             match save(alloc, files, &volumes[i], image) {
                 Ok(()) => {}
-                Err(fault) => return Err(ProgramFault::Job(fault)),
+                Err(fault) => return Err(ProgramFault::Save(fault)),
             }
         }
     }

@@ -1,7 +1,8 @@
 //! The trace of a deck: where it goes, and how it begins and ends.
 
 ghost use Rattle.std.specs.Prelude.{◌≡◌, false, IfErr};
-ghost use Rattle.dasd_run.specs.Faults.{keeps_files};
+ghost use Rattle.dasd_run.specs.Decks.{NoTrace};
+ghost use Rattle.dasd_run.specs.Faults.{keeps_files, opening_fault};
 
 use crate::fault::ProgramFault;
 use crate::remarks::Remark;
@@ -43,7 +44,8 @@ pub(crate) fn begin_trace<F: Traces>(
     files: &mut F,
     asked: &DeckRun,
 ) -> Result<Option<Tracer<F::Sink>>, ProgramFault>
-    ensures { F.written files.new ≡ F.written files.old }
+    ensures kept { F.written files.new ≡ F.written files.old }
+    ensures no_trace { IfErr result (λ e. NoTrace e asked.now) }
 {
     let Some(target) = asked.trace else {
         return Ok(None);
@@ -62,7 +64,9 @@ pub(crate) fn begin_trace<F: Traces>(
 }
 
 // The paths of the files that a run reads or writes, beside its trace.
-fn paths_of<'a>(alloc: Global, asked: &DeckRun<'a>) -> Result<Vec<&'a str>, ProgramFault> {
+fn paths_of<'a>(alloc: Global, asked: &DeckRun<'a>) -> Result<Vec<&'a str>, ProgramFault>
+    ensures { IfErr result (λ e. e ≡ ProgramFault.OutOfMemory) }
+{
     let mut paths = Vec::new(alloc);
     if let Some(deck) = asked.deck {
         if paths.push(deck).is_err() {
@@ -78,7 +82,9 @@ fn paths_of<'a>(alloc: Global, asked: &DeckRun<'a>) -> Result<Vec<&'a str>, Prog
 }
 
 // What a trace that is not opened is to the program.
-fn of_opening(fault: FileFault) -> ProgramFault {
+fn of_opening(fault: FileFault) -> ProgramFault
+    ensures { result ≡ opening_fault fault }
+{
     match fault {
         FileFault::OutOfMemory => ProgramFault::OutOfMemory,
         FileFault::Refused => ProgramFault::TraceNotOpened,

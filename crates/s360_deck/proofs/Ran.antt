@@ -1,5 +1,5 @@
 -- What a deck that was run leaves, from what its parts leave.
-use Rattle.std.proofs.Common.{◌≡◌, ℕ, List, Option, Result, Ok, Err, map, refl, sym, ap, subst, ◌∙◌}
+use Rattle.std.proofs.Common.{◌≡◌, ℕ, List, Option, Result, Ok, Err, map, refl, sym, ap, subst, ◌∙◌, arith}
 use Rattle.s360_events.specs.declared.answers.Answer.{Answer}
 use Rattle.s360_events.specs.declared.events.Event.{Event}
 use Rattle.s360_events.specs.Answered.{AllAnswered}
@@ -12,7 +12,8 @@ use Rattle.s360_deck.specs.declared.runs.RunFault.{RunFault}
 use Rattle.s360_deck.specs.declared.runs.RunFault.TheVariants.{Deck, Read, Write}
 use Rattle.s360_deck.specs.Deck.{events_of}
 use Rattle.s360_deck.specs.Lines.{lines_text}
-use Rattle.s360_deck.specs.Runs.{Runs, StaysUnlessRun, ReadsWhole, Spells, HasRun, WritesFront}
+use Rattle.s360_deck.specs.Runs.{Runs, StaysUnlessRun, ReadsWhole, ReadsFront, IsReadFault, Spells, WritesFront}
+use Rattle.s360_deck.specs.Texts.{HasRun}
 
 abbrev IsWrite : RunFault → Type 0
 IsWrite Write = Unit {0}
@@ -25,14 +26,31 @@ same_stays (Err Write) a = tt
 same_stays (Err Read) a = refl
 same_stays (Err (Deck fault)) a = refl
 
+-- all that a reader had is a front of it
+is_front : (before after : Option (List ℕ)) (text : List ℕ) → ReadsWhole before after text → ReadsFront before after
+is_front before after text h = record { text = text; read = h.read; size = omega (arith, h.size) }
+
+-- the first bytes were read
+pub is_unread : (fault : RunFault) (before after : Option (List ℕ)) (old new : ChannelState) (written_before written : Option (List ℕ)) → IsReadFault fault → ReadsFront before after → Runs (Err fault) before after old new written_before written
+is_unread Read before after old new written_before written is h = h
+is_unread Write before after old new written_before written is h = absurd is
+is_unread (Deck OutOfMemory) before after old new written_before written is h = h
+is_unread (Deck (Unknown n)) before after old new written_before written is h = absurd is
+is_unread (Deck (Operand n)) before after old new written_before written is h = absurd is
+is_unread (Deck (LineTooLong n)) before after old new written_before written is h = absurd is
+
+-- there was no memory for the answers
+pub has_no_room : (before after : Option (List ℕ)) (old new : ChannelState) (written_before written : Option (List ℕ)) (text : List ℕ) → ReadsWhole before after text → Runs (Err (Deck OutOfMemory)) before after old new written_before written
+has_no_room before after old new written_before written text h = is_front before after text h
+
 -- the text is no deck
 faulty : (fault : RunFault) (before after : Option (List ℕ)) (old new : ChannelState) (written_before written : Option (List ℕ)) (text : List ℕ)
     → ReadsWhole before after text → Spells (Err fault) text → Runs (Err fault) before after old new written_before written
-faulty (Deck OutOfMemory) before after old new written_before written text h r = tt
+faulty (Deck OutOfMemory) before after old new written_before written text h r = is_front before after text h
 faulty (Deck (Unknown n)) before after old new written_before written text h r = record { text = text; is_read = h; faulty = r }
 faulty (Deck (Operand n)) before after old new written_before written text h r = record { text = text; is_read = h; faulty = r }
 faulty (Deck (LineTooLong n)) before after old new written_before written text h r = record { text = text; is_read = h; faulty = r }
-faulty Read before after old new written_before written text h r = tt
+faulty Read before after old new written_before written text h r = absurd r
 faulty Write before after old new written_before written text h r = absurd r
 
 pub is_faulty : (fault : RunFault) (before after : Option (List ℕ)) (old new : ChannelState) (written_before written : Option (List ℕ)) (text seen : List ℕ)
@@ -41,12 +59,12 @@ is_faulty fault before after old new written_before written text seen is h r =
     faulty fault before after old new written_before written text h (subst (Spells (Err fault)) is r)
 
 -- the events have happened, and the lines were written, or the first bytes of them
-ran : (result : Result (Unit {0}) RunFault) (before after : Option (List ℕ)) (old new : ChannelState) (written_before written : Option (List ℕ)) (answers : List Answer)
-    → HasRun before after old new answers → WritesFront result written_before written (lines_text answers) → Runs result before after old new written_before written
-ran (Ok done) before after old new written_before written answers h w = record { answers = answers; has_run = h; lines = w }
-ran (Err Write) before after old new written_before written answers h w = record { answers = answers; has_run = h; lines = w.1 }
-ran (Err Read) before after old new written_before written answers h w = absurd (subst IsWrite (sym w.0) tt)
-ran (Err (Deck fault)) before after old new written_before written answers h w = absurd (subst IsWrite (sym w.0) tt)
+ran : (result : Result (Unit {0}) RunFault) (before after : Option (List ℕ)) (old new : ChannelState) (written_before written : Option (List ℕ)) (text : List ℕ) (answers : List Answer)
+    → ReadsWhole before after text → HasRun text old new answers → WritesFront result written_before written (lines_text answers) → Runs result before after old new written_before written
+ran (Ok done) before after old new written_before written text answers is h w = record { text = text; is_read = is; answers = answers; has_run = h; lines = w }
+ran (Err Write) before after old new written_before written text answers is h w = record { text = text; is_read = is; answers = answers; has_run = h; lines = w.1 }
+ran (Err Read) before after old new written_before written text answers is h w = absurd (subst IsWrite (sym w.0) tt)
+ran (Err (Deck fault)) before after old new written_before written text answers is h w = absurd (subst IsWrite (sym w.0) tt)
 
 pub has_run : (result : Result (Unit {0}) RunFault) (before after : Option (List ℕ)) (old new : ChannelState) (written_before written : Option (List ℕ))
     (text seen : List ℕ) (events driven : List Event) (answers told : List Answer)
@@ -55,10 +73,9 @@ pub has_run : (result : Result (Unit {0}) RunFault) (before after : Option (List
     → ((m : Machine) → StandsFor old m → Follows m (map event_seen driven) (map answer_seen answers) old new)
     → WritesFront result written_before written (lines_text told) → Runs result before after old new written_before written
 has_run result before after old new written_before written text seen events driven answers told seen_is driven_is told_is h spelled answered follows w =
-    ran result before after old new written_before written answers
+    ran result before after old new written_before written text answers h
     (record {
-      text = text;
-      is_read = h;
+      size = h.size;
       events = driven;
       are_these = subst (λ t. events_of t ≡ Ok driven) seen_is (spelled ∙ ap (λ (es : List Event). Ok es) (sym driven_is));
       answered = answered;

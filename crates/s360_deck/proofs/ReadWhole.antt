@@ -1,12 +1,20 @@
 -- A deck that is read piece by piece.
-use Rattle.std.proofs.Common.{◌≡◌, inr, ℕ, List, ◌++◌, ap, ◌∙◌, append_assoc}
-use Rattle.std.specs.Io.KnownBytes.{Consumes}
-use Rattle.std.proofs.KnownBytes.{Consumes-trans}
-use Rattle.counted_io.specs.Streams.{Stream, Gives, NoneFailed}
-use Rattle.s360_deck.specs.declared.fault.DeckFault.TheVariants.{OutOfMemory, Unknown, Operand, LineTooLong}
-use Rattle.s360_deck.specs.declared.runs.RunFault.{RunFault}
-use Rattle.s360_deck.specs.declared.runs.RunFault.TheVariants.{Deck, Read, Write}
-use Rattle.s360_deck.specs.CountedRuns.{ReadsFaultily, AddsOrPasses}
+use Rattle.std.proofs.Common.{◌≡◌, ◌≤◌, ◌+◌, ℕ, List, ◌++◌, length, Option, ap, ◌∙◌, append_assoc, length-append, arith}
+use Rattle.std.specs.Io.KnownBytes.{Consumes, Keeps}
+use Rattle.std.proofs.KnownBytes.{Consumes-trans, Consumes-kept}
+use Rattle.counted_io.specs.Streams.{Stream, Gives, NoneFailed, OneFailed}
+use Rattle.s360_deck.specs.declared.fault.ReadFault.{ReadFault}
+use Rattle.s360_deck.specs.declared.fault.ReadFault.TheVariants.{OutOfMemory, Failed, TooLong}
+use Rattle.s360_deck.specs.Runs.{ReadsFront}
+use Rattle.s360_deck.specs.CountedRuns.{FailsToRead, ReadsFaultily, NotAdded}
+
+-- the first bytes of a text, and a piece that was read and not added
+pub front_more : (a b c : Option (List ℕ)) (text piece : List ℕ) → Consumes a b text → length text ≤ 1048576 → Consumes b c piece → length piece ≤ 4096 → ReadsFront a c
+front_more a b c text piece h size known few = record {
+  text = text ++ piece;
+  read = Consumes-trans a b c text piece h known;
+  size = omega (arith, length-append text piece);
+}
 
 -- a piece more
 gives_more : (a b c : Stream) (text piece : List ℕ) → Gives a b text → Consumes b.known c.known piece → c.passed ≡ b.passed ++ piece → Gives a c (text ++ piece)
@@ -15,12 +23,29 @@ gives_more a b c text piece h known passed = record {
   passed = passed ∙ ap (λ l. l ++ piece) h.passed ∙ append_assoc a.passed text piece;
 }
 
+-- a read that failed
+pub read_failed : (a b c : Stream) (text : List ℕ) → Gives a b text → length text ≤ 1048576 → NoneFailed a b → Keeps b.known c.known → c.passed ≡ b.passed → OneFailed b c → FailsToRead a c
+read_failed a b c text h size sound known same failed = record {
+  text = text;
+  given = record { known = Consumes-kept a.known b.known c.known text h.known known; passed = same ∙ h.passed };
+  size = size;
+  failed = failed ∙ ap (λ n. n + 1) sound;
+}
+
 -- a piece that could not be added
-pub not_added : (fault : RunFault) (a b c : Stream) (text piece : List ℕ) → Gives a b text → NoneFailed a b → Consumes b.known c.known piece → c.passed ≡ b.passed ++ piece → NoneFailed b c
-    → AddsOrPasses fault (text ++ piece) → ReadsFaultily fault a c
-not_added Read a b c text piece h sound known passed same long = inr (record { text = text ++ piece; given = gives_more a b c text piece h known passed; size = long; sound = same ∙ sound })
-not_added Write a b c text piece h sound known passed same long = absurd long
-not_added (Deck OutOfMemory) a b c text piece h sound known passed same long = same ∙ sound
-not_added (Deck (Unknown n)) a b c text piece h sound known passed same long = absurd long
-not_added (Deck (Operand n)) a b c text piece h sound known passed same long = absurd long
-not_added (Deck (LineTooLong n)) a b c text piece h sound known passed same long = absurd long
+pub not_added : (fault : ReadFault) (a b c : Stream) (text piece : List ℕ) → Gives a b text → length text ≤ 1048576 → NoneFailed a b → Consumes b.known c.known piece → c.passed ≡ b.passed ++ piece → NoneFailed b c
+    → length piece ≤ 4096 → NotAdded fault (text ++ piece) → ReadsFaultily fault a c
+not_added Failed a b c text piece h size sound known passed same few none = absurd none
+not_added TooLong a b c text piece h size sound known passed same few long = record {
+  text = text ++ piece;
+  given = gives_more a b c text piece h known passed;
+  size = long;
+  one_read = omega (arith, length-append text piece);
+  sound = same ∙ sound;
+}
+not_added OutOfMemory a b c text piece h size sound known passed same few short = record {
+  text = text ++ piece;
+  given = gives_more a b c text piece h known passed;
+  size = short;
+  sound = same ∙ sound;
+}

@@ -4,13 +4,12 @@ ghost use Rattle.counted_io.specs.Streams.{seen_by};
 ghost use Rattle.s360_deck.specs.CountedRuns.{CountedRuns};
 ghost use Rattle.s360_deck.specs.Runs.{StaysUnlessRun};
 
-use crate::counted_reading::read_counted;
-use crate::counted_writing::write_counted;
-use crate::fault::DeckFault;
-use crate::runs::{RunFault, read_events};
+use crate::counted_reading::read_text;
+use crate::runs::RunFault;
+use crate::texts::{of_read, run_text};
 use ckd_image::ImageStore;
-use counted_io::{Counted, WriteFault};
-use s360_channel::{Channel, drive};
+use counted_io::Counted;
+use s360_channel::Channel;
 use std::alloc::Global;
 use std::io::{Read, Write};
 
@@ -32,13 +31,8 @@ pub fn run_counted<R: Read, W: Write, S: ImageStore>(
     ensures no_event { StaysUnlessRun result channel.old channel.new }
     ensures nothing_written { StaysUnlessRun result writer.old writer.new }
 {
-    let text = read_counted(alloc, reader)?;
-    let events = read_events(alloc, text.as_slice())?;
-    let Ok(answers) = drive(alloc, channel, events.as_slice()) else {
-        return Err(RunFault::Deck(DeckFault::OutOfMemory));
-    };
-    match write_counted(writer, answers.as_slice()) {
-        Ok(()) => Ok(()),
-        Err(WriteFault) => Err(RunFault::Write),
+    match read_text(alloc, reader) {
+        Ok(text) => run_text(alloc, text.as_slice(), writer, channel),
+        Err(fault) => Err(of_read(fault)),
     }
 }

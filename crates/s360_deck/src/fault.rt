@@ -1,4 +1,4 @@
-//! Why a text is no deck.
+//! Why a text is no deck, or was not read.
 
 use thiserror::Error;
 
@@ -17,4 +17,18 @@ pub enum DeckFault {
     /// This line has more than 512 bytes.
     #[error("line {0}: line too long")]
     LineTooLong(usize),
+}
+
+/// Why the text of a deck was not read whole.
+#[derive(Clone, Copy, Debug, PartialEq, Eq, Error)]
+pub enum ReadFault {
+    /// There is no memory for its bytes.
+    #[error("out of memory")]
+    OutOfMemory,
+    /// A read failed.
+    #[error("read fault")]
+    Failed,
+    /// There are more bytes than a deck may have.
+    #[error("read fault")]
+    TooLong,
 }

@@ -1,7 +1,7 @@
 //! A deck is read whole.
 
-ghost use Rattle.std.specs.Prelude.{◌≡◌, ◌≤◌, ◌++◌, length, IfOk, OnOk, IfErr};
-ghost use Rattle.s360_deck.specs.Runs.{ReadsWhole, IsReadFault};
+ghost use Rattle.std.specs.Prelude.{◌≡◌, ◌≤◌, ◌++◌, length, IfOk, OnOk, IfErr, OnErr};
+ghost use Rattle.s360_deck.specs.Runs.{ReadsWhole, ReadsFront, IsReadFault};
 
 use crate::fault::DeckFault;
 use crate::runs::RunFault;
@@ -9,18 +9,19 @@ use std::alloc::Global;
 use std::io::Read;
 
 /// The most bytes of a deck.
-const DECK_LENGTH: usize = 1_048_576;
+pub(crate) const DECK_LENGTH: usize = 1_048_576;
 
 /// The most reads: each but the last gives a byte or more.
-const READS: usize = 1_048_577;
+pub(crate) const READS: usize = 1_048_577;
 
 /// How many bytes a read may give.
-const PIECE_LENGTH: usize = 4_096;
+pub(crate) const PIECE_LENGTH: usize = 4_096;
 
-// All that a reader has, if it is no more than a deck may have.
+// All that a reader has, if it is no more than a deck may have; of more, the first bytes and no further read.
 pub(crate) fn read_deck<R: Read>(alloc: Global, reader: &mut R) -> Result<Vec<u8>, RunFault>
     ensures ok { IfOk result (λ text. ReadsWhole (R.remaining reader.old) (R.remaining reader.new) text.items) }
     ensures err { IfErr result IsReadFault }
+    ensures front { OnErr result (ReadsFront (R.remaining reader.old) (R.remaining reader.new)) }
 {
     let mut text = Vec::new(alloc);
     let mut piece = [0; PIECE_LENGTH];

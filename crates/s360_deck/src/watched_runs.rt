@@ -3,11 +3,14 @@
 ghost use Rattle.counted_io.specs.Streams.{seen_by};
 ghost use Rattle.s360_deck.specs.CountedRuns.{CountedRuns};
 ghost use Rattle.s360_deck.specs.Runs.{StaysUnlessRun};
+ghost use Rattle.s360_deck.specs.Texts.{RunsText};
 
-use crate::counted_reading::read_counted;
+use crate::counted_reading::read_text;
 use crate::counted_writing::write_counted;
 use crate::fault::DeckFault;
+use crate::reading::DECK_LENGTH;
 use crate::runs::{RunFault, read_events};
+use crate::texts::of_read;
 use ckd_image::ImageStore;
 use counted_io::{Counted, WriteFault};
 use s360_channel::Channel;
@@ -34,8 +37,33 @@ pub fn run_watched<R: Read, W: Write, S: ImageStore, V: Watcher>(
     ensures no_event { StaysUnlessRun result channel.old channel.new }
     ensures nothing_written { StaysUnlessRun result writer.old writer.new }
 {
-    let text = read_counted(alloc, reader)?;
-    let events = read_events(alloc, text.as_slice())?;
+    match read_text(alloc, reader) {
+        Ok(text) => run_text_watched(alloc, text.as_slice(), writer, channel, watcher),
+        Err(fault) => Err(of_read(fault)),
+    }
+}
+
+/// Runs the deck that a text is as `run_text` does, with the same promise, and watched as by `run_watched`.
+///
+/// # Errors
+///
+/// Those of `run_text`.
+pub fn run_text_watched<W: Write, S: ImageStore, V: Watcher>(
+    alloc: Global,
+    text: &[u8],
+    writer: &mut Counted<W>,
+    channel: &mut Channel<S>,
+    watcher: &mut V,
+) -> Result<(), RunFault>
+    ensures runs { RunsText result text.now channel.old channel.new
+        (seen_by W.contents writer.old) (seen_by W.contents writer.new) }
+    ensures no_event { StaysUnlessRun result channel.old channel.new }
+    ensures nothing_written { StaysUnlessRun result writer.old writer.new }
+{
+    if text.len() > DECK_LENGTH {
+        return Err(RunFault::Read);
+    }
+    let events = read_events(alloc, text)?;
     let Ok(answers) = drive(alloc, channel, events.as_slice(), watcher) else {
         return Err(RunFault::Deck(DeckFault::OutOfMemory));
     };

@@ -1,34 +1,57 @@
-use Rattle.std.proofs.Common.{◌≡◌, ◌∙◌, List, true, inl, IfErr, subst, rules, tests}
+use Rattle.std.proofs.Common.{◌≡◌, ◌∙◌, ℕ, List, true, inl, inr, refl, IfErr, subst, rules, tests}
 use Rattle.std.specs.List.{AllZip}
+use Rattle.std.proofs.lemmas.Result.{err_from_is_err_and}
+use Rattle.s360_deck.specs.Texts.{RunsText}
 use Rattle.dasd_words.specs.declared.volumes.Volume.{Volume}
 use Rattle.counted_io.specs.Streams.{seen_by}
 use Rattle.dasd_jobs.specs.Written.{Replaced}
 use Rattle.dasd_run.specs.declared.commands.Ending.TheVariants.{Done}
+use Rattle.dasd_run.specs.Built.{NotBuilt}
 use Rattle.dasd_run.specs.Faults.{keeps_files}
 use Rattle.dasd_run.specs.Runs.{IsDriveOf}
 use Rattle.dasd_run.specs.Saves.{Concludes}
 use Rattle.dasd_run.proofs.Told.{stays_seen, kept_if_told}
 use Rattle.dasd_run.proofs.commands.run_volumes.Goals as goal
 
+-- it did not come to its deck
+pub returns-in_err-tracer-clause-runs : goal.returns-in_err-tracer-clause-runs
+returns-in_err-tracer-clause-runs g c =
+    let p = err_from_is_err_and c.from_residual.result c.from_residual.ensures.1 in
+    rw (p.1, p.2) (inr (inl (inl c.in_err-tracer.ensures.no_trace, refl), c.begin_trace.ensures.kept, refl))
+
+pub returns-in_err-channel-clause-runs : goal.returns-in_err-channel-clause-runs
+returns-in_err-channel-clause-runs g c =
+    let p = err_from_is_err_and c.from_residual-in_err-channel.result c.from_residual-in_err-channel.ensures.1 in
+    let f = c.in_err-channel.field-0.0 in
+    let not_built = subst (λ (vs : List Volume). NotBuilt f c.args.asked.storage c.args.asked.channel vs) c.as_slice-volumes.ensures.value c.in_err-channel.ensures.not_built in
+    rw (p.1, p.2) (inr (inl (inr not_built, refl), c.build.ensures.kept ∙ c.begin_trace.ensures.kept, refl))
+
+pub returns-in-Err-clause-runs : goal.returns-in-Err-clause-runs
+returns-in-Err-clause-runs g c = inr (inr c.in-Err.ensures.not_read, c.read_deck.ensures.kept ∙ c.build.ensures.kept ∙ c.begin_trace.ensures.kept, refl)
+
 -- a fault of the files is told first, and that of the trace last
 pub returns-clause-runs : goal.returns-clause-runs
 returns-clause-runs g c =
     let written = g.F.ImageFiles.written in
-    let r = c.run_text-run.result in
+    let r = c.run_deck-run.result in
     let same_files : written c.tell_fault.new.files ≡ written c.args.files.now =
-    c.tell_fault.ensures ∙ c.read_deck.ensures ∙ c.build.ensures.kept ∙ c.begin_trace.ensures in
+    c.tell_fault.ensures ∙ c.read_deck.ensures.kept ∙ c.build.ensures.kept ∙ c.begin_trace.ensures.kept in
     inl (record {
       built = c.in_ok-channel.channel;
+      is_new = c.in_ok-channel.ensures.is_new;
       drives = subst (λ (vs : List Volume). AllZip IsDriveOf vs c.in_ok-channel.channel.drives) c.as_slice-volumes.ensures.value c.in_ok-channel.ensures.drives;
-      text = c.as_slice.result.now;
+      text = c.in-Ok.text.items;
+      reads = c.in-Ok.ensures.read;
       run = r;
-      last = c.run_text-run.new.channel;
-      runs = c.run_text-run.ensures.runs;
-      unless_run = stays_seen (seen_by g.W.Write.contents) r c.args.writer.now c.run_text-run.new.writer c.run_text-run.ensures.nothing_written;
+      last = c.run_deck-run.new.channel;
+      runs =
+          subst (λ (text : List ℕ). RunsText r text c.in_ok-channel.channel c.run_deck-run.new.channel (seen_by g.W.Write.contents c.args.writer.now) (seen_by g.W.Write.contents c.run_deck-run.new.writer)) c.as_slice.ensures.value
+          c.run_deck-run.ensures.runs;
+      unless_run = stays_seen (seen_by g.W.Write.contents) r c.args.writer.now c.run_deck-run.new.writer c.run_deck-run.ensures.nothing_written;
       concluded = c.conclude-concluded.result;
       concludes =
-          subst (λ (vs : List Volume). Concludes r c.conclude-concluded.result vs c.run_text-run.new.channel (written c.args.files.now) (written c.conclude-concluded.new.files)) c.as_slice-volumes.ensures.value
-          (subst (λ (before : List Replaced). Concludes r c.conclude-concluded.result c.as_slice-volumes.result.now c.run_text-run.new.channel before (written c.conclude-concluded.new.files)) same_files c.conclude-concluded.ensures.concludes);
+          subst (λ (vs : List Volume). Concludes r c.conclude-concluded.result vs c.run_deck-run.new.channel (written c.args.files.now) (written c.conclude-concluded.new.files)) c.as_slice-volumes.ensures.value
+          (subst (λ (before : List Replaced). Concludes r c.conclude-concluded.result c.as_slice-volumes.result.now c.run_deck-run.new.channel before (written c.conclude-concluded.new.files)) same_files c.conclude-concluded.ensures.concludes);
       traced = c.end_trace-traced.result;
       no_other = c.end_trace-traced.ensures.fault;
       told = search (rules, tests);
@@ -39,7 +62,7 @@ pub returns-clause-keeps : goal.returns-clause-keeps
 returns-clause-keeps g c =
     let written = g.F.ImageFiles.written in
     let same_files : written c.tell_fault.new.files ≡ written c.args.files.now =
-    c.tell_fault.ensures ∙ c.read_deck.ensures ∙ c.build.ensures.kept ∙ c.begin_trace.ensures in
+    c.tell_fault.ensures ∙ c.read_deck.ensures.kept ∙ c.build.ensures.kept ∙ c.begin_trace.ensures.kept in
     let kept = kept_if_told (written c.args.files.now) (written c.conclude-concluded.new.files) c.conclude-concluded.result c.end_trace-traced.result Done
     (subst (λ (before : List Replaced). IfErr c.conclude-concluded.result (λ e. keeps_files e ≡ true → written c.conclude-concluded.new.files ≡ before)) same_files c.conclude-concluded.ensures.keeps)
     c.end_trace-traced.ensures.kept in

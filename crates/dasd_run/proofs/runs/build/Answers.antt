@@ -1,12 +1,21 @@
-use Rattle.std.proofs.Common.{◌∙◌}
+use Rattle.std.proofs.Common.{◌∙◌, ap, arith}
+use Rattle.std.proofs.lemmas.Result.{err_from_is_err_and}
 use Rattle.dasd_run.specs.Runs.{IsDriveOf}
-use Rattle.dasd_run.proofs.Built.{next_both}
+use Rattle.dasd_run.proofs.Built.{next_both, still_new, stops_at}
 use Rattle.dasd_run.proofs.runs.build.Goals as goal
 
-pub loop-volume-preserved : goal.loop-volume-preserved
-loop-volume-preserved g c =
+pub loop-i-preserved : goal.loop-i-preserved
+loop-i-preserved g c =
     let one = c.in_ok-attach.ensures.drive in
     record {
-      kept = c.attach.ensures.kept ∙ c.loop-volume.invariant.kept;
-      drives = next_both IsDriveOf c.args.volumes.now c.loop-volume.channel.drives c.attach.new.channel.drives c.loop-volume.volume-index c.volume-item.result one.0 c.loop-volume-test.true c.volume-item.is one.2 c.loop-volume.invariant.drives one.1;
+      kept = c.attach.ensures.kept ∙ c.loop-i.invariant.kept;
+      is_new = still_new c.args.storage c.args.number c.index-volumes-i.result c.loop-i.channel c.attach.new.channel c.loop-i.invariant.is_new one;
+      drives = next_both IsDriveOf c.args.volumes.now c.loop-i.channel.drives c.attach.new.channel.drives c.loop-i.i c.index-volumes-i.result one.0 c.loop-i-test.true c.index-volumes-i.is (ap (λ c. c.drives) one.2) c.loop-i.invariant.drives one.1;
     }
+
+pub returns-in_err-attach-clause-not_built : goal.returns-in_err-attach-clause-not_built
+returns-in_err-attach-clause-not_built g c =
+    let p = err_from_is_err_and c.from_residual-in_err-attach.result c.from_residual-in_err-attach.ensures.1 in
+    let why = c.in_err-attach.ensures.not_attached in
+    rw (p.1, p.2) (
+    stops_at c.in_err-attach.field-0.0 c.args.storage c.args.number c.args.volumes.now _ c.loop-i.i c.index-volumes-i.result (grind arith) c.loop-i-test.true c.index-volumes-i.is c.in_ok-channel.ensures.sound why)

@@ -1,7 +1,7 @@
 use Rattle.std.proofs.Common.{◌≡◌, ◌∙◌, List, subst, sym, Ok, Err, None, slice_index_or, arith}
 use Rattle.std.proofs.lemmas.List.{get_or-set_other}
 use Rattle.dasd_words.specs.declared.volumes.Volume.{Volume}
-use Rattle.dasd_run.specs.declared.fault.ProgramFault.TheVariants.{Job}
+use Rattle.dasd_run.specs.declared.fault.ProgramFault.TheVariants.{Save}
 use Rattle.dasd_run.specs.Saves.{SavesVolume}
 use Rattle.dasd_run.proofs.Saving.{Given, none_there, saved_there, stops_there, none_left}
 use Rattle.dasd_run.proofs.saves.save_all.Goals.{in-Some+in-Ok, in_default}
@@ -16,7 +16,7 @@ pub returns-in-Err : goal.returns-in-Err
 returns-in-Err g c =
     let before = g.F.ImageFiles.written c.loop-i.files in
     let now = g.F.ImageFiles.written c.save.new.files in
-    c.loop-i.invariant.whole (Err (Job c.in-Err.fault)) now
+    c.loop-i.invariant.whole (Err (Save c.in-Err.fault)) now
     (stops_there c.in-Err.fault c.args.volumes.now c.args.images.now c.loop-i.i c.index-volumes-i.result (c.in-Some.field-0-0, c.in-Some.image) before now c.loop-i-test.true
     (sym (c.in-Some.ensures.taken ∙ c.loop-i.invariant.same c.loop-i.i (omega arith)))
     (subst (λ (v : Volume). SavesVolume (Err c.in-Err.fault) v c.in-Some.image before now) c.index-volumes-i.is c.in-Err.ensures))

@@ -1,6 +1,6 @@
 use Rattle.std.proofs.Common.{◌≤◌, length}
 use Rattle.counted_io.specs.Streams.{seen_by, Gives, NoneFailed}
-use Rattle.s360_deck.proofs.counted_reading.read_counted.Given as goal
+use Rattle.s360_deck.proofs.counted_reading.read_text.Given as goal
 
 -- what was read so far is the text so far, each read gave a byte or more, and none failed
 abbrev pub invariant-loop : goal.invariant-loop
