@@ -2,10 +2,10 @@
 
 use crate::drive::Disk;
 use crate::program::Program;
-use anyhow::Result;
+use crate::verbs::{Below, Call, VERBS};
 use ckd_image::Image;
-use s360_words::Storage;
-use stage_files::FileStore;
+use s360_words::{Storage, StorageFault};
+use stage_files::{FileStore, Files, Line, find};
 use std::alloc::Global;
 
 /// The bytes of storage.
@@ -30,7 +30,7 @@ impl Alone {
     /// # Errors
     ///
     /// Memory runs out.
-    pub fn new(alloc: Global) -> Result<Alone> {
+    pub fn new(alloc: Global) -> Result<Alone, StorageFault> {
         Ok(Alone {
             storage: Storage::new(alloc, STORAGE)?,
             drive: None,
@@ -39,4 +39,49 @@ impl Alone {
             slot: Vec::new(alloc),
         })
     }
+
+    /// Does the call that a line asks for; whether the line's verb is one of what stands alone, and else nothing is done.
+    pub fn answer(&mut self, rt: &HostRuntime, files: &mut Files, line: &mut Line) -> bool {
+        let Some((kinds, call)) = find(&VERBS, line) else {
+            return false;
+        };
+        if line.read(rt.alloc(), kinds) {
+            match call {
+                Call::Mounts(mounts) => self.mounts(rt, files, *mounts, line),
+                call => self.call(rt.alloc(), call, line),
+            }
+        }
+        true
+    }
+
+    fn call(&mut self, alloc: Global, call: &Call, line: &mut Line) {
+        match call {
+            Call::Mounts(_) => {}
+            Call::Sees(sees) => self.see(*sees, line),
+            Call::Steps(steps) => self.step(*steps, line),
+            Call::Passes(passes) => self.pass(alloc, *passes, line),
+            Call::Runs(runs) => self.run(*runs, line),
+            Call::Changes(changes) => self.change_storage(alloc, *changes, line),
+            Call::Looks(looks) => self.look_at_storage(*looks, line),
+            Call::Below(below) => self.call_below(alloc, below, line),
+        }
+    }
+
+    fn call_below(&mut self, alloc: Global, call: &Below, line: &mut Line) {
+        match call {
+            Below::Load => self.load(alloc, line),
+            Below::Save => self.save(alloc, line),
+            Below::Asks(asks) => self.ask_slot(alloc, *asks, line),
+            Below::Writes(writes) => self.write_slot(*writes, line),
+            Below::Measures(measures) => measures.say(line),
+            Below::Words(words) => words.say(line),
+            Below::Tables(tables) => self.say_table(*tables, line),
+        }
+    }
+}
+
+/// Puts a value into a place, whose own is dropped. The checker pays for all parts of a value of which a part is assigned; so a part that is
+/// dropped is assigned here.
+pub fn put<T: Drop>(place: &mut T, value: T) {
+    *place = value;
 }

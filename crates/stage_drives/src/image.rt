@@ -1,110 +1,141 @@
-//! An image alone.
+//! Files that are mounted, and an image alone.
 
-ghost use Rattle.std.specs.Prelude.{All, IsSome};
-
-use crate::alone::Alone;
-use crate::shown::ShownGeometry;
-use anyhow::{Context, Result, bail};
+use crate::alone::{Alone, put};
+use crate::drive::NO_DRIVE;
+use crate::shown::say_geometry;
+use ckd_drive::{Drive, Phase};
 use ckd_image::Image;
-use stage_files::{FileStore, Files, OK, Said, Spelled, Stores, bytes, refused, wide};
+use stage_files::{FileStore, Files, Line, MEMORY, No, Said, Word};
 use std::alloc::Global;
 
 const NO_IMAGE: &str = "no image stands alone: MOUNT makes one";
 
+/// Calls of files: they are mounted, for a drive or alone, or come back.
+#[derive(Clone, Copy)]
+pub(crate) enum Mounts {
+    Drive,
+    DriveBack,
+    Image,
+    OneFile,
+    ImageBack,
+}
+
 impl Alone {
-    /// Does what a line of an image asks.
-    ///
-    /// # Errors
-    ///
-    /// The words are others, what they need is not there, or memory runs out.
-    pub fn image(&mut self, rt: &HostRuntime, files: &mut Files, words: &[&str]) -> Result<Said> {
-        let alloc = rt.alloc();
-        match words {
-            ["MOUNT", names @ ..] => {
-                let stores = files.stores(rt, names)?;
-                self.mount_files(rt, files, stores)
-            }
-            ["MOUNT1", name] => {
-                let store = files.store(rt, name)?;
-                self.mount_one(rt, files, store)
-            }
-            ["LOAD", track] => self.load(alloc, wide(track)?),
-            ["SAVE", track, body] => {
-                let body = bytes(alloc, body)?;
-                self.save(alloc, wide(track)?, body.as_slice())
-            }
-            ["RELEASE"] => self.release_image(rt, files),
-            _ => bail!("wrong operands"),
+    /// Mounts files, or gives them back.
+    pub(crate) fn mounts(
+        &mut self,
+        rt: &HostRuntime,
+        files: &mut Files,
+        mounts: Mounts,
+        line: &mut Line,
+    ) {
+        match mounts {
+            Mounts::Drive => self.mount_drive(rt, files, line),
+            Mounts::DriveBack => self.release_drive(rt, files, &mut line.said),
+            Mounts::Image => self.mount(rt, files, line),
+            Mounts::OneFile => self.mount_one(rt, files, line),
+            Mounts::ImageBack => self.release_image(rt, files, &mut line.said),
         }
     }
 
-    fn mount_files(&mut self, rt: &HostRuntime, files: &mut Files, stores: Stores) -> Result<Said>
-        requires { All IsSome stores.items }
-    {
-        match Image::mount_files(stores) {
-            Ok(image) => self.keep_image(rt.alloc(), image),
-            Err((fault, stores)) => {
-                files.give_back(rt, stores)?;
-                refused(rt.alloc(), &fault)
-            }
-        }
-    }
-
-    fn mount_one(&mut self, rt: &HostRuntime, files: &mut Files, store: FileStore) -> Result<Said> {
-        match Image::mount(store) {
-            Ok(image) => self.keep_image(rt.alloc(), image),
-            Err((fault, store)) => {
-                files.give_one_back(rt, store)?;
-                refused(rt.alloc(), &fault)
-            }
-        }
-    }
-
-    fn keep_image(&mut self, alloc: Global, image: Image<FileStore>) -> Result<Said> {
-        let geometry = ShownGeometry(image.geometry());
-        self.image = Some(image);
-        Ok(Said::Text(format!(in alloc; "IMAGE {geometry}")?))
-    }
-
-    // The slot of a track, which is kept too.
-    fn load(&mut self, alloc: Global, track: u32) -> Result<Said> {
-        let image = self.image.as_mut().context(NO_IMAGE)?;
-        let geometry = image.geometry();
-        if track >= geometry.tracks() {
-            bail!("no such track");
-        }
-        let mut slot = vec![in alloc; 0u8; geometry.track_size as usize]?;
-        if let Err(fault) = image.load(track, slot.as_mut_slice()) {
-            return refused(alloc, &fault);
-        }
-        self.slot = slot;
-        Ok(Said::Text(format!(in alloc; "SLOT {}", Spelled(self.slot.as_slice()))?))
-    }
-
-    // Saves a slot that begins with these bytes.
-    fn save(&mut self, alloc: Global, track: u32, body: &[u8]) -> Result<Said> {
-        let image = self.image.as_mut().context(NO_IMAGE)?;
-        let geometry = image.geometry();
-        if track >= geometry.tracks() {
-            bail!("no such track");
-        }
-        let mut slot = vec![in alloc; 0u8; geometry.track_size as usize]?;
-        let n = body.len();
-        if n > slot.len() {
-            bail!("more bytes than a slot has");
-        }
-        slot.as_mut_slice()[..n].copy_from_slice(body);
-        match image.save(track, slot.as_slice()) {
-            Ok(()) => Ok(OK),
-            Err(fault) => refused(alloc, &fault),
-        }
-    }
-
-    fn release_image(&mut self, rt: &HostRuntime, files: &mut Files) -> Result<Said> {
-        let Some(image) = self.image.take() else {
-            bail!(NO_IMAGE);
+    // A drive over these files.
+    fn mount_drive(&mut self, rt: &HostRuntime, files: &mut Files, line: &mut Line) {
+        let Some(image) = files.mount(rt, line.words(0), &mut line.said) else {
+            return;
         };
-        files.give_back(rt, image.into_stores())?;
-        Ok(OK)
+        match Drive::new(rt.alloc(), image) {
+            Ok(drive) => {
+                put(&mut self.program, None);
+                put(&mut self.drive, Some(drive));
+                line.said.ok();
+            }
+            Err((fault, image)) => files.refuse(rt, image, &fault, &mut line.said),
+        }
+    }
+
+    // Takes the drive apart.
+    fn release_drive(&mut self, rt: &HostRuntime, files: &mut Files, said: &mut Said) {
+        let Some(drive) = self.drive.take() else {
+            return said.no(NO_DRIVE);
+        };
+        if drive.phase() != Phase::Idle || drive.is_written() {
+            put(&mut self.drive, Some(drive));
+            return said.no("a command is open, or a track is not saved");
+        }
+        files.release(rt, drive.into_image(), said);
+    }
+
+    fn mount(&mut self, rt: &HostRuntime, files: &mut Files, line: &mut Line) {
+        if let Some(image) = files.mount(rt, line.words(0), &mut line.said) {
+            self.keep_image(image, &mut line.said);
+        }
+    }
+
+    fn mount_one(&mut self, rt: &HostRuntime, files: &mut Files, line: &mut Line) {
+        let store = match files.store(rt, line.word(0)) {
+            Ok(store) => store,
+            Err(No(why)) => return line.said.no(why),
+        };
+        match Image::mount(store) {
+            Ok(image) => self.keep_image(image, &mut line.said),
+            Err((fault, store)) => {
+                line.said.refused(&fault);
+                files.keep_one(rt, store, &mut line.said);
+            }
+        }
+    }
+
+    fn keep_image(&mut self, image: Image<FileStore>, said: &mut Said) {
+        say_geometry(image.geometry(), said);
+        put(&mut self.image, Some(image));
+    }
+
+    fn release_image(&mut self, rt: &HostRuntime, files: &mut Files, said: &mut Said) {
+        match self.image.take() {
+            Some(image) => files.release(rt, image, said),
+            None => said.no(NO_IMAGE),
+        }
+    }
+
+    /// Loads the slot of a track, which is kept too.
+    pub(crate) fn load(&mut self, alloc: Global, line: &mut Line) {
+        let Some(image) = &mut self.image else {
+            return line.said.no(NO_IMAGE);
+        };
+        let (geometry, track) = (image.geometry(), line.wide(0));
+        if track >= geometry.tracks() {
+            return line.said.no("no such track");
+        }
+        let Ok(mut slot) = vec![in alloc; 0u8; geometry.track_size as usize] else {
+            return line.said.no(MEMORY);
+        };
+        if let Err(fault) = image.load(track, slot.as_mut_slice()) {
+            return line.said.refused(&fault);
+        }
+        line.said.answer("SLOT", &[Word::Spelled(slot.as_slice())]);
+        put(&mut self.slot, slot);
+    }
+
+    /// Saves a slot that begins with the bytes of a line.
+    pub(crate) fn save(&mut self, alloc: Global, line: &mut Line) {
+        let Some(image) = &mut self.image else {
+            return line.said.no(NO_IMAGE);
+        };
+        let (geometry, track) = (image.geometry(), line.wide(0));
+        if track >= geometry.tracks() {
+            return line.said.no("no such track");
+        }
+        let Ok(mut slot) = vec![in alloc; 0u8; geometry.track_size as usize] else {
+            return line.said.no(MEMORY);
+        };
+        let n = line.bytes.len();
+        if n > slot.len() {
+            return line.said.no("more bytes than a slot has");
+        }
+        slot.as_mut_slice()[..n].copy_from_slice(line.bytes.as_slice());
+        match image.save(track, slot.as_slice()) {
+            Ok(()) => line.said.ok(),
+            Err(fault) => line.said.refused(&fault),
+        }
     }
 }

@@ -11,9 +11,8 @@ mod slot;
 mod slot_writes;
 mod storage;
 mod tables;
+mod verbs;
 
-pub use crate::alone::Alone;
-pub use crate::shown::{ShownGeometry, ShownProgram, ShownRegisters, model_name};
-pub use crate::slot::ask_model;
-pub use crate::storage::{key, key_of, peek};
-pub use crate::tables::ask_table;
+pub use crate::alone::{Alone, put};
+pub use crate::shown::{model_name, say_geometry, say_program, say_registers};
+pub use crate::storage::{say_key, say_peek};

@@ -3,15 +3,13 @@
 ghost use Rattle.s360_program.specs.Stands.{Stands};
 ghost use Rattle.stage_drives.specs.Standing.{stands-prop};
 
-use crate::alone::Alone;
-use crate::drive::{Disk, NO_DRIVE, ShownTrack, moves};
-use crate::shown::ShownProgram;
-use anyhow::{Context, Result, bail};
+use crate::alone::{Alone, put};
+use crate::drive::{Disk, NO_DRIVE};
+use crate::shown::{moves, say_program, say_track};
 use ckd_drive::Phase;
 use s360_program::program::{Ran, Running, Start};
 use s360_words::Csw;
-use stage_files::{Digits, Said, address, half, wide, yes};
-use std::alloc::Global;
+use stage_files::{Line, Said, Word, yes};
 
 /// A program that runs, and its drive.
 #[derive(Drop)]
@@ -23,6 +21,18 @@ pub(crate) struct Program {
 
 const NO_PROGRAM: &str = "no program runs: PROGRAM START begins one";
 
+/// Calls of a program.
+#[derive(Clone, Copy)]
+pub(crate) enum Runs {
+    Start,
+    Advance,
+    Run,
+    Cut,
+    Take,
+    Asked,
+    View,
+}
+
 impl Program {
     /// Its drive.
     pub(crate) fn drive(&self) -> &Disk {
@@ -32,62 +42,50 @@ impl Program {
 
 impl Alone {
     /// Does what a line of a program asks.
-    ///
-    /// # Errors
-    ///
-    /// The words are others, what they need is not there, or memory runs out.
-    pub fn program(&mut self, alloc: Global, words: &[&str]) -> Result<Said> {
-        match words {
-            ["START", caw] => self.start(alloc, address(caw)?),
-            ["ADVANCE", units] => self.advance(alloc, half(units)?),
-            ["RUN", units] => self.run_on(alloc, wide(units)?),
-            ["CUT"] => self.cut(alloc),
-            ["TAKE"] => self.take_interruption(alloc),
-            ["ASKED"] => {
-                let program = self.program.as_ref().context(NO_PROGRAM)?;
-                let asked = yes(program.running.interruption_asked());
-                Ok(Said::Text(format!(in alloc; "ASKED {asked}")?))
-            }
-            ["VIEW"] => {
-                let program = self.program.as_ref().context(NO_PROGRAM)?;
-                let view = ShownProgram(program.running.view());
-                Ok(Said::Text(format!(in alloc; "VIEW {view}")?))
-            }
-            _ => bail!("wrong operands"),
+    pub(crate) fn run(&mut self, runs: Runs, line: &mut Line) {
+        match runs {
+            Runs::Start => self.start(line.wide(0), &mut line.said),
+            Runs::Advance => self.advance(line.half(0), &mut line.said),
+            Runs::Run => self.run_on(line.wide(0), &mut line.said),
+            Runs::Cut => self.cut(&mut line.said),
+            Runs::Take => self.take_interruption(&mut line.said),
+            Runs::Asked => self.show_asked(&mut line.said),
+            Runs::View => self.show_view(&mut line.said),
         }
     }
 
     // Starts a program by a channel address word.
-    fn start(&mut self, alloc: Global, caw: u32) -> Result<Said> {
+    fn start(&mut self, caw: u32, said: &mut Said) {
         let Some(mut drive) = self.drive.take() else {
-            bail!(NO_DRIVE);
+            return said.no(NO_DRIVE);
         };
         if drive.phase() != Phase::Idle || drive.is_written() {
-            self.drive = Some(drive);
-            bail!("a command is open, or a track is not saved");
+            put(&mut self.drive, Some(drive));
+            return said.no("a command is open, or a track is not saved");
         }
-        let (came, asked) = match Running::start(caw, &self.storage, &mut drive) {
+        match Running::start(caw, &self.storage, &mut drive) {
             Start::Accepted(running) => {
-                self.program = Some(Program { drive, running });
-                return Ok(Said::Word("ACCEPTED"));
+                put(&mut self.program, Some(Program { drive, running }));
+                return said.put("ACCEPTED");
             }
-            Start::Bad => ("BAD", None),
-            Start::Rejected => ("REJECTED", None),
-            Start::Immediate(ending, asked) => ("IMMEDIATE", Some((ending, asked))),
-        };
-        self.drive = Some(drive);
-        let Some((ending, asked)) = asked else {
-            return Ok(Said::Word(came));
-        };
-        let (unit, motion) = (ending.unit.0, moves(ending.motion));
-        let asked = if asked { "asks" } else { "quiet" };
-        Ok(Said::Text(format!(in alloc; "IMMEDIATE {unit:02X} {motion} {asked}")?))
+            Start::Bad => said.put("BAD"),
+            Start::Rejected => said.put("REJECTED"),
+            Start::Immediate(ending, asked) => said.answer(
+                "IMMEDIATE",
+                &[
+                    Word::Byte(ending.unit.0),
+                    moves(ending.motion),
+                    Word::Text(if asked { "asks" } else { "quiet" }),
+                ],
+            ),
+        }
+        put(&mut self.drive, Some(drive));
     }
 
     // Does so many units.
-    fn advance(&mut self, alloc: Global, units: u16) -> Result<Said> {
+    fn advance(&mut self, units: u16, said: &mut Said) {
         let Some(program) = self.program.take() else {
-            bail!(NO_PROGRAM);
+            return said.no(NO_PROGRAM);
         };
         let Program {
             mut drive,
@@ -95,17 +93,17 @@ impl Alone {
         } = program;
         let advance = running.advance(units, &mut self.storage, &mut drive);
         if advance.ending.is_none() {
-            self.program = Some(Program { drive, running });
+            put(&mut self.program, Some(Program { drive, running }));
         } else {
-            self.drive = Some(drive);
+            put(&mut self.drive, Some(drive));
         }
-        came(alloc, u32::from(advance.done), advance.ending)
+        show_done(advance.done as u64, advance.ending, said);
     }
 
     // The same of more units.
-    fn run_on(&mut self, alloc: Global, units: u32) -> Result<Said> {
+    fn run_on(&mut self, units: u32, said: &mut Said) {
         let Some(program) = self.program.take() else {
-            bail!(NO_PROGRAM);
+            return said.no(NO_PROGRAM);
         };
         let Program {
             mut drive,
@@ -113,52 +111,61 @@ impl Alone {
         } = program;
         let Ran { done, ending } = running.run_on(units, &mut self.storage, &mut drive);
         if ending.is_none() {
-            self.program = Some(Program { drive, running });
+            put(&mut self.program, Some(Program { drive, running }));
         } else {
-            self.drive = Some(drive);
+            put(&mut self.drive, Some(drive));
         }
-        came(alloc, done, ending)
+        show_done(done as u64, ending, said);
     }
 
     // Cuts the program.
-    fn cut(&mut self, alloc: Global) -> Result<Said> {
+    fn cut(&mut self, said: &mut Said) {
         let Some(program) = self.program.take() else {
-            bail!(NO_PROGRAM);
+            return said.no(NO_PROGRAM);
         };
         let Program { mut drive, running } = program;
         let (csw, motion, unsaved) = running.cut(&mut drive);
-        self.drive = Some(drive);
-        let csw = csw.to_bytes();
-        let (csw, motion, unsaved) = (Digits(&csw), moves(motion), ShownTrack(unsaved));
-        Ok(Said::Text(format!(in alloc; "CUT {csw} {motion} UNSAVED {unsaved}")?))
+        put(&mut self.drive, Some(drive));
+        said.answer("CUT", &[Word::Digits(&csw.to_bytes()), moves(motion)]);
+        say_track(unsaved, said);
     }
 
     // Takes the interruption that the program asked for.
-    fn take_interruption(&mut self, alloc: Global) -> Result<Said> {
+    fn take_interruption(&mut self, said: &mut Said) {
         let Some(program) = self.program.take() else {
-            bail!(NO_PROGRAM);
+            return said.no(NO_PROGRAM);
         };
         let Program { drive, mut running } = program;
         let taken = running.take_pci();
-        self.program = Some(Program { drive, running });
+        put(&mut self.program, Some(Program { drive, running }));
         match taken {
-            Some(csw) => {
-                let csw = csw.to_bytes();
-                Ok(Said::Text(format!(in alloc; "PCI {}", Digits(&csw))?))
+            Some(csw) => said.answer("PCI", &[Word::Digits(&csw.to_bytes())]),
+            None => said.put("PCI NONE"),
+        }
+    }
+
+    fn show_asked(&self, said: &mut Said) {
+        match &self.program {
+            Some(program) => said.answer("ASKED", &[yes(program.running.interruption_asked())]),
+            None => said.no(NO_PROGRAM),
+        }
+    }
+
+    fn show_view(&self, said: &mut Said) {
+        match &self.program {
+            Some(program) => {
+                said.put("VIEW");
+                say_program(&program.running.view(), said);
             }
-            None => Ok(Said::Word("PCI NONE")),
+            None => said.no(NO_PROGRAM),
         }
     }
 }
 
 // What units came to.
-fn came(alloc: Global, done: u32, ending: Option<(Csw, bool)>) -> Result<Said> {
-    Ok(Said::Text(match ending {
-        None => format!(in alloc; "DONE {done}")?,
-        Some((csw, motion)) => {
-            let csw = csw.to_bytes();
-            let (csw, motion) = (Digits(&csw), moves(motion));
-            format!(in alloc; "DONE {done} ENDED {csw} {motion}")?
-        }
-    }))
+fn show_done(done: u64, ending: Option<(Csw, bool)>, said: &mut Said) {
+    said.answer("DONE", &[Word::Number(done)]);
+    if let Some((csw, motion)) = ending {
+        said.answer(" ENDED", &[Word::Digits(&csw.to_bytes()), moves(motion)]);
+    }
 }

@@ -6,117 +6,96 @@ use ckd_sense::{FileMask, SeekPermission, WritePermission};
 use ckd_track::{DriveModel, Geometry};
 use s360_program::view::{AtWork, ProgramView};
 use s360_words::Ccw;
-use stage_files::{Digits, yes};
-use std::fmt;
+use stage_files::{Said, Word, yes};
 
 /// A program between two units.
-#[derive(Clone, Copy)]
-pub struct ShownProgram(pub ProgramView);
-
-impl fmt::Display for ShownProgram {
-    fn fmt<W: fmt::Write>(&self, f: &mut fmt::Formatter<W>) -> fmt::Result {
-        let it = &self.0;
-        write!(
-            f,
-            "KEY {:X} LAST {:X} NEXT {:X} LEFT {}",
-            it.key, it.last, it.next, it.residual
-        )?;
-        write!(
-            f,
-            " ASKS {} AT {}",
-            yes(it.interruption),
-            ShownWork(it.at_work)
-        )
-    }
+pub fn say_program(view: &ProgramView, said: &mut Said) {
+    said.words(&[
+        Word::Text("KEY"),
+        Word::Hex(view.key as u64),
+        Word::Text("LAST"),
+        Word::Hex(view.last as u64),
+        Word::Text("NEXT"),
+        Word::Hex(view.next as u64),
+        Word::Text("LEFT"),
+        Word::Number(view.residual as u64),
+        Word::Text("ASKS"),
+        yes(view.interruption),
+    ]);
+    say_work(view.at_work, said);
 }
 
-#[derive(Clone, Copy)]
-struct ShownWork(AtWork);
-
-impl fmt::Display for ShownWork {
-    fn fmt<W: fmt::Write>(&self, f: &mut fmt::Formatter<W>) -> fmt::Result {
-        match self.0 {
-            AtWork::Fetching => f.write_str("fetching"),
-            AtWork::Looking(ccw) => write!(f, "looking {}", ShownCcw(ccw)),
-            AtWork::Moving(ccw, at) => write!(f, "moving {} {at:X}", ShownCcw(ccw)),
+fn say_work(work: AtWork, said: &mut Said) {
+    match work {
+        AtWork::Fetching => said.put(" AT fetching"),
+        AtWork::Looking(ccw) => {
+            said.put(" AT looking");
+            say_ccw(ccw, said);
+        }
+        AtWork::Moving(ccw, at) => {
+            said.put(" AT moving");
+            say_ccw(ccw, said);
+            said.words(&[Word::Hex(at as u64)]);
         }
     }
 }
 
 /// A channel command word: code, address, flags and count.
-#[derive(Clone, Copy)]
-pub struct ShownCcw(pub Ccw);
-
-impl fmt::Display for ShownCcw {
-    fn fmt<W: fmt::Write>(&self, f: &mut fmt::Formatter<W>) -> fmt::Result {
-        let Ccw {
-            code,
-            address,
-            flags,
-            count,
-        } = self.0;
-        write!(f, "{code:02X} {address:X} {:02X} {count}", flags.0)
-    }
+pub(crate) fn say_ccw(ccw: Ccw, said: &mut Said) {
+    said.words(&[
+        Word::Byte(ccw.code),
+        Word::Hex(ccw.address as u64),
+        Word::Byte(ccw.flags.0),
+        Word::Number(ccw.count as u64),
+    ]);
 }
 
 /// A model and cylinders of a volume, and the size of its slots.
-#[derive(Clone, Copy)]
-pub struct ShownGeometry(pub Geometry);
-
-impl fmt::Display for ShownGeometry {
-    fn fmt<W: fmt::Write>(&self, f: &mut fmt::Formatter<W>) -> fmt::Result {
-        let Geometry {
-            model,
-            cylinders,
-            track_size,
-        } = self.0;
-        write!(
-            f,
-            "{} CYLINDERS {cylinders} SLOTS {track_size}",
-            model_name(model)
-        )
-    }
+pub fn say_geometry(geometry: Geometry, said: &mut Said) {
+    said.answer(
+        "IMAGE",
+        &[
+            model_name(geometry.model),
+            Word::Text("CYLINDERS"),
+            Word::Number(geometry.cylinders as u64),
+            Word::Text("SLOTS"),
+            Word::Number(geometry.track_size as u64),
+        ],
+    );
 }
 
 /// A model, as it is spelled.
-pub fn model_name(model: DriveModel) -> &'static str {
-    match model {
+pub fn model_name(model: DriveModel) -> Word<'static> {
+    Word::Text(match model {
         DriveModel::D2311 => "2311",
         DriveModel::D2314 => "2314",
-    }
+    })
 }
 
 /// What a drive remembers beside its volume.
-#[derive(Clone, Copy)]
-pub struct ShownRegisters(pub Registers);
-
-impl fmt::Display for ShownRegisters {
-    fn fmt<W: fmt::Write>(&self, f: &mut fmt::Formatter<W>) -> fmt::Result {
-        let it = &self.0;
-        write!(
-            f,
-            "AT {} {} SENSE {}",
-            it.cylinder,
-            it.head,
-            Digits(&it.sense.to_bytes())
-        )?;
-        write!(
-            f,
-            " BEHIND {} MASK {:02X}",
-            ShownPosition(it.position),
-            byte_of(it.file_mask)
-        )?;
-        write!(
-            f,
-            " SET {} CREDIT {}",
-            yes(it.mask_set),
-            ShownCredit(it.credit)
-        )?;
-        f.write_str(match it.lap {
-            Lap::First => " LAP 1",
-            Lap::Second => " LAP 2",
-        })
-    }
+pub fn say_registers(registers: &Registers, said: &mut Said) {
+    let sense = registers.sense.to_bytes();
+    said.words(&[
+        Word::Text("AT"),
+        Word::Number(registers.cylinder as u64),
+        Word::Number(registers.head as u64),
+        Word::Text("SENSE"),
+        Word::Digits(&sense),
+        Word::Text("BEHIND"),
+    ]);
+    say_position(registers.position, said);
+    said.words(&[
+        Word::Text("MASK"),
+        Word::Byte(byte_of(registers.file_mask)),
+        Word::Text("SET"),
+        yes(registers.mask_set),
+        Word::Text("CREDIT"),
+    ]);
+    say_credit(registers.credit, said);
+    said.put(match registers.lap {
+        Lap::First => " LAP 1",
+        Lap::Second => " LAP 2",
+    });
 }
 
 // The byte that sets a file mask.
@@ -137,34 +116,44 @@ fn byte_of(mask: FileMask) -> u8 {
 }
 
 // What the command just before left.
-#[derive(Clone, Copy)]
-struct ShownCredit(Option<Credit>);
-
-impl fmt::Display for ShownCredit {
-    fn fmt<W: fmt::Write>(&self, f: &mut fmt::Formatter<W>) -> fmt::Result {
-        match self.0 {
-            None => f.write_str("NONE"),
-            Some(Credit::EqualHomeAddress) => f.write_str("EQUAL-HOME"),
-            Some(Credit::WroteHomeAddress) => f.write_str("WROTE-HOME"),
-            Some(Credit::EqualId(record)) => write!(f, "EQUAL-ID {record}"),
-            Some(Credit::EqualKey(record)) => write!(f, "EQUAL-KEY {record}"),
-            Some(Credit::WroteRecord(record)) => write!(f, "WROTE-RECORD {record}"),
-        }
+fn say_credit(credit: Option<Credit>, said: &mut Said) {
+    match credit {
+        None => said.put(" NONE"),
+        Some(Credit::EqualHomeAddress) => said.put(" EQUAL-HOME"),
+        Some(Credit::WroteHomeAddress) => said.put(" WROTE-HOME"),
+        Some(Credit::EqualId(record)) => say_record(" EQUAL-ID", record, said),
+        Some(Credit::EqualKey(record)) => say_record(" EQUAL-KEY", record, said),
+        Some(Credit::WroteRecord(record)) => say_record(" WROTE-RECORD", record, said),
     }
 }
 
-/// Where on a turn of the track a drive is: `INDEX`, `HOME`, or the part of a record that passed.
-#[derive(Clone, Copy)]
-pub struct ShownPosition(pub Position);
+// Where on a turn of the track a drive is: `INDEX`, `HOME`, or the part of a record that passed.
+fn say_position(position: Position, said: &mut Said) {
+    match position {
+        Position::AtIndex => said.put(" INDEX"),
+        Position::At(Area::HomeAddress) => said.put(" HOME"),
+        Position::At(Area::Of(Part::Count, record)) => say_record(" COUNT", record, said),
+        Position::At(Area::Of(Part::Key, record)) => say_record(" KEY", record, said),
+        Position::At(Area::Of(Part::Data, record)) => say_record(" DATA", record, said),
+    }
+}
 
-impl fmt::Display for ShownPosition {
-    fn fmt<W: fmt::Write>(&self, f: &mut fmt::Formatter<W>) -> fmt::Result {
-        match self.0 {
-            Position::AtIndex => f.write_str("INDEX"),
-            Position::At(Area::HomeAddress) => f.write_str("HOME"),
-            Position::At(Area::Of(Part::Count, record)) => write!(f, "COUNT {record}"),
-            Position::At(Area::Of(Part::Key, record)) => write!(f, "KEY {record}"),
-            Position::At(Area::Of(Part::Data, record)) => write!(f, "DATA {record}"),
-        }
+fn say_record(name: &str, record: usize, said: &mut Said) {
+    said.answer(name, &[Word::Number(record as u64)]);
+}
+
+/// Whether the arm still moves.
+pub(crate) fn moves(motion: bool) -> Word<'static> {
+    Word::Text(if motion { "moves" } else { "still" })
+}
+
+/// A track that was not saved, if there is one.
+pub(crate) fn say_track(track: Option<(u16, u16)>, said: &mut Said) {
+    match track {
+        Some((cylinder, head)) => said.answer(
+            " UNSAVED",
+            &[Word::Number(cylinder as u64), Word::Number(head as u64)],
+        ),
+        None => said.put(" UNSAVED NONE"),
     }
 }

@@ -2,103 +2,93 @@
 
 use crate::alone::Alone;
 use crate::slot::record_before;
-use anyhow::{Context, Result, bail};
 use ckd_track::{
-    DriveModel, clear_area, end_offset_of, fits, put_data, put_key_data, put_record, read_slot,
-    write_ha,
+    clear_area, end_offset_of, fits, put_data, put_key_data, put_record, read_slot, write_ha,
 };
-use stage_files::{Said, Spelled, bytes, model_of, number};
-use std::alloc::Global;
+use stage_files::{Line, No, Word};
+
+/// Writes into the slot.
+#[derive(Clone, Copy)]
+pub(crate) enum Writes {
+    Home,
+    Record,
+    Zeros,
+    Data,
+    Body,
+}
+
+const NOT_READ: No = No("the slot is not read");
+
+const OTHER_RECORD: No = No("no such record, or another length");
 
 impl Alone {
     /// Writes into the slot, and shows it.
-    ///
-    /// # Errors
-    ///
-    /// The words are others, what they need is not there, or memory runs out.
-    pub fn write_slot(&mut self, alloc: Global, words: &[&str]) -> Result<Said> {
+    pub(crate) fn write_slot(&mut self, writes: Writes, line: &mut Line) {
         let slot = self.slot.as_mut_slice();
-        match words {
-            ["HOME", home] => write_home(slot, bytes(alloc, home)?.as_slice())?,
-            ["RECORD", model, after, count, areas] => {
-                let (count, areas) = (bytes(alloc, count)?, bytes(alloc, areas)?);
-                let record = Record {
-                    after: record_before(after)?,
-                    count: count.first_chunk::<8>().copied().context("no count area")?,
-                    areas: areas.as_slice(),
-                };
-                write_record(model_of(model)?, slot, record)?;
-            }
-            ["ZEROS", at, n] => write_zeros(slot, number(at)?, number(n)?)?,
-            ["DATA", record, data] => write_data(
-                slot,
-                number(record)?,
-                bytes(alloc, data)?.as_slice(),
-            )?,
-            ["BODY", record, body] => write_body(
-                slot,
-                number(record)?,
-                bytes(alloc, body)?.as_slice(),
-            )?,
-            _ => bail!("wrong operands"),
+        let written = match writes {
+            Writes::Home => write_home(slot, line.bytes.as_slice()),
+            Writes::Record => write_record(slot, line),
+            Writes::Zeros => write_zeros(slot, line.size(0), line.size(1)),
+            Writes::Data => write_data(slot, line.size(0), line.bytes.as_slice()),
+            Writes::Body => write_body(slot, line.size(0), line.bytes.as_slice()),
+        };
+        match written {
+            Ok(()) => line
+                .said
+                .answer("SLOT", &[Word::Spelled(self.slot.as_slice())]),
+            Err(No(why)) => line.said.no(why),
         }
-        Ok(Said::Text(format!(in alloc; "SLOT {}", Spelled(self.slot.as_slice()))?))
     }
-}
-
-// A record that is written behind another, or as the only one.
-#[derive(Drop)]
-struct Record<'a> {
-    after: Option<usize>,
-    count: [u8; 8],
-    areas: &'a [u8],
 }
 
 // Writes a home address, where the slot has room for it and an end mark.
-fn write_home(slot: &mut [u8], home: &[u8]) -> Result<()> {
-    let home = home.first_chunk::<5>().copied().context("no home address")?;
+fn write_home(slot: &mut [u8], home: &[u8]) -> Result<(), No> {
+    let Some(home) = home.first_chunk::<5>() else {
+        return Err(No("no home address"));
+    };
     if slot.len() < 13 {
-        bail!("the slot is too short");
+        return Err(No("the slot is too short"));
     }
-    write_ha(slot, home);
+    write_ha(slot, *home);
     Ok(())
 }
 
 // Writes a record, where it fits a track of the drive.
-fn write_record(model: DriveModel, slot: &mut [u8], record: Record) -> Result<()> {
-    let Record {
-        after,
-        count,
-        areas,
-    } = record;
+fn write_record(slot: &mut [u8], line: &Line) -> Result<(), No> {
+    let (after, areas) = (record_before(line, 1), line.bytes.as_slice());
+    let Some(count) = line.first.as_slice().first_chunk::<8>() else {
+        return Err(No("no count area"));
+    };
     let data_length = u16::from_be_bytes([count[6], count[7]]);
-    if slot.len() < model.capacity() as usize + 37 {
-        bail!("the slot is too short");
+    if slot.len() < line.model.capacity() as usize + 37 {
+        return Err(No("the slot is too short"));
     }
     if areas.len() != count[5] as usize + data_length as usize {
-        bail!("the areas have other lengths");
+        return Err(No("the areas have other lengths"));
     }
-    let view = read_slot(slot).context("the slot is not read")?;
+    let Ok(view) = read_slot(slot) else {
+        return Err(NOT_READ);
+    };
     if let Some(record) = after {
         if view.len() <= record {
-            bail!("no such record");
+            return Err(No("no such record"));
         }
     }
-    if !fits(model, &view, after, count[5], data_length) {
-        bail!("it does not fit");
+    if !fits(line.model, &view, after, count[5], data_length) {
+        return Err(No("it does not fit"));
     }
-    put_record(slot, after, count, areas);
+    put_record(slot, after, *count, areas);
     Ok(())
 }
 
 // Writes zeros in the place of bytes before the end mark.
-fn write_zeros(slot: &mut [u8], at: usize, n: usize) -> Result<()> {
+fn write_zeros(slot: &mut [u8], at: usize, n: usize) -> Result<(), No> {
     if read_slot(slot).is_err() {
-        bail!("the slot is not read");
+        return Err(NOT_READ);
     }
     let end = end_offset_of(slot);
     if at > end || n > end - at {
-        bail!("behind the end mark");
+        return Err(No("behind the end mark"));
     }
     let zeros_from = slot.len();
     clear_area(slot, at, n, end, zeros_from);
@@ -106,22 +96,26 @@ fn write_zeros(slot: &mut [u8], at: usize, n: usize) -> Result<()> {
 }
 
 // Writes the data of a record that has so many bytes of it.
-fn write_data(slot: &mut [u8], record: usize, data: &[u8]) -> Result<()> {
-    let view = read_slot(slot).context("the slot is not read")?;
+fn write_data(slot: &mut [u8], record: usize, data: &[u8]) -> Result<(), No> {
+    let Ok(view) = read_slot(slot) else {
+        return Err(NOT_READ);
+    };
     if view.len() <= record || view.data_of(record).len() != data.len() {
-        bail!("no such record, or another length");
+        return Err(OTHER_RECORD);
     }
     put_data(slot, record, data);
     Ok(())
 }
 
 // Writes the key and the data of a record that has so many bytes of them.
-fn write_body(slot: &mut [u8], record: usize, body: &[u8]) -> Result<()> {
-    let view = read_slot(slot).context("the slot is not read")?;
+fn write_body(slot: &mut [u8], record: usize, body: &[u8]) -> Result<(), No> {
+    let Ok(view) = read_slot(slot) else {
+        return Err(NOT_READ);
+    };
     if view.len() <= record
         || view.key_of(record).len() + view.data_of(record).len() != body.len()
     {
-        bail!("no such record, or another length");
+        return Err(OTHER_RECORD);
     }
     put_key_data(slot, record, body);
     Ok(())

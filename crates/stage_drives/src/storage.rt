@@ -1,131 +1,144 @@
 //! The storage that stands beside.
 
-ghost use Rattle.std.specs.Prelude.{◌<◌, IfOk};
-
-use crate::alone::Alone;
-use crate::shown::ShownCcw;
-use anyhow::{Result, bail};
+use crate::alone::{Alone, put};
+use crate::shown::say_ccw;
 use s360_words::{ChannelStatus, Csw, Storage, UnitStatus};
-use stage_files::{
-    OK, OUTSIDE, Said, Spelled, address, byte, bytes, digits_of, number, refused, wide, within,
-};
+use stage_files::{Line, OUTSIDE, Said, Word};
 use std::alloc::Global;
 
+/// Calls that change storage.
+#[derive(Clone, Copy)]
+pub(crate) enum Changes {
+    New,
+    Put,
+    Key,
+    Csw,
+    Status,
+    Store,
+}
+
+/// What storage shows.
+#[derive(Clone, Copy)]
+pub(crate) enum Looks {
+    Size,
+    Peek,
+    From,
+    Byte,
+    Key,
+    Caw,
+    Ccw,
+    Storable,
+}
+
 impl Alone {
-    /// Does what a line of storage asks.
-    ///
-    /// # Errors
-    ///
-    /// The words are others, what they need is not there, or memory runs out.
-    pub fn store(&mut self, alloc: Global, words: &[&str]) -> Result<Said> {
-        let storage = &mut self.storage;
-        match words {
-            ["NEW", size] => self.new_storage(alloc, wide(size)?),
-            ["PUT", at, body] => {
-                let body = bytes(alloc, body)?;
-                Ok(within(storage.put(address(at)?, body.as_slice())))
-            }
-            ["KEY", at, key] => Ok(within(storage.set_key(address(at)?, key_of(key)?))),
-            ["CSW", csw] => {
-                storage.put_csw(Csw::from_bytes(digits_of(csw)?));
-                Ok(OK)
-            }
-            ["STATUS", unit, channel] => {
-                let (unit, channel) = (UnitStatus(byte(unit)?), ChannelStatus(byte(channel)?));
-                storage.put_status(unit, channel);
-                Ok(OK)
-            }
-            ["STORE", at, body, key] => {
-                let body = bytes(alloc, body)?;
-                let stored = storage.store(address(at)?, body.as_slice(), key_of(key)?);
-                Ok(Said::Text(format!(in alloc; "STORED {stored}")?))
-            }
-            words => look_at(alloc, storage, words),
+    /// Changes storage.
+    pub(crate) fn change_storage(&mut self, alloc: Global, changes: Changes, line: &mut Line) {
+        match changes {
+            Changes::New => self.new_storage(alloc, line.wide(0), &mut line.said),
+            changes => change(&mut self.storage, changes, line),
         }
     }
 
     // Another storage.
-    fn new_storage(&mut self, alloc: Global, size: u32) -> Result<Said> {
+    fn new_storage(&mut self, alloc: Global, size: u32, said: &mut Said) {
         match Storage::new(alloc, size) {
             Ok(storage) => {
-                self.storage = storage;
-                Ok(OK)
+                put(&mut self.storage, storage);
+                said.ok();
             }
-            Err(fault) => refused(alloc, &fault),
+            Err(fault) => said.refused(&fault),
+        }
+    }
+
+    /// Shows storage.
+    pub(crate) fn look_at_storage(&self, looks: Looks, line: &mut Line) {
+        let storage = &self.storage;
+        match looks {
+            Looks::Peek => say_peek(storage.slice(line.wide(0), line.wide(1)), &mut line.said),
+            Looks::Key => say_key(storage.key(line.wide(0)), &mut line.said),
+            Looks::Byte => say_byte(storage.byte(line.wide(0)), &mut line.said),
+            Looks::Ccw => say_ccw_at(storage, line.wide(0), &mut line.said),
+            looks => look(storage, looks, line),
         }
     }
 }
 
-/// A storage key, 0 to F.
-///
-/// # Errors
-///
-/// The word is none.
-pub fn key_of(word: &str) -> Result<u8>
-    ensures { IfOk result (λ key. key < 16) }
-{
-    let key = byte(word)?;
-    if key > 15 {
-        bail!("no key of 0 to F");
-    }
-    Ok(key)
-}
-
-// What storage shows.
-fn look_at(alloc: Global, storage: &Storage, words: &[&str]) -> Result<Said> {
-    match words {
-        ["SIZE"] => Ok(Said::Text(format!(in alloc; "SIZE {}", storage.size())?)),
-        ["PEEK", at, n] => peek(alloc, storage.slice(address(at)?, wide(n)?)),
-        ["FROM", at, n] => {
-            let bytes = Spelled(storage.bytes_from(address(at)?, number(n)?));
-            Ok(Said::Text(format!(in alloc; "FROM {bytes}")?))
+fn change(storage: &mut Storage, changes: Changes, line: &mut Line) {
+    let at = line.wide(0);
+    match changes {
+        Changes::Put => line.said.within(storage.put(at, line.bytes.as_slice())),
+        Changes::Key => {
+            let key = line.byte(1) % 16;
+            line.said.within(storage.set_key(at, key));
         }
-        ["BYTE", at] => byte_at(alloc, storage, address(at)?),
-        ["KEYOF", at] => key(alloc, storage.key(address(at)?)),
-        ["CAW"] => Ok(Said::Text(format!(in alloc; "CAW {:08X}", storage.caw_word())?)),
-        ["CCW", at] => ccw_at(alloc, storage, address(at)?),
-        ["STORABLE", at, n, key] => {
-            let storable = storage.storable(address(at)?, wide(n)?, key_of(key)?);
-            Ok(Said::Text(format!(in alloc; "STORABLE {storable}")?))
+        Changes::Store => {
+            let key = line.byte(2) % 16;
+            let stored = storage.store(at, line.bytes.as_slice(), key);
+            line.said.answer("STORED", &[Word::Number(stored as u64)]);
         }
-        _ => bail!("wrong operands"),
+        changes => put_status(storage, changes, line),
     }
 }
 
-fn byte_at(alloc: Global, storage: &Storage, at: u32) -> Result<Said> {
-    match storage.byte(at) {
-        Some(byte) => Ok(Said::Text(format!(in alloc; "BYTE {byte:02X}")?)),
-        None => Ok(OUTSIDE),
+fn put_status(storage: &mut Storage, changes: Changes, line: &mut Line) {
+    if let Changes::Csw = changes {
+        storage.put_csw(Csw::from_bytes(line.digits(0)));
+    } else {
+        storage.put_status(UnitStatus(line.byte(0)), ChannelStatus(line.byte(1)));
+    }
+    line.said.ok();
+}
+
+fn look(storage: &Storage, looks: Looks, line: &mut Line) {
+    match looks {
+        Looks::Size => line
+            .said
+            .answer("SIZE", &[Word::Number(storage.size() as u64)]),
+        Looks::From => {
+            let bytes = storage.bytes_from(line.wide(0), line.size(1));
+            line.said.answer("FROM", &[Word::Spelled(bytes)]);
+        }
+        Looks::Caw => {
+            let caw = storage.caw_word().to_be_bytes();
+            line.said.answer("CAW", &[Word::Digits(&caw)]);
+        }
+        _ => {
+            let storable = storage.storable(line.wide(0), line.wide(1), line.byte(2) % 16);
+            line.said
+                .answer("STORABLE", &[Word::Number(storable as u64)]);
+        }
     }
 }
 
-fn ccw_at(alloc: Global, storage: &Storage, at: u32) -> Result<Said> {
+fn say_byte(byte: Option<u8>, said: &mut Said) {
+    match byte {
+        Some(byte) => said.answer("BYTE", &[Word::Byte(byte)]),
+        None => said.put(OUTSIDE),
+    }
+}
+
+fn say_ccw_at(storage: &Storage, at: u32, said: &mut Said) {
     match storage.ccw_at(at) {
-        Some(ccw) => Ok(Said::Text(format!(in alloc; "CCW {}", ShownCcw(ccw))?)),
-        None => Ok(OUTSIDE),
+        Some(ccw) => {
+            said.put("CCW");
+            say_ccw(ccw, said);
+        }
+        None => said.put(OUTSIDE),
     }
 }
 
-/// Bytes of storage, where they are within it.
-///
-/// # Errors
-///
-/// Memory runs out.
-pub fn peek(alloc: Global, bytes: Option<&[u8]>) -> Result<Said> {
+/// Says bytes of storage, where they are within it.
+pub fn say_peek(bytes: Option<&[u8]>, said: &mut Said) {
     match bytes {
-        Some(bytes) => Ok(Said::Text(format!(in alloc; "PEEK {}", Spelled(bytes))?)),
-        None => Ok(OUTSIDE),
+        Some(bytes) => said.answer("PEEK", &[Word::Spelled(bytes)]),
+        None => said.put(OUTSIDE),
     }
 }
 
-/// The key of a block, where it is within storage.
-///
-/// # Errors
-///
-/// Memory runs out.
-pub fn key(alloc: Global, key: Option<u8>) -> Result<Said> {
+/// Says the key of a block, where it is within storage.
+pub fn say_key(key: Option<u8>, said: &mut Said) {
     match key {
-        Some(key) => Ok(Said::Text(format!(in alloc; "KEYOF {key:X}")?)),
-        None => Ok(OUTSIDE),
+        Some(key) => said.answer("KEYOF", &[Word::Hex(key as u64)]),
+        None => said.put(OUTSIDE),
     }
 }

@@ -3,29 +3,61 @@
 ghost use Rattle.std.specs.Prelude.{◌≡◌, ◌<◌, ◌+◌, ◌++◌, ◌∷◌, [], All, IsSome, Some, IfOk};
 ghost use Rattle.arrayvec.specs.ArrayVec.{array_vec_len};
 
+use crate::said::{No, Said};
 use crate::store::{FileStore, Watched};
-use crate::watch::Watch;
-use anyhow::{Context, Result, bail};
+use crate::watch::{Watch, say};
 use arrayvec::ArrayVec;
-use ckd_image::{FailingStore, ImageStore, MOST_FILES, MemoryStore};
-use std::alloc::Global;
+use ckd_image::{FailingStore, Image, MOST_FILES, MemoryStore};
+use std::alloc::{AllocError, Global};
+use std::fmt::Display;
 use std::fs;
 use std::rc::Rc;
 
 /// The stores of an image's files, in their order.
 pub type Stores = ArrayVec<Option<FileStore>, 8>;
 
-// A file, and which call of the next stores over it fails.
+/// What is said of a file that is not there.
+pub const NO_FILE: &str = "no such file";
+
+/// A file, and which call of the next stores over it fails.
 #[derive(Drop)]
-struct File {
+pub struct File {
     name: String,
-    content: MemoryStore,
+    /// What it holds.
+    pub content: MemoryStore,
     /// The number of the call, counted from 1 on; with 0 none fails.
-    fails_at: u32,
+    pub fails_at: u32,
     /// Whether each later one fails too.
-    for_good: bool,
-    /// What the last store over it was asked for.
+    pub for_good: bool,
+    // what the last store over it was asked for
     watch: Rc<Watch>,
+}
+
+impl File {
+    /// Says what the last store over it was asked for.
+    pub fn say_calls(&self, said: &mut Said) {
+        say(&self.watch, said);
+    }
+
+    // A store over what it holds.
+    fn store(&mut self, alloc: Global) -> Result<FileStore, AllocError> {
+        let watch = Rc::new(alloc, Watch::new())?;
+        let name = self.name.as_str().to_string(alloc)?;
+        let content = MemoryStore::new(alloc, self.content.bytes())?;
+        let Ok(other) = watch.clone() else {
+            return Err(AllocError);
+        };
+        self.watch = other;
+        Ok(Watched {
+            store: failing(content, self.fails_at, self.for_good),
+            name,
+            watch,
+        })
+    }
+}
+
+fn failing(content: MemoryStore, at: u32, for_good: bool) -> FailingStore {
+    FailingStore::new(content, u64::from(at), for_good)
 }
 
 /// Files by their names. A name with a slash in it is the path of a file on the disk.
@@ -42,24 +74,14 @@ impl Files {
         }
     }
 
-    fn named(&self, name: &str) -> Result<&File> {
-        for file in &self.list {
+    /// The file of a name.
+    pub fn file(&mut self, name: &str) -> Option<&mut File> {
+        for file in self.list.as_mut_slice() {
             if file.name.as_str() == name {
-                return Ok(file);
+                return Some(file);
             }
         }
-        bail!("no such file: {name}")
-    }
-
-    fn named_mut(&mut self, name: &str) -> Result<&mut File> {
-        let place = self
-            .list
-            .iter()
-            .position(|file: &File| file.name.as_str() == name);
-        match place.and_then(|place| self.list.get_mut(place)) {
-            Some(file) => Ok(file),
-            None => bail!("no such file: {name}"),
-        }
+        None
     }
 
     /// A file with this name, in the place of one that has it; none of its calls fails.
@@ -67,8 +89,13 @@ impl Files {
     /// # Errors
     ///
     /// Memory runs out.
-    pub fn set(&mut self, alloc: Global, name: &str, content: MemoryStore) -> Result<()> {
-        if let Ok(file) = self.named_mut(name) {
+    pub fn set(
+        &mut self,
+        alloc: Global,
+        name: &str,
+        content: MemoryStore,
+    ) -> Result<(), AllocError> {
+        if let Some(file) = self.file(name) {
             file.content = content;
             return Ok(());
         }
@@ -83,46 +110,13 @@ impl Files {
         Ok(())
     }
 
-    /// Which call of the next stores over a file fails, counted from 1 on, and whether each later one does; with 0 none does.
-    ///
-    /// # Errors
-    ///
-    /// There is no such file.
-    pub fn fail(&mut self, name: &str, at: u32, for_good: bool) -> Result<()> {
-        let file = self.named_mut(name)?;
-        file.fails_at = at;
-        file.for_good = for_good;
-        Ok(())
-    }
-
-    /// What the last store over a file was asked for.
-    ///
-    /// # Errors
-    ///
-    /// There is no such file, or memory runs out.
-    pub fn calls(&self, alloc: Global, name: &str) -> Result<String> {
-        let watch = &self.named(name)?.watch;
-        Ok(format!(in alloc; "CALLS {}", **watch)?)
-    }
-
-    /// What a file holds.
-    ///
-    /// # Errors
-    ///
-    /// There is no such file.
-    pub fn content(&self, name: &str) -> Result<&[u8]> {
-        Ok(self.named(name)?.content.bytes())
-    }
-
-    /// Puts bytes into a file, from a place on; whether they stand within it, and else nothing has changed.
-    ///
-    /// # Errors
-    ///
-    /// There is no such file.
-    pub fn put(&mut self, name: &str, at: usize, bytes: &[u8]) -> Result<bool> {
-        let content = &mut self.named_mut(name)?.content;
-        let at = at as u64;
-        Ok(at <= content.len() && content.write_at(at, bytes).is_ok())
+    // Reads a file on the disk.
+    fn fetch(&mut self, rt: &HostRuntime, name: &str) -> Result<(), No> {
+        let Ok(content) = fs::read(rt, name) else {
+            return Err(No("the file is not read"));
+        };
+        let content = MemoryStore::new(rt.alloc(), content.as_slice())?;
+        Ok(self.set(rt.alloc(), name, content)?)
     }
 
     /// A store over what a file holds.
@@ -130,72 +124,108 @@ impl Files {
     /// # Errors
     ///
     /// There is no such file, or memory runs out.
-    pub fn store(&mut self, rt: &HostRuntime, name: &str) -> Result<FileStore> {
-        let alloc = rt.alloc();
+    pub fn store(&mut self, rt: &HostRuntime, name: &str) -> Result<FileStore, No> {
         if name.contains('/') {
-            let content = fs::read(rt, name).context("the file is not read")?;
-            self.set(alloc, name, MemoryStore::new(alloc, content.as_slice())?)?;
+            self.fetch(rt, name)?;
         }
-        let watch = Rc::new(alloc, Watch::new())?;
-        let file = self.named_mut(name)?;
-        let content = MemoryStore::new(alloc, file.content.bytes())?;
-        let store = Watched {
-            store: FailingStore::new(content, u64::from(file.fails_at), file.for_good),
-            name: name.to_string(alloc)?,
-            watch: watch.clone()?,
-        };
-        file.watch = watch;
-        Ok(store)
+        match self.file(name) {
+            Some(file) => Ok(file.store(rt.alloc())?),
+            None => Err(No(NO_FILE)),
+        }
     }
 
-    /// Stores over what these files hold, one to eight.
-    ///
-    /// # Errors
-    ///
-    /// There is no such file, there are more than eight, or memory runs out.
-    pub fn stores(&mut self, rt: &HostRuntime, names: &[&str]) -> Result<Stores>
+    // Stores over what these files hold.
+    fn stores(&mut self, rt: &HostRuntime, names: &[&str]) -> Result<Stores, No>
         ensures there { IfOk result (λ stores. All IsSome stores.items) }
     {
         let mut stores = ArrayVec::new();
         for name in names {
             if stores.len() >= MOST_FILES {
-                bail!("more than eight files");
+                return Err(No("more than eight files"));
             }
             stores = with_store(stores, self.store(rt, name)?);
         }
         Ok(stores)
     }
 
-    /// What stores hold goes back to their files.
-    ///
-    /// # Errors
-    ///
-    /// A file on the disk is not written, or memory runs out.
-    pub fn give_back(&mut self, rt: &HostRuntime, stores: Stores) -> Result<()> {
-        for store in stores {
-            if let Some(store) = store {
-                self.give_one_back(rt, store)?;
+    /// An image over these files; none where that is said to be refused.
+    pub fn mount(
+        &mut self,
+        rt: &HostRuntime,
+        names: &[&str],
+        said: &mut Said,
+    ) -> Option<Image<FileStore>> {
+        match self.stores(rt, names) {
+            Ok(stores) => self.mount_stores(rt, stores, said),
+            Err(No(why)) => {
+                said.no(why);
+                None
             }
         }
-        Ok(())
     }
 
-    /// What a store holds goes back to its file.
-    ///
-    /// # Errors
-    ///
-    /// A file on the disk is not written, or memory runs out.
-    pub fn give_one_back(&mut self, rt: &HostRuntime, store: FileStore) -> Result<()> {
+    fn mount_stores(
+        &mut self,
+        rt: &HostRuntime,
+        stores: Stores,
+        said: &mut Said,
+    ) -> Option<Image<FileStore>>
+        requires { All IsSome stores.items }
+    {
+        match Image::mount_files(stores) {
+            Ok(image) => Some(image),
+            Err((fault, stores)) => {
+                said.refused(&fault);
+                self.keep(rt, stores, said);
+                None
+            }
+        }
+    }
+
+    /// Takes an image apart, and says that it was refused, and why.
+    pub fn refuse<F: Display>(
+        &mut self,
+        rt: &HostRuntime,
+        image: Image<FileStore>,
+        fault: &F,
+        said: &mut Said,
+    ) {
+        said.refused(fault);
+        self.keep(rt, image.into_stores(), said);
+    }
+
+    /// Takes an image apart, and says that this is done.
+    pub fn release(&mut self, rt: &HostRuntime, image: Image<FileStore>, said: &mut Said) {
+        said.ok();
+        self.keep(rt, image.into_stores(), said);
+    }
+
+    /// What stores hold goes back to their files; says where that is not done.
+    pub fn keep(&mut self, rt: &HostRuntime, stores: Stores, said: &mut Said) {
+        for store in stores {
+            if let Some(store) = store {
+                self.keep_one(rt, store, said);
+            }
+        }
+    }
+
+    /// The same of one store.
+    pub fn keep_one(&mut self, rt: &HostRuntime, store: FileStore, said: &mut Said) {
         let Watched {
             store,
             name,
             watch: _,
         } = store;
-        let content = store.into_inner();
-        if name.as_str().contains('/') {
-            fs::write(rt, name.as_str(), content.bytes()).context("the file is not written")?;
+        if let Err(No(why)) = self.put_back(rt, name.as_str(), store.into_inner()) {
+            said.no(why);
         }
-        self.set(rt.alloc(), name.as_str(), content)
+    }
+
+    fn put_back(&mut self, rt: &HostRuntime, name: &str, content: MemoryStore) -> Result<(), No> {
+        if name.contains('/') && fs::write(rt, name, content.bytes()).is_err() {
+            return Err(No("the file is not written"));
+        }
+        Ok(self.set(rt.alloc(), name, content)?)
     }
 }
 

@@ -1,18 +1,18 @@
-//! For the stage of calls: the words of its lines, how bytes are spelled in answers, and files in memory, over which it makes
-//! stores that are watched and fail at the calls asked for.
+//! For the stage of calls: its lines and what their operands spell, how answers are spelled, and files in memory, over which it
+//! makes stores that are watched and fail at the calls asked for.
 #![tactic(auto)]
 
 mod files;
+mod kinds;
+mod line;
 mod said;
-mod spelling;
 mod store;
 mod watch;
-mod words;
 
-pub use crate::files::{Files, Stores};
-pub use crate::said::{OK, OUTSIDE, Said, refused, within, yes};
-pub use crate::spelling::{Digits, Spelled, Text};
-pub use crate::store::{FileStore, Watched};
-pub use crate::words::{
-    address, byte, bytes, device_address, digits_of, half, model_of, number, wide, words_of,
+pub use crate::files::{File, Files, NO_FILE, Stores};
+pub use crate::kinds::{
+    AT, BYTE, DEVICE, DIGITS, HALF, KEY, Kind, NUMBER, NUMBER_OR_NONE, Range, SMALL, WIDE,
 };
+pub use crate::line::{Line, Verb, find};
+pub use crate::said::{MEMORY, No, OUTSIDE, Said, WRONG, Word, yes};
+pub use crate::store::{FileStore, Watched};

@@ -1,6 +1,6 @@
 //! The stores of files.
 
-use crate::watch::Watch;
+use crate::watch::{Watch, count, count_failed};
 use ckd_image::{FailingStore, ImageStore, StoreFault};
 use std::rc::Rc;
 
@@ -29,13 +29,15 @@ impl<S: ImageStore> ImageStore for Watched<S> {
     fn read_at(&mut self, at: u64, into: &mut [u8]) -> Result<(), StoreFault> {
         let len = into.len();
         let came = self.store.read_at(at, into);
-        self.watch.reads.add(at, len, &came);
+        count(&self.watch.reads, at, len);
+        count_failed(&self.watch.failed_reads, at, len, &came);
         came
     }
 
     fn write_at(&mut self, at: u64, bytes: &[u8]) -> Result<(), StoreFault> {
         let came = self.store.write_at(at, bytes);
-        self.watch.writes.add(at, bytes.len(), &came);
+        count(&self.watch.writes, at, bytes.len());
+        count_failed(&self.watch.failed_writes, at, bytes.len(), &came);
         came
     }
 }

@@ -1,71 +1,56 @@
 //! What a channel shows.
 
 use crate::channel::Disks;
-use crate::shown::{ShownDrive, ShownState};
-use crate::stage::{Stage, lent};
-use anyhow::{Result, bail};
-use stage_drives::{ShownGeometry, ShownProgram, ShownRegisters, key, peek};
-use stage_files::{Said, address, byte, wide, yes};
-use std::alloc::Global;
+use crate::shown::{say_drive, say_image, say_state, say_view};
+use crate::stage::{NO_CHANNEL, Stage};
+use stage_drives::{say_key, say_peek, say_registers};
+use stage_files::{Line, Said, yes};
+
+/// What a channel is asked.
+#[derive(Clone, Copy)]
+pub(crate) enum Asks {
+    Peek,
+    Key,
+    State,
+    Pending,
+    View,
+    Registers,
+    Unit,
+    Image,
+}
 
 impl Stage {
-    /// Asks the channel what these words say.
-    pub(crate) fn ask(&mut self, alloc: Global, words: &[&str]) -> Result<Said> {
-        let channel: &Disks = lent(&mut self.channel)?;
-        match words {
-            ["PEEK", at, len] => peek(alloc, channel.peek(address(at)?, wide(len)?)),
-            ["KEYOF", at] => key(alloc, channel.key(address(at)?)),
-            ["STATE"] => Ok(Said::Text(format!(in alloc;
-                "STATE {}",
-                ShownState(channel.state())
-            )?)),
-            ["PENDING"] => Ok(Said::Text(format!(in alloc;
-                "PENDING {}",
-                yes(channel.is_pending())
-            )?)),
-            ["VIEW"] => view(alloc, channel),
-            ["REGISTERS"] => registers(alloc, channel),
-            ["UNIT", device] => unit(alloc, channel, byte(device)?),
-            ["IMAGE", device] => image(alloc, channel, byte(device)?),
-            _ => bail!("wrong operands"),
+    /// Asks the channel.
+    pub(crate) fn ask(&self, asks: Asks, line: &mut Line) {
+        let Some(channel) = &self.channel else {
+            return line.said.no(NO_CHANNEL);
+        };
+        match asks {
+            Asks::Peek => say_peek(channel.peek(line.wide(0), line.wide(1)), &mut line.said),
+            Asks::Key => say_key(channel.key(line.wide(0)), &mut line.said),
+            Asks::Unit => say_drive(channel.drive(line.byte(0)), &mut line.said),
+            Asks::Image => say_image(channel.image(line.byte(0)), &mut line.said),
+            asks => show(channel, asks, &mut line.said),
         }
     }
 }
 
-fn view(alloc: Global, channel: &Disks) -> Result<Said> {
-    match channel.program() {
-        Some(watched) => {
-            let device = watched.device;
-            let program = ShownProgram(watched.program);
-            Ok(Said::Text(format!(in alloc; "VIEW {device:02X} {program}")?))
-        }
-        None => Ok(Said::Word("VIEW NONE")),
+// What needs no operand.
+fn show(channel: &Disks, asks: Asks, said: &mut Said) {
+    match asks {
+        Asks::State => say_state(&channel.state(), said),
+        Asks::Pending => said.answer("PENDING", &[yes(channel.is_pending())]),
+        Asks::View => say_view(channel.program(), said),
+        _ => show_registers(channel, said),
     }
 }
 
-fn registers(alloc: Global, channel: &Disks) -> Result<Said> {
+fn show_registers(channel: &Disks, said: &mut Said) {
     match channel.drive_at_work() {
         Some(drive) => {
-            let registers = ShownRegisters(*drive.registers());
-            Ok(Said::Text(format!(in alloc; "REGISTERS {registers}")?))
+            said.put("REGISTERS");
+            say_registers(drive.registers(), said);
         }
-        None => Ok(Said::Word("REGISTERS NONE")),
-    }
-}
-
-fn unit(alloc: Global, channel: &Disks, device: u8) -> Result<Said> {
-    match channel.drive(device) {
-        Some(drive) => Ok(Said::Text(format!(in alloc; "UNIT {}", ShownDrive(drive))?)),
-        None => Ok(Said::Word("UNIT NONE")),
-    }
-}
-
-fn image(alloc: Global, channel: &Disks, device: u8) -> Result<Said> {
-    match channel.image(device) {
-        Some(image) => Ok(Said::Text(format!(in alloc;
-            "IMAGE {}",
-            ShownGeometry(image.geometry())
-        )?)),
-        None => Ok(Said::Word("IMAGE NONE")),
+        None => said.put("REGISTERS NONE"),
     }
 }

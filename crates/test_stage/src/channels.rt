@@ -1,119 +1,148 @@
 //! Several channels over one storage.
 
-use crate::channel::answered;
+use crate::channel::{Instruction, answered, keep_all, say_reset};
+use crate::channels_shown::show;
 use crate::stage::Stage;
-use anyhow::{Context, Result, bail};
-use ckd_image::Image;
-use s360_channel::{Finished, Reset};
+use crate::verbs::OfChannels;
+use s360_channel::Finished;
 use s360_channels::Channels;
 use s360_events::Answer;
 use s360_words::Storage;
-use stage_drives::key_of;
-use stage_files::{FileStore, OK, Said, address, byte, bytes, device_address, half, refused, wide};
+use stage_drives::put;
+use stage_files::{FileStore, Line, Said};
 use std::alloc::Global;
 
 /// Channels over files.
 pub(crate) type Several = Channels<FileStore>;
 
-/// Why there are none.
-pub(crate) const NO_CHANNELS: &str = "no channels: CHANNELS BEGIN 65536 makes them";
+const NO_CHANNELS: &str = "no channels: CHANNELS BEGIN 65536 makes them";
 
-// The number of a channel.
-fn channel_number(word: &str) -> Result<u8> {
-    word.parse::<u8>().context("no number of a channel")
+/// Calls that make channels and their drives, or end them.
+#[derive(Clone, Copy)]
+pub(crate) enum Sets {
+    Begin,
+    Volume,
+    Detach,
+    Exchange,
+    Remove,
+    End,
+}
+
+/// Calls of one channel by its number.
+#[derive(Clone, Copy)]
+pub(crate) enum Units {
+    Step,
+    Run,
+    Reset,
+    InterruptAt,
+}
+
+/// Calls of all channels, and of their storage.
+#[derive(Clone, Copy)]
+pub(crate) enum Changes {
+    Add,
+    StepAll,
+    ResetAll,
+    Interrupt,
+    Poke,
+    Key,
+}
+
+/// What channels are asked.
+#[derive(Clone, Copy)]
+pub(crate) enum Shows {
+    Peek,
+    Key,
+    Unit,
+    Image,
+    Pending,
+    First,
+    Has,
+    PendingAt,
+    State,
+    View,
 }
 
 impl Stage {
     /// Does what a line of several channels asks.
-    pub(crate) fn several(&mut self, rt: &HostRuntime, words: &[&str]) -> Result<Said> {
-        match words {
-            ["BEGIN", size] => self.begin_several(rt.alloc(), wide(size)?),
-            ["VOLUME", at, names @ ..] => self.attach_to(rt, device_address(at)?, names),
-            ["DETACH", at] => self.detach_from(rt, device_address(at)?),
-            ["EXCHANGE", at, names @ ..] => self.exchange_at(rt, device_address(at)?, names),
-            ["REMOVE", number] => self.remove(rt, channel_number(number)?),
-            ["END"] => self.remove_all(rt),
-            ["SIO" | "TIO" | "HIO" | "TCH" | "ARRIVE", ..]
-            | ["STEP" | "RUN" | "RESET" | "INTAT", ..] => {
-                let channels = self.channels.as_mut().context(NO_CHANNELS)?;
-                event(rt.alloc(), channels, words)
+    pub(crate) fn several(&mut self, rt: &HostRuntime, call: &OfChannels, line: &mut Line) {
+        match (call, &mut self.channels) {
+            (OfChannels::Sets(Sets::Begin), _) => self.begin_several(rt.alloc(), line),
+            (_, None) => line.said.no(NO_CHANNELS),
+            (OfChannels::Sets(sets), Some(_)) => self.set_several(rt, *sets, line),
+            (OfChannels::Does(does), Some(channels)) => instruct(channels, *does, line),
+            (OfChannels::Units(units), Some(channels)) => advance(channels, *units, line),
+            (OfChannels::Changes(changes), Some(channels)) => {
+                change(rt.alloc(), channels, *changes, line)
             }
-            ["ADD" | "STEPALL" | "RESETALL" | "INT" | "POKE" | "KEY", ..] => {
-                let channels = self.channels.as_mut().context(NO_CHANNELS)?;
-                change(rt.alloc(), channels, words)
-            }
-            words => {
-                let channels = self.channels.as_ref().context(NO_CHANNELS)?;
-                crate::channels_shown::ask(rt.alloc(), channels, words)
-            }
+            (OfChannels::Shows(shows), Some(channels)) => show(channels, *shows, line),
         }
     }
 
-    fn begin_several(&mut self, alloc: Global, size: u32) -> Result<Said> {
-        match Storage::new(alloc, size) {
+    fn begin_several(&mut self, alloc: Global, line: &mut Line) {
+        match Storage::new(alloc, line.wide(0)) {
             Ok(storage) => {
-                self.channels = Some(Channels::new(storage));
-                Ok(OK)
+                put(&mut self.channels, Some(Channels::new(storage)));
+                line.said.ok();
             }
-            Err(fault) => refused(alloc, &fault),
+            Err(fault) => line.said.refused(&fault),
+        }
+    }
+
+    fn set_several(&mut self, rt: &HostRuntime, sets: Sets, line: &mut Line) {
+        match sets {
+            Sets::Begin => {}
+            Sets::Volume => self.attach_to(rt, line),
+            Sets::Detach => self.detach_from(rt, line),
+            Sets::Exchange => self.exchange_at(rt, line),
+            Sets::Remove => self.remove(rt, line.byte(0), true, &mut line.said),
+            Sets::End => self.remove_all(rt, &mut line.said),
         }
     }
 
     // Attaches a drive over these files.
-    fn attach_to(&mut self, rt: &HostRuntime, at: u16, names: &[&str]) -> Result<Said> {
-        let channels = self.channels.as_mut().context(NO_CHANNELS)?;
-        let image = match Image::mount_files(self.files.stores(rt, names)?) {
-            Ok(image) => image,
-            Err((fault, stores)) => {
-                self.files.give_back(rt, stores)?;
-                return refused(rt.alloc(), &fault);
-            }
+    fn attach_to(&mut self, rt: &HostRuntime, line: &mut Line) {
+        let Some(channels) = &mut self.channels else {
+            return line.said.no(NO_CHANNELS);
         };
-        match channels.attach(rt.alloc(), at, image) {
-            Ok(()) => Ok(OK),
-            Err((fault, image)) => {
-                self.files.give_back(rt, image.into_stores())?;
-                refused(rt.alloc(), &fault)
-            }
+        let Some(image) = self.files.mount(rt, line.words(1), &mut line.said) else {
+            return;
+        };
+        match channels.attach(rt.alloc(), line.half(0), image) {
+            Ok(()) => line.said.ok(),
+            Err((fault, image)) => self.files.refuse(rt, image, &fault, &mut line.said),
         }
     }
 
-    fn detach_from(&mut self, rt: &HostRuntime, at: u16) -> Result<Said> {
-        let channels = self.channels.as_mut().context(NO_CHANNELS)?;
-        match channels.detach(at) {
-            Ok(image) => {
-                self.files.give_back(rt, image.into_stores())?;
-                Ok(OK)
-            }
-            Err(fault) => refused(rt.alloc(), &fault),
+    fn detach_from(&mut self, rt: &HostRuntime, line: &mut Line) {
+        let Some(channels) = &mut self.channels else {
+            return line.said.no(NO_CHANNELS);
+        };
+        match channels.detach(line.half(0)) {
+            Ok(image) => self.files.release(rt, image, &mut line.said),
+            Err(fault) => line.said.refused(&fault),
         }
     }
 
     // Changes a pack.
-    fn exchange_at(&mut self, rt: &HostRuntime, at: u16, names: &[&str]) -> Result<Said> {
-        let channels = self.channels.as_mut().context(NO_CHANNELS)?;
-        let image = match Image::mount_files(self.files.stores(rt, names)?) {
-            Ok(image) => image,
-            Err((fault, stores)) => {
-                self.files.give_back(rt, stores)?;
-                return refused(rt.alloc(), &fault);
-            }
+    fn exchange_at(&mut self, rt: &HostRuntime, line: &mut Line) {
+        let Some(channels) = &mut self.channels else {
+            return line.said.no(NO_CHANNELS);
         };
-        match channels.exchange(at, image) {
-            Ok(image) => {
-                self.files.give_back(rt, image.into_stores())?;
-                Ok(OK)
-            }
-            Err((fault, image)) => {
-                self.files.give_back(rt, image.into_stores())?;
-                refused(rt.alloc(), &fault)
-            }
+        let Some(image) = self.files.mount(rt, line.words(1), &mut line.said) else {
+            return;
+        };
+        match channels.exchange(line.half(0), image) {
+            Ok(image) => self.files.release(rt, image, &mut line.said),
+            Err((fault, image)) => self.files.refuse(rt, image, &fault, &mut line.said),
         }
     }
 
-    // Takes a channel away, and answers what its reset does.
-    fn remove(&mut self, rt: &HostRuntime, number: u8) -> Result<Said> {
-        let channels = self.channels.as_mut().context(NO_CHANNELS)?;
+    // Takes a channel away, and answers what its reset does, if that is to be told.
+    fn remove(&mut self, rt: &HostRuntime, number: u8, tells_reset: bool, said: &mut Said) {
+        let Some(channels) = &mut self.channels else {
+            return said.no(NO_CHANNELS);
+        };
         match channels.remove(number) {
             Some(finished) => {
                 let Finished {
@@ -121,113 +150,95 @@ impl Stage {
                     images,
                     reset,
                 } = finished;
-                let reset = self.take_back(rt, images, reset)?;
-                answered(rt.alloc(), &reset)
+                if tells_reset {
+                    say_reset(&reset, said);
+                }
+                keep_all(&mut self.files, rt, images, said);
             }
-            None => Ok(Said::Word("NONE")),
+            None if tells_reset => said.put("NONE"),
+            None => {}
         }
     }
 
     // Takes each channel away, in order of their numbers.
-    fn remove_all(&mut self, rt: &HostRuntime) -> Result<Said> {
+    fn remove_all(&mut self, rt: &HostRuntime, said: &mut Said) {
+        said.ok();
         for number in 0..7u8 {
-            self.remove(rt, number)?;
+            self.remove(rt, number, false, said);
         }
-        self.channels = None;
-        Ok(OK)
-    }
-
-    /// The files of a channel's drives go back; answers what its last reset did.
-    pub(crate) fn take_back(
-        &mut self,
-        rt: &HostRuntime,
-        images: [Option<(u8, Image<FileStore>)>; 8],
-        reset: Reset,
-    ) -> Result<Answer> {
-        for entry in images {
-            if let Some((_, image)) = entry {
-                self.files.give_back(rt, image.into_stores())?;
-            }
-        }
-        Ok(Answer::Reset(reset.unsaved))
+        put(&mut self.channels, None);
     }
 }
 
-// An event of one channel.
-fn event(alloc: Global, channels: &mut Several, words: &[&str]) -> Result<Said> {
-    match words {
-        ["STEP", number, units] => {
-            let done = channels.step(channel_number(number)?, half(units)?);
-            if_there(alloc, done.map(|done: u16| Answer::Step(done)))
-        }
-        ["RUN", number, units] => {
-            let ran = channels.run_on(channel_number(number)?, wide(units)?);
-            if_there(
-                alloc,
-                ran.map(|ran: s360_channel::RunOn| Answer::Run(ran.units)),
-            )
-        }
-        ["RESET", number] => {
-            let reset = channels.reset(channel_number(number)?);
-            if_there(
-                alloc,
-                reset.map(|reset: Reset| Answer::Reset(reset.unsaved)),
-            )
-        }
-        ["INTAT", number] => {
-            let given = channels.interrupt_at(channel_number(number)?);
-            answered(alloc, &Answer::Interrupt(given))
-        }
-        [name, at] => answered(alloc, &instruction(channels, name, device_address(at)?)?),
-        _ => bail!("wrong operands"),
-    }
+fn instruct(channels: &mut Several, does: Instruction, line: &mut Line) {
+    let at = line.half(0);
+    let answer = match does {
+        Instruction::Sio => Answer::Sio(at, channels.sio(at)),
+        Instruction::Tio => Answer::Tio(at, channels.tio(at)),
+        Instruction::Hio => Answer::Hio(at, channels.hio(at)),
+        Instruction::Tch => Answer::Tch(channels.tch(at)),
+        Instruction::Arrive => Answer::Arrive(at, channels.arrive(at)),
+    };
+    answered(&answer, &mut line.said);
 }
 
-// An answer, where there is such a channel.
-fn if_there(alloc: Global, answer: Option<Answer>) -> Result<Said> {
+// A call of one channel.
+fn advance(channels: &mut Several, units: Units, line: &mut Line) {
+    let number = line.byte(0);
+    let answer = match units {
+        Units::Step => stepped(channels.step(number, line.half(1))),
+        Units::Run => ran(channels, number, line.wide(1)),
+        Units::Reset => reset(channels, number),
+        Units::InterruptAt => Some(Answer::Interrupt(channels.interrupt_at(number))),
+    };
     match answer {
-        Some(answer) => answered(alloc, &answer),
-        None => Ok(Said::Word("NONE")),
+        Some(answer) => answered(&answer, &mut line.said),
+        None => line.said.put("NONE"),
     }
 }
 
-fn instruction(channels: &mut Several, name: &str, at: u16) -> Result<Answer> {
-    Ok(match name {
-        "SIO" => Answer::Sio(at, channels.sio(at)),
-        "TIO" => Answer::Tio(at, channels.tio(at)),
-        "HIO" => Answer::Hio(at, channels.hio(at)),
-        "TCH" => Answer::Tch(channels.tch(at)),
-        "ARRIVE" => Answer::Arrive(at, channels.arrive(at)),
-        _ => bail!("wrong operands"),
-    })
+fn stepped(done: Option<u16>) -> Option<Answer> {
+    Some(Answer::Step(done?))
+}
+
+fn ran(channels: &mut Several, number: u8, units: u32) -> Option<Answer> {
+    Some(Answer::Run(channels.run_on(number, units)?.units))
+}
+
+fn reset(channels: &mut Several, number: u8) -> Option<Answer> {
+    Some(Answer::Reset(channels.reset(number)?.unsaved))
 }
 
 // A call of all channels, or one of storage.
-fn change(alloc: Global, channels: &mut Several, words: &[&str]) -> Result<Said> {
-    match words {
-        ["ADD", number] => {
-            match channels.add(alloc, channel_number(number)?) {
-                Ok(()) => Ok(OK),
-                Err(fault) => refused(alloc, &fault),
-            }
+fn change(alloc: Global, channels: &mut Several, changes: Changes, line: &mut Line) {
+    match changes {
+        Changes::Add => add(alloc, channels, line),
+        Changes::StepAll => {
+            let done = channels.step_all(line.half(0));
+            line.said.put("STEPALL");
+            line.said.debug(&done);
         }
-        ["STEPALL", units] => {
-            let done = channels.step_all(half(units)?);
-            Ok(Said::Text(format!(in alloc; "STEPALL {done:?}")?))
+        Changes::ResetAll => {
+            line.said.put("RESETALL");
+            line.said.debug(&channels.reset_all());
         }
-        ["RESETALL"] => {
-            let resets = channels.reset_all();
-            Ok(Said::Text(format!(in alloc; "RESETALL {resets:?}")?))
-        }
-        ["INT", mask] => answered(alloc, &Answer::Interrupt(channels.interrupt(byte(mask)?))),
-        ["POKE", at, body] => {
-            let kept = channels.poke(address(at)?, bytes(alloc, body)?.as_slice());
-            answered(alloc, &Answer::Store(kept.is_ok()))
-        }
-        ["KEY", at, key] => {
-            let kept = channels.set_key(address(at)?, key_of(key)?);
-            answered(alloc, &Answer::Key(kept.is_ok()))
-        }
-        _ => bail!("wrong operands"),
+        changes => store(channels, changes, line),
     }
+}
+
+fn add(alloc: Global, channels: &mut Several, line: &mut Line) {
+    match channels.add(alloc, line.byte(0)) {
+        Ok(()) => line.said.ok(),
+        Err(fault) => line.said.refused(&fault),
+    }
+}
+
+fn store(channels: &mut Several, changes: Changes, line: &mut Line) {
+    let at = line.wide(0);
+    let answer = match changes {
+        Changes::Poke => Answer::Store(channels.poke(at, line.bytes.as_slice()).is_ok()),
+        Changes::Key => Answer::Key(channels.set_key(at, line.byte(1) % 16).is_ok()),
+        _ => Answer::Interrupt(channels.interrupt(line.byte(0))),
+    };
+    answered(&answer, &mut line.said);
 }

@@ -1,82 +1,44 @@
 //! What several channels show.
 
-use crate::channels::Several;
-use crate::shown::{ShownDrive, ShownState};
-use anyhow::{Context, Result, bail};
-use stage_drives::{ShownGeometry, ShownProgram, key, peek};
-use stage_files::{Said, address, byte, device_address, wide, yes};
-use std::alloc::Global;
+use crate::channels::{Several, Shows};
+use crate::shown::{say_drive, say_image, say_state, say_view};
+use stage_drives::{say_key, say_peek};
+use stage_files::{Line, Said, Word, yes};
 
-/// Asks the channels what these words say.
-pub(crate) fn ask(alloc: Global, channels: &Several, words: &[&str]) -> Result<Said> {
-    match words {
-        ["PEEK", at, len] => peek(alloc, channels.peek(address(at)?, wide(len)?)),
-        ["KEYOF", at] => key(alloc, channels.key(address(at)?)),
-        ["UNIT", at] => unit(alloc, channels, device_address(at)?),
-        ["IMAGE", at] => image(alloc, channels, device_address(at)?),
-        ["PENDING", mask] => {
-            let pending = yes(channels.is_pending(byte(mask)?));
-            Ok(Said::Text(format!(in alloc; "PENDING {pending}")?))
-        }
-        ["FIRST", mask] => first(alloc, channels.first_pending(byte(mask)?)),
-        [name, number] => {
-            let number = number.parse::<u8>().context("no number of a channel")?;
-            ask_one(alloc, channels, name, number)
-        }
-        _ => bail!("wrong operands"),
+/// Shows what is asked of the channels.
+pub(crate) fn show(channels: &Several, shows: Shows, line: &mut Line) {
+    match shows {
+        Shows::Peek => say_peek(channels.peek(line.wide(0), line.wide(1)), &mut line.said),
+        Shows::Key => say_key(channels.key(line.wide(0)), &mut line.said),
+        Shows::Unit => say_drive(channels.drive(line.half(0)), &mut line.said),
+        Shows::Image => say_image(channels.image(line.half(0)), &mut line.said),
+        shows => show_one(channels, shows, line.byte(0), &mut line.said),
     }
 }
 
-// What one channel shows.
-fn ask_one(alloc: Global, channels: &Several, name: &str, number: u8) -> Result<Said> {
-    match name {
-        "HAS" => Ok(Said::Text(format!(in alloc; "HAS {}", yes(channels.has(number)))?)),
-        "PENDINGAT" => {
-            let pending = yes(channels.is_pending_at(number));
-            Ok(Said::Text(format!(in alloc; "PENDING {pending}")?))
-        }
-        "STATE" => {
-            match channels.state(number) {
-                Some(state) => Ok(Said::Text(format!(in alloc; "STATE {}", ShownState(state))?)),
-                None => Ok(Said::Word("NONE")),
-            }
-        }
-        "VIEW" => view(alloc, channels, number),
-        _ => bail!("wrong operands"),
-    }
-}
-
-fn view(alloc: Global, channels: &Several, number: u8) -> Result<Said> {
-    match channels.program(number) {
-        Some(watched) => {
-            let (device, program) = (watched.device, ShownProgram(watched.program));
-            Ok(Said::Text(format!(in alloc; "VIEW {device:02X} {program}")?))
-        }
-        None => Ok(Said::Word("VIEW NONE")),
+// What is shown by a mask, or by the number of a channel.
+fn show_one(channels: &Several, shows: Shows, number: u8, said: &mut Said) {
+    match shows {
+        Shows::Pending => said.answer("PENDING", &[yes(channels.is_pending(number))]),
+        Shows::PendingAt => said.answer("PENDING", &[yes(channels.is_pending_at(number))]),
+        Shows::Has => said.answer("HAS", &[yes(channels.has(number))]),
+        Shows::First => say_first(channels.first_pending(number), said),
+        Shows::State => show_state(channels, number, said),
+        _ => say_view(channels.program(number), said),
     }
 }
 
 // The channel whose interruption would be taken.
-fn first(alloc: Global, number: Option<u8>) -> Result<Said> {
+fn say_first(number: Option<u8>, said: &mut Said) {
     match number {
-        Some(number) => Ok(Said::Text(format!(in alloc; "FIRST {number}")?)),
-        None => Ok(Said::Word("FIRST NONE")),
+        Some(number) => said.answer("FIRST", &[Word::Number(number as u64)]),
+        None => said.put("FIRST NONE"),
     }
 }
 
-fn unit(alloc: Global, channels: &Several, at: u16) -> Result<Said> {
-    match channels.drive(at) {
-        Some(drive) => Ok(Said::Text(format!(in alloc; "UNIT {}", ShownDrive(drive))?)),
-        None => Ok(Said::Word("UNIT NONE")),
-    }
-}
-
-fn image(alloc: Global, channels: &Several, at: u16) -> Result<Said> {
-    match channels.image(at) {
-        Some(image) => {
-            let geometry = ShownGeometry(image.geometry());
-            Ok(Said::Text(format!(in alloc; "IMAGE {geometry}")?))
-        }
-        None => Ok(Said::Word("IMAGE NONE")),
+fn show_state(channels: &Several, number: u8, said: &mut Said) {
+    match channels.state(number) {
+        Some(state) => say_state(&state, said),
+        None => said.put("NONE"),
     }
 }

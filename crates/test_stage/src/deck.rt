@@ -3,18 +3,47 @@
 ghost use Rattle.s360_events.specs.Answered.{AllAnswered};
 
 use crate::channel::Disks;
-use crate::deck_lines::{AnswerLines, EventLines};
-use crate::stage::{Stage, lent};
+use crate::deck_lines::{say_answers, say_events};
+use crate::stage::{NO_CHANNEL, Stage};
 use crate::streams::{DeckReader, Reads, Writes};
-use anyhow::{Result, bail};
+use crate::verbs::OfDeck;
 use counted_io::Counted;
 use s360_channel::drive;
 use s360_deck::{RunFault, parse, run, run_counted, run_watched, serial};
 use s360_events::{Answer, Event};
-use stage_files::{OK, Said, Text, bytes, number, refused};
+use stage_files::{Line, MEMORY, Said, Word};
 use std::alloc::{AllocError, Global};
 use std::mem;
 use trace_lines::Tracer;
+
+/// Adds to a deck, or says how it is read and written.
+#[derive(Clone, Copy)]
+pub(crate) enum Feeds {
+    Line,
+    Bytes,
+    Reads,
+    Writes,
+    Flush,
+}
+
+/// What is told of a deck, and of its last run.
+#[derive(Clone, Copy)]
+pub(crate) enum Tells {
+    Written,
+    Calls,
+    Parse,
+    Events,
+}
+
+/// The ways to run a deck.
+#[derive(Clone, Copy)]
+pub(crate) enum Runs {
+    Drive,
+    Serial,
+    Plain,
+    Counted,
+    Traced,
+}
 
 /// A deck, how its next run reads and writes, and what the last one wrote.
 #[derive(Drop)]
@@ -48,29 +77,51 @@ impl Deck {
         self.text.clear();
     }
 
-    // Adds a line, or bytes.
-    fn add(&mut self, bytes: &[u8], end: &[u8]) -> Result<Said> {
-        self.text.extend_from_slice(bytes)?;
-        self.text.extend_from_slice(end)?;
-        Ok(OK)
+    // Adds to it, or keeps how the next run reads and writes.
+    fn feed(&mut self, feeds: Feeds, line: &mut Line) {
+        match feeds {
+            Feeds::Line => {
+                let text = line.text.strip_prefix("DECK LINE ").unwrap_or("");
+                self.add(text.as_bytes(), b"\n", &mut line.said);
+            }
+            Feeds::Bytes => self.add(line.bytes.as_slice(), b"", &mut line.said),
+            Feeds::Reads => {
+                self.reads = Reads {
+                    most: line.size(0),
+                    fails_at: line.size(1),
+                    count: 0,
+                };
+                line.said.ok();
+            }
+            Feeds::Writes => self.write_so(line),
+            Feeds::Flush => {
+                self.writes.flush_fails = true;
+                line.said.ok();
+            }
+        }
     }
 
-    // How the next run reads.
-    fn read_so(&mut self, most: usize, fails_at: usize) -> Said {
-        self.reads = Reads {
-            most,
-            fails_at,
-            count: 0,
-        };
-        OK
+    // Adds a line, or bytes.
+    fn add(&mut self, bytes: &[u8], end: &[u8], said: &mut Said) {
+        let is_added = self.text.extend_from_slice(bytes).is_ok()
+            && self.text.extend_from_slice(end).is_ok();
+        if is_added {
+            said.ok();
+        } else {
+            said.no(MEMORY);
+        }
     }
 
     // How the next run writes.
-    fn write_so(&mut self, most: usize, room: usize, takes_none: bool) -> Said {
-        self.writes.most = most;
-        self.writes.room = room;
-        self.writes.takes_none = takes_none;
-        OK
+    fn write_so(&mut self, line: &mut Line) {
+        self.writes.takes_none = match line.word(2) {
+            "FAILS" => false,
+            "NONE" => true,
+            _ => return line.said.no("no way to write: FAILS or NONE"),
+        };
+        self.writes.most = line.size(0);
+        self.writes.room = line.size(1);
+        line.said.ok();
     }
 
     // The writer of the next run.
@@ -93,101 +144,88 @@ impl Deck {
     }
 
     // How often the last run read and wrote.
-    fn calls(&self, alloc: Global) -> Result<Said> {
-        let (reads, writes) = (self.reads.count, self.writes.count);
-        Ok(Said::Text(format!(in alloc; "CALLS reads {reads} writes {writes}")?))
+    fn say_calls(&self, said: &mut Said) {
+        said.answer(
+            "CALLS reads",
+            &[
+                Word::Number(self.reads.count as u64),
+                Word::Text("writes"),
+                Word::Number(self.writes.count as u64),
+            ],
+        );
+    }
+
+    // What the deck spells: how many events, or which.
+    fn say_parsed(&self, alloc: Global, shows_events: bool, said: &mut Said) {
+        let events = match parse(alloc, self.text.as_slice()) {
+            Ok(events) => events,
+            Err(fault) => return said.refused(&fault),
+        };
+        if shows_events {
+            said.put("EVENTS ");
+            say_events(events.as_slice(), said);
+        } else {
+            said.answer("PARSED", &[Word::Number(events.len() as u64)]);
+        }
+    }
+
+    fn tell(&self, alloc: Global, tells: Tells, said: &mut Said) {
+        match tells {
+            Tells::Written => in_one_line("WRITTEN ", self.writes.written.as_slice(), said),
+            Tells::Calls => self.say_calls(said),
+            Tells::Parse => self.say_parsed(alloc, false, said),
+            Tells::Events => self.say_parsed(alloc, true, said),
+        }
     }
 }
 
 impl Stage {
     /// Does what a line of a deck asks.
-    pub(crate) fn play(&mut self, alloc: Global, line: &str, words: &[&str]) -> Result<Said> {
-        match words {
-            ["LINE", ..] => {
-                let rest = line.strip_prefix("DECK LINE ").unwrap_or("");
-                self.deck.add(rest.as_bytes(), b"\n")
-            }
-            ["BYTES", body] => self.deck.add(bytes(alloc, body)?.as_slice(), b""),
-            ["READS", most, fails_at] => Ok(self.deck.read_so(number(most)?, number(fails_at)?)),
-            ["WRITES", most, room, how] => self.write_deck_so(most, room, how),
-            ["FLUSH"] => {
-                self.deck.writes.flush_fails = true;
-                Ok(OK)
-            }
-            ["WRITTEN"] => in_one_line(alloc, "WRITTEN", self.deck.writes.written.as_slice()),
-            ["CALLS"] => self.deck.calls(alloc),
-            ["PARSE"] => self.parse_deck(alloc),
-            ["EVENTS"] => self.show_events(alloc),
-            ["DRIVE"] => self.drive_deck(alloc, false),
-            ["SERIAL"] => self.drive_deck(alloc, true),
-            [how] => self.run_deck(alloc, how),
-            _ => bail!("wrong operands"),
-        }
-    }
-
-    fn write_deck_so(&mut self, most: &str, room: &str, how: &str) -> Result<Said> {
-        let room = match room {
-            "-" => usize::MAX,
-            room => number(room)?,
-        };
-        let takes_none = match how {
-            "FAILS" => false,
-            "NONE" => true,
-            _ => bail!("no way to write: FAILS or NONE"),
-        };
-        Ok(self.deck.write_so(number(most)?, room, takes_none))
-    }
-
-    // How many events the deck has.
-    fn parse_deck(&self, alloc: Global) -> Result<Said> {
-        match parse(alloc, self.deck.text.as_slice()) {
-            Ok(events) => Ok(Said::Text(format!(in alloc; "PARSED {}", events.len())?)),
-            Err(fault) => refused(alloc, &fault),
-        }
-    }
-
-    // The events of the deck.
-    fn show_events(&self, alloc: Global) -> Result<Said> {
-        match parse(alloc, self.deck.text.as_slice()) {
-            Ok(events) => {
-                let events = EventLines(events.as_slice());
-                Ok(Said::Text(format!(in alloc; "EVENTS {events}")?))
-            }
-            Err(fault) => refused(alloc, &fault),
+    pub(crate) fn play(&mut self, alloc: Global, call: &OfDeck, line: &mut Line) {
+        match call {
+            OfDeck::Feeds(feeds) => self.deck.feed(*feeds, line),
+            OfDeck::Tells(tells) => self.deck.tell(alloc, *tells, &mut line.said),
+            OfDeck::Runs(Runs::Drive) => self.drive_deck(alloc, false, &mut line.said),
+            OfDeck::Runs(Runs::Serial) => self.drive_deck(alloc, true, &mut line.said),
+            OfDeck::Runs(runs) => self.run_deck(alloc, *runs, &mut line.said),
         }
     }
 
     // Drives the channel through the events of the deck, and answers their answers; and, if that is asked, their serial list.
-    fn drive_deck(&mut self, alloc: Global, with_list: bool) -> Result<Said> {
-        let channel = lent(&mut self.channel)?;
+    fn drive_deck(&mut self, alloc: Global, with_list: bool, said: &mut Said) {
+        let Some(channel) = &mut self.channel else {
+            return said.no(NO_CHANNEL);
+        };
         let events = match parse(alloc, self.deck.text.as_slice()) {
             Ok(events) => events,
-            Err(fault) => return refused(alloc, &fault),
+            Err(fault) => return said.refused(&fault),
         };
         let Ok(answers) = drive(alloc, channel, events.as_slice()) else {
-            return Ok(Said::Word("REFUSED out of memory"));
+            return said.put("REFUSED out of memory");
         };
         self.deck.text.clear();
         if with_list {
-            return serial_list(alloc, events.as_slice(), answers.as_slice());
+            say_serial(alloc, events.as_slice(), answers.as_slice(), said);
+        } else {
+            said.put("RAN ");
+            say_answers(answers.as_slice(), said);
         }
-        let answers = AnswerLines(answers.as_slice());
-        Ok(Said::Text(format!(in alloc; "RAN {answers}")?))
     }
 
     // Runs the deck at the channel, in one of three ways.
-    fn run_deck(&mut self, alloc: Global, how: &str) -> Result<Said> {
-        let channel = lent(&mut self.channel)?;
+    fn run_deck(&mut self, alloc: Global, runs: Runs, said: &mut Said) {
+        let Some(channel) = &mut self.channel else {
+            return said.no(NO_CHANNEL);
+        };
         let writes = self.deck.writer(alloc);
         let reader = DeckReader {
             rest: self.deck.text.as_slice(),
             reads: self.deck.reads,
         };
-        let ran = match how {
-            "RUN" => run_plain(alloc, channel, reader, writes),
-            "COUNTED" => run_with_counts(alloc, channel, reader, writes),
-            "TRACE" => run_traced(alloc, channel, reader, writes),
-            _ => bail!("no such way: RUN, COUNTED or TRACE"),
+        let ran = match runs {
+            Runs::Counted => run_with_counts(alloc, channel, reader, writes),
+            Runs::Traced => run_traced(alloc, channel, reader, writes),
+            _ => run_plain(alloc, channel, reader, writes),
         };
         let Ran {
             result,
@@ -197,9 +235,9 @@ impl Stage {
         } = ran;
         self.deck.keep(alloc, reads, writes);
         match (result, trace) {
-            (Err(fault), _) => refused(alloc, &fault),
-            (Ok(()), Some(trace)) => in_one_line(alloc, "TRACE", trace.as_slice()),
-            (Ok(()), None) => in_one_line(alloc, "RAN", self.deck.writes.written.as_slice()),
+            (Err(fault), _) => said.refused(&fault),
+            (Ok(()), Some(trace)) => in_one_line("TRACE ", trace.as_slice(), said),
+            (Ok(()), None) => in_one_line("RAN ", self.deck.writes.written.as_slice(), said),
         }
     }
 }
@@ -238,14 +276,16 @@ fn run_traced(alloc: Global, channel: &mut Disks, reader: DeckReader, writes: Wr
 }
 
 // Answers, and their serial list.
-fn serial_list(alloc: Global, events: &[Event], answers: &[Answer]) -> Result<Said>
+fn say_serial(alloc: Global, events: &[Event], answers: &[Answer], said: &mut Said)
     requires { AllAnswered events.now answers.now }
 {
     let Ok(list) = list_of(alloc, events, answers) else {
-        return Ok(Said::Word("REFUSED out of memory"));
+        return said.put("REFUSED out of memory");
     };
-    let (answers, list) = (AnswerLines(answers), EventLines(list.as_slice()));
-    Ok(Said::Text(format!(in alloc; "SERIAL {answers} = {list}")?))
+    said.put("SERIAL ");
+    say_answers(answers, said);
+    said.put(" = ");
+    say_events(list.as_slice(), said);
 }
 
 // The serial list of events and of what a channel answered to them.
@@ -257,7 +297,7 @@ fn list_of(alloc: Global, events: &[Event], answers: &[Answer]) -> Result<Vec<Ev
 }
 
 // A text in one line, behind a word.
-fn in_one_line(alloc: Global, word: &str, bytes: &[u8]) -> Result<Said> {
-    let bytes = Text(bytes);
-    Ok(Said::Text(format!(in alloc; "{word} {bytes}")?))
+fn in_one_line(word: &str, bytes: &[u8], said: &mut Said) {
+    said.put(word);
+    said.shown(bytes);
 }

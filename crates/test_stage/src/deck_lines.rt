@@ -1,55 +1,60 @@
 //! Events and answers as lines.
 
-use s360_deck::AnswerLine;
+use crate::channel::answered;
 use s360_events::{Answer, Event};
-use stage_files::Digits;
-use std::fmt;
+use stage_files::{Said, Word};
 
 /// Events as lines of a deck, with a bar behind each.
-#[derive(Clone, Copy)]
-pub(crate) struct EventLines<'a>(pub &'a [Event]);
-
-impl fmt::Display for EventLines<'_> {
-    fn fmt<W: fmt::Write>(&self, f: &mut fmt::Formatter<W>) -> fmt::Result {
-        for event in self.0 {
-            write!(f, "{}|", EventLine(event))?;
-        }
-        Ok(())
+pub(crate) fn say_events(events: &[Event], said: &mut Said) {
+    for event in events {
+        say_event(event, said);
+        said.put("|");
     }
 }
 
 // An event as a line of a deck.
-#[derive(Clone, Copy)]
-struct EventLine<'a>(&'a Event);
-
-impl fmt::Display for EventLine<'_> {
-    fn fmt<W: fmt::Write>(&self, f: &mut fmt::Formatter<W>) -> fmt::Result {
-        match self.0 {
-            Event::Sio(address) => write!(f, "SIO {address:03X}"),
-            Event::Tio(address) => write!(f, "TIO {address:03X}"),
-            Event::Hio(address) => write!(f, "HIO {address:03X}"),
-            Event::Arrive(address) => write!(f, "ARRIVE {address:03X}"),
-            Event::Tch => f.write_str("TCH"),
-            Event::Interrupt => f.write_str("INT"),
-            Event::Reset => f.write_str("RESET"),
-            Event::Step(units) => write!(f, "STEP {units}"),
-            Event::Run(units) => write!(f, "RUN {units}"),
-            Event::Store(at, bytes) => write!(f, "STORE {at:X} {}", Digits(bytes.as_slice())),
-            Event::Key(at, key) => write!(f, "KEY {at:X} {}", key.get()),
-            Event::Show(at, count) => write!(f, "SHOW {at:X} {}", count.get()),
-        }
+fn say_event(event: &Event, said: &mut Said) {
+    match event {
+        Event::Sio(address) => say_device("SIO", *address, said),
+        Event::Tio(address) => say_device("TIO", *address, said),
+        Event::Hio(address) => say_device("HIO", *address, said),
+        Event::Arrive(address) => say_device("ARRIVE", *address, said),
+        event => say_other(event, said),
     }
 }
 
-/// Answers as the lines of a deck, with a bar behind each.
-#[derive(Clone, Copy)]
-pub(crate) struct AnswerLines<'a>(pub &'a [Answer]);
+fn say_device(name: &str, address: u16, said: &mut Said) {
+    said.answer(name, &[Word::Device(address)]);
+}
 
-impl fmt::Display for AnswerLines<'_> {
-    fn fmt<W: fmt::Write>(&self, f: &mut fmt::Formatter<W>) -> fmt::Result {
-        for answer in self.0 {
-            write!(f, "{}|", AnswerLine(answer))?;
-        }
-        Ok(())
+fn say_other(event: &Event, said: &mut Said) {
+    match event {
+        Event::Interrupt => said.put("INT"),
+        Event::Reset => said.put("RESET"),
+        Event::Step(units) => say_units("STEP", *units as u64, said),
+        Event::Run(units) => say_units("RUN", *units as u64, said),
+        Event::Store(at, bytes) => said.answer(
+            "STORE",
+            &[Word::Hex(*at as u64), Word::Digits(bytes.as_slice())],
+        ),
+        Event::Key(at, key) => say_place("KEY", *at, key.get() as u64, said),
+        Event::Show(at, count) => say_place("SHOW", *at, count.get() as u64, said),
+        _ => said.put("TCH"),
+    }
+}
+
+fn say_units(name: &str, units: u64, said: &mut Said) {
+    said.answer(name, &[Word::Number(units)]);
+}
+
+fn say_place(name: &str, at: u32, number: u64, said: &mut Said) {
+    said.answer(name, &[Word::Hex(at as u64), Word::Number(number)]);
+}
+
+/// Answers as the lines of a deck, with a bar behind each.
+pub(crate) fn say_answers(answers: &[Answer], said: &mut Said) {
+    for answer in answers {
+        answered(answer, said);
+        said.put("|");
     }
 }

@@ -1,119 +1,123 @@
 //! Verbs of files.
 
 use crate::stage::Stage;
-use anyhow::{Result, bail};
-use ckd_image::{Image, MemoryStore, MountFault, image_len};
-use ckd_track::DriveModel;
-use stage_files::{
-    FileStore, OK, Said, Spelled, bytes, half, model_of, number, refused, wide, within,
-};
-use std::alloc::Global;
+use ckd_image::{Image, ImageStore, MemoryStore, image_len};
+use stage_files::{File, Files, Line, MEMORY, NO_FILE, No, OUTSIDE, Word};
+use std::alloc::{AllocError, Global};
+
+/// Calls that make a file, or tell how long one is.
+#[derive(Clone, Copy)]
+pub(crate) enum News {
+    File,
+    New,
+    Format,
+    Length,
+}
+
+/// Calls of a file that is there.
+#[derive(Clone, Copy)]
+pub(crate) enum Holds {
+    Fail,
+    FailOn,
+    Calls,
+    Content,
+    Part,
+    Put,
+}
 
 impl Stage {
-    /// Does what a line of a file asks.
-    pub(crate) fn file(&mut self, rt: &HostRuntime, words: &[&str]) -> Result<Said> {
-        let alloc = rt.alloc();
-        match words {
-            ["FILE", name, content] => self.keep(alloc, name, content),
-            ["NEW", name, model, cylinders] => self.make_new(
-                rt,
-                name,
-                model_of(model)?,
-                half(cylinders)?,
-            ),
-            ["FORMAT", name, model, cylinders] => self.format(
-                rt,
-                name,
-                model_of(model)?,
-                half(cylinders)?,
-            ),
-            ["LENGTH", model, cylinders] => length(alloc, model_of(model)?, half(cylinders)?),
-            ["FAIL", name, at] => self.fail(name, wide(at)?, false),
-            ["FAIL", name, at, "ON"] => self.fail(name, wide(at)?, true),
-            ["CALLS", name] => Ok(Said::Text(self.files.calls(alloc, name)?)),
-            ["CONTENT", name] => content(alloc, self.files.content(name)?),
-            ["CONTENT", name, at, n] => self.part(alloc, name, number(at)?, number(n)?),
-            ["PUT", name, at, body] => {
-                let body = bytes(alloc, body)?;
-                Ok(within(self.files.put(name, number(at)?, body.as_slice())?))
+    /// Makes a file, or formats what it holds.
+    pub(crate) fn make_file(&mut self, rt: &HostRuntime, news: News, line: &mut Line) {
+        match news {
+            News::File => self.hold_bytes(rt.alloc(), line),
+            News::New => self.make_new(rt, line),
+            News::Format => self.format(rt, line),
+            News::Length => {
+                let length = image_len(line.model, line.half(1));
+                line.said.answer("LENGTH", &[Word::Number(length)]);
             }
-            _ => bail!("wrong operands"),
         }
     }
 
-    // A file that holds these bytes.
-    fn keep(&mut self, alloc: Global, name: &str, content: &str) -> Result<Said> {
-        let content = bytes(alloc, content)?;
-        let content = MemoryStore::new(alloc, content.as_slice())?;
-        self.files.set(alloc, name, content)?;
-        Ok(OK)
+    // A file that holds the bytes of a line.
+    fn hold_bytes(&mut self, alloc: Global, line: &mut Line) {
+        let content = MemoryStore::new(alloc, line.bytes.as_slice());
+        match self.set(alloc, line.word(0), content) {
+            Ok(()) => line.said.ok(),
+            Err(AllocError) => line.said.no(MEMORY),
+        }
     }
 
     // A file of a new volume.
-    fn make_new(
+    fn make_new(&mut self, rt: &HostRuntime, line: &mut Line) {
+        let content = MemoryStore::zeros(rt.alloc(), image_len(line.model, line.half(2)));
+        match self.set(rt.alloc(), line.word(0), content) {
+            Ok(()) => self.format(rt, line),
+            Err(AllocError) => line.said.no(MEMORY),
+        }
+    }
+
+    fn set(
         &mut self,
-        rt: &HostRuntime,
+        alloc: Global,
         name: &str,
-        model: DriveModel,
-        cylinders: u16,
-    ) -> Result<Said> {
-        let alloc = rt.alloc();
-        let content = MemoryStore::zeros(alloc, image_len(model, cylinders))?;
-        self.files.set(alloc, name, content)?;
-        self.format(rt, name, model, cylinders)
+        content: Result<MemoryStore, AllocError>,
+    ) -> Result<(), AllocError> {
+        self.files.set(alloc, name, content?)
     }
 
     // Formats what a file holds.
-    fn format(
-        &mut self,
-        rt: &HostRuntime,
-        name: &str,
-        model: DriveModel,
-        cylinders: u16,
-    ) -> Result<Said> {
-        let store = self.files.store(rt, name)?;
-        match Image::format(store, model, cylinders) {
-            Ok(image) => self.files.give_back(rt, image.into_stores())?,
-            Err((fault, store)) => return self.not_formatted(rt, fault, store),
-        }
-        Ok(OK)
-    }
-
-    fn not_formatted(
-        &mut self,
-        rt: &HostRuntime,
-        fault: MountFault,
-        store: FileStore,
-    ) -> Result<Said> {
-        self.files.give_one_back(rt, store)?;
-        refused(rt.alloc(), &fault)
-    }
-
-    fn fail(&mut self, name: &str, at: u32, for_good: bool) -> Result<Said> {
-        self.files.fail(name, at, for_good)?;
-        Ok(OK)
-    }
-
-    // So many bytes of a file.
-    fn part(&self, alloc: Global, name: &str, at: usize, n: usize) -> Result<Said> {
-        let part = self
-            .files
-            .content(name)?
-            .get(at..)
-            .and_then(|behind| behind.get(..n));
-        match part {
-            Some(part) => content(alloc, part),
-            None => Ok(within(false)),
+    fn format(&mut self, rt: &HostRuntime, line: &mut Line) {
+        let store = match self.files.store(rt, line.word(0)) {
+            Ok(store) => store,
+            Err(No(why)) => return line.said.no(why),
+        };
+        match Image::format(store, line.model, line.half(2)) {
+            Ok(image) => self.files.release(rt, image, &mut line.said),
+            Err((fault, store)) => {
+                line.said.refused(&fault);
+                self.files.keep_one(rt, store, &mut line.said);
+            }
         }
     }
 }
 
-fn content(alloc: Global, bytes: &[u8]) -> Result<Said> {
-    let bytes = Spelled(bytes);
-    Ok(Said::Text(format!(in alloc; "CONTENT {bytes}")?))
+/// Makes a call of a file that is there.
+pub(crate) fn hold(files: &mut Files, holds: Holds, line: &mut Line) {
+    let Some(file) = files.file(line.word(0)) else {
+        return line.said.no(NO_FILE);
+    };
+    match holds {
+        Holds::Fail => fail(file, line, false),
+        Holds::FailOn => fail(file, line, true),
+        Holds::Calls => file.say_calls(&mut line.said),
+        Holds::Content => line
+            .said
+            .answer("CONTENT", &[Word::Spelled(file.content.bytes())]),
+        Holds::Part => say_part(file.content.bytes(), line),
+        Holds::Put => put(file, line),
+    }
 }
 
-fn length(alloc: Global, model: DriveModel, cylinders: u16) -> Result<Said> {
-    let length = image_len(model, cylinders);
-    Ok(Said::Text(format!(in alloc; "LENGTH {length}")?))
+fn fail(file: &mut File, line: &mut Line, for_good: bool) {
+    file.fails_at = line.wide(1);
+    file.for_good = for_good;
+    line.said.ok();
+}
+
+// So many bytes of a file.
+fn say_part(content: &[u8], line: &mut Line) {
+    let (at, n) = (line.size(1), line.size(2));
+    if at > content.len() || n > content.len() - at {
+        return line.said.put(OUTSIDE);
+    }
+    line.said
+        .answer("CONTENT", &[Word::Spelled(&content[at..at + n])]);
+}
+
+fn put(file: &mut File, line: &mut Line) {
+    let at = line.size(1) as u64;
+    let is_put = at <= file.content.len()
+        && file.content.write_at(at, line.bytes.as_slice()).is_ok();
+    line.said.within(is_put);
 }

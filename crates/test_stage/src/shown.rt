@@ -1,76 +1,86 @@
 //! How what a channel shows is printed.
 
-use anyhow::Result;
-use s360_channel::{DriveView, RunOn, SubchannelView, View};
+use ckd_image::Image;
+use s360_channel::{DriveView, SubchannelView, View, Watched};
 use s360_laws::arm::Arm;
-use stage_drives::model_name;
-use stage_files::{Digits, Said};
-use std::alloc::Global;
-use std::fmt;
+use stage_drives::{model_name, say_geometry, say_program};
+use stage_files::{FileStore, Said, Word};
 
-/// What units until a program's end came to.
-pub(crate) fn ran(alloc: Global, ran: RunOn) -> Result<Said> {
-    let units = ran.units;
-    let subchannel = ShownSubchannel(ran.subchannel);
-    Ok(Said::Text(format!(in alloc; "RUNON {units}, {subchannel}")?))
-}
-
-/// A channel: `working 91, 90 InMotion, 91 AtRest`.
-#[derive(Clone, Copy)]
-pub(crate) struct ShownState(pub View);
-
-impl fmt::Display for ShownState {
-    fn fmt<W: fmt::Write>(&self, f: &mut fmt::Formatter<W>) -> fmt::Result {
-        write!(f, "{}", ShownSubchannel(self.0.subchannel))?;
-        for drive in &self.0.drives {
-            if let Some((device, arm)) = drive {
-                write!(f, ", {device:02X} {}", arm_name(*arm))?;
-            }
+/// A channel: `STATE working 91, 90 InMotion, 91 AtRest`.
+pub(crate) fn say_state(view: &View, said: &mut Said) {
+    said.put("STATE");
+    say_subchannel(view.subchannel, said);
+    for drive in &view.drives {
+        if let Some((device, arm)) = drive {
+            said.answer(",", &[Word::Byte(*device), arm_name(*arm)]);
         }
-        Ok(())
     }
 }
 
-fn arm_name(arm: Arm) -> &'static str {
-    match arm {
+fn arm_name(arm: Arm) -> Word<'static> {
+    Word::Text(match arm {
         Arm::AtRest => "AtRest",
         Arm::InMotion => "InMotion",
         Arm::Arrived => "Arrived",
-    }
+    })
 }
 
-/// A subchannel: `working 91 and asks`.
-#[derive(Clone, Copy)]
-pub(crate) struct ShownSubchannel(pub SubchannelView);
-
-impl fmt::Display for ShownSubchannel {
-    fn fmt<W: fmt::Write>(&self, f: &mut fmt::Formatter<W>) -> fmt::Result {
-        match self.0 {
-            SubchannelView::Idle => f.write_str("idle"),
-            SubchannelView::Working(device, false) => write!(f, "working {device:02X}"),
-            SubchannelView::Working(device, true) => write!(f, "working {device:02X} and asks"),
-            SubchannelView::Pending(device, csw) => {
-                write!(f, "pending {device:02X} {}", Digits(&csw.to_bytes()))
-            }
+/// A subchannel: ` working 91 and asks`.
+pub(crate) fn say_subchannel(view: SubchannelView, said: &mut Said) {
+    match view {
+        SubchannelView::Idle => said.put(" idle"),
+        SubchannelView::Working(device, asks) => {
+            said.answer(" working", &[Word::Byte(device)]);
+            said.put(if asks { " and asks" } else { "" });
+        }
+        SubchannelView::Pending(device, csw) => {
+            let csw = csw.to_bytes();
+            said.answer(" pending", &[Word::Byte(device), Word::Digits(&csw)]);
         }
     }
 }
 
-/// What is known of a drive.
-#[derive(Clone, Copy)]
-pub(crate) struct ShownDrive(pub DriveView);
+/// The program that runs, if one does.
+pub(crate) fn say_view(watched: Option<Watched>, said: &mut Said) {
+    match watched {
+        Some(watched) => {
+            said.answer("VIEW", &[Word::Byte(watched.device)]);
+            say_program(&watched.program, said);
+        }
+        None => said.put("VIEW NONE"),
+    }
+}
 
-impl fmt::Display for ShownDrive {
-    fn fmt<W: fmt::Write>(&self, f: &mut fmt::Formatter<W>) -> fmt::Result {
-        let it = &self.0;
-        write!(f, "{} CYLINDERS {}", model_name(it.model), it.cylinders)?;
-        write!(
-            f,
-            " ARM {} AT {} {}",
+/// What is known of a drive, if it is there.
+pub(crate) fn say_drive(view: Option<DriveView>, said: &mut Said) {
+    let Some(it) = view else {
+        return said.put("UNIT NONE");
+    };
+    said.answer(
+        "UNIT",
+        &[
+            model_name(it.model),
+            Word::Text("CYLINDERS"),
+            Word::Number(it.cylinders as u64),
+            Word::Text("ARM"),
             arm_name(it.arm),
-            it.cylinder,
-            it.head
-        )?;
-        write!(f, " SENSE {}", Digits(&it.sense))
+        ],
+    );
+    said.answer(
+        " AT",
+        &[
+            Word::Number(it.cylinder as u64),
+            Word::Number(it.head as u64),
+            Word::Text("SENSE"),
+            Word::Digits(&it.sense),
+        ],
+    );
+}
+
+/// The image of a drive, if it is there.
+pub(crate) fn say_image(image: Option<&Image<FileStore>>, said: &mut Said) {
+    match image {
+        Some(image) => say_geometry(image.geometry(), said),
+        None => said.put("IMAGE NONE"),
     }
 }

@@ -3,10 +3,11 @@
 use crate::channel::Disks;
 use crate::channels::Several;
 use crate::deck::Deck;
-use crate::help::HELP;
-use anyhow::{Context, Result, bail};
-use stage_drives::{Alone, ask_model, ask_table};
-use stage_files::{Files, Said, words_of};
+use crate::files::hold;
+use crate::verbs::{Call, VERBS};
+use s360_words::StorageFault;
+use stage_drives::Alone;
+use stage_files::{Files, Line, find};
 use std::alloc::Global;
 
 /// What stands on the stage.
@@ -20,9 +21,12 @@ pub(crate) struct Stage {
     pub channels: Option<Several>,
 }
 
+/// Why no call is made of a channel.
+pub(crate) const NO_CHANNEL: &str = "no channel: BEGIN 1 65536 makes one";
+
 impl Stage {
     /// Nothing but storage.
-    pub(crate) fn new(alloc: Global) -> Result<Stage> {
+    pub(crate) fn new(alloc: Global) -> Result<Stage, StorageFault> {
         Ok(Stage {
             files: Files::new(alloc),
             channel: None,
@@ -33,65 +37,27 @@ impl Stage {
     }
 
     /// Does the call that a line asks for.
-    pub(crate) fn answer(&mut self, rt: &HostRuntime, line: &str) -> Result<Said> {
-        let alloc = rt.alloc();
-        let words = words_of(alloc, line)?;
-        let words = words.as_slice();
-        let [verb, operands @ ..] = words else {
-            bail!("no verb");
-        };
-        match *verb {
-            "HELP" => Ok(Said::Word(HELP)),
-            "HELLO" => Ok(Said::Word("HELLO 1 test_stage")),
-            "FILE" | "NEW" | "FORMAT" | "LENGTH" | "FAIL" | "CALLS" | "CONTENT" | "PUT" => {
-                self.file(rt, words)
-            }
-            "BEGIN" | "VOLUME" | "DETACH" | "EXCHANGE" | "SWAP" | "END" | "FINISH" => {
-                self.make(rt, words)
-            }
-            "CALL" | "POKE" | "RUNON" => self.call(alloc, words),
-            "PEEK" | "KEYOF" | "STATE" | "PENDING" | "VIEW" | "REGISTERS" | "UNIT" | "IMAGE" => {
-                self.ask(alloc, words)
-            }
-            "DECK" => self.play(alloc, line, operands),
-            _ => self.answer_below(rt, line, words, operands),
+    pub(crate) fn answer(&mut self, rt: &HostRuntime, line: &mut Line) {
+        if self.alone.answer(rt, &mut self.files, line) {
+            return;
+        }
+        match find(&VERBS, line) {
+            Some((kinds, call)) if line.read(rt.alloc(), kinds) => self.call(rt, call, line),
+            Some(_) => {}
+            None => self.event(rt.alloc(), line),
         }
     }
 
-    // The same of what stands below a channel, and of events.
-    fn answer_below(
-        &mut self,
-        rt: &HostRuntime,
-        line: &str,
-        words: &[&str],
-        operands: &[&str],
-    ) -> Result<Said> {
-        let alloc = rt.alloc();
-        match words.first().copied().unwrap_or("") {
-            "DRIVE" => self.alone.drive(rt, &mut self.files, operands),
-            "PROGRAM" => self.alone.program(alloc, operands),
-            "STORAGE" => self.alone.store(alloc, operands),
-            "MOUNT" | "MOUNT1" | "LOAD" | "SAVE" | "RELEASE" => self
-                .alone
-                .image(rt, &mut self.files, words),
-            "SLOT" | "PARTS" | "INDEX" | "INDEXED" | "USED" | "FITS" => self
-                .alone
-                .ask_slot(alloc, words),
-            "HOME" | "RECORD" | "ZEROS" | "DATA" | "BODY" => self.alone.write_slot(alloc, words),
-            "MODEL" | "TRACK" | "CHARGE" => ask_model(alloc, words),
-            "CAW" | "CCW" | "CSW" | "DECODE" | "MASK" | "SENSE" | "SEARCH" | "EXPLAIN" => {
-                ask_table(alloc, words)
-            }
-            "NEXT" => self.alone.next_area(alloc, words),
-            "CHANNELS" => self.several(rt, operands),
-            _ => self.event(alloc, line),
+    fn call(&mut self, rt: &HostRuntime, call: &Call, line: &mut Line) {
+        match call {
+            Call::Says(text) => line.said.put(text),
+            Call::News(news) => self.make_file(rt, *news, line),
+            Call::Holds(holds) => hold(&mut self.files, *holds, line),
+            Call::Makes(makes) => self.make(rt, *makes, line),
+            Call::Acts(acts) => self.act(*acts, line),
+            Call::Asks(asks) => self.ask(*asks, line),
+            Call::Deck(deck) => self.play(rt.alloc(), deck, line),
+            Call::Channels(call) => self.several(rt, call, line),
         }
     }
-}
-
-/// The channel, where there is one.
-pub(crate) fn lent(channel: &mut Option<Disks>) -> Result<&mut Disks> {
-    channel
-        .as_mut()
-        .context("no channel: BEGIN 1 65536 makes one")
 }

@@ -1,110 +1,143 @@
 //! What a trace tells of a program's end.
 
-use crate::found::{found, found_so_far};
-use crate::line::{Line, left_text, not_taken, unit_text, word_at};
-use crate::notes::Note;
-use crate::reasons;
-use crate::tracer::Tracer;
-use ckd_image::ImageStore;
+use crate::found::{found_at_end, found_so_far};
+use crate::line::{Behind, Line, tell_not_taken, word_at};
+use crate::reasons::{self, has_unit_check};
+use crate::seen::Seen;
+use crate::trace::Trace;
+use bitflags::Flags;
 use ckd_sense::Sense;
-use s360_channel::{Channel, SubchannelView};
-use s360_words::Csw;
-use std::io::Write;
+use s360_explain::{ChannelNames, SenseNames};
+use s360_words::{Ccw, ChannelStatus, Csw, UnitStatus};
 
-impl<W: Write + Drop> Tracer<W> {
+impl Trace {
     /// The program is over.
-    pub(crate) fn ends<S: ImageStore>(&mut self, channel: &Channel<S>) {
-        let SubchannelView::Pending(device, csw) = channel.state().subchannel else {
+    pub(crate) fn ends(&mut self, seen: &Seen) {
+        let Some((_, csw)) = seen.ended else {
             return;
         };
         let last = csw.address.wrapping_sub(8) & 0x00FF_FFFF;
-        let was_taken = matches!(self.line, Some(line) if line.at == last);
-        let code = self.put_last(last, device, csw, channel);
-        if let Some(reason) = reasons::of_channel(&csw, last, was_taken, channel.storage()) {
-            self.put(&Note::Channel(csw.channel, reason));
+        let was_taken = match &self.line {
+            Some(line) => line.at == last,
+            None => false,
+        };
+        let code = self.tell_last(last, &csw, seen);
+        if let Some(reason) = reasons::of_channel(&csw, last, was_taken, seen.storage) {
+            self.tell_check(csw.channel, reason);
         }
-        if reasons::has_unit_check(csw.unit) {
-            self.tell_sense(device, code, channel);
+        if has_unit_check(csw.unit) {
+            self.tell_sense(code, seen);
         }
-        if reasons::has_unit_exception(csw.unit) {
-            self.put(&Note::Reason(
-                "unit exception: the record has no data, as at the end of a file",
-            ));
+        if csw.unit.contains(UnitStatus::UNIT_EXCEPTION) {
+            self.text.line("    unit exception: the record has no data, as at the end of a file");
         }
         self.line = None;
         self.met = None;
     }
 
     // The line of the word in which a program ended; the code of its command.
-    fn put_last<S: ImageStore>(
+    fn tell_last(&mut self, last: u32, csw: &Csw, seen: &Seen) -> u8 {
+        let word = word_at(seen.storage, last);
+        match (self.line, word) {
+            (Some(line), _) if line.at == last => self.tell_over(line, csw, seen),
+            (None, Some(ccw)) if !csw.channel.contains(ChannelStatus::PROGRAM_CHECK) => {
+                self.tell_asked(ccw);
+                self.tell_over(Line::of(last, ccw), csw, seen)
+            }
+            (before, _) => self.tell_not_reached(last, word, before, csw.unit),
+        }
+    }
+
+    // A word that was not taken, behind the line of the one before it; the code of that.
+    fn tell_not_reached(
         &mut self,
         last: u32,
-        device: u8,
-        csw: Csw,
-        channel: &Channel<S>,
+        word: Option<Ccw>,
+        before: Option<Line>,
+        unit: UnitStatus,
     ) -> u8 {
-        let status = unit_text(csw.unit);
-        let word = word_at(channel.storage(), last);
-        let line = match (self.line, word) {
-            (Some(line), _) if line.at == last => line,
-            (None, Some(ccw)) if !reasons::has_program_check(csw.channel) => {
-                self.tell_asked(ccw);
-                Line::of(last, ccw)
+        let code = match before {
+            Some(line) => {
+                self.tell_chaining(&line);
+                line.code
             }
-            (before, _) => {
-                if let Some(line) = before {
-                    self.put_chaining(line);
-                }
-                self.put(&not_taken(last, word, before, status.as_str()));
-                return before.map_or(0, |line: Line| line.code);
-            }
+            None => 0,
         };
-        let satisfied = reasons::has_status_modifier(csw.unit);
-        let place = reasons::place_in(channel.drive(device), csw.unit);
-        let came = found(line, self.met, satisfied, place);
-        let left = left_text("", csw.count);
-        self.put(&line.text(came, status.as_str(), left.as_str()));
+        tell_not_taken(last, word, before, unit, &mut self.text);
+        code
+    }
+
+    fn tell_over(&mut self, line: Line, csw: &Csw, seen: &Seen) -> u8 {
+        let satisfied = csw.unit.contains(UnitStatus::STATUS_MODIFIER);
+        let place = reasons::place_in(seen.drive, csw.unit);
+        let behind = Behind {
+            unit: csw.unit,
+            how: "",
+            left: Some(csw.count),
+        };
+        line.tell(
+            found_at_end(&line, self.met, satisfied, place),
+            &behind,
+            &mut self.text,
+        );
         line.code
     }
 
     /// A program is cut, if one runs.
-    pub(crate) fn cut<S: ImageStore>(&mut self, channel: &Channel<S>) {
-        if self.program.is_none() || channel.program().is_some() {
+    pub(crate) fn cut(&mut self, seen: &Seen) {
+        if self.program.is_none() || seen.program.is_some() {
             return;
         }
-        let (line, met) = (self.line, self.met);
+        let mut code = 0;
+        if let Some(line) = self.line {
+            self.tell_cut(&line, seen);
+            code = line.code;
+        }
         self.line = None;
         self.met = None;
-        let ended = match channel.state().subchannel {
-            SubchannelView::Pending(device, csw) => Some((device, csw)),
-            _ => None,
-        };
-        match (line, ended) {
-            (Some(line), Some((_, csw))) if !line.is_told => {
-                let status = unit_text(csw.unit);
-                let behind = left_text("cut; ", csw.count);
-                self.put(&line.text(found_so_far(line, met), status.as_str(), behind.as_str()));
-            }
-            (Some(line), None) if !line.is_told => {
-                self.put(&line.text(found_so_far(line, met), "", "cut"));
-            }
+        match seen.ended {
+            Some((_, csw)) if has_unit_check(csw.unit) => self.tell_sense(code, seen),
             _ => {}
-        }
-        if let Some((device, csw)) = ended {
-            if reasons::has_unit_check(csw.unit) {
-                self.tell_sense(device, line.map_or(0, |line: Line| line.code), channel);
-            }
         }
     }
 
+    fn tell_cut(&mut self, line: &Line, seen: &Seen) {
+        let Some((_, csw)) = seen.ended else {
+            return self.tell_so_far(line, "cut");
+        };
+        if !line.is_told {
+            let behind = Behind {
+                unit: csw.unit,
+                how: "cut; ",
+                left: Some(csw.count),
+            };
+            line.tell(found_so_far(line, self.met), &behind, &mut self.text);
+        }
+    }
+
+    /// That the channel ended a program, or did not begin it, and why; the interruption that a word asked for ends none.
+    pub(crate) fn tell_check(&mut self, channel: ChannelStatus, reason: &str) {
+        let asked = ChannelStatus::PROGRAM_CONTROLLED_INTERRUPTION;
+        self.text.put("    ");
+        self.text
+            .show(&ChannelNames(ChannelStatus(channel.0 & !asked.0)));
+        self.text.put(": ");
+        self.text.line(reason);
+    }
+
     /// The sense bytes of a drive, and why.
-    pub(crate) fn tell_sense<S: ImageStore>(&mut self, device: u8, code: u8, channel: &Channel<S>) {
-        let Some(drive) = channel.drive(device) else {
+    pub(crate) fn tell_sense(&mut self, code: u8, seen: &Seen) {
+        let Some(drive) = seen.drive else {
             return;
         };
         let [first, second, _, _, _, _] = drive.sense;
         let sense = Sense(u16::from_be_bytes([first, second]));
-        self.put(&Note::Sensed(sense));
-        self.put(&Note::Reason(reasons::of_unit_check(code, sense)));
+        self.text.put("    sense ");
+        self.text.bytes(&[first, second]);
+        self.text.put(": ");
+        self.text.show(&SenseNames(sense));
+        self.text.end();
+        self.text.put("    ");
+        self.text.line(reasons::of_unit_check(code, sense));
     }
 }

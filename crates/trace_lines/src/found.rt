@@ -1,38 +1,93 @@
 //! What a command found, by what was seen of it.
 
-use crate::line::{Found, Line};
-use crate::met::Met;
-use ckd_sense::{Command, FileMask};
+use crate::line::Line;
+use crate::met::{Met, tell_met};
+use crate::text::Text;
+use ckd_sense::{Command, FileMask, SeekPermission, WritePermission};
+
+/// What a command worked on, and what came of it.
+#[derive(Clone, Copy)]
+pub(crate) enum Found {
+    /// Nothing that is known.
+    Nothing,
+    /// An area of the track, and what a search came to there; empty, if it was none or is not over.
+    Area(Met, &'static str),
+    /// The area behind which a record was made.
+    Behind(Met),
+    /// A cylinder and a head.
+    Place(u16, u16),
+    /// A file mask.
+    Mask(FileMask),
+}
+
+/// Tells it.
+pub(crate) fn tell_found(found: &Found, text: &mut Text) {
+    match found {
+        Found::Nothing => {}
+        Found::Area(met, outcome) => {
+            tell_met(met, text);
+            text.put(outcome);
+        }
+        Found::Behind(met) => {
+            text.put("behind ");
+            tell_met(met, text);
+        }
+        Found::Place(cylinder, head) => {
+            text.put("cylinder ");
+            text.number(*cylinder as u64);
+            text.put(" head ");
+            text.number(*head as u64);
+        }
+        Found::Mask(mask) => tell_mask(mask, text),
+    }
+}
+
+// What a file mask does not allow.
+fn tell_mask(mask: &FileMask, text: &mut Text) {
+    text.put(match mask.writes {
+        WritePermission::InhibitHomeAddressAndR0 => "no write of HA, R0; ",
+        WritePermission::InhibitAllWrites => "no write; ",
+        WritePermission::InhibitFormatWrites => "no formatting write; ",
+        WritePermission::PermitAllWrites => "all writes; ",
+    });
+    text.put(match mask.seeks {
+        SeekPermission::PermitAllSeeks => "all seeks",
+        SeekPermission::PermitSeekCylinderAndHead => "no Seek",
+        SeekPermission::PermitSeekHead => "Seek Head only",
+        SeekPermission::InhibitAllSeeks => "no seek",
+    });
+}
 
 /// What a command has met that is not over.
-pub(crate) fn found_so_far(line: Line, met: Option<Met>) -> Found {
+pub(crate) fn found_so_far(line: &Line, met: Option<Met>) -> Found {
     match (met, line.command()) {
-        (Some(met), Some(command)) if is_formatting(command) => Found::Behind(met),
-        (Some(met), _) => Found::Area(met),
+        (Some(met), Some(Command::WriteR0 | Command::WriteCountKeyAndData)) => Found::Behind(met),
+        (Some(met), _) => Found::Area(met, ""),
         (None, _) => Found::Nothing,
     }
 }
 
 /// What a command came to that is over: the area that it met, and a search's outcome there; where the arm stands, if that is known; or
 /// the mask.
-pub(crate) fn found(
-    line: Line,
+pub(crate) fn found_at_end(
+    line: &Line,
     met: Option<Met>,
     satisfied: bool,
     place: Option<(u16, u16)>,
 ) -> Found {
-    let Some(command) = line.command() else {
-        return Found::Nothing;
-    };
-    match command {
-        Command::Seek | Command::SeekCylinder | Command::SeekHead | Command::Recalibrate => {
-            place_of(place)
+    match (line.command(), place, met) {
+        (None, _, _) => Found::Nothing,
+        (
+            Some(Command::Seek | Command::SeekCylinder | Command::SeekHead | Command::Recalibrate),
+            place,
+            _,
+        ) => place_of(place),
+        (Some(Command::SetFileMask), _, _) => mask_of(line),
+        (Some(command), _, Some(met)) if !outcomes(command).0.is_empty() => {
+            let (equal, unequal) = outcomes(command);
+            Found::Area(met, if satisfied { equal } else { unequal })
         }
-        Command::SetFileMask => mask_of(line),
-        _ => match met {
-            Some(met) if is_search(command) => Found::Compared(met, outcome(command, satisfied)),
-            _ => found_so_far(line, met),
-        },
+        _ => found_so_far(line, met),
     }
 }
 
@@ -45,42 +100,24 @@ fn place_of(place: Option<(u16, u16)>) -> Found {
 }
 
 // The mask that a word's byte has set, if it took one.
-fn mask_of(line: Line) -> Found {
-    match line.first.first() {
-        Some(byte) if line.moved > 0 && !line.is_chained => Found::Mask(FileMask::from_byte(*byte)),
-        _ => Found::Nothing,
+fn mask_of(line: &Line) -> Found {
+    if line.moved > 0 && !line.is_chained {
+        Found::Mask(FileMask::from_byte(line.first[0]))
+    } else {
+        Found::Nothing
     }
 }
 
-// What a search came to.
-fn outcome(command: Command, satisfied: bool) -> &'static str {
-    match (command, satisfied) {
-        (Command::SearchIdHigh | Command::SearchKeyHigh, true) => "high",
-        (Command::SearchIdHigh | Command::SearchKeyHigh, false) => "not high",
-        (Command::SearchIdEqualOrHigh | Command::SearchKeyEqualOrHigh, true) => "equal or high",
-        (Command::SearchIdEqualOrHigh | Command::SearchKeyEqualOrHigh, false) => "low",
-        (_, true) => "equal",
-        (_, false) => "unequal",
+// What a search comes to, where it is satisfied and where it is not; empty of any other command.
+fn outcomes(command: Command) -> (&'static str, &'static str) {
+    match command {
+        Command::SearchIdHigh | Command::SearchKeyHigh => (" high", " not high"),
+        Command::SearchIdEqualOrHigh | Command::SearchKeyEqualOrHigh => (" equal or high", " low"),
+        Command::SearchHomeAddressEqual | Command::SearchIdEqual | Command::SearchKeyEqual => {
+            (" equal", " unequal")
+        }
+        _ => ("", ""),
     }
-}
-
-// Whether a command is a search.
-fn is_search(command: Command) -> bool {
-    matches!(
-        command,
-        Command::SearchHomeAddressEqual
-            | Command::SearchIdEqual
-            | Command::SearchIdHigh
-            | Command::SearchIdEqualOrHigh
-            | Command::SearchKeyEqual
-            | Command::SearchKeyHigh
-            | Command::SearchKeyEqualOrHigh
-    )
-}
-
-// Whether a command makes a record behind the area that it met.
-fn is_formatting(command: Command) -> bool {
-    matches!(command, Command::WriteR0 | Command::WriteCountKeyAndData)
 }
 
 /// Whether the command of a code needs a credit.

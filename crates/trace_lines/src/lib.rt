@@ -7,10 +7,11 @@ mod events;
 mod found;
 mod line;
 mod met;
-mod names;
-mod notes;
 mod reasons;
+mod seen;
 mod starts;
+mod text;
+mod trace;
 mod tracer;
 
 pub use crate::tracer::{TraceFault, Tracer};

@@ -1,12 +1,10 @@
 //! The line of one channel command word.
 
-use crate::met::Met;
-use crate::names::{MaskNames, UnitNames, code_name};
-use arrayvec::ArrayString;
-use ckd_sense::{Command, CommandCode, FileMask};
+use crate::found::{Found, tell_found};
+use crate::text::Text;
+use ckd_sense::Command;
+use s360_explain::{UnitNames, code_name};
 use s360_words::{Ccw, Storage, UnitStatus};
-use std::fmt;
-use std::fmt::{Display, Write};
 
 /// The columns at which the parts of a line begin.
 const AT_COUNT: usize = 34;
@@ -21,9 +19,6 @@ const AT_CHAIN: usize = 107;
 
 /// How many of the bytes that moved are shown.
 const SHOWN: usize = 6;
-
-/// A line, with room for the longest.
-pub(crate) type Text = ArrayString<160>;
 
 /// What is known of a word at work.
 #[derive(Clone, Copy)]
@@ -44,35 +39,36 @@ pub(crate) struct Line {
     pub(crate) is_told: bool,
 }
 
-/// What a command worked on, and what came of it.
+/// What comes behind a word: the unit status, if there is one, how the program goes on or came to its end, and the residual count.
 #[derive(Clone, Copy)]
-pub(crate) enum Found {
-    /// Nothing that is known.
-    Nothing,
-    /// An area of the track.
-    Area(Met),
-    /// An area, and what a search came to there.
-    Compared(Met, &'static str),
-    /// The area behind which a record was made.
-    Behind(Met),
-    /// A cylinder and a head.
-    Place(u16, u16),
-    /// A file mask.
-    Mask(FileMask),
+pub(crate) struct Behind {
+    pub(crate) unit: UnitStatus,
+    pub(crate) how: &'static str,
+    pub(crate) left: Option<u16>,
 }
 
-impl fmt::Display for Found {
-    fn fmt<W: fmt::Write>(&self, f: &mut fmt::Formatter<W>) -> fmt::Result {
-        match self {
-            Found::Nothing => Ok(()),
-            Found::Area(met) => met.fmt(f),
-            Found::Compared(met, outcome) => write!(f, "{met} {outcome}"),
-            Found::Behind(met) => write!(f, "behind {met}"),
-            Found::Place(cylinder, head) => write!(f, "cylinder {cylinder} head {head}"),
-            Found::Mask(mask) => MaskNames(*mask).fmt(f),
-        }
+/// A word behind which nothing more is known than this.
+pub(crate) fn just(how: &'static str) -> Behind {
+    Behind {
+        unit: UnitStatus(0),
+        how,
+        left: None,
     }
 }
+
+/// Channel end and device end, and a chain of commands.
+pub(crate) const CHAINED: Behind = Behind {
+    unit: UnitStatus(0x0C),
+    how: "chained",
+    left: None,
+};
+
+/// The same with status modifier, so that a word is skipped.
+pub(crate) const SKIPS: Behind = Behind {
+    unit: UnitStatus(0x4C),
+    how: "skips one",
+    left: None,
+};
 
 impl Line {
     /// The line of a word whose command begins.
@@ -96,13 +92,6 @@ impl Line {
         line
     }
 
-    /// The same line, as it is written already.
-    pub(crate) fn told(&self) -> Line {
-        let mut line = *self;
-        line.is_told = true;
-        line
-    }
-
     /// A byte moved more; one that was skipped is not known.
     pub(crate) fn moves(&mut self, byte: Option<u8>) {
         if let (Some(slot), Some(byte)) = (self.first.get_mut(self.moved as usize), byte) {
@@ -113,55 +102,45 @@ impl Line {
 
     /// The command of the word, if it is one of the drive's.
     pub(crate) fn command(&self) -> Option<Command> {
-        let CommandCode {
-            command,
-            multi_track: _,
-        } = Command::decode(self.code)?;
-        Some(command)
+        Some(Command::decode(self.code)?.command)
     }
 
-    /// The line's text, with what the command found, the unit status, and what comes behind it.
-    pub(crate) fn text(&self, found: Found, status: &str, chain: &str) -> Text {
-        let mut text = Text::new();
-        let _ = write!(
-            text,
-            " {:06X} {:02X} {}",
-            self.at,
-            self.ccw.code,
-            self.name()
-        );
-        pad(&mut text, AT_COUNT);
-        self.put_count(&mut text);
-        self.put_bytes(&mut text);
+    /// Tells the word, what its command found, and what comes behind it.
+    pub(crate) fn tell(&self, found: Found, behind: &Behind, text: &mut Text) {
+        text.put(" ");
+        text.address(self.at);
+        text.put(" ");
+        text.byte(self.ccw.code);
+        text.put(" ");
+        text.put(self.name());
+        text.pad(AT_COUNT);
+        self.tell_count(text);
+        self.tell_bytes(text);
         if !matches!(found, Found::Nothing) {
-            pad(&mut text, AT_MET);
-            let _ = write!(text, "{found}");
+            text.pad(AT_MET);
+            tell_found(&found, text);
         }
-        put_at(&mut text, AT_STATUS, status);
-        put_at(&mut text, AT_CHAIN, chain);
-        text
+        tell_behind(behind, text);
     }
 
     // The name of what the word asks for.
     fn name(&self) -> &'static str {
-        if self.ccw.is_transfer() {
-            code_name(self.ccw.code)
-        } else if self.is_chained {
+        if self.is_chained && !self.ccw.is_transfer() {
             "  (data chaining)"
         } else {
-            code_name(self.code)
+            code_name(self.ccw.code)
         }
     }
 
     // The count, and where the bytes come from or go; of a transfer in channel, where that goes.
-    fn put_count(&self, text: &mut Text) {
-        let address = self.ccw.address;
-        let _ = if self.ccw.is_transfer() {
-            write!(text, "      >{address:06X}")
+    fn tell_count(&self, text: &mut Text) {
+        if self.ccw.is_transfer() {
+            text.put("      >");
         } else {
-            let direction = if self.gives() { '>' } else { '<' };
-            write!(text, "{:>5} {direction}{address:06X}", self.ccw.count)
-        };
+            text.count(self.ccw.count);
+            text.put(if self.gives() { " >" } else { " <" });
+        }
+        text.address(self.ccw.address);
     }
 
     // Whether the command gives bytes.
@@ -170,27 +149,37 @@ impl Line {
     }
 
     // The first bytes that moved.
-    fn put_bytes(&self, text: &mut Text) {
+    fn tell_bytes(&self, text: &mut Text) {
         if self.moved == 0 {
             return;
         }
-        pad(text, AT_BYTES);
+        text.pad(AT_BYTES);
         if self.ccw.skips() && self.gives() {
-            let _ = text.write_str("skipped");
-            return;
+            return text.put("skipped");
         }
-        for (byte, _) in self.first.iter().zip(0..self.moved) {
-            let _ = write!(text, "{byte:02X}");
-        }
+        let shown = SHOWN.min(self.moved as usize);
+        text.bytes(&self.first[..shown]);
     }
 }
 
-// A word at its column, if there is one.
-fn put_at(text: &mut Text, column: usize, word: &str) {
-    if !word.is_empty() {
-        pad(text, column);
-        let _ = text.write_str(word);
+// What comes behind a word, and the line's end.
+fn tell_behind(behind: &Behind, text: &mut Text) {
+    if behind.unit.0 != 0 {
+        text.pad(AT_STATUS);
+        text.show(&UnitNames(behind.unit));
     }
+    if !behind.how.is_empty() {
+        text.pad(AT_CHAIN);
+        text.put(behind.how);
+    }
+    if let Some(left) = behind.left {
+        if behind.how.is_empty() {
+            text.pad(AT_CHAIN);
+        }
+        text.put("left ");
+        text.number(left as u64);
+    }
+    text.end();
 }
 
 /// The word at an address, unless no word can stand there.
@@ -201,40 +190,27 @@ pub(crate) fn word_at(storage: &Storage, at: u32) -> Option<Ccw> {
     storage.ccw_at(at)
 }
 
-/// The line of a word that was not taken, behind the line of the one before it where it was to have a further area.
-pub(crate) fn not_taken(at: u32, word: Option<Ccw>, before: Option<Line>, status: &str) -> Text {
-    let Some(ccw) = word else {
-        let mut text = Text::new();
-        let _ = write!(text, " {at:06X} (no word)");
-        put_at(&mut text, AT_STATUS, status);
-        put_at(&mut text, AT_CHAIN, "not taken");
-        return text;
+/// Tells a word that was not taken, behind the line of the one before it where it was to have a further area.
+pub(crate) fn tell_not_taken(
+    at: u32,
+    word: Option<Ccw>,
+    before: Option<Line>,
+    unit: UnitStatus,
+    text: &mut Text,
+) {
+    let behind = Behind {
+        unit,
+        how: "not taken",
+        left: None,
     };
-    let line = match before {
-        Some(line) => line.chained(at, ccw),
-        None => Line::of(at, ccw),
-    };
-    line.text(Found::Nothing, status, "not taken")
-}
-
-// Blanks up to a column, and one at least.
-fn pad(text: &mut Text, column: usize) {
-    let _ = text.write_str(" ");
-    for _ in text.len()..column {
-        let _ = text.write_str(" ");
+    match (word, before) {
+        (Some(ccw), Some(line)) => line.chained(at, ccw).tell(Found::Nothing, &behind, text),
+        (Some(ccw), None) => Line::of(at, ccw).tell(Found::Nothing, &behind, text),
+        (None, _) => {
+            text.put(" ");
+            text.address(at);
+            text.put(" (no word)");
+            tell_behind(&behind, text);
+        }
     }
-}
-
-/// Unit status, by its bits.
-pub(crate) fn unit_text(unit: UnitStatus) -> ArrayString<32> {
-    let mut text = ArrayString::new();
-    let _ = write!(text, "{}", UnitNames(unit));
-    text
-}
-
-/// How a program came to its end, and the residual count.
-pub(crate) fn left_text(end: &str, count: u16) -> ArrayString<32> {
-    let mut text = ArrayString::new();
-    let _ = write!(text, "{end}left {count}");
-    text
 }

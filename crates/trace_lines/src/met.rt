@@ -1,11 +1,9 @@
 //! What a command met on its track.
 
+use crate::text::Text;
 use ckd_command::Credit;
-use ckd_drive::Drive;
-use ckd_image::ImageStore;
-use ckd_position::{Area, Position};
+use ckd_position::Area;
 use ckd_track::read_slot;
-use std::fmt;
 
 /// An area, with the eight count bytes of its record where they were seen.
 #[derive(Clone, Copy)]
@@ -16,28 +14,26 @@ pub(crate) struct Met {
     pub(crate) count: Option<[u8; 8]>,
 }
 
-impl fmt::Display for Met {
-    fn fmt<W: fmt::Write>(&self, f: &mut fmt::Formatter<W>) -> fmt::Result {
-        let Some(number) = record_of(self.area) else {
-            return f.write_str("home address");
-        };
-        match self.count {
-            Some(count) => write!(f, "R{number} {}", CountBytes(count)),
-            None => write!(f, "R{number}"),
-        }
+/// Tells the record of an area, and its identifier, key length and data length where they are known.
+pub(crate) fn tell_met(met: &Met, text: &mut Text) {
+    let Some(number) = record_of(met.area) else {
+        return text.put("home address");
+    };
+    text.put("R");
+    text.number(number as u64);
+    if let Some(count) = &met.count {
+        tell_count(count, text);
     }
 }
 
-// Count bytes: the identifier, the key length and the data length.
-#[derive(Clone, Copy)]
-struct CountBytes([u8; 8]);
-
-impl fmt::Display for CountBytes {
-    fn fmt<W: fmt::Write>(&self, f: &mut fmt::Formatter<W>) -> fmt::Result {
-        let [a, b, c, d, e, key, high, low] = self.0;
-        let data = u16::from_be_bytes([high, low]);
-        write!(f, "{a:02X}{b:02X}{c:02X}{d:02X}{e:02X} KL {key} DL {data}")
-    }
+fn tell_count(count: &[u8; 8], text: &mut Text) {
+    let [a, b, c, d, e, key, high, low] = *count;
+    text.put(" ");
+    text.bytes(&[a, b, c, d, e]);
+    text.put(" KL ");
+    text.number(key as u64);
+    text.put(" DL ");
+    text.number(u16::from_be_bytes([high, low]) as u64);
 }
 
 /// The record of an area, if it is a record's.
@@ -48,14 +44,12 @@ pub(crate) fn record_of(area: Area) -> Option<usize> {
     }
 }
 
-/// The area at which a drive's command works, once it has found it; or the last that passed, where no command works.
-pub(crate) fn area_at<S: ImageStore>(drive: &Drive<S>) -> Option<Area> {
-    if let Some(opened) = drive.command() {
-        return opened.area;
-    }
-    match drive.registers().position {
-        Position::At(area) => Some(area),
-        Position::AtIndex => None,
+/// Whether two areas are of one record.
+pub(crate) fn are_of_one_record(one: Area, other: Area) -> bool {
+    match (one, other) {
+        (Area::HomeAddress, Area::HomeAddress) => true,
+        (Area::Of(_, number), Area::Of(_, other)) => number == other,
+        _ => false,
     }
 }
 
@@ -68,25 +62,25 @@ pub(crate) fn count_in(slot: &[u8], area: Area) -> Option<[u8; 8]> {
     if number >= track.len() {
         return None;
     }
-    match track.count_of(number) {
-        [a, b, c, d, e, f, g, h] => Some([*a, *b, *c, *d, *e, *f, *g, *h]),
-        _ => None,
-    }
+    track.count_of(number).first_chunk::<8>().copied()
 }
 
-/// For what a credit gives leave.
-#[derive(Clone, Copy)]
-pub(crate) struct CreditNames(pub(crate) Credit);
-
-impl fmt::Display for CreditNames {
-    fn fmt<W: fmt::Write>(&self, f: &mut fmt::Formatter<W>) -> fmt::Result {
-        let (number, what) = match self.0 {
-            Credit::EqualHomeAddress => return f.write_str("home address, found equal"),
-            Credit::WroteHomeAddress => return f.write_str("home address, written"),
-            Credit::EqualId(number) => (number, "whose ID was found equal"),
-            Credit::EqualKey(number) => (number, "whose key was found equal"),
-            Credit::WroteRecord(number) => (number, "written"),
-        };
-        write!(f, "R{number}, {what}")
+/// Tells for what a credit gives leave.
+pub(crate) fn tell_credit(does: &str, credit: Credit, text: &mut Text) {
+    text.put("        ");
+    text.put(does);
+    match credit {
+        Credit::EqualHomeAddress => text.put(": home address, found equal"),
+        Credit::WroteHomeAddress => text.put(": home address, written"),
+        Credit::EqualId(number) => tell_record(number, ", whose ID was found equal", text),
+        Credit::EqualKey(number) => tell_record(number, ", whose key was found equal", text),
+        Credit::WroteRecord(number) => tell_record(number, ", written", text),
     }
+    text.end();
+}
+
+fn tell_record(number: usize, what: &str, text: &mut Text) {
+    text.put(": R");
+    text.number(number as u64);
+    text.put(what);
 }

@@ -1,13 +1,13 @@
 //! Why a program ended with a check, in words.
 
 use bitflags::Flags;
-use ckd_sense::{Command, CommandCode, Sense};
+use ckd_sense::{Command, Sense};
 use s360_channel::DriveView;
 use s360_explain::cause_text;
 use s360_words::{ChannelStatus, Csw, Storage, UnitStatus};
 
 /// The causes of a unit check, as the drives' sense names them: that of the store first, and then the more telling of two.
-const CAUSES: [Sense; 10] = [
+static CAUSES: [Sense; 10] = [
     Sense::STORE_FAULT,
     Sense::UNREADABLE_TRACK,
     Sense::RECORD_DOES_NOT_FIT,
@@ -20,76 +20,84 @@ const CAUSES: [Sense; 10] = [
     Sense::END_OF_CYLINDER,
 ];
 
+/// What a cause is for these commands, and in the last row of a cause for all others.
+static REASONS: [(Sense, &[Command], &str); 9] = [
+    (
+        Sense::OUT_OF_SEQUENCE,
+        &[Command::SetFileMask],
+        "a second Set File Mask in one program",
+    ),
+    (
+        Sense::OUT_OF_SEQUENCE,
+        &[Command::WriteData],
+        "no Search ID Equal or Search Key Equal that found its record stands right before it",
+    ),
+    (
+        Sense::OUT_OF_SEQUENCE,
+        &[Command::WriteKeyAndData],
+        "no Search ID Equal that found its record stands right before it",
+    ),
+    (
+        Sense::OUT_OF_SEQUENCE,
+        &[Command::WriteR0],
+        "no Search HA Equal that was equal, and no Write Home Address, stands right before it",
+    ),
+    (
+        Sense::OUT_OF_SEQUENCE,
+        &[],
+        "no search that found its record equal, and no write that made one, stands right before it",
+    ),
+    (
+        Sense::INVALID_COMMAND,
+        &[Command::WriteHomeAddress],
+        "not the track's own home address with flag 00, or too few bytes of it",
+    ),
+    (
+        Sense::INVALID_COMMAND,
+        &[],
+        "too few bytes came of its argument",
+    ),
+    (
+        Sense::SEEK_NOT_ALLOWED,
+        &[
+            Command::Seek,
+            Command::SeekCylinder,
+            Command::SeekHead,
+            Command::Recalibrate,
+            Command::ReadIpl,
+        ],
+        "the file mask does not allow this seek",
+    ),
+    (
+        Sense::SEEK_NOT_ALLOWED,
+        &[],
+        "the file mask does not allow the next head",
+    ),
+];
+
 /// Why a command ended in unit check, by the sense and by its code (component descriptions, 'Sense'; which bits go together is the
 /// project's profile).
 pub(crate) fn of_unit_check(code: u8, sense: Sense) -> &'static str {
     for cause in &CAUSES {
         if sense.contains(*cause) {
-            return of_cause(code, *cause);
+            return match Command::decode(code) {
+                Some(decoded) => of_cause(decoded.command, *cause),
+                None if *cause == Sense::INVALID_COMMAND => "the drive has no such command",
+                None => of_cause(Command::NoOperation, *cause),
+            };
         }
     }
     "see the sense bytes"
 }
 
-// What one cause is for a command of this code.
-fn of_cause(code: u8, cause: Sense) -> &'static str {
-    if cause == Sense::OUT_OF_SEQUENCE {
-        return of_sequence(code);
-    }
-    if cause == Sense::INVALID_COMMAND {
-        return of_reject(code);
-    }
-    if cause == Sense::SEEK_NOT_ALLOWED {
-        return of_protection(code);
+// What one cause is for a command.
+fn of_cause(command: Command, cause: Sense) -> &'static str {
+    for (of, commands, reason) in &REASONS {
+        if *of == cause && (commands.is_empty() || commands.contains(&command)) {
+            return reason;
+        }
     }
     cause_text(cause.0)
-}
-
-// A command that may not stand behind those before it.
-fn of_sequence(code: u8) -> &'static str {
-    match command_of(code) {
-        Some(Command::SetFileMask) => "a second Set File Mask in one program",
-        Some(Command::WriteData) =>
-            "no Search ID Equal or Search Key Equal that found its record stands right before it",
-        Some(Command::WriteKeyAndData) =>
-            "no Search ID Equal that found its record stands right before it",
-        Some(Command::WriteR0) =>
-            "no Search HA Equal that was equal, and no Write Home Address, stands right before it",
-        _ =>
-            "no search that found its record equal, and no write that made one, stands right before it",
-    }
-}
-
-// A command that is none, or that was not given what it needs.
-fn of_reject(code: u8) -> &'static str {
-    match command_of(code) {
-        None => "the drive has no such command",
-        Some(Command::WriteHomeAddress) =>
-            "not the track's own home address with flag 00, or too few bytes of it",
-        Some(_) => "too few bytes came of its argument",
-    }
-}
-
-// A command that the file mask does not allow.
-fn of_protection(code: u8) -> &'static str {
-    match command_of(code) {
-        Some(
-            Command::Seek
-            | Command::SeekCylinder
-            | Command::SeekHead
-            | Command::Recalibrate
-            | Command::ReadIpl,
-        ) => { "the file mask does not allow this seek" }
-        _ => "the file mask does not allow the next head",
-    }
-}
-
-fn command_of(code: u8) -> Option<Command> {
-    let CommandCode {
-        command,
-        multi_track: _,
-    } = Command::decode(code)?;
-    Some(command)
 }
 
 /// What is wrong with a channel address word.
@@ -147,31 +155,6 @@ pub(crate) fn of_word(at: u32, storage: &Storage) -> &'static str {
 /// Whether unit check is on.
 pub(crate) fn has_unit_check(unit: UnitStatus) -> bool {
     unit.contains(UnitStatus::UNIT_CHECK)
-}
-
-/// Whether unit exception is on.
-pub(crate) fn has_unit_exception(unit: UnitStatus) -> bool {
-    unit.contains(UnitStatus::UNIT_EXCEPTION)
-}
-
-/// Whether status modifier is on.
-pub(crate) fn has_status_modifier(unit: UnitStatus) -> bool {
-    unit.contains(UnitStatus::STATUS_MODIFIER)
-}
-
-/// Whether busy is on: what was asked was not begun.
-pub(crate) fn is_busy(unit: UnitStatus) -> bool {
-    unit.contains(UnitStatus::BUSY)
-}
-
-/// Whether program check is on.
-pub(crate) fn has_program_check(status: ChannelStatus) -> bool {
-    status.contains(ChannelStatus::PROGRAM_CHECK)
-}
-
-/// Whether a word has asked for an interruption that is not yet taken.
-pub(crate) fn has_interruption(status: ChannelStatus) -> bool {
-    status.contains(ChannelStatus::PROGRAM_CONTROLLED_INTERRUPTION)
 }
 
 /// Where a drive's arm stands or goes to behind a command that has not failed.

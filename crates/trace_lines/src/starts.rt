@@ -1,73 +1,77 @@
 //! What a trace tells of a program's start, and of a command's.
 
-use crate::found::found;
-use crate::line::{Found, Line, not_taken, unit_text, word_at};
-use crate::notes::Note;
-use crate::reasons;
-use crate::tracer::Tracer;
-use ckd_image::ImageStore;
-use s360_channel::Channel;
+use crate::found::{Found, found_at_end};
+use crate::line::{Behind, CHAINED, Line, just, tell_not_taken, word_at};
+use crate::reasons::{self, has_unit_check};
+use crate::seen::Seen;
+use crate::trace::Trace;
+use bitflags::Flags;
 use s360_events::{Condition, Status};
 use s360_program::view::{AtWork, ProgramView};
-use s360_words::Ccw;
-use std::io::Write;
+use s360_words::{Ccw, ChannelStatus, UnitStatus};
 
-impl<W: Write + Drop> Tracer<W> {
+impl Trace {
     /// What came of a start.
-    pub(crate) fn started<S: ImageStore>(
-        &mut self,
-        address: u16,
-        condition: Condition<Status>,
-        channel: &Channel<S>,
-    ) {
+    pub(crate) fn started(&mut self, condition: &Condition<Status>, seen: &Seen) {
         match condition {
             Condition::Zero => {
                 self.line = None;
                 self.met = None;
                 self.known = None;
-                if let Some(watched) = channel.program() {
-                    self.begins(watched.program, channel);
+                if let Some(program) = seen.program {
+                    self.begins(program, seen);
                 }
             }
-            Condition::Stored(status) if !reasons::is_busy(status.unit) => {
-                self.stored((address % 256) as u8, status, channel);
+            Condition::Stored(status) if !status.unit.contains(UnitStatus::BUSY) => {
+                self.stored(*status, seen);
             }
             _ => {}
         }
     }
 
     // A start that stored status, as its first word was not taken, was rejected, or was over at once.
-    fn stored<S: ImageStore>(&mut self, device: u8, status: Status, channel: &Channel<S>) {
-        let word = channel.storage().caw_word();
+    fn stored(&mut self, status: Status, seen: &Seen) {
+        let word = seen.storage.caw_word();
         let at = word & 0x00FF_FFFF;
-        let ccw = word_at(channel.storage(), at);
-        if reasons::has_program_check(status.channel) {
+        let ccw = word_at(seen.storage, at);
+        if status.channel.contains(ChannelStatus::PROGRAM_CHECK) {
             let mut reason = reasons::BAD_ADDRESS_WORD;
             if word & 0x0F00_0000 == 0 {
-                self.put(&not_taken(at, ccw, None, ""));
-                reason = reasons::of_word(at, channel.storage());
+                tell_not_taken(at, ccw, None, UnitStatus(0), &mut self.text);
+                reason = reasons::of_word(at, seen.storage);
             }
-            self.put(&Note::Channel(status.channel, reason));
-            return;
+            return self.tell_check(status.channel, reason);
         }
-        let Some(ccw) = ccw else {
-            return;
+        if let Some(ccw) = ccw {
+            self.over_at_once(Line::of(at, ccw), status, seen);
+        }
+    }
+
+    fn over_at_once(&mut self, line: Line, status: Status, seen: &Seen) {
+        if status
+            .channel
+            .contains(ChannelStatus::PROGRAM_CONTROLLED_INTERRUPTION)
+        {
+            self.text.line("        asks for an interruption");
+        }
+        let place = reasons::place_in(seen.drive, status.unit);
+        let behind = Behind {
+            unit: status.unit,
+            how: "",
+            left: None,
         };
-        if reasons::has_interruption(status.channel) {
-            self.put(&Note::Asks);
-        }
-        let line = Line::of(at, ccw);
-        let place = reasons::place_in(channel.drive(device), status.unit);
-        let came = found(line, None, false, place);
-        let names = unit_text(status.unit);
-        self.put(&line.text(came, names.as_str(), ""));
-        if reasons::has_unit_check(status.unit) {
-            self.tell_sense(device, ccw.code, channel);
+        line.tell(
+            found_at_end(&line, None, false, place),
+            &behind,
+            &mut self.text,
+        );
+        if has_unit_check(status.unit) {
+            self.tell_sense(line.code, seen);
         }
     }
 
     /// A command begins under the word that was fetched last.
-    pub(crate) fn begins<S: ImageStore>(&mut self, now: ProgramView, channel: &Channel<S>) {
+    pub(crate) fn begins(&mut self, now: ProgramView, seen: &Seen) {
         match now.at_work {
             AtWork::Looking(ccw) | AtWork::Moving(ccw, _) => {
                 self.line = Some(Line::of(now.last, ccw));
@@ -75,27 +79,28 @@ impl<W: Write + Drop> Tracer<W> {
                 self.tell_asked(ccw);
             }
             AtWork::Fetching => {
-                if let Some(ccw) = channel.storage().ccw_at(now.last) {
-                    self.immediate(now, ccw, channel);
+                if let Some(ccw) = seen.storage.ccw_at(now.last) {
+                    self.immediate(now.last, ccw, seen);
                 }
             }
         }
     }
 
     // A word that was over in the unit that fetched it, and behind which the program goes on.
-    fn immediate<S: ImageStore>(&mut self, now: ProgramView, ccw: Ccw, channel: &Channel<S>) {
-        let line = Line::of(now.last, ccw);
+    fn immediate(&mut self, at: u32, ccw: Ccw, seen: &Seen) {
+        let line = Line::of(at, ccw);
         if ccw.is_transfer() {
-            self.put(&line.text(Found::Nothing, "", ""));
-            return;
+            return line.tell(Found::Nothing, &just(""), &mut self.text);
         }
         self.tell_asked(ccw);
-        let Some(drive) = channel.drive_at_work() else {
+        let Some(work) = &seen.work else {
             return;
         };
-        let registers = drive.registers();
-        let place = Some((registers.cylinder, registers.head));
-        let came = found(line, None, false, place);
-        self.put(&line.text(came, "CE DE", "chained"));
+        let place = Some((work.registers.cylinder, work.registers.head));
+        line.tell(
+            found_at_end(&line, None, false, place),
+            &CHAINED,
+            &mut self.text,
+        );
     }
 }

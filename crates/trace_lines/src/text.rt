@@ -1,0 +1,101 @@
+//! The text of a trace that is not written yet: the lines of one look.
+
+use arrayvec::ArrayString;
+use std::fmt::{Display, Write};
+
+/// More bytes than the lines of a look have: eight at most, with the names of all sense bits in one of them.
+const ROOM: usize = 2_048;
+
+/// Lines, the last of which may be under way.
+#[derive(Clone, Copy)]
+pub(crate) struct Text {
+    lines: ArrayString<ROOM>,
+    /// Where the last line begins.
+    begin: usize,
+    /// Whether there was room for all.
+    pub(crate) is_whole: bool,
+}
+
+impl Text {
+    /// No lines.
+    pub(crate) fn new() -> Text {
+        Text {
+            lines: ArrayString::new(),
+            begin: 0,
+            is_whole: true,
+        }
+    }
+
+    /// What there is.
+    pub(crate) fn as_bytes(&self) -> &[u8] {
+        self.lines.as_str().as_bytes()
+    }
+
+    /// Forgets all lines.
+    pub(crate) fn clear(&mut self) {
+        self.lines.clear();
+        self.begin = 0;
+    }
+
+    /// This text.
+    pub(crate) fn put(&mut self, text: &str) {
+        self.is_whole = self.lines.write_str(text).is_ok() && self.is_whole;
+    }
+
+    /// A value, as it is printed.
+    pub(crate) fn show<T: Display>(&mut self, value: &T) {
+        self.is_whole = write!(self.lines, "{value}").is_ok() && self.is_whole;
+    }
+
+    /// A decimal number.
+    pub(crate) fn number(&mut self, number: u64) {
+        self.is_whole = write!(self.lines, "{number}").is_ok() && self.is_whole;
+    }
+
+    /// A count in five columns.
+    pub(crate) fn count(&mut self, count: u16) {
+        self.is_whole = write!(self.lines, "{count:>5}").is_ok() && self.is_whole;
+    }
+
+    /// A byte in two digits.
+    pub(crate) fn byte(&mut self, byte: u8) {
+        self.is_whole = write!(self.lines, "{byte:02X}").is_ok() && self.is_whole;
+    }
+
+    /// Bytes, each in two digits.
+    pub(crate) fn bytes(&mut self, bytes: &[u8]) {
+        for byte in bytes {
+            self.byte(*byte);
+        }
+    }
+
+    /// An input/output address in three digits.
+    pub(crate) fn device(&mut self, address: u16) {
+        self.is_whole = write!(self.lines, "{address:03X}").is_ok() && self.is_whole;
+    }
+
+    /// An address in storage in six digits.
+    pub(crate) fn address(&mut self, address: u32) {
+        self.is_whole = write!(self.lines, "{address:06X}").is_ok() && self.is_whole;
+    }
+
+    /// Blanks up to a column of the line, and one at least.
+    pub(crate) fn pad(&mut self, column: usize) {
+        self.put(" ");
+        for _ in self.lines.len().saturating_sub(self.begin)..column {
+            self.put(" ");
+        }
+    }
+
+    /// A line of this text.
+    pub(crate) fn line(&mut self, text: &str) {
+        self.put(text);
+        self.end();
+    }
+
+    /// The line's end.
+    pub(crate) fn end(&mut self) {
+        self.put("\n");
+        self.begin = self.lines.len();
+    }
+}
