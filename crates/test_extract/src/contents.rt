@@ -3,6 +3,7 @@
 use crate::{Change, volume_of};
 use anyhow::Result;
 use ckd_image::{Image, MemoryStore};
+use counted_io::Counted;
 use dasd_contents::{Contents, check_contents, read_contents, write_lines, write_objects};
 use dasd_volumes::SlotReader;
 use std::alloc::Global;
@@ -33,11 +34,13 @@ pub(crate) fn print_contents<W: Write>(
     let mut volume = volume_of(alloc, lines, change)?;
     let contents = contents_of(alloc, &mut volume)?;
     let geometry = SlotReader::geometry(&volume);
+    let mut text = Counted::new(Vec::new(alloc));
     if json {
-        write_objects(alloc, writer, "\"a.ckd\"", geometry, &contents)?;
+        write_objects(alloc, &mut text, "\"a.ckd\"", geometry, &contents)?;
     } else {
-        write_lines(alloc, writer, geometry, &contents)?;
+        write_lines(alloc, &mut text, geometry, &contents)?;
     }
+    writer.write_all(text.inner.as_slice())?;
     Ok(())
 }
 
