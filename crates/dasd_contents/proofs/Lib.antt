@@ -4,3 +4,5 @@ pub mod Spelled
 pub mod Sums
 pub mod Columns
 pub mod Written
+pub mod InTurn
+pub mod Checked

@@ -7,3 +7,4 @@ pub mod Claims
 pub mod Words
 pub mod Lines
 pub mod Objects
+pub mod Checks

@@ -101,7 +101,11 @@ abbrev pub address_found : List Block → Option ℕ → Option RecordAddress
 address_found blocks None = None
 address_found blocks (Some i) = Some (block_in blocks i).address
 
+-- where the first format 5 block stands
+abbrev pub free_place : List Block → Option RecordAddress
+free_place blocks = address_found blocks (position (λ b. is_free_space b.kind) blocks)
+
 pub record FreeSpaceOf (blocks : List Block) (f : space.FreeSpace) : Type 0 where
-  pub address : f.address ≡ address_found blocks (position (λ b. is_free_space b.kind) blocks)
+  pub address : f.address ≡ free_place blocks
   pub pieces : f.pieces.items ≡ pieces_behind blocks
   pub fault : f.fault ≡ (free_chain blocks).fault

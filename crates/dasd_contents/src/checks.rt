@@ -1,25 +1,35 @@
 //! What is wrong with data sets, their extents and free tracks.
 
-ghost use Rattle.std.specs.Prelude.{◌≡◌, ◌<◌, length};
+ghost use Rattle.std.specs.Prelude.{◌≡◌, ◌<◌, ◌++◌, length, IfOk, OnOk};
 ghost use Rattle.ckd_track.specs.Geometry.{tracks_of};
+ghost use Rattle.dasd_contents.specs.Checks.{is_for_labels, is_number, found_at, chain_findings, number_findings, extent_findings, claimed_behind, block_findings, claimed_by_block, sets_findings, claimed_by_sets, free_claim_of, claimed_by_free, piece_findings, free_findings, findings_of};
 ghost use Rattle.dasd_contents.specs.Sets.{number_of_free};
 
 use crate::blocks::{Block, add_finding};
+use crate::chains::ChainFault;
 use crate::claims::{claim, claim_extent};
 use crate::findings::{Finding, Problem};
+use crate::lines::is_data_set;
 use crate::reading::Contents;
 use crate::runs::Run;
 use crate::sets::{DataSet, data_set_of, free_tracks};
 use ckd_track::Geometry;
 use std::alloc::{AllocError, Global};
-use volume_labels::{BlockKind, Extent, FreeTracks, RecordAddress};
+use volume_labels::{Extent, FreeTracks, RecordAddress};
 
 /// The type of an extent for user labels, which a format 1 block may or may not count.
 const USER_LABELS: u8 = 0x40;
 
+/// A volume's geometry and its control blocks in use.
+#[derive(Clone, Copy)]
+struct Volume<'a> {
+    geometry: Geometry,
+    blocks: &'a [Block],
+}
+
 /// Adds what is wrong with the data sets of a volume of this geometry, in the order of their format 1 blocks: broken chains of control
 /// blocks, extents that are not as many as they must be, that leave the volume, or that have tracks of earlier ones; and with
-/// its free tracks.
+/// its free tracks. What was found before stays before it.
 ///
 /// # Errors
 ///
@@ -29,6 +39,8 @@ pub fn check_contents(
     geometry: Geometry,
     contents: &mut Contents,
 ) -> Result<(), AllocError>
+    ensures findings { OnOk result (contents.new.found.findings.items
+        ≡ contents.old.found.findings.items ++ findings_of geometry contents.old.table contents.old.found.blocks.items) }
     ensures label { contents.new.label ≡ contents.old.label }
     ensures table { contents.new.table ≡ contents.old.table }
     ensures blocks { contents.new.found.blocks ≡ contents.old.found.blocks }
@@ -41,13 +53,49 @@ pub fn check_contents(
     claim_extent(marks, geometry, table.extent);
     let blocks = contents.found.blocks.as_slice();
     let findings = &mut contents.found.findings;
-    for block in blocks {
-        if block.kind == BlockKind::DataSet {
-            let set = data_set_of(alloc, blocks, block)?;
-            check_set(findings, marks, geometry, &set)?;
-        }
+    let volume = Volume { geometry, blocks };
+    check_sets(alloc, findings, marks, volume)?;
+    check_free(alloc, findings, marks, volume)
+}
+
+// Checks the data sets of these blocks.
+fn check_sets(
+    alloc: Global,
+    findings: &mut Vec<Finding>,
+    marks: &mut [u8],
+    volume: Volume,
+) -> Result<(), AllocError>
+    requires { length marks.old ≡ tracks_of volume.geometry }
+    ensures findings { OnOk result (findings.new.items
+        ≡ findings.old.items ++ sets_findings volume.entry.geometry volume.entry.blocks.now marks.old volume.entry.blocks.now) }
+    ensures marks { OnOk result (marks.new ≡ claimed_by_sets volume.entry.geometry volume.entry.blocks.now marks.old volume.entry.blocks.now) }
+    ensures size { length marks.new ≡ length marks.old }
+{
+    for block in volume.blocks {
+        check_block(alloc, findings, marks, volume, block)?;
     }
-    check_free(alloc, findings, marks, geometry, blocks)
+    Ok(())
+}
+
+// Checks the data set of a block, if it is one's.
+fn check_block(
+    alloc: Global,
+    findings: &mut Vec<Finding>,
+    marks: &mut [u8],
+    volume: Volume,
+    block: &Block,
+) -> Result<(), AllocError>
+    requires { length marks.old ≡ tracks_of volume.geometry }
+    ensures findings { OnOk result (findings.new.items
+        ≡ findings.old.items ++ block_findings volume.entry.geometry volume.entry.blocks.now marks.old block.now) }
+    ensures marks { OnOk result (marks.new ≡ claimed_by_block volume.entry.geometry volume.entry.blocks.now marks.old block.now) }
+    ensures size { length marks.new ≡ length marks.old }
+{
+    if !is_data_set(block.kind) {
+        return Ok(());
+    }
+    let set = data_set_of(alloc, volume.blocks, block)?;
+    check_set(findings, marks, volume.geometry, &set)
 }
 
 // Checks a data set.
@@ -58,49 +106,95 @@ fn check_set(
     set: &DataSet,
 ) -> Result<(), AllocError>
     requires { length marks.old ≡ tracks_of geometry }
-    ensures { length marks.new ≡ length marks.old }
+    ensures findings { OnOk result (findings.new.items ≡ findings.old.items
+        ++ (chain_findings set.now.address set.now.fault
+        ++ (number_findings set.now.address set.now.extents.items set.now.block.extents
+        ++ extent_findings geometry set.now.address marks.old set.now.extents.items))) }
+    ensures marks { OnOk result (marks.new ≡ claimed_behind geometry marks.old set.now.extents.items) }
+    ensures size { length marks.new ≡ length marks.old }
 {
     let place = set.address;
-    if let Some(fault) = set.fault {
-        let problem = Problem::Chain(fault);
-        add_finding(findings, Finding { place, problem })?;
-    }
+    add_chain(findings, place, set.fault)?;
     let extents = set.extents.as_slice();
-    if !is_number(extents, set.block.extents) {
-        let problem = Problem::OtherNumber(extents.len(), set.block.extents);
-        add_finding(findings, Finding { place, problem })?;
+    add_number(findings, place, extents, set.block.extents)?;
+    check_extents(findings, marks, geometry, place, extents)
+}
+
+// Adds why a chain is not followed further, if it is cut.
+fn add_chain(
+    findings: &mut Vec<Finding>,
+    place: RecordAddress,
+    fault: Option<ChainFault>,
+) -> Result<(), AllocError>
+    ensures { OnOk result (findings.new.items ≡ findings.old.items ++ chain_findings place fault) }
+{
+    add_problem(findings, place, fault.map(Problem::Chain))
+}
+
+// Adds a problem, if there is one.
+fn add_problem(
+    findings: &mut Vec<Finding>,
+    place: RecordAddress,
+    problem: Option<Problem>,
+) -> Result<(), AllocError>
+    ensures { OnOk result (findings.new.items ≡ findings.old.items ++ found_at place problem) }
+{
+    match problem {
+        Some(problem) => add_finding(findings, Finding { place, problem }),
+        None => Ok(()),
     }
-    for extent in extents {
-        check_extent(findings, marks, geometry, place, *extent)?;
+}
+
+// Adds that extents are not as many as a format 1 block says.
+fn add_number(
+    findings: &mut Vec<Finding>,
+    place: RecordAddress,
+    extents: &[Extent],
+    said: u8,
+) -> Result<(), AllocError>
+    ensures { OnOk result (findings.new.items ≡ findings.old.items ++ number_findings place extents.now said) }
+{
+    if is_number(extents, said) {
+        return Ok(());
     }
-    Ok(())
+    let problem = Problem::OtherNumber(extents.len(), said);
+    add_finding(findings, Finding { place, problem })
 }
 
 // Whether there are as many extents as a format 1 block says, with those for user labels or without them.
-fn is_number(extents: &[Extent], said: u8) -> bool {
+fn is_number(extents: &[Extent], said: u8) -> bool
+    ensures { result ≡ is_number extents.now said }
+{
     let labels = extents
         .iter()
-        .filter(|extent| extent.kind == USER_LABELS)
+        .filter(
+            |extent| -> bool
+                ensures { result ≡ is_for_labels extent.now.now }
+            { extent.kind == USER_LABELS },
+        )
         .count();
     let said = usize::from(said);
     said == extents.len() || said == extents.len().saturating_sub(labels)
 }
 
-// Checks an extent, and marks its tracks.
-fn check_extent(
+// Checks extents, each against those before it, and marks their tracks.
+fn check_extents(
     findings: &mut Vec<Finding>,
     marks: &mut [u8],
     geometry: Geometry,
     place: RecordAddress,
-    extent: Extent,
+    extents: &[Extent],
 ) -> Result<(), AllocError>
     requires { length marks.old ≡ tracks_of geometry }
-    ensures { length marks.new ≡ length marks.old }
+    ensures findings { OnOk result (findings.new.items ≡ findings.old.items ++ extent_findings geometry place marks.old extents.now) }
+    ensures marks { OnOk result (marks.new ≡ claimed_behind geometry marks.old extents.now) }
+    ensures size { length marks.new ≡ length marks.old }
 {
-    match claim_extent(marks, geometry, extent) {
-        Some(problem) => add_finding(findings, Finding { place, problem }),
-        None => Ok(()),
+    for extent in extents {
+        let problem = claim_extent(marks, geometry, *extent);
+        add_problem(findings, place, problem)?;
     }
+    Ok(())
 }
 
 // Checks the free tracks.
@@ -108,23 +202,40 @@ fn check_free(
     alloc: Global,
     findings: &mut Vec<Finding>,
     marks: &mut [u8],
-    geometry: Geometry,
-    blocks: &[Block],
+    volume: Volume,
 ) -> Result<(), AllocError>
-    requires { length marks.old ≡ tracks_of geometry }
+    requires { length marks.old ≡ tracks_of volume.geometry }
+    ensures { OnOk result (findings.new.items
+        ≡ findings.old.items ++ free_findings volume.entry.geometry volume.entry.blocks.now marks.old) }
 {
-    let free = free_tracks(alloc, blocks)?;
+    let free = free_tracks(alloc, volume.blocks)?;
     let Some(place) = free.address else {
         return Ok(());
     };
-    if let Some(fault) = free.fault {
-        let problem = Problem::Chain(fault);
-        add_finding(findings, Finding { place, problem })?;
-    }
-    for piece in free.pieces.iter() {
-        if let Some(problem) = claim_free(marks, geometry, *piece) {
-            add_finding(findings, Finding { place, problem })?;
-        }
+    add_chain(findings, place, free.fault)?;
+    check_pieces(
+        findings,
+        marks,
+        volume.geometry,
+        place,
+        free.pieces.as_slice(),
+    )
+}
+
+// Checks pieces of free tracks, each against all that is claimed before it.
+fn check_pieces(
+    findings: &mut Vec<Finding>,
+    marks: &mut [u8],
+    geometry: Geometry,
+    place: RecordAddress,
+    pieces: &[FreeTracks],
+) -> Result<(), AllocError>
+    requires { length marks.old ≡ tracks_of geometry }
+    ensures { OnOk result (findings.new.items ≡ findings.old.items ++ piece_findings geometry place marks.old pieces.now) }
+{
+    for piece in pieces {
+        let problem = claim_free(marks, geometry, *piece);
+        add_problem(findings, place, problem)?;
     }
     Ok(())
 }
@@ -132,7 +243,9 @@ fn check_free(
 // Marks free tracks, and says what is wrong with them.
 fn claim_free(marks: &mut [u8], geometry: Geometry, piece: FreeTracks) -> Option<Problem>
     requires { length marks.old ≡ tracks_of geometry }
-    ensures { length marks.new ≡ length marks.old }
+    ensures problem { result ≡ free_claim_of geometry marks.old piece }
+    ensures marks { marks.new ≡ claimed_by_free geometry marks.old piece }
+    ensures size { length marks.new ≡ length marks.old }
 {
     let first = piece.first as u32;
     let tracks = number_of_free(geometry, piece);

@@ -1,8 +1,10 @@
 //! What a volume holds, in lines for people.
 
-ghost use Rattle.std.specs.Prelude.{◌≡◌, ◌≢◌, ◌≤◌, ◌-◌, ◌^◌, ◌++◌, false, min, sum_by, length, replicate, OnOk, IfOk, IfErr};
+ghost use Rattle.std.specs.Prelude.{◌≡◌, ◌≢◌, ◌≤◌, ◌-◌, ◌^◌, ◌++◌, false, min, sum_by, length, replicate, OnOk, OnErr, IfOk, IfErr};
 ghost use Rattle.std.specs.List.{flat_map};
 ghost use Rattle.std.specs.Io.KnownBytes.{Appends};
+ghost use Rattle.counted_io.specs.Streams.{seen_by, Takes, TakesFront};
+ghost use Rattle.dasd_volumes.specs.Printing.{CountsWrites};
 ghost use Rattle.dasd_contents.specs.Sets.{is_data_set, number_of_free};
 ghost use Rattle.dasd_contents.specs.Words.{format_text};
 ghost use Rattle.dasd_contents.specs.Lines.{tracks_in, tracks_owned, tracks_used, tracks_free, at_left, label_line, heading, name_columns, number_columns, set_line, block_line, free_line, finding_line, volume_lines, contents_lines};
@@ -15,6 +17,7 @@ use crate::runs::{is_on, number_of};
 use crate::sets::{DataSet, data_set_of, free_tracks};
 use crate::words::{Bounds, Day, Format, Organisation, Owner, Place, Text, format_width};
 use ckd_track::Geometry;
+use counted_io::{Counted, WriteFault, write_flushed};
 use dasd_volumes::VolumeFault;
 use std::alloc::Global;
 use std::io;
@@ -29,25 +32,46 @@ const USER_LABELS: u8 = 0x40;
 /// The width of a record format, in characters.
 const FORMAT_WIDTH: usize = 5;
 
-/// Prints the volume label, a line for each data set, the free tracks, and what is wrong.
+/// Prints the volume label, a line for each data set, the free tracks, and what is wrong. The lines are made in memory, and written
+/// from there.
 ///
 /// # Errors
 ///
-/// There is no memory for the extents of a data set, or a write fails: what was printed before stays.
+/// There is no memory for the lines or for the extents of a data set, and nothing is printed; or a write failed, or the flush, and
+/// exactly then it is a write fault. What was printed are the first bytes of the text.
 pub fn write_lines<W: Write>(
+    alloc: Global,
+    writer: &mut Counted<W>,
+    geometry: Geometry,
+    contents: &Contents,
+) -> Result<(), VolumeFault>
+    ensures lines { OnOk result (Takes (seen_by W.contents writer.old) (seen_by W.contents writer.new) (contents_lines geometry contents.now)) }
+    ensures front { OnErr result (TakesFront (seen_by W.contents writer.old) (seen_by W.contents writer.new) (contents_lines geometry contents.now)) }
+    ensures writes { CountsWrites result (seen_by W.contents writer.old) (seen_by W.contents writer.new) }
+    ensures none { IfErr result (λ e. e ≡ VolumeFault.OutOfMemory → writer.new ≡ writer.old) }
+    ensures fault { IfErr result (λ e. e ≢ VolumeFault.Store) }
+{
+    let mut lines = Vec::new(alloc);
+    if make_lines(alloc, &mut lines, geometry, contents).is_err() {
+        return Err(VolumeFault::OutOfMemory);
+    }
+    match write_flushed(writer, lines.as_slice()) {
+        Ok(()) => Ok(()),
+        Err(WriteFault) => Err(VolumeFault::Write),
+    }
+}
+
+// The lines of a volume.
+fn make_lines<W: Write>(
     alloc: Global,
     writer: &mut W,
     geometry: Geometry,
     contents: &Contents,
 ) -> Result<(), VolumeFault>
     ensures lines { OnOk result (Appends (W.contents writer.old) (W.contents writer.new) (contents_lines geometry contents.now)) }
-    ensures fault { IfErr result (λ e. e ≢ VolumeFault.Store) }
 {
     write_volume(alloc, writer, geometry, contents)?;
-    let Ok(()) = write_findings(writer, contents.found.findings.as_slice()) else {
-        return Err(VolumeFault::Write);
-    };
-    match writer.flush() {
+    match write_findings(writer, contents.found.findings.as_slice()) {
         Ok(()) => Ok(()),
         Err(_) => Err(VolumeFault::Write),
     }

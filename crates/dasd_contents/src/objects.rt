@@ -1,8 +1,10 @@
 //! What a volume holds, as objects of JSON, one a line.
 
-ghost use Rattle.std.specs.Prelude.{◌≡◌, ◌≢◌, ◌<◌, ◌++◌, Some, length, OnOk, IfErr};
+ghost use Rattle.std.specs.Prelude.{◌≡◌, ◌≢◌, ◌<◌, ◌++◌, Some, length, OnOk, OnErr, IfErr};
 ghost use Rattle.std.specs.List.{flat_map};
 ghost use Rattle.std.specs.Io.KnownBytes.{Appends};
+ghost use Rattle.counted_io.specs.Streams.{seen_by, Takes, TakesFront};
+ghost use Rattle.dasd_volumes.specs.Printing.{CountsWrites};
 ghost use Rattle.dasd_contents.specs.Objects.{quoted_text, four_text, day_or_null, path_text, label_members, volume_object, name_members, number_members, comma_before, listed_extent, extents_text, set_object, block_object, finding_members, finding_object, volume_objects, contents_objects};
 
 use crate::blocks::Block;
@@ -12,6 +14,7 @@ use crate::reading::Contents;
 use crate::sets::{DataSet, data_set_of};
 use crate::words::{Day, Format, Organisation, Text, is_date, kind_of};
 use ckd_track::Geometry;
+use counted_io::{Counted, WriteFault, write_flushed};
 use dasd_volumes::VolumeFault;
 use data_sets::without_blanks;
 use std::alloc::Global;
@@ -20,27 +23,47 @@ use std::{fmt, io};
 use volume_labels::{ContentsBlock, DataSetBlock, Date, Extent, VolumeLabel};
 
 /// Prints the volume label, each data set, the free tracks, and what is wrong, each as an object of JSON with the volume's
-/// path, which is a string of JSON with its quotes.
+/// path, which is a string of JSON with its quotes. The objects are made in memory, and written from there.
 ///
 /// # Errors
 ///
-/// There is no memory for the extents of a data set, or a write fails: what was printed before stays.
+/// There is no memory for the objects or for the extents of a data set, and nothing is printed; or a write failed, or the flush, and
+/// exactly then it is a write fault. What was printed are the first bytes of the text.
 pub fn write_objects<W: Write>(
     alloc: Global,
-    writer: &mut W,
+    writer: &mut Counted<W>,
     path: &str,
     geometry: Geometry,
     contents: &Contents,
 ) -> Result<(), VolumeFault>
-    ensures lines { OnOk result (Appends (W.contents writer.old) (W.contents writer.new) (contents_objects path.now geometry contents.now)) }
+    ensures lines { OnOk result (Takes (seen_by W.contents writer.old) (seen_by W.contents writer.new) (contents_objects path.now geometry contents.now)) }
+    ensures front { OnErr result (TakesFront (seen_by W.contents writer.old) (seen_by W.contents writer.new) (contents_objects path.now geometry contents.now)) }
+    ensures writes { CountsWrites result (seen_by W.contents writer.old) (seen_by W.contents writer.new) }
+    ensures none { IfErr result (λ e. e ≡ VolumeFault.OutOfMemory → writer.new ≡ writer.old) }
     ensures fault { IfErr result (λ e. e ≢ VolumeFault.Store) }
 {
-    let volume = Volume { path, geometry };
+    let mut objects = Vec::new(alloc);
+    if make_objects(alloc, &mut objects, Volume { path, geometry }, contents).is_err() {
+        return Err(VolumeFault::OutOfMemory);
+    }
+    match write_flushed(writer, objects.as_slice()) {
+        Ok(()) => Ok(()),
+        Err(WriteFault) => Err(VolumeFault::Write),
+    }
+}
+
+// The objects of a volume.
+fn make_objects<W: Write>(
+    alloc: Global,
+    writer: &mut W,
+    volume: Volume,
+    contents: &Contents,
+) -> Result<(), VolumeFault>
+    ensures lines { OnOk result (Appends (W.contents writer.old) (W.contents writer.new)
+        (contents_objects volume.entry.path.now volume.entry.geometry contents.now)) }
+{
     write_known(alloc, writer, volume, contents)?;
-    let Ok(()) = write_findings(writer, path, contents.found.findings.as_slice()) else {
-        return Err(VolumeFault::Write);
-    };
-    match writer.flush() {
+    match write_findings(writer, volume.path, contents.found.findings.as_slice()) {
         Ok(()) => Ok(()),
         Err(_) => Err(VolumeFault::Write),
     }

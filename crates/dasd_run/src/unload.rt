@@ -6,7 +6,7 @@ ghost use Rattle.dasd_run.specs.Faults.{keeps_files};
 use crate::archive::quoted;
 use crate::commands::Ending;
 use crate::fault::ProgramFault;
-use dasd_jobs::ImageFiles;
+use dasd_jobs::{ImageFiles, open_volume};
 use dasd_unload::{WantedSet, WantedVolume, unload_set, unload_volume};
 use dasd_words::{ExtractedSet, ExtractedVolume};
 use std::alloc::Global;
@@ -27,7 +27,8 @@ pub(crate) fn extract_set<F: ImageFiles, W: Write>(
         target: asked.target,
         is_text: asked.is_text,
     };
-    match unload_set(alloc, files, writer, asked.paths.as_slice(), set) {
+    let mut volume = open_volume(alloc, files, asked.paths.as_slice())?;
+    match unload_set(alloc, files, &mut volume, writer, set) {
         Ok(()) => Ok(Ending::Done),
         Err(fault) => Err(ProgramFault::Unload(fault)),
     }

@@ -6,8 +6,9 @@ use crate::archive::quoted;
 use crate::commands::Ending;
 use crate::fault::ProgramFault;
 use ckd_track::Geometry;
+use counted_io::Counted;
 use dasd_contents::{Contents, check_contents, read_contents, write_lines, write_objects};
-use dasd_jobs::{ImageFiles, JobFault, SlotReader, open_volume};
+use dasd_jobs::{ImageFiles, SlotReader, open_volume};
 use dasd_words::PrintedVolume;
 use std::alloc::Global;
 use std::io::Write;
@@ -16,7 +17,7 @@ use std::io::Write;
 pub(crate) fn list_contents<F: ImageFiles, W: Write>(
     alloc: Global,
     files: &mut F,
-    writer: &mut W,
+    writer: &mut Counted<W>,
     asked: &PrintedVolume,
 ) -> Result<Ending, ProgramFault>
     ensures { F.written files.new ≡ F.written files.old }
@@ -31,10 +32,10 @@ pub(crate) fn list_contents<F: ImageFiles, W: Write>(
     } else {
         write_lines(alloc, writer, geometry, &contents)?;
     }
-    match writer.flush() {
-        Ok(()) if contents.found.findings.is_empty() => Ok(Ending::Done),
-        Ok(()) => Ok(Ending::Findings),
-        Err(_) => Err(ProgramFault::Job(JobFault::Write)),
+    if contents.found.findings.is_empty() {
+        Ok(Ending::Done)
+    } else {
+        Ok(Ending::Findings)
     }
 }
 

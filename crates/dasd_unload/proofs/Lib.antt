@@ -1,2 +1,3 @@
 pub mod Folder
+mod Found
 mod Through

@@ -15,7 +15,7 @@ use Rattle.dasd_extract.specs.declared.blocks.Form.TheVariants.{Raw, Text}
 use Rattle.dasd_extract.specs.declared.members.Members.{Members}
 use Rattle.dasd_extract.specs.declared.stops.Stop.{Stop}
 use Rattle.dasd_extract.specs.Members.{MembersOf}
-use Rattle.dasd_extract.specs.Names.{Names}
+use Rattle.dasd_extract.specs.Names.{Names, is_name}
 use Rattle.dasd_extract.specs.Walk.{Wanted, Extracts}
 use Rattle.dasd_jobs.specs.Written.{Replaced, with_file}
 
@@ -28,24 +28,48 @@ form_of d true = option_map Text (records.form_of d.format d.record_length)
 abbrev pub is_partitioned : DataSetBlock → Bool
 is_partitioned d = not (bit_and d.organisation 0x0200 == 0)
 
--- a data set of a volume has this name, and is the first that has it
-pub record IsNamed (text : List ℕ) (v : KnownVolume) (d : DataSet) : Type 0 where
+-- a data set that is asked for: its name, a member of it, whether as lines, and the path of the new file for it
+pub record AskedSet : Type 0 where
+  pub name : List ℕ
+  pub member : Option (List ℕ)
+  pub is_text : Bool
+  pub target : Option (List ℕ)
+
+abbrev pub asked : (name : List ℕ) → (member : Option (List ℕ)) → (is_text : Bool) → (target : Option (List ℕ)) → AskedSet
+asked name member is_text target = record { name = name; member = member; is_text = is_text; target = target }
+
+-- a volume's first data set of a name, if it has one
+pub record NamesSet (text : List ℕ) (v : KnownVolume) (found : Option DataSet) : Type 0 where
   pub name : List ℕ
   pub named : Names text name
-  pub found : (slots : List (List ℕ)) → v.slots ≡ Some slots → FoundOf (contents_of v.geometry slots).blocks name (Some d)
+  pub first : (slots : List (List ℕ)) → v.slots ≡ Some slots → FoundOf (contents_of v.geometry slots).blocks name found
+
+-- this is the data set of a name; or there is none, where the text can be the name of one
+abbrev pub SetOf : (text : List ℕ) → KnownVolume → Option DataSet → Type 0
+SetOf text v (Some d) = NamesSet text v (Some d)
+SetOf text v None = is_name 44 text ≡ true → NamesSet text v None
 
 -- where the blocks of a data set begin
 abbrev pub beginning : RelativeAddress
 beginning = record { track = 0; number = 0 }
 
--- those of the first member of a name begin where the directory says
-pub record IsMemberAt (text : List ℕ) (v : KnownVolume) (extents : List Extent) (start : RelativeAddress) : Type 0 where
+-- a data set's first member of a name, if its directory has one
+pub record NamesMember (text : List ℕ) (v : KnownVolume) (extents : List Extent) (found : Option DirectoryEntry) : Type 0 where
   pub name : List ℕ
   pub named : Names text name
   pub members : Members
   pub of_set : MembersOf extents v members
+  pub first : find (λ e. bytes_eq e.name name) members.entries.items ≡ found
+
+-- this is the member of a name; or there is none, where the text can be the name of one
+abbrev pub MemberOf : (text : List ℕ) → KnownVolume → List Extent → Option DirectoryEntry → Type 0
+MemberOf text v extents (Some entry) = NamesMember text v extents (Some entry)
+MemberOf text v extents None = is_name 8 text ≡ true → NamesMember text v extents None
+
+-- the member of a name begins where the directory says
+pub record IsMemberAt (text : List ℕ) (v : KnownVolume) (extents : List Extent) (start : RelativeAddress) : Type 0 where
   pub entry : DirectoryEntry
-  pub found : find (λ e. bytes_eq e.name name) members.entries.items ≡ Some entry
+  pub found : MemberOf text v extents (Some entry)
   pub begins : start ≡ entry.address
 
 -- what is asked for begins here: a data set without members, or a member of one that has some
@@ -54,12 +78,12 @@ StartsAt v d None start = (is_partitioned d.block ≡ false) × (start ≡ begin
 StartsAt v d (Some member) start = (is_partitioned d.block ≡ true) × IsMemberAt member v d.extents.items start
 
 -- what is asked for, as a source of blocks
-pub record Asks (name : List ℕ) (member : Option (List ℕ)) (is_text : Bool) (v : KnownVolume) (s : Wanted) : Type 0 where
+pub record Asks (a : AskedSet) (v : KnownVolume) (s : Wanted) : Type 0 where
   pub set : DataSet
-  pub named : IsNamed name v set
-  pub form : form_of set.block is_text ≡ Some s.form
+  pub named : SetOf a.name v (Some set)
+  pub form : form_of set.block a.is_text ≡ Some s.form
   pub extents : s.extents ≡ set.extents.items
-  pub start : StartsAt v set member s.start
+  pub start : StartsAt v set a.member s.start
   pub tracks : s.tracks ≡ 65535
 
 -- the blocks of a source were put into a file at a path
@@ -73,14 +97,8 @@ abbrev pub WritesTo : (target : Option (List ℕ)) → Wanted → KnownVolume �
 WritesTo (Some path) s v files_before files_now before now stop = PutsBlocks path s v files_before files_now stop × Keeps before now
 WritesTo None s v files_before files_now before now stop = (files_now ≡ files_before) × Extracts s v before now stop
 
--- one file came to the path that is named, or none where none is
-abbrev pub ComesTo : (target : Option (List ℕ)) → (before now : List Replaced) → Type 0
-ComesTo (Some path) before now = (bytes : List ℕ) × (now ≡ with_file before path bytes)
-ComesTo None before now = now ≡ before
-
 -- what is asked for was found and written, and its blocks end so
-pub record UnloadsSet (name : List ℕ) (member : Option (List ℕ)) (is_text : Bool) (target : Option (List ℕ)) (v : KnownVolume) (files_before files_now : List Replaced)
-    (before now : Option (List ℕ)) (stop : Stop) : Type 0 where
+pub record UnloadsSet (a : AskedSet) (v : KnownVolume) (files_before files_now : List Replaced) (before now : Option (List ℕ)) (stop : Stop) : Type 0 where
   pub source : Wanted
-  pub asked : Asks name member is_text v source
-  pub written : WritesTo target source v files_before files_now before now stop
+  pub asks : Asks a v source
+  pub written : WritesTo a.target source v files_before files_now before now stop

@@ -1,2 +1,3 @@
 pub mod Unloads
 pub mod Asked
+pub mod Causes

@@ -1,18 +1,19 @@
 //! A data set or a member of a partitioned one, unloaded from a volume.
 
-ghost use Rattle.std.specs.Prelude.{◌≡◌, true, false, IfOk, IfErr, OnOk, OnErr};
+ghost use Rattle.std.specs.Prelude.{◌≡◌, true, false, IfOk, IfErr, OnErr};
 ghost use Rattle.std.specs.Option.{option_copied};
 ghost use Rattle.dasd_extract.specs.Walk.{Extracts, wanted};
 ghost use Rattle.dasd_unload.specs.Unloads.{UnloadsTo, is_of_job, leaves_a_file};
-ghost use Rattle.dasd_unload.specs.Asked.{form_of, is_partitioned, IsNamed, IsMemberAt, StartsAt, UnloadsSet, ComesTo};
+ghost use Rattle.dasd_unload.specs.Asked.{asked, form_of, is_partitioned, SetOf, MemberOf, StartsAt, UnloadsSet};
+ghost use Rattle.dasd_unload.specs.Causes.{WhyNoStart, WhyNot, UnloadsOrTells};
 
 use crate::fault::{NO_MEMORY, UnloadFault, of_volume};
 use dasd_contents::{DataSet, find, read_contents};
 use dasd_extract::{
     Cause, Form, Source, Stop, data_set_name, extract, find_member, member_name, read_members,
 };
-use dasd_jobs::{ImageFiles, JobFault, SlotReader, begin_file, open_volume, put_file};
-use data_sets::record_form;
+use dasd_jobs::{ImageFiles, JobFault, SlotReader, begin_file, put_file};
+use data_sets::{DirectoryEntry, record_form};
 use std::alloc::Global;
 use std::io::{BufWriter, Write};
 use volume_labels::{DataSetBlock, Extent, RelativeAddress};
@@ -47,25 +48,25 @@ pub(crate) struct Unloaded {
     pub(crate) stop: Stop,
 }
 
-/// Unloads a data set or a member of one from the volume of these files: its blocks up to the end of file, to the writer or to a new
-/// file. What ends before that is written as far as it goes.
+/// Unloads a data set or a member of one from a volume: its blocks up to the end of file, to the writer or to a new file. What ends
+/// before that is written as far as it goes.
 ///
 /// # Errors
 ///
-/// There is no such data set or member; a file is at the path; or a fault stopped it: then no file is there that was not. Or it was
-/// unloaded, and is not whole.
-pub fn unload_set<F: ImageFiles, W: Write>(
+/// There is no such data set or member, or its format has no records to be lines; a file is at the path; or a fault stopped it: then
+/// no file is there that was not. Or it was unloaded, and is not whole.
+pub fn unload_set<F: ImageFiles, V: SlotReader, W: Write>(
     alloc: Global,
     files: &mut F,
+    volume: &mut V,
     writer: &mut W,
-    paths: &[&str],
     set: WantedSet,
 ) -> Result<(), UnloadFault>
-    ensures file { OnOk result (ComesTo (option_copied set.entry.target) (F.written files.old) (F.written files.new)) }
+    ensures unloaded { UnloadsOrTells result (asked set.entry.name.now (option_copied set.entry.member) set.entry.is_text (option_copied set.entry.target))
+        (V.volume volume.old) (F.written files.old) (F.written files.new) (W.contents writer.old) (W.contents writer.new) }
     ensures kept { IfErr result (λ e. leaves_a_file e ≡ false → F.written files.new ≡ F.written files.old) }
 {
-    let mut volume = open_volume(alloc, files, paths).map_err(UnloadFault::Job)?;
-    let stop = unload_from(alloc, files, &mut volume, writer, set)?;
+    let stop = unload_from(alloc, files, volume, writer, set)?;
     if stop.cause != Cause::EndOfFile {
         return Err(UnloadFault::NotWhole(stop));
     }
@@ -80,16 +81,21 @@ fn unload_from<F: ImageFiles, V: SlotReader, W: Write>(
     writer: &mut W,
     set: WantedSet,
 ) -> Result<Stop, UnloadFault>
-    ensures done { IfOk result (UnloadsSet set.entry.name.now (option_copied set.entry.member) set.entry.is_text (option_copied set.entry.target)
+    ensures done { IfOk result (UnloadsSet (asked set.entry.name.now (option_copied set.entry.member) set.entry.is_text (option_copied set.entry.target))
         (V.volume volume.old) (F.written files.old) (F.written files.new) (W.contents writer.old) (W.contents writer.new)) }
-    ensures file { OnOk result (ComesTo (option_copied set.entry.target) (F.written files.old) (F.written files.new)) }
+    ensures why { IfErr result (λ e. WhyNot e (asked set.entry.name.now (option_copied set.entry.member) set.entry.is_text (option_copied set.entry.target)) (V.volume volume.old)) }
     ensures kept { OnErr result (F.written files.new ≡ F.written files.old) }
 {
-    let found = find_set(alloc, volume, set.name)?;
+    let Some(found) = find_set(alloc, volume, set.name)? else {
+        return Err(UnloadFault::NoDataSet);
+    };
     let Some(form) = form_of(&found.block, set.is_text) else {
         return Err(UnloadFault::NoRecordFormat);
     };
-    let start = find_start(alloc, volume, &found, set.member)?;
+    let start = match find_start(alloc, volume, &found, set.member) {
+        Ok(start) => start,
+        Err(fault) => return Err(fault),
+    };
     let source = Source {
         extents: found.extents.as_slice(),
         start,
@@ -102,25 +108,25 @@ fn unload_from<F: ImageFiles, V: SlotReader, W: Write>(
     }
 }
 
-// The data set of a name.
+// The data set of a name, if there is one.
 fn find_set<V: SlotReader>(
     alloc: Global,
     volume: &mut V,
     name: &str,
-) -> Result<DataSet, UnloadFault>
-    ensures named { IfOk result (IsNamed name.now (V.volume volume.old)) }
+) -> Result<Option<DataSet>, UnloadFault>
+    ensures found { IfOk result (SetOf name.now (V.volume volume.old)) }
+    ensures fault { IfErr result (λ e. is_of_job e ≡ true) }
     ensures kept { V.volume volume.new ≡ V.volume volume.old }
 {
     let Some(name) = data_set_name(name) else {
-        return Err(UnloadFault::NoDataSet);
+        return Ok(None);
     };
     let contents = match read_contents(alloc, volume) {
         Ok(contents) => contents,
         Err(fault) => return Err(of_volume(fault)),
     };
     match find(alloc, contents.found.blocks.as_slice(), &name) {
-        Ok(Some(set)) => Ok(set),
-        Ok(None) => Err(UnloadFault::NoDataSet),
+        Ok(found) => Ok(found),
         Err(_) => Err(NO_MEMORY),
     }
 }
@@ -160,37 +166,39 @@ fn find_start<V: SlotReader>(
     member: Option<&str>,
 ) -> Result<RelativeAddress, UnloadFault>
     ensures start { IfOk result (StartsAt (V.volume volume.old) set.now (option_copied member.entry)) }
+    ensures why { IfErr result (λ e. WhyNoStart e (V.volume volume.old) set.now (option_copied member.entry)) }
     ensures kept { V.volume volume.new ≡ V.volume volume.old }
 {
     match (is_partitioned(&set.block), member) {
         (false, None) => Ok(FIRST),
         (false, Some(_)) => Err(UnloadFault::NoMember),
         (true, None) => Err(UnloadFault::NoMemberNamed),
-        (true, Some(member)) => find_member_start(alloc, volume, set, member),
+        (true, Some(member)) => match find_entry(alloc, volume, set, member)? {
+            Some(entry) => Ok(entry.address),
+            None => Err(UnloadFault::NoMember),
+        },
     }
 }
 
-// Where the blocks of a member begin.
-fn find_member_start<V: SlotReader>(
+// The entry of a member, if there is one of this name.
+fn find_entry<V: SlotReader>(
     alloc: Global,
     volume: &mut V,
     set: &DataSet,
     member: &str,
-) -> Result<RelativeAddress, UnloadFault>
-    ensures start { IfOk result (IsMemberAt member.now (V.volume volume.old) set.now.extents.items) }
+) -> Result<Option<DirectoryEntry>, UnloadFault>
+    ensures found { IfOk result (MemberOf member.now (V.volume volume.old) set.now.extents.items) }
+    ensures fault { IfErr result (λ e. is_of_job e ≡ true) }
     ensures kept { V.volume volume.new ≡ V.volume volume.old }
 {
     let Some(name) = member_name(member) else {
-        return Err(UnloadFault::NoMember);
+        return Ok(None);
     };
     let members = match read_members(alloc, volume, set.extents.as_slice()) {
         Ok(members) => members,
         Err(fault) => return Err(of_volume(fault)),
     };
-    match find_member(members.entries.as_slice(), name) {
-        Some(entry) => Ok(entry.address),
-        None => Err(UnloadFault::NoMember),
-    }
+    Ok(find_member(members.entries.as_slice(), name))
 }
 
 // Writes the blocks of a source to the writer.
@@ -200,8 +208,9 @@ fn print<V: SlotReader, W: Write>(
     writer: &mut W,
     source: Source,
 ) -> Result<Stop, UnloadFault>
-    ensures { IfOk result (Extracts (wanted source.entry.form source.entry.extents.now source.entry.start source.entry.tracks)
+    ensures blocks { IfOk result (Extracts (wanted source.entry.form source.entry.extents.now source.entry.start source.entry.tracks)
         (V.volume volume.old) (W.contents writer.old) (W.contents writer.new)) }
+    ensures fault { IfErr result (λ e. is_of_job e ≡ true) }
 {
     let stop = match extract(alloc, volume, writer, source) {
         Ok(stop) => stop,

@@ -1,0 +1,22 @@
+use Rattle.dasd_contents.specs.Claims.{claim_of, claimed_by}
+use Rattle.dasd_contents.specs.Checks.{found_at, extent_findings}
+use Rattle.dasd_contents.proofs.InTurn.{one_found, all_found, one_left, all_left}
+use Rattle.dasd_contents.proofs.Checked.{no_extent, more_extents}
+use Rattle.dasd_contents.proofs.checks.check_extents.Goals as goal
+
+pub loop-extent-preserved : goal.loop-extent-preserved
+loop-extent-preserved c = let g = c.args.geometry in let place = c.args.place in rw c.claim_extent-problem.ensures.marks record {
+  found = one_found (λ m e. found_at place (claim_of g m e)) (claimed_by g) (extent_findings g place) (no_extent g place) (more_extents g place)
+      _ _ _ c.loop-extent.marks c.args.extents.now c.loop-extent.extent-index _ c.loop-extent-test.true
+      (rw c.claim_extent-problem.ensures.problem at c.in_ok-add_problem.ensures) c.loop-extent.invariant.found;
+  marked = one_left (claimed_by g) c.loop-extent.marks _ c.args.extents.now c.loop-extent.extent-index _ c.loop-extent-test.true c.loop-extent.invariant.marked;
+}
+
+pub returns-clause-findings : goal.returns-clause-findings
+returns-clause-findings c = let g = c.args.geometry in let place = c.args.place in
+    all_found (λ m e. found_at place (claim_of g m e)) (claimed_by g) (extent_findings g place) (no_extent g place) (more_extents g place)
+    _ _ c.loop-extent.marks c.args.extents.now c.loop-extent.extent-index c.loop-extent-test.false c.loop-extent.invariant.found
+
+pub returns-clause-marks : goal.returns-clause-marks
+returns-clause-marks c =
+    all_left (claimed_by c.args.geometry) c.loop-extent.marks _ c.args.extents.now c.loop-extent.extent-index c.loop-extent-test.false c.loop-extent.invariant.marked

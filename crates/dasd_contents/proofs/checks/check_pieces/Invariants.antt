@@ -1,0 +1,9 @@
+use Rattle.std.proofs.Common.{◌≡◌, ◌++◌, drop}
+use Rattle.dasd_contents.specs.Checks.{piece_findings}
+use Rattle.dasd_contents.proofs.checks.check_pieces.Given as goal
+
+-- what is found so far and what is found of the others are all findings
+abbrev pub invariant-loop-piece : goal.invariant-loop-piece
+invariant-loop-piece l =
+    l.findings.items ++ piece_findings l.geometry l.place l.marks (drop l.piece-index l.pieces)
+    ≡ l.fn.findings.items ++ piece_findings l.geometry l.place l.fn.marks l.pieces

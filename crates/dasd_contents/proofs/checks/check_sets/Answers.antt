@@ -1,0 +1,20 @@
+use Rattle.dasd_contents.specs.Checks.{block_findings, claimed_by_block, sets_findings}
+use Rattle.dasd_contents.proofs.InTurn.{one_found, all_found, one_left, all_left}
+use Rattle.dasd_contents.proofs.Checked.{no_set, more_sets}
+use Rattle.dasd_contents.proofs.checks.check_sets.Goals as goal
+
+pub loop-block-preserved : goal.loop-block-preserved
+loop-block-preserved c = let g = c.args.volume.geometry in let blocks = c.args.volume.blocks.now in rw c.in_ok-check_block.ensures.marks record {
+  found = one_found (block_findings g blocks) (claimed_by_block g blocks) (sets_findings g blocks) (no_set g blocks) (more_sets g blocks)
+      _ _ _ c.loop-block.marks blocks c.loop-block.block-index _ c.loop-block-test.true c.in_ok-check_block.ensures.findings c.loop-block.invariant.found;
+  marked = one_left (claimed_by_block g blocks) c.loop-block.marks _ blocks c.loop-block.block-index _ c.loop-block-test.true c.loop-block.invariant.marked;
+}
+
+pub returns-clause-findings : goal.returns-clause-findings
+returns-clause-findings c = let g = c.args.volume.geometry in let blocks = c.args.volume.blocks.now in
+    all_found (block_findings g blocks) (claimed_by_block g blocks) (sets_findings g blocks) (no_set g blocks) (more_sets g blocks)
+    _ _ c.loop-block.marks blocks c.loop-block.block-index c.loop-block-test.false c.loop-block.invariant.found
+
+pub returns-clause-marks : goal.returns-clause-marks
+returns-clause-marks c = let blocks = c.args.volume.blocks.now in
+    all_left (claimed_by_block c.args.volume.geometry blocks) c.loop-block.marks _ blocks c.loop-block.block-index c.loop-block-test.false c.loop-block.invariant.marked

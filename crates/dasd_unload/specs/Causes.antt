@@ -1,0 +1,54 @@
+-- Why there is nothing to unload.
+use Rattle.std.specs.Prelude.{◌≡◌, ◌≢◌, ℕ, Bool, true, false, List, Option, Some, None, Result, Ok, Err}
+use Rattle.dasd_volumes.specs.Reading.{KnownVolume}
+use Rattle.dasd_contents.specs.declared.sets.DataSet.{DataSet}
+use Rattle.dasd_extract.specs.declared.stops.Cause.TheVariants.{EndOfFile}
+use Rattle.dasd_extract.specs.declared.stops.Stop.{Stop}
+use Rattle.dasd_jobs.specs.Written.{Replaced}
+use Rattle.dasd_unload.specs.declared.fault.UnloadFault.{UnloadFault}
+use Rattle.dasd_unload.specs.declared.fault.UnloadFault.TheVariants as fault
+use Rattle.dasd_unload.specs.Asked.{AskedSet, SetOf, MemberOf, UnloadsSet, form_of, is_partitioned}
+
+-- a data set has no member of a name: it has no members, or none of them has the name
+abbrev pub HasNoMember : KnownVolume → DataSet → (member : Option (List ℕ)) → Type 0
+HasNoMember v d (Some member) = is_partitioned d.block ≡ true → MemberOf member v d.extents.items None
+HasNoMember v d None = ⊥
+
+-- why the blocks that are asked for begin nowhere
+abbrev pub WhyNoStart : UnloadFault → KnownVolume → DataSet → (member : Option (List ℕ)) → Type 0
+WhyNoStart fault.NoMember v d member = HasNoMember v d member
+WhyNoStart fault.NoMemberNamed v d member = (is_partitioned d.block ≡ true) × (member ≡ None)
+WhyNoStart (fault.Job _) v d member = Unit {0}
+WhyNoStart fault.NoDataSet v d member = ⊥
+WhyNoStart fault.NoRecordFormat v d member = ⊥
+WhyNoStart (fault.NotWhole _) v d member = ⊥
+
+-- there is a data set of a name, of which this holds
+pub record HasSet (text : List ℕ) (v : KnownVolume) (this : DataSet → Type 0) : Type 0 where
+  pub set : DataSet
+  pub named : SetOf text v (Some set)
+  pub is_so : this set
+
+-- Why nothing is unloaded: the volume has no data set of the name; its format is of no records that could be lines; it has no such
+-- member, or has members and none is named. A fault of the files or of the volume has none of these causes.
+abbrev pub WhyNot : UnloadFault → AskedSet → KnownVolume → Type 0
+WhyNot fault.NoDataSet a v = SetOf a.name v None
+WhyNot fault.NoRecordFormat a v = HasSet a.name v (λ d. form_of d.block a.is_text ≡ None)
+WhyNot fault.NoMember a v = HasSet a.name v (λ d. HasNoMember v d a.member)
+WhyNot fault.NoMemberNamed a v = HasSet a.name v (λ d. (is_partitioned d.block ≡ true) × (a.member ≡ None))
+WhyNot (fault.Job _) a v = Unit {0}
+WhyNot (fault.NotWhole _) a v = ⊥
+
+-- what is asked for was unloaded, and its blocks end so
+pub record UnloadsUpTo (IsEnd : Stop → Type 0) (a : AskedSet) (v : KnownVolume) (files_before files_now : List Replaced) (before now : Option (List ℕ)) : Type 0 where
+  pub stop : Stop
+  pub is_end : IsEnd stop
+  pub unloads : UnloadsSet a v files_before files_now before now stop
+
+-- It was unloaded up to its end of file; or up to what ends it before, which is told; or it was not, and no file came.
+abbrev pub UnloadsOrTells : {A : Type 0} → Result A UnloadFault → AskedSet → KnownVolume → (files_before files_now : List Replaced) → (before now : Option (List ℕ)) → Type 0
+UnloadsOrTells (Ok _) a v files_before files_now before now =
+    UnloadsUpTo (λ stop. stop.cause ≡ EndOfFile) a v files_before files_now before now
+UnloadsOrTells (Err (fault.NotWhole stop)) a v files_before files_now before now =
+    (stop.cause ≢ EndOfFile) × UnloadsSet a v files_before files_now before now stop
+UnloadsOrTells (Err fault) a v files_before files_now before now = WhyNot fault a v × (files_now ≡ files_before)
