@@ -5,7 +5,7 @@ ghost use Rattle.std.specs.Prelude.{◌≡◌, ◌+◌, [], length};
 use crate::drafts::{HostDraft, Old};
 use crate::reading::{HostFile, read_some};
 use crate::traces::{TraceFile, TraceOutput};
-use dasd_jobs::{FileFault, ImageFiles, Written};
+use dasd_jobs::{FileFault, ImageFiles, Sources, Written};
 use dasd_run::Traces;
 use dasd_words::TraceTarget;
 use std::alloc::Global;
@@ -22,6 +22,7 @@ const TRIES: usize = 16;
 pub(crate) struct HostFiles<'a> {
     host: &'a HostRuntime,
     written: Written,
+    opened: Sources,
     /// The files that are locked until the end.
     locked: Vec<Locked>,
     remarks: String,
@@ -45,11 +46,13 @@ struct Locked {
 impl<'a> HostFiles<'a> {
     /// The files of this host, none of which was written yet.
     pub(crate) fn new(host: &'a HostRuntime) -> HostFiles<'a>
-        ensures { result.written.files ≡ [] }
+        ensures written { result.written.files ≡ [] }
+        ensures opened { result.opened.files ≡ [] }
     {
         HostFiles {
             host,
             written: Written::new(),
+            opened: Sources::new(),
             locked: Vec::new(host.alloc()),
             remarks: String::new(host.alloc()),
             is_verbose: false,
@@ -68,7 +71,8 @@ impl<'a> HostFiles<'a> {
 
     // Notes why a file was not written, and which were.
     fn not_written(&mut self, path: &str, fault: &Error) -> FileFault
-        ensures { self.new.written ≡ self.old.written }
+        ensures written { self.new.written ≡ self.old.written }
+        ensures opened { self.new.opened ≡ self.old.opened }
     {
         let alloc = self.host.alloc();
         let told = refused(&mut self.remarks, alloc, path, fault);
@@ -294,9 +298,14 @@ impl<'a> ImageFiles for HostFiles<'a> {
 
     ghost written = { λ f. f.written.files };
 
+    ghost opened = { λ f. f.opened.files };
+
     fn open(&mut self, alloc: Global, path: &str) -> Result<HostFile, FileFault> {
         match HostFile::open(self.host, path) {
-            Ok(file) => Ok(file),
+            Ok(file) => {
+                self.opened = self.opened.with_unknown(path.as_bytes());
+                Ok(file)
+            }
             Err(fault) => Err(refused(&mut self.remarks, alloc, path, &fault)),
         }
     }
@@ -314,7 +323,10 @@ impl<'a> ImageFiles for HostFiles<'a> {
             return Err(refused(&mut self.remarks, alloc, path, &fault));
         }
         match HostFile::of(alloc, file, known.len()) {
-            Ok(file) => Ok(file),
+            Ok(file) => {
+                self.opened = self.opened.with_unknown(path.as_bytes());
+                Ok(file)
+            }
             Err(fault) => Err(refused(&mut self.remarks, alloc, path, &fault)),
         }
     }

@@ -1,6 +1,6 @@
 //! Files of the host that are read.
 
-ghost use Rattle.std.specs.Prelude.{◌≡◌, ◌≤◌, length, IfOk, OnOk, OnErr};
+ghost use Rattle.std.specs.Prelude.{◌≡◌, ◌≤◌, length, None, IfOk, OnOk, OnErr};
 
 use crate::host::wrong;
 use ckd_image::StoreFault;
@@ -120,6 +120,9 @@ impl HostFile {
 }
 
 impl OpenedFile for HostFile {
+    // a read of the host gives bytes of which no contract knows
+    ghost content = { λ _. None };
+
     fn len(&self) -> u64 {
         match self {
             HostFile::Regular(it) => it.len,

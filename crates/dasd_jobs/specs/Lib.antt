@@ -1,5 +1,7 @@
 pub mod Back
 pub mod Causes
 pub mod Lines
+pub mod Sources
+pub mod Opening
 pub mod Written
 pub mod Printed

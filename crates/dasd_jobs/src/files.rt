@@ -1,6 +1,7 @@
 //! Files by their paths.
 
 ghost use Rattle.std.specs.Prelude.{◌≡◌, ◌≤◌, List, [], length, IfOk, OnOk, OnErr};
+ghost use Rattle.dasd_jobs.specs.Sources.{Content, SourceFile, IsLength, StandsIn, OpensFile};
 ghost use Rattle.dasd_jobs.specs.Written.{Replaced, with_file};
 
 use ckd_image::{ImageStore, StoreFault};
@@ -24,11 +25,17 @@ pub enum FileFault {
 
 /// A file that was opened, and is read in parts.
 pub trait OpenedFile: Drop {
+    // what it holds, where that is known: of a file of the host, which others may change while it is read, it is not
+    ghost content: { Self → Content };
+
     /// The number of its bytes.
-    fn len(&self) -> u64;
+    fn len(&self) -> u64
+        ensures { IsLength (content self.now) result };
 
     /// Reads the bytes from `at` on that fill `into`. After an error `into` holds any bytes.
-    fn read_at(&mut self, at: u64, into: &mut [u8]) -> Result<(), StoreFault>;
+    fn read_at(&mut self, at: u64, into: &mut [u8]) -> Result<(), StoreFault>
+        ensures read { OnOk result (StandsIn (content self.old) at into.new) }
+        ensures kept { content self.new ≡ content self.old };
 }
 
 /// Files that are read in place, and are made or replaced whole: what is new is written beside the old file and takes its place
@@ -43,13 +50,17 @@ pub trait ImageFiles {
     // the files that were made or replaced so far, in order
     ghost written: { Self → List Replaced };
 
+    // the files that were opened or locked so far, in order
+    ghost opened: { Self → List SourceFile };
+
     /// Opens a file to be read. It waits for no other user of the file, and is refused for none.
     ///
     /// # Errors
     ///
     /// The host can't open it, or there is no memory.
     fn open(&mut self, alloc: Global, path: &str) -> Result<Self::Opened, FileFault>
-        ensures { written self.new ≡ written self.old };
+        ensures kept { written self.new ≡ written self.old }
+        ensures opens { OpensFile result Self.Opened.content path.now (opened self.old) (opened self.new) };
 
     /// Opens a file that may be replaced later, and keeps it locked as long as these files are there.
     ///
@@ -58,7 +69,8 @@ pub trait ImageFiles {
     /// The host can't open it, or it is no regular file; another program has locked it; it was locked here before; or there is
     /// no memory.
     fn lock(&mut self, alloc: Global, path: &str) -> Result<Self::Opened, FileFault>
-        ensures { written self.new ≡ written self.old };
+        ensures kept { written self.new ≡ written self.old }
+        ensures opens { OpensFile result Self.Opened.content path.now (opened self.old) (opened self.new) };
 
     /// The bytes of a file, at most so many of them.
     ///
@@ -67,6 +79,7 @@ pub trait ImageFiles {
     /// The host can't read it, or there is no memory for them.
     fn read(&mut self, alloc: Global, path: &str, most: usize) -> Result<Vec<u8>, FileFault>
         ensures kept { written self.new ≡ written self.old }
+        ensures same { opened self.new ≡ opened self.old }
         ensures few { IfOk result (λ bytes. length bytes.items ≤ most) };
 
     /// Begins a new file without bytes, which is to be at this path, in the place of a file that is there, if that is allowed.
@@ -77,6 +90,7 @@ pub trait ImageFiles {
     /// can be made beside it; or there is no memory.
     fn begin(&mut self, alloc: Global, path: &str, replaces: bool) -> Result<Self::Draft, FileFault>
         ensures kept { written self.new ≡ written self.old }
+        ensures same { opened self.new ≡ opened self.old }
         ensures empty { IfOk result (λ draft. Self.Draft.content draft ≡ []) };
 
     /// Puts the new file that was begun for this path there.
@@ -86,13 +100,16 @@ pub trait ImageFiles {
     /// The host can't do it, or another file has come to the path since: what is there stays.
     fn put(&mut self, path: &str, draft: Self::Draft) -> Result<(), FileFault>
         ensures ok { OnOk result (written self.new ≡ with_file (written self.old) path.now (Self.Draft.content draft)) }
-        ensures err { OnErr result (written self.new ≡ written self.old) };
+        ensures err { OnErr result (written self.new ≡ written self.old) }
+        ensures same { opened self.new ≡ opened self.old };
 
     /// Something that the one line of a fault, or a run that is done, leaves out: one line, told where it is asked for.
     fn remark<T: fmt::Display>(&mut self, text: &T)
-        ensures { written self.new ≡ written self.old };
+        ensures kept { written self.new ≡ written self.old }
+        ensures same { opened self.new ≡ opened self.old };
 
     /// Remarks are asked for.
     fn ask_remarks(&mut self)
-        ensures { written self.new ≡ written self.old };
+        ensures kept { written self.new ≡ written self.old }
+        ensures same { opened self.new ≡ opened self.old };
 }

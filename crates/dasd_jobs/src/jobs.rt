@@ -1,12 +1,14 @@
 //! Formatting, listing and checking.
 
-ghost use Rattle.std.specs.Prelude.{◌≡◌, [], false, IfOk, IfErr, OnOk};
+ghost use Rattle.std.specs.Prelude.{◌≡◌, [], false, map, IfOk, IfErr, OnOk};
 ghost use Rattle.counted_io.specs.Streams.{seen_by, WritesWhole};
 ghost use Rattle.ckd_track.specs.Model.{slot_size_of};
 ghost use Rattle.ckd_image.specs.Image.{new_file};
 ghost use Rattle.dasd_jobs.specs.Causes.{volume_fault};
 ghost use Rattle.dasd_jobs.specs.Lines.{formatted_line, model_digits};
-ghost use Rattle.dasd_jobs.specs.Printed.{CountsLines};
+ghost use Rattle.dasd_volumes.specs.Volumes.{volume_text, check_text, NumberIn};
+ghost use Rattle.dasd_jobs.specs.Printed.{CountsLines, PrintsFiles};
+ghost use Rattle.dasd_jobs.specs.Sources.{OfVolume};
 ghost use Rattle.dasd_jobs.specs.Written.{WritesNew, Formats};
 
 use crate::faults::{JobFault, of_write};
@@ -165,6 +167,8 @@ pub fn list_files<F: ImageFiles, W: Write>(
     paths: &[&str],
 ) -> Result<(), JobFault>
     ensures kept { F.written files.new ≡ F.written files.old }
+    ensures lines { PrintsFiles result volume_text (map (λ path. path.now) paths.now) (F.opened files.old) (F.opened files.new)
+        (seen_by W.contents writer.old) (seen_by W.contents writer.new) }
     ensures writes { CountsLines result (seen_by W.contents writer.old) (seen_by W.contents writer.new) }
     ensures none { IfErr result (λ e. e ≡ JobFault.OutOfMemory → writer.new ≡ writer.old) }
 {
@@ -189,6 +193,9 @@ pub fn check_files<F: ImageFiles, W: Write, P: Progress>(
     paths: &[&str],
 ) -> Result<u32, JobFault>
     ensures kept { F.written files.new ≡ F.written files.old }
+    ensures number { IfOk result (λ n. OfVolume (map (λ path. path.now) paths.now) (F.opened files.old) (F.opened files.new) (λ v. NumberIn v n)) }
+    ensures lines { PrintsFiles result check_text (map (λ path. path.now) paths.now) (F.opened files.old) (F.opened files.new)
+        (seen_by W.contents writer.old) (seen_by W.contents writer.new) }
     ensures writes { CountsLines result (seen_by W.contents writer.old) (seen_by W.contents writer.new) }
     ensures none { IfErr result (λ e. e ≡ JobFault.OutOfMemory → writer.new ≡ writer.old) }
 {

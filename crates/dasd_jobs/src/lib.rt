@@ -10,6 +10,7 @@ mod mounting;
 mod new_files;
 mod opened;
 mod reasons;
+mod sources;
 mod written;
 
 pub use crate::faults::JobFault;
@@ -19,5 +20,6 @@ pub use crate::jobs::{NewVolume, check_files, format_file, list_files};
 pub use crate::mounting::{new_image, read_image, write_back, write_file};
 pub use crate::new_files::{DraftWriter, begin_file, put_file};
 pub use crate::opened::{OpenedVolume, open_volume};
+pub use crate::sources::Sources;
 pub use crate::written::Written;
 pub use dasd_volumes::{Progress, SlotReader, Stage};

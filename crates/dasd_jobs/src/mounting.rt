@@ -1,7 +1,11 @@
 //! Images in memory, and the files that hold them.
 
-ghost use Rattle.std.specs.Prelude.{◌≡◌, ◌+◌, ◌<◌, ◌≤◌, [], length, map, replicate, All, IsSome, IfOk, OnOk};
+ghost use Rattle.std.specs.Prelude.{◌≡◌, ◌+◌, ◌<◌, ◌≤◌, [], ◌∷◌, ◌++◌, vec_len, length, map, replicate, slice_index_or, None, All, IsSome, IfOk, OnOk};
+ghost use Rattle.std.specs.List.{AllZip};
 ghost use Rattle.arrayvec.specs.ArrayVec.{array_vec_len};
+ghost use Rattle.ckd_image.specs.Files.{each};
+ghost use Rattle.dasd_jobs.specs.Sources.{StandsIn, IsWhole, OpensPaths, ReadsWhole};
+ghost use Rattle.dasd_jobs.specs.Opening.{IsHeadOf, AddsFile};
 ghost use Rattle.dasd_jobs.specs.Written.{WritesFile};
 ghost use Rattle.ckd_track.specs.Geometry.{new_geometry};
 ghost use Rattle.ckd_image.specs.Layout.{image_length};
@@ -10,8 +14,7 @@ ghost use Rattle.dasd_jobs.specs.Back.{AreAsMade, WritesBack, WritesStores, Writ
 
 use crate::faults::{JobFault, of_read, of_write};
 use crate::files::{FileFault, ImageFiles, OpenedFile};
-use crate::headers::{HEADER, is_header};
-use crate::opened::read_head;
+use crate::opened::{add_head, mounted, read_from};
 use crate::reasons::{Head, remark_on};
 use arrayvec::ArrayVec;
 use ckd_image::{Image, ImageStore, MOST_FILES, MountFault, StoreFault, image_len};
@@ -19,15 +22,13 @@ use ckd_track::DriveModel;
 use dasd_files::VolumeFile;
 use std::alloc::Global;
 
-/// How many bytes of a file are read at once.
-const PIECE: usize = 65_536;
-
-/// The image that these files hold, in their order, read into memory. Each of them is locked, from before it is read. Its stores
-/// hold what was read, and are known by it.
+/// The image that these files hold, in their order, read into memory. Each of them is locked, from before it is read, and no other
+/// file is opened; their headers and lengths are judged before the rest is read. Its stores hold what was read, and are known by it.
 ///
 /// # Errors
 ///
-/// The first file that can't be locked or read, or why the files hold no image.
+/// The first file that can't be locked or whose header can't be read; or why the files hold no image; or the first that can't be read
+/// whole; or no memory.
 pub fn read_image<F: ImageFiles>(
     alloc: Global,
     files: &mut F,
@@ -35,19 +36,95 @@ pub fn read_image<F: ImageFiles>(
 ) -> Result<Image<VolumeFile>, JobFault>
     ensures kept { F.written files.new ≡ F.written files.old }
     ensures as_read { IfOk result (λ i. HoldsImage i.lasting.origins i) }
+    ensures whole { IfOk result (λ i. ReadsWhole (map (λ path. path.now) paths.now) i.lasting.origins (F.opened files.old) (F.opened files.new)) }
 {
     if paths.len() > MOST_FILES {
         return Err(JobFault::Mount(MountFault::Split));
     }
     let mut heads = Vec::new(alloc);
-    let stores = read_files(alloc, files, paths, &mut heads)?;
+    let mut locked = lock_files(alloc, files, paths, &mut heads)?;
+    let heads = heads.as_slice();
+    if let Err(fault) = mounted(heads) {
+        remark_on(files, paths, heads, fault);
+        return Err(JobFault::Mount(fault));
+    }
+    let stores = read_files(alloc, &mut locked, heads)?;
+    mount(stores)
+}
+
+// The image in these stores.
+fn mount(stores: ArrayVec<Option<VolumeFile>, MOST_FILES>) -> Result<Image<VolumeFile>, JobFault>
+    requires there { All IsSome stores.items }
+    requires as_made { AreAsMade stores.items }
+    ensures as_read { IfOk result (λ i. HoldsImage i.lasting.origins i) }
+    ensures same { IfOk result (λ i. i.lasting.origins ≡ each (λ s. s.content) stores.items) }
+{
     match Image::mount_files(stores) {
         Ok(image) => Ok(image),
-        Err((fault, _)) => {
-            remark_on(files, paths, heads.as_slice(), fault);
-            Err(JobFault::Mount(fault))
-        }
+        Err((fault, _)) => Err(JobFault::Mount(fault)),
     }
+}
+
+// Locks these files, in their order, and reads their headers.
+fn lock_files<F: ImageFiles>(
+    alloc: Global,
+    files: &mut F,
+    paths: &[&str],
+    heads: &mut Vec<Head>,
+) -> Result<Vec<F::Opened>, JobFault>
+    requires { heads.old.items ≡ [] }
+    ensures kept { F.written files.new ≡ F.written files.old }
+    ensures opens { IfOk result (λ locked. OpensPaths (map (λ path. path.now) paths.now) (map F.Opened.content locked.items)
+        (F.opened files.old) (F.opened files.new)) }
+    ensures heads { IfOk result (λ locked. AllZip IsHeadOf (map F.Opened.content locked.items) heads.new.items) }
+{
+    let mut locked = Vec::new(alloc);
+    for path in paths {
+        lock_file(alloc, files, path, &mut locked, heads)?;
+    }
+    Ok(locked)
+}
+
+// Locks one file more. One that was locked before is none of the others of its image.
+fn lock_file<F: ImageFiles>(
+    alloc: Global,
+    files: &mut F,
+    path: &str,
+    locked: &mut Vec<F::Opened>,
+    heads: &mut Vec<Head>,
+) -> Result<(), JobFault>
+    ensures kept { F.written files.new ≡ F.written files.old }
+    ensures adds { OnOk result (AddsFile path.now (map F.Opened.content locked.old.items) (map F.Opened.content locked.new.items)
+        heads.old.items heads.new.items (F.opened files.old) (F.opened files.new)) }
+{
+    let file = match files.lock(alloc, path) {
+        Ok(file) => file,
+        Err(FileFault::Twice) if !heads.is_empty() => {
+            return Err(JobFault::Mount(MountFault::Split));
+        }
+        Err(fault) => return Err(of_read(fault)),
+    };
+    add_head(file, locked, heads)
+}
+
+// The bytes of these files, which have these headers, in their order, or the first that can't be read.
+fn read_files<O: OpenedFile>(
+    alloc: Global,
+    locked: &mut Vec<O>,
+    heads: &[Head],
+) -> Result<ArrayVec<Option<VolumeFile>, MOST_FILES>, JobFault>
+    requires room { vec_len locked.old ≤ 8 }
+    requires heads { AllZip IsHeadOf (map O.content locked.old.items) heads.now }
+    ensures there { IfOk result (λ stores. All IsSome stores.items) }
+    ensures as_made { IfOk result (λ stores. AreAsMade stores.items) }
+    ensures whole { IfOk result (λ stores. AllZip IsWhole (map O.content locked.old.items) (each (λ s. s.content) stores.items)) }
+{
+    let mut stores = ArrayVec::new();
+    for (i, head) in heads.iter().enumerate() {
+        let bytes = read_bytes(alloc, locked, i, head.len)?;
+        append(&mut stores, VolumeFile::new(bytes));
+    }
+    Ok(stores)
 }
 
 // Appends the store of a file.
@@ -56,79 +133,31 @@ fn append(stores: &mut ArrayVec<Option<VolumeFile>, MOST_FILES>, store: VolumeFi
     requires there { All IsSome stores.old.items }
     ensures there { All IsSome stores.new.items }
     ensures count { array_vec_len stores.new ≡ array_vec_len stores.old + 1 }
+    ensures content { each (λ s. s.content) stores.new.items ≡ each (λ s. s.content) stores.old.items ++ store.content ∷ [] }
     ensures as_made { AreAsMade stores.old.items → store.content ≡ store.origin → AreAsMade stores.new.items }
 {
     stores.push(Some(store));
 }
 
-// The bytes of these files and their headers, in their order, or the first that can't be read.
-fn read_files<F: ImageFiles>(
+// So many bytes of the file at this place, from its beginning on.
+fn read_bytes<O: OpenedFile>(
     alloc: Global,
-    files: &mut F,
-    paths: &[&str],
-    heads: &mut Vec<Head>,
-) -> Result<ArrayVec<Option<VolumeFile>, MOST_FILES>, JobFault>
-    requires { length paths.now ≤ 8 }
-    ensures kept { F.written files.new ≡ F.written files.old }
-    ensures there { IfOk result (λ stores. All IsSome stores.items) }
-    ensures as_made { IfOk result (λ stores. AreAsMade stores.items) }
+    locked: &mut Vec<O>,
+    place: usize,
+    len: u64,
+) -> Result<Vec<u8>, JobFault>
+    requires { place < vec_len locked.old }
+    ensures read { IfOk result (λ bytes. StandsIn (slice_index_or (map O.content locked.old.items) place None) 0 bytes.items) }
+    ensures count { IfOk result (λ bytes. length bytes.items ≡ len) }
+    ensures kept { map O.content locked.new.items ≡ map O.content locked.old.items }
 {
-    let mut stores = ArrayVec::new();
-    for path in paths {
-        match read_file(alloc, files, path, stores.len() == 0, heads) {
-            Ok(store) => append(&mut stores, store),
-            Err(fault) => return Err(fault),
-        }
-    }
-    Ok(stores)
-}
-
-// The bytes of a file, which is locked, and its header. A file of an image that was locked before is none of its other files. Of a
-// file whose header is none of an image, only that is read.
-fn read_file<F: ImageFiles>(
-    alloc: Global,
-    files: &mut F,
-    path: &str,
-    is_first: bool,
-    heads: &mut Vec<Head>,
-) -> Result<VolumeFile, JobFault>
-    ensures kept { F.written files.new ≡ F.written files.old }
-    ensures as_made { IfOk result (λ store. store.content ≡ store.origin) }
-{
-    let mut file = match files.lock(alloc, path) {
-        Ok(file) => file,
-        Err(FileFault::Twice) if !is_first => return Err(JobFault::Mount(MountFault::Split)),
-        Err(fault) => return Err(of_read(fault)),
-    };
-    let head = read_head(&mut file)?;
-    if heads.push(head).is_err() {
-        return Err(JobFault::OutOfMemory);
-    }
-    let len = if is_header(&head.header) {
-        head.len
-    } else {
-        head.len.min(HEADER as u64)
-    };
-    Ok(VolumeFile::new(read_bytes(alloc, &mut file, len)?))
-}
-
-// So many bytes of a file, from its beginning on.
-fn read_bytes<O: OpenedFile>(alloc: Global, file: &mut O, len: u64) -> Result<Vec<u8>, JobFault> {
-    let Ok(mut bytes) = Vec::with_capacity(alloc, len as usize) else {
+    let Ok(mut bytes) = vec![in alloc; 0u8; len as usize] else {
         return Err(JobFault::OutOfMemory);
     };
-    let mut piece = [0; PIECE];
-    for _ in 0..len / PIECE as u64 + 1 {
-        let at = bytes.len() as u64;
-        let count = (PIECE as u64).min(len.saturating_sub(at)) as usize;
-        if file.read_at(at, &mut piece[..count]).is_err() {
-            return Err(JobFault::Read);
-        }
-        if bytes.extend_from_slice(&piece[..count]).is_err() {
-            return Err(JobFault::OutOfMemory);
-        }
+    match read_from(locked, place, 0, bytes.as_mut_slice()) {
+        Ok(()) => Ok(bytes),
+        Err(_) => Err(JobFault::Read),
     }
-    Ok(bytes)
 }
 
 /// A new volume in memory.
@@ -163,7 +192,8 @@ pub fn write_file<F: ImageFiles>(
     replaces: bool,
     bytes: &[u8],
 ) -> Result<(), JobFault>
-    ensures { WritesFile result path.now bytes.now (F.written files.old) (F.written files.new) }
+    ensures writes { WritesFile result path.now bytes.now (F.written files.old) (F.written files.new) }
+    ensures same { F.opened files.new ≡ F.opened files.old }
 {
     let mut draft = match files.begin(alloc, path, replaces) {
         Ok(draft) => draft,
@@ -198,7 +228,8 @@ pub fn write_back<F: ImageFiles>(
     paths: &[&str],
     image: Image<VolumeFile>,
 ) -> Result<(), JobFault>
-    ensures { WritesBack result (map (λ path. path.now) paths.now) image (F.written files.old) (F.written files.new) }
+    ensures writes { WritesBack result (map (λ path. path.now) paths.now) image (F.written files.old) (F.written files.new) }
+    ensures same { F.opened files.new ≡ F.opened files.old }
 {
     let stores = image.into_stores();
     write_stores(alloc, files, paths, stores.as_slice())
@@ -211,7 +242,8 @@ fn write_stores<F: ImageFiles>(
     paths: &[&str],
     stores: &[Option<VolumeFile>],
 ) -> Result<(), JobFault>
-    ensures { WritesStores result (map (λ path. path.now) paths.now) stores.now (F.written files.old) (F.written files.new) }
+    ensures writes { WritesStores result (map (λ path. path.now) paths.now) stores.now (F.written files.old) (F.written files.new) }
+    ensures same { F.opened files.new ≡ F.opened files.old }
 {
     for i in 0..paths.len() {
         if i < stores.len() {
@@ -228,7 +260,8 @@ fn write_changed<F: ImageFiles>(
     path: &str,
     store: &Option<VolumeFile>,
 ) -> Result<(), JobFault>
-    ensures { WritesChanged result path.now store.now (F.written files.old) (F.written files.new) }
+    ensures writes { WritesChanged result path.now store.now (F.written files.old) (F.written files.new) }
+    ensures same { F.opened files.new ≡ F.opened files.old }
 {
     match store {
         Some(store) if store.is_changed() => write_file(alloc, files, path, true, store.bytes()),

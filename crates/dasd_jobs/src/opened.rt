@@ -1,8 +1,13 @@
 //! The volume in files that are read in place.
 
-ghost use Rattle.std.specs.Prelude.{◌≡◌, ◌≢◌, ◌+◌, ◌<◌, length, All, IsSome, [], None, IfOk, IfErr};
+ghost use Rattle.std.specs.Prelude.{◌≡◌, ◌≢◌, ◌+◌, ◌*◌, ◌<◌, ◌≤◌, ◌++◌, ◌∷◌, vec_len, length, map, slice_index_or, All, IsSome, [], None, Ok, IfOk, IfErr, IfSome, OnOk};
+ghost use Rattle.std.specs.List.{AllZip};
 ghost use Rattle.arrayvec.specs.ArrayVec.{array_vec_len};
 ghost use Rattle.ckd_track.specs.Geometry.{IsGeometry};
+ghost use Rattle.ckd_image.specs.Header.{mount_of};
+ghost use Rattle.ckd_image.specs.Files.{each, place_in};
+ghost use Rattle.dasd_jobs.specs.Sources.{StandsIn, OpensPaths, Mounts};
+ghost use Rattle.dasd_jobs.specs.Opening.{IsHeadOf, AreTracks, AddsFile, AddsHead, alone};
 
 use crate::faults::{JobFault, of_read};
 use crate::files::{ImageFiles, OpenedFile};
@@ -16,56 +21,113 @@ use ghost_data::Count;
 use std::alloc::Global;
 use std::marker::Model;
 
-/// A file of an image, and how many tracks it holds.
-#[derive(Drop)]
-struct Part<O: OpenedFile> {
-    file: O,
-    tracks: u32,
-}
-
 /// A volume whose files were opened, and are read slot by slot.
 #[derive(Drop)]
 pub struct OpenedVolume<O: OpenedFile> {
-    parts: Vec<Part<O>>,
+    files: Vec<O>,
+    /// How many tracks each file holds.
+    tracks: ArrayVec<u32, MOST_FILES>,
     geometry: Geometry,
     failed: Count,
-    ghost valid: { IsGeometry geometry },
+}
+
+impl<O: OpenedFile> Model for OpenedVolume<O> {
+    ghost use Rattle.std.specs.Prelude.{◌≡◌, length, map};
+    ghost use Rattle.ckd_track.specs.Geometry.{IsGeometry};
+    ghost use Rattle.dasd_jobs.specs.Sources.{OpenedState};
+    ghost use Rattle.dasd_jobs.specs.Opening.{Lies};
+
+    ghost Value = { OpenedState };
+
+    ghost view = { λ v. record { geometry = v.geometry; contents = map O.content v.files.items; failures = v.failed } };
+
+    ghost invariant = { λ v. IsGeometry v.geometry × (length v.files.items ≡ length v.tracks.items) × Lies v.geometry (map O.content v.files.items) v.tracks.items };
 }
 
 impl<O: OpenedFile> SlotReader for OpenedVolume<O> {
-    ghost volume = { λ v. record { geometry = v.geometry; slots = None; header = []; saves = 0 } };
+    ghost use Rattle.dasd_jobs.specs.Sources.{volume_in};
 
-    ghost failures = { λ v. v.failed };
+    ghost volume = { λ v. volume_in v.geometry v.contents };
+
+    ghost failures = { λ v. v.failures };
 
     fn geometry(&self) -> Geometry {
         self.geometry
     }
 
     fn load(&mut self, track: u32, slot: &mut [u8]) -> Result<(), StoreFault> {
-        if load_from(&mut self.parts, self.geometry.track_size, track, slot) {
-            return Ok(());
+        let size = self.geometry.track_size;
+        match load_from(&mut self.files, self.tracks.as_slice(), size, track, slot) {
+            Ok(()) => Ok(()),
+            Err(fault) => {
+                self.failed = self.failed.next();
+                Err(fault)
+            }
         }
-        self.failed = self.failed.next();
-        Err(StoreFault)
     }
 }
 
-// Reads the slot of a track from the part that holds it; whether it was read.
+/// Where the slot of a track is: the place of the file that holds it, and the track's number among those of that file.
+#[derive(Clone, Copy)]
+struct SlotPlace {
+    file: usize,
+    track: u32,
+}
+
+// Where the slot of a track is, in files of so many tracks each; nowhere behind the last one.
+fn place_of(tracks: &[u32], track: u32) -> Option<SlotPlace>
+    ensures exists { IfSome result (λ place. place.file < length tracks.now) }
+    ensures file { IfSome result (λ place. place.file ≡ (place_in tracks.now track).file) }
+    ensures track { IfSome result (λ place. place.track ≡ (place_in tracks.now track).track) }
+{
+    let [held, others @ ..] = tracks else {
+        return None;
+    };
+    if track < *held {
+        return Some(SlotPlace { file: 0, track });
+    }
+    match place_of(others, track - *held) {
+        Some(behind) => Some(SlotPlace {
+            file: behind.file + 1,
+            track: behind.track,
+        }),
+        None => None,
+    }
+}
+
+// Reads the slot of a track from its place in the file that holds it.
 fn load_from<O: OpenedFile>(
-    parts: &mut Vec<Part<O>>,
+    files: &mut Vec<O>,
+    tracks: &[u32],
     size: u32,
     track: u32,
     slot: &mut [u8],
-) -> bool {
-    let mut track = track;
-    for part in parts.iter_mut() {
-        if track < part.tracks {
-            let at = HEADER as u64 + track as u64 * size as u64;
-            return part.file.read_at(at, slot).is_ok();
-        }
-        track -= part.tracks;
-    }
-    false
+) -> Result<(), StoreFault>
+    requires { vec_len files.old ≡ length tracks.now }
+    ensures read { let place = place_in tracks.now track in
+        OnOk result (StandsIn (slice_index_or (map O.content files.old.items) place.file None) (512 + place.track * size) slot.new) }
+    ensures kept { map O.content files.new.items ≡ map O.content files.old.items }
+{
+    let Some(place) = place_of(tracks, track) else {
+        return Err(StoreFault);
+    };
+    let at = HEADER as u64 + place.track as u64 * size as u64;
+    read_from(files, place.file, at, slot)
+}
+
+/// Reads from the file at this place.
+pub(crate) fn read_from<O: OpenedFile>(
+    files: &mut Vec<O>,
+    place: usize,
+    at: u64,
+    into: &mut [u8],
+) -> Result<(), StoreFault>
+    requires { place < vec_len files.old }
+    ensures read { OnOk result (StandsIn (slice_index_or (map O.content files.old.items) place None) at into.new) }
+    ensures kept { map O.content files.new.items ≡ map O.content files.old.items }
+{
+    let files = files.as_mut_slice();
+    files[place].read_at(at, into)
 }
 
 /// The volume of the image that these files hold, in their order: their headers are read and judged, and their lengths. It is
@@ -81,19 +143,22 @@ pub fn open_volume<F: ImageFiles>(
 ) -> Result<OpenedVolume<F::Opened>, JobFault>
     ensures kept { F.written files.new ≡ F.written files.old }
     ensures fault { IfErr result (λ e. e ≢ JobFault.Write) }
+    ensures opens { IfOk result (λ v. OpensPaths (map (λ path. path.now) paths.now) v.contents (F.opened files.old) (F.opened files.new)) }
+    ensures mounts { IfOk result (λ v. Mounts v.contents v.geometry) }
 {
     if paths.len() > MOST_FILES {
         return Err(JobFault::Mount(MountFault::Split));
     }
-    let mut parts = Vec::new(alloc);
+    let mut opened = Vec::new(alloc);
     let mut heads = Vec::new(alloc);
     for path in paths {
-        add_file(alloc, files, path, &mut parts, &mut heads)?;
+        add_file(alloc, files, path, &mut opened, &mut heads)?;
     }
-    match mounted(heads.as_slice()) {
-        Ok(geometry) => Ok(volume_of(parts, heads.as_slice(), geometry)),
+    let heads = heads.as_slice();
+    match mounted(heads) {
+        Ok(geometry) => Ok(volume_of(opened, heads, geometry)),
         Err(fault) => {
-            remark_on(files, paths, heads.as_slice(), fault);
+            remark_on(files, paths, heads, fault);
             Err(JobFault::Mount(fault))
         }
     }
@@ -104,23 +169,43 @@ fn add_file<F: ImageFiles>(
     alloc: Global,
     files: &mut F,
     path: &str,
-    parts: &mut Vec<Part<F::Opened>>,
+    opened: &mut Vec<F::Opened>,
     heads: &mut Vec<Head>,
 ) -> Result<(), JobFault>
     ensures kept { F.written files.new ≡ F.written files.old }
     ensures fault { IfErr result (λ e. e ≢ JobFault.Write) }
+    ensures adds { OnOk result (AddsFile path.now (map F.Opened.content opened.old.items) (map F.Opened.content opened.new.items)
+        heads.old.items heads.new.items (F.opened files.old) (F.opened files.new)) }
 {
-    let mut file = match files.open(alloc, path) {
-        Ok(file) => file,
-        Err(fault) => return Err(of_read(fault)),
-    };
-    push(heads, read_head(&mut file)?)?;
-    push(parts, Part { file, tracks: 0 })
+    match files.open(alloc, path) {
+        Ok(file) => add_head(file, opened, heads),
+        Err(fault) => Err(of_read(fault)),
+    }
+}
+
+/// Keeps a file that was opened, with its header.
+///
+/// # Errors
+///
+/// The header can't be read, or there is no memory.
+pub(crate) fn add_head<O: OpenedFile>(
+    mut file: O,
+    opened: &mut Vec<O>,
+    heads: &mut Vec<Head>,
+) -> Result<(), JobFault>
+    ensures adds { OnOk result (AddsHead (O.content file) (map O.content opened.old.items) (map O.content opened.new.items) heads.old.items heads.new.items) }
+    ensures fault { IfErr result (λ e. e ≢ JobFault.Write) }
+{
+    let head = read_head(&mut file)?;
+    push(heads, head)?;
+    push(opened, file)?;
+    Ok(())
 }
 
 // One more at the end of a list.
 fn push<T: Drop>(list: &mut Vec<T>, item: T) -> Result<(), JobFault>
-    ensures { IfErr result (λ e. e ≡ JobFault.OutOfMemory) }
+    ensures pushed { OnOk result (list.new.items ≡ list.old.items ++ item ∷ []) }
+    ensures fault { IfErr result (λ e. e ≡ JobFault.OutOfMemory) }
 {
     match list.push(item) {
         Ok(()) => Ok(()),
@@ -128,27 +213,27 @@ fn push<T: Drop>(list: &mut Vec<T>, item: T) -> Result<(), JobFault>
     }
 }
 
-/// The header of a file and its length.
-///
-/// # Errors
-///
-/// The header can't be read.
-pub(crate) fn read_head<O: OpenedFile>(file: &mut O) -> Result<Head, JobFault>
-    ensures { IfErr result (λ e. e ≡ JobFault.Read) }
+// The header of a file and its length.
+fn read_head<O: OpenedFile>(file: &mut O) -> Result<Head, JobFault>
+    ensures head { IfOk result (IsHeadOf (O.content file.old)) }
+    ensures kept { O.content file.new ≡ O.content file.old }
+    ensures fault { IfErr result (λ e. e ≡ JobFault.Read) }
 {
-    let mut head = Head {
-        header: [0; HEADER],
-        len: file.len(),
-    };
-    if head.len >= HEADER as u64 && file.read_at(0, &mut head.header).is_err() {
-        return Err(JobFault::Read);
+    let len = file.len();
+    let mut header = [0; HEADER];
+    if len < HEADER as u64 {
+        return Ok(Head { header, len });
     }
-    Ok(head)
+    match file.read_at(0, &mut header) {
+        Ok(()) => Ok(Head { header, len }),
+        Err(_) => Err(JobFault::Read),
+    }
 }
 
-// The geometry of the volume in files with these headers, or why they hold none.
-fn mounted(heads: &[Head]) -> Result<Geometry, MountFault>
-    ensures { IfOk result IsGeometry }
+/// The geometry of the volume in files with these headers, or why they hold none.
+pub(crate) fn mounted(heads: &[Head]) -> Result<Geometry, MountFault>
+    ensures valid { IfOk result IsGeometry }
+    ensures mounts { IfOk result (λ g. mount_of (map alone heads.now) ≡ Ok g) }
 {
     let mut stores = ArrayVec::new();
     for head in heads {
@@ -168,29 +253,43 @@ fn append(stores: &mut ArrayVec<Option<HeaderStore>, MOST_FILES>, store: HeaderS
     requires room { array_vec_len stores.old < 8 }
     requires there { All IsSome stores.old.items }
     ensures there { All IsSome stores.new.items }
-    ensures count { array_vec_len stores.new ≡ array_vec_len stores.old + 1 }
+    ensures content { each (λ s. s.content) stores.new.items ≡ each (λ s. s.content) stores.old.items ++ store.content ∷ [] }
 {
     stores.push(Some(store));
 }
 
 // The volume of this geometry in files with these headers.
-fn volume_of<O: OpenedFile>(
-    mut parts: Vec<Part<O>>,
-    heads: &[Head],
-    geometry: Geometry,
-) -> OpenedVolume<O>
-    requires { IsGeometry geometry }
+fn volume_of<O: OpenedFile>(files: Vec<O>, heads: &[Head], geometry: Geometry) -> OpenedVolume<O>
+    requires valid { IsGeometry geometry }
+    requires heads { AllZip IsHeadOf (map O.content files.items) heads.now }
+    requires mounts { mount_of (map alone heads.now) ≡ Ok geometry }
+    requires room { length heads.now ≤ 8 }
+    ensures { result ≡ record { geometry = geometry; contents = map O.content files.items; failures = 0 } }
 {
-    for (part, head) in parts.iter_mut().zip(heads) {
-        let slots = head.len.saturating_sub(HEADER as u64);
-        let tracks = slots
-            .checked_div(u64::from(geometry.track_size))
-            .unwrap_or(0);
-        part.tracks = u32::try_from(tracks).unwrap_or(u32::MAX);
+    let mut tracks = ArrayVec::new();
+    for head in heads {
+        tracks.push(tracks_in(head, geometry.track_size));
     }
     OpenedVolume {
-        parts,
+        files,
+        tracks,
         geometry,
         failed: Count::new(),
     }
+}
+
+// How many tracks of this size a file with this header holds.
+#[tactic(auto, using(crate::proofs::Volumes::counted))]
+fn tracks_in(head: &Head, size: u32) -> u32
+    requires { 0 < size }
+    ensures { AreTracks size head.now result }
+{
+    if head.len < HEADER as u64 {
+        return 0;
+    }
+    let tracks = (head.len - HEADER as u64) / size as u64;
+    if tracks > u32::MAX as u64 {
+        return u32::MAX;
+    }
+    tracks as u32
 }

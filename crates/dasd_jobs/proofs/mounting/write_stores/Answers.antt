@@ -1,4 +1,4 @@
-use Rattle.std.proofs.Common.{◌≡◌, ◌∙◌, ◌++◌, map, ap, sym, subst, append-nil, arith, slice_index_or, None, Bor, ℕ, List, []}
+use Rattle.std.proofs.Common.{refl, ◌≡◌, ◌∙◌, ◌++◌, map, ap, sym, subst, append-nil, arith, slice_index_or, None, Bor, ℕ, List, []}
 use Rattle.std.proofs.Math.ListN.{get_or-map}
 use Rattle.std.proofs.lemmas.List.{get_or_default, get_or_past}
 use Rattle.ckd_image.specs.Files.{file_at}
@@ -8,7 +8,7 @@ use Rattle.dasd_jobs.proofs.mounting.write_stores.Goals.{then-i-stores+in_ok-wri
 use Rattle.dasd_jobs.proofs.mounting.write_stores.Goals as goal
 
 pub loop-i-init : goal.loop-i-init
-loop-i-init g c = record { written = none_yet _ _; kept = λ k below. absurd (omega arith) }
+loop-i-init g c = record { written = none_yet _ _; kept = λ k below. absurd (omega arith); same = refl }
 
 pub loop-i-preserved : goal.loop-i-preserved
 loop-i-preserved g c =
@@ -23,15 +23,17 @@ loop-i-preserved g c =
       | then-i-stores+in_ok-write_changed w ↦
           let at = w.index-stores-i.is ∙ get_or_default stores i _ None w.if-i-stores.true in
           record {
-            written = next (rw (w.files-is) (w.in_ok-write_changed.ensures.0
+            written = next (rw (w.files-is) (w.in_ok-write_changed.ensures.writes.0
                 ∙ ap (λ s. g.F.ImageFiles.written c.loop-i.files ++ changed_file (slice_index_or c.args.paths.now i no_path).now s) at
                 ∙ ap (λ p. g.F.ImageFiles.written c.loop-i.files ++ changed_file p (file_at stores i)) (sym (get_or-map (λ (p : Bor (List ℕ)). p.now) c.args.paths.now i no_path))));
-            kept = and_kept (subst IsKept at w.in_ok-write_changed.ensures.1);
+            kept = and_kept (subst IsKept at w.in_ok-write_changed.ensures.writes.1);
+            same = rw w.files-is (w.write_changed.ensures.same ∙ c.loop-i.invariant.same);
           }
       | else-i-stores w ↦
           let past : file_at stores i ≡ None = get_or_past stores i None (omega arith) in
           record {
             written = next (rw (w.files-is) (sym (append-nil _) ∙ ap (λ s. g.F.ImageFiles.written c.loop-i.files ++ changed_file (path i) s) (sym past)));
             kept = and_kept (rw past tt);
+            same = rw w.files-is c.loop-i.invariant.same;
           }
     ]

@@ -12,11 +12,11 @@ returns-clause-saves g c =
     let written = g.F.ImageFiles.written in
     let images = c.finish-images.result.images in
     let told : written c.match-state.files ≡ written c.args.files.now = elim c.match-state.branch [
-      | in-Working w ↦ ap written w.files-is ∙ w.remark.ensures
+      | in-Working w ↦ ap written w.files-is ∙ w.remark.ensures.kept
       | in_default w ↦ ap written w.files-is
     ] in
     let told_too : written c.match-reset.files ≡ written c.match-state.files = elim c.match-reset.branch [
-      | in-Some w ↦ ap written w.files-is ∙ w.remark-in-Some.ensures
+      | in-Some w ↦ ap written w.files-is ∙ w.remark-in-Some.ensures.kept
       | in_default-unsaved w ↦ ap written w.files-is
     ] in
     record {

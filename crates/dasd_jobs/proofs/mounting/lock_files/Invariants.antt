@@ -1,0 +1,13 @@
+use Rattle.std.proofs.Common.{◌≡◌, map, take}
+use Rattle.std.specs.List.{AllZip}
+use Rattle.dasd_jobs.specs.Sources.{OpensPaths}
+use Rattle.dasd_jobs.specs.Opening.{IsHeadOf}
+use Rattle.dasd_jobs.proofs.mounting.lock_files.Given as goal
+
+-- no file was written so far; those so far were locked, and no other was opened, and their headers are at hand
+abbrev pub invariant-loop-path : goal.invariant-loop-path
+invariant-loop-path g l = record {
+  kept : g.F.ImageFiles.written l.files ≡ g.F.ImageFiles.written l.fn.files;
+  opens : OpensPaths (map (λ path. path.now) (take l.path-index l.paths)) (map g.F.Opened.OpenedFile.content l.locked.items) (g.F.ImageFiles.opened l.fn.files) (g.F.ImageFiles.opened l.files);
+  heads : AllZip IsHeadOf (map g.F.Opened.OpenedFile.content l.locked.items) l.heads.items;
+}

@@ -1,0 +1,37 @@
+-- How files are opened one after another, and what is known of their headers. No contract above cites this.
+use Rattle.std.specs.Prelude.{◌≡◌, ℕ, ◌+◌, ◌*◌, ◌<◌, ◌≤◌, ◌^◌, List, [], ◌∷◌, ◌++◌, length, take, map, replicate, Some, Ok}
+use Rattle.ckd_track.specs.declared.geometries.Geometry.{Geometry}
+use Rattle.ckd_image.specs.Header.{mount_of}
+use Rattle.ckd_image.specs.Files.{HoldTracks}
+use Rattle.dasd_jobs.specs.declared.reasons.Head.{Head}
+use Rattle.dasd_jobs.specs.Sources.{Content, SourceFile, with_source, known}
+
+-- this is the header and the length of a file; of one that is shorter than a header only the length
+abbrev pub IsHeadOf : Content → Head → Type 0
+IsHeadOf content head = (bytes : List ℕ) → content ≡ Some bytes → (head.len ≡ length bytes) × (512 ≤ length bytes → head.header ≡ take 512 bytes)
+
+-- a header with zeros behind it, as many bytes as its file
+abbrev pub alone : Head → List ℕ
+alone head = take head.len (head.header ++ replicate head.len 0)
+
+-- a file of this length holds so many slots, where it is a header and whole slots
+pub record AreTracks (size : ℕ) (head : Head) (tracks : ℕ) : Type 0 where
+  pub are : (n : ℕ) → n < 2 ^ 32 → head.len ≡ 512 + n * size → tracks ≡ n
+
+-- files hold so many slots each, behind the headers of an image
+abbrev pub Lies : Geometry → List Content → (tracks : List ℕ) → Type 0
+Lies g contents tracks =
+    (files : List (List ℕ)) → known contents ≡ Some files → (mount_of files ≡ Ok g) × HoldTracks (λ file. file) g.track_size (map Some files) tracks
+
+-- one file more stands behind the others, and its header behind theirs
+pub record AddsHead (content : Content) (contents_before contents : List Content) (heads_before heads : List Head) : Type 0 where
+  pub head : Head
+  pub file : contents ≡ contents_before ++ content ∷ []
+  pub headed : heads ≡ heads_before ++ head ∷ []
+  pub is_head : IsHeadOf content head
+
+-- and it was opened by a path
+pub record AddsFile (path : List ℕ) (contents_before contents : List Content) (heads_before heads : List Head) (before now : List SourceFile) : Type 0 where
+  pub content : Content
+  pub opened : now ≡ with_source before path content
+  pub adds : AddsHead content contents_before contents heads_before heads

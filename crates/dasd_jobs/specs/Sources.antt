@@ -1,0 +1,89 @@
+-- Files that were opened to be read, and the volumes that they hold.
+use Rattle.std.specs.Prelude.{◌≡◌, ℕ, ◌+◌, List, [], ◌∷◌, ◌++◌, length, Option, Some, None, option_map, slice_range, Result, Ok, Err}
+use Rattle.std.specs.List.{AllZip}
+use Rattle.ckd_track.specs.declared.geometries.Geometry.{Geometry}
+use Rattle.ckd_track.specs.Geometry.{tracks_of}
+use Rattle.ckd_image.specs.Header.{mount_of}
+use Rattle.ckd_image.specs.Slots.{slots_in}
+use Rattle.ckd_image.specs.Files.{slot_bytes}
+use Rattle.dasd_volumes.specs.Reading.{KnownVolume}
+
+-- What a file holds, where that is known: all its bytes, as of one in memory. Of one that others may change while it is read it is not.
+abbrev pub Content : Type 0
+Content = Option (List ℕ)
+
+-- a number is that of the bytes of a file
+abbrev pub IsLength : Content → ℕ → Type 0
+IsLength content n = (bytes : List ℕ) → content ≡ Some bytes → n ≡ length bytes
+
+-- these bytes stand in a file, from a place on
+abbrev pub StandsIn : Content → (at : ℕ) → (read : List ℕ) → Type 0
+StandsIn content at read = (bytes : List ℕ) → content ≡ Some bytes → read ≡ slice_range bytes at (at + length read)
+
+-- these are all the bytes of a file
+abbrev pub IsWhole : Content → (read : List ℕ) → Type 0
+IsWhole content read = (bytes : List ℕ) → content ≡ Some bytes → read ≡ bytes
+
+-- a file that was opened: the path that was asked for, and what it holds
+pub record SourceFile : Type 0 where
+  pub path : List ℕ
+  pub content : Content
+
+-- these files, and one more behind them
+abbrev pub with_source : List SourceFile → (path : List ℕ) → Content → List SourceFile
+with_source opened path content = opened ++ record { path = path; content = content } ∷ []
+
+-- a file was opened by this path, or none was
+abbrev pub OpensFile : {A E : Type 0} → Result A E → (content : A → Content) → (path : List ℕ) → (before now : List SourceFile) → Type 0
+OpensFile (Ok file) content path before now = now ≡ with_source before path (content file)
+OpensFile (Err _) content path before now = now ≡ before
+
+-- the files at these paths, in their order, hold this
+abbrev pub sources : (paths : List (List ℕ)) → (contents : List Content) → List SourceFile
+sources [] contents = []
+sources (path ∷ paths) [] = []
+sources (path ∷ paths) (content ∷ contents) = record { path = path; content = content } ∷ sources paths contents
+
+-- all that files hold, where it is known of each
+abbrev pub known : List Content → Option (List (List ℕ))
+known [] = Some []
+known (None ∷ contents) = None
+known (Some bytes ∷ contents) = option_map (λ more. bytes ∷ more) (known contents)
+
+-- Files were opened by these paths, in their order, and no other file was.
+pub record OpensPaths (paths : List (List ℕ)) (contents : List Content) (before now : List SourceFile) : Type 0 where
+  pub opened : now ≡ before ++ sources paths contents
+  pub count : length contents ≡ length paths
+
+-- The files at these paths were read whole, and no other file was opened: these are all the bytes of each.
+pub record ReadsWhole (paths bytes : List (List ℕ)) (before now : List SourceFile) : Type 0 where
+  pub contents : List Content
+  pub opens : OpensPaths paths contents before now
+  pub whole : AllZip IsWhole contents bytes
+
+-- Files hold the volume of this geometry: their headers and lengths keep the rules of a mount.
+abbrev pub Mounts : List Content → Geometry → Type 0
+Mounts contents g = (files : List (List ℕ)) → known contents ≡ Some files → mount_of files ≡ Ok g
+
+-- the volume of this geometry in files: its slots are the bytes behind their headers, in their order
+abbrev pub volume_in : Geometry → List Content → KnownVolume
+volume_in g contents = record {
+  geometry = g;
+  slots = option_map (λ files. slots_in g.track_size (tracks_of g) (slot_bytes files)) (known contents);
+  header = [];
+  saves = 0;
+}
+
+-- The files at these paths were opened, and no other file; and this is said of the volume that they hold.
+pub record OfVolume (paths : List (List ℕ)) (before now : List SourceFile) (P : KnownVolume → Type 0) : Type 0 where
+  pub geometry : Geometry
+  pub contents : List Content
+  pub opens : OpensPaths paths contents before now
+  pub mounts : Mounts contents geometry
+  pub so : P (volume_in geometry contents)
+
+-- a volume in files that were opened, as it is seen: what the files hold, in their order, and how many reads failed
+pub record OpenedState : Type 0 where
+  pub geometry : Geometry
+  pub contents : List Content
+  pub failures : ℕ
