@@ -90,7 +90,8 @@ def ran(command: list[str], **environment: str) -> str:
 def all_of(commands: list[Callable[[], str]]) -> list[str]:
     """What several commands say, a few of them at once."""
     with ThreadPoolExecutor(AT_ONCE) as pool:
-        return [it for it in pool.map(lambda command: command(), commands) if it]
+        running = [pool.submit(command) for command in commands]
+        return [said for it in running if (said := it.result())]
 
 
 def by_mypy(files: Files) -> list[str]:
