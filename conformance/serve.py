@@ -10,7 +10,7 @@ import sys
 from typing import Dict, List, Optional, Sequence, Tuple
 
 from suite.decks import DeckFault, Event, parse, parse_line
-from suite.machine import Machine
+from suite.machine import ByItself, Machine
 from suite.volumes import BadImage, Volume
 
 
@@ -49,7 +49,8 @@ class Server:
         if event is None:
             return "NO event"
         if self.machine is None:
-            self.machine = Machine(*self.numbers, self.volumes, own_clock="step" if "steps" in self.lacks else None, own_arms="arrivals" in self.lacks)
+            by_itself = ByItself("step" if "steps" in self.lacks else None, "arrivals" in self.lacks)
+            self.machine = Machine(*self.numbers, self.volumes, by_itself=by_itself)
         return self.machine.play(event)
 
     def deck(self, words: Sequence[str]) -> str:

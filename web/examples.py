@@ -134,7 +134,7 @@ def add_hercules(all_: Examples) -> None:
     """The decks in which Hercules differs."""
     page = (TOP / "docs" / "HERCULES.md").read_text()
     for path in sorted((TOP / "conformance" / "hercules").iterdir()):
-        vector, _, said = read_deck(path)
+        vector, _, said = read_deck(str(path))
         section = next(it for it in re.split(r"(?m)^## ", page) if f"hercules/{path.name}`" in it)
         vector.answers = ModelEmulator().play(vector).answers
         about = f"The manuals: {said['manual']}. For an operating system: {said['matters']}."

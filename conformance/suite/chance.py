@@ -109,9 +109,9 @@ class Chance:
         words: Words = []
         operands: Operands = []
         if self.seek_first or self.dice.random() < 0.7:
-            self.add(words, operands, 0x07, bytes(2) + address(*where), 6, CC)
+            self.add(words, operands, 0x07, (bytes(2) + address(*where), 6), CC)
         if self.dice.random() < 0.5:
-            self.add(words, operands, 0x1F, bytes([self.dice.choice((0x00, 0x80, 0xC0, 0xC0, 0xC0, 0x18, 0xFF))]), 1, CC)
+            self.add(words, operands, 0x1F, (bytes([self.dice.choice((0x00, 0x80, 0xC0, 0xC0, 0xC0, 0x18, 0xFF))]), 1), CC)
         for _ in range(self.dice.randint(1, 5)):
             phrases: Tuple[Phrase, ...] = (
                 self.one_command, self.one_command, self.search, self.update, self.update, self.format, self.format, self.new_track)
@@ -125,7 +125,7 @@ class Chance:
         return words, operands
 
     def command(self, words: Words, operands: Operands, volume: Volume, where: List[int], code: int) -> None:
-        self.add(words, operands, code, *self.operand(code, volume, where), self.flags())
+        self.add(words, operands, code, self.operand(code, volume, where), self.flags())
 
     def one_command(self, words: Words, operands: Operands, volume: Volume, where: List[int]) -> None:
         self.command(words, operands, volume, where, self.dice.choice((*SEARCHES, *READS, *WRITES, *CONTROLS)))
@@ -154,8 +154,9 @@ class Chance:
         for code in (0x15, 0x1D, 0x1D)[:self.dice.randint(0, 3)]:
             self.command(words, operands, volume, where, code)
 
-    def add(self, words: Words, operands: Operands, code: int, data: bytes, length: int, flags: int) -> None:
-        """A word with its operand's bytes at the next place of its own."""
+    def add(self, words: Words, operands: Operands, code: int, operand: Tuple[bytes, int], flags: int) -> None:
+        """A word with its operand's bytes, and its count, at the next place of its own."""
+        data, length = operand
         words.append(bytes([code]) + self.at.to_bytes(3, "big") + bytes([flags, 0]) + length.to_bytes(2, "big"))
         operands.append((self.at, data[:128]))
         self.at += 0x80 * (1 + max(length, len(data)) // 0x80)

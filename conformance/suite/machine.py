@@ -4,7 +4,7 @@ Rules: IBM System/360 Principles of Operation (GA22-6821), input/output instruct
 """
 from __future__ import annotations
 
-from typing import Iterable, Optional, Tuple
+from typing import Iterable, NamedTuple, Optional, Tuple
 
 from .decks import Event
 from .drive import BUSY, DEVICE_END, Drive, Profile
@@ -21,21 +21,26 @@ class Unit:
         self.drive, self.arm = Drive(volume, profile), FREE
 
 
+class ByItself(NamedTuple):
+    """What a machine does without an event, as an emulator that has neither units nor arrivals: a program runs to its end, at its 'start' or
+    at the next 'step', which `clock` says; and with `arms` an arm arrives as it begins to move."""
+
+    clock: Optional[str] = None
+    arms: bool = False
+
+
 class Machine:
     """A channel. `volumes` are pairs of a unit's low byte and its volume, which is changed in place.
-
-    With `own_clock` a program runs to its end by itself, at its 'start' or at the next 'step', and with `own_arms` an arm arrives
-    as it begins to move: what an emulator does that has neither units nor arrivals.
     """
 
     def __init__(self, channel: int, storage: int, volumes: Iterable[Tuple[int, Volume]], profile: Optional[Profile] = None,
-                 own_clock: Optional[str] = None, own_arms: bool = False) -> None:
+                 by_itself: ByItself = ByItself()) -> None:
         self.number, self.storage = channel, Storage(storage)
         self.units = {unit: Unit(volume, profile or Profile()) for unit, volume in volumes}
         self.program: Optional[Program] = None
         self.working: Optional[int] = None
         self.pending: Optional[Tuple[int, Csw]] = None
-        self.own_clock, self.own_arms, self.runs_for_ever = own_clock, own_arms, False
+        self.by_itself, self.runs_for_ever = by_itself, False
 
     def unit_of(self, address: int) -> Optional[Unit]:
         """The unit at an address; None where it is not attached."""
@@ -84,13 +89,13 @@ class Machine:
             self.leave(unit, program)
             return "1 " + self.store_status(program.ending.unit, program.ending.channel)
         self.program, self.working = program, address & 0xFF
-        if self.own_clock == "start":
+        if self.by_itself.clock == "start":
             self.advance(MOST_UNITS)
         return "0"
 
     def leave(self, unit: Unit, program: Program) -> None:
         """What a program that is over leaves of its unit's arm."""
-        unit.arm = (ARRIVED if self.own_arms else MOVING) if program.motion else FREE
+        unit.arm = (ARRIVED if self.by_itself.arms else MOVING) if program.motion else FREE
 
     def do_tio(self, event: Event) -> str:
         return "TIO %03X CC %s" % (event.unit, self.test(event.unit))
@@ -157,14 +162,14 @@ class Machine:
 
     def advance(self, number: int) -> int:
         done = 0
-        limit = MOST_UNITS if self.own_clock else number
+        limit = MOST_UNITS if self.by_itself.clock else number
         while self.working is not None and done < limit:
             program = self.running()[1]
             program.unit()
             done += 1
             if program.ending:
                 self.over()
-        self.runs_for_ever = self.runs_for_ever or bool(self.own_clock) and self.working is not None
+        self.runs_for_ever = self.runs_for_ever or bool(self.by_itself.clock) and self.working is not None
         return done
 
     def do_arrive(self, event: Event) -> str:

@@ -49,6 +49,7 @@ TREES = [
     Tree(("tools/", "sample/"), (".",)),
     Tree(("conformance/",), ("conformance",), LEFT_OPEN),
     Tree(("rows/",), ("rows", "conformance")),
+    Tree(("catalogue/",), ("catalogue", "catalogue/tests", "conformance", ".")),
     Tree(("release/",), ("release", "release/tests", ".")),
     Tree(("python/",), ("python",)),
     Tree(("web/examples.py",), ("web", "conformance")),

@@ -15,7 +15,7 @@ from typing import List, Optional, Sequence, Tuple, Union
 from .. import program
 from ..decks import DeckFault, Event, parse
 from ..drive import SEEKS
-from ..machine import Machine
+from ..machine import ByItself, Machine
 from ..vectors import Outcome, Vector
 from ..volumes import BadImage, Volume
 from . import Emulator, bare_metal as metal
@@ -77,7 +77,7 @@ class HerculesEmulator(Emulator):
 
     def plan(self, vector: Vector, events: Sequence[Event]) -> Tuple[bytes, bytes]:
         """The entries of the events, and the words of the programs that begin with a Seek of the adapter's."""
-        machine = Machine(vector.channel, STORAGE, list(vector.before().items()), own_clock="step", own_arms=True)
+        machine = Machine(vector.channel, STORAGE, list(vector.before().items()), by_itself=ByItself("step", True))
         entries: List[bytes] = []
         words, channel = b"", vector.channel << 8
         for event in events:

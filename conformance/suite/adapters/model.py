@@ -5,7 +5,7 @@ from typing import Collection, Optional
 
 from ..decks import DeckFault, parse
 from ..drive import Profile
-from ..machine import Machine
+from ..machine import ByItself, Machine
 from ..vectors import Outcome, Vector
 from . import Emulator
 
@@ -24,7 +24,7 @@ class ModelEmulator(Emulator):
         except DeckFault as fault:
             return Outcome(fault=str(fault), after=volumes)
         machine = Machine(vector.channel, self.storage or vector.storage, list(volumes.items()), self.profile,
-                          own_clock=self.clock, own_arms="arrivals" in self.lacks)
+                          ByItself(self.clock, "arrivals" in self.lacks))
         answers = [machine.play(event) for event in events]
         machine.do_reset()
         return Outcome(answers, None, volumes, "a program runs for ever" if machine.runs_for_ever else None)
