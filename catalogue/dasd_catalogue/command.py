@@ -125,6 +125,8 @@ def run_scan(words: Words) -> int:
     if words.processes < 0:
         raise BadEngine("--processes wants a number above 0")
     engine = engine_for(words.processes or os.cpu_count() or 1, words.scheduler)
+    if words.scratch and not words.scheduler and not os.path.isdir(words.scratch):
+        raise BadEngine(f"there is no folder {words.scratch}")
     way = Way(find_program(words.dasd), words.patience, words.largest, os.path.abspath(words.scratch) if words.scratch else "")
     paths = [os.fsencode(it) for it in words.paths]
     came = scan(Wanted(words.database, paths, engine, way, words.again, words.quiet))

@@ -33,7 +33,14 @@ class Cluster:
         self.folder, self.file = folder, folder / "scheduler.json"
         self.processes: list[subprocess.Popen[bytes]] = []
         self.start("dask_scheduler", "--host", "127.0.0.1", "--port", "0", "--no-dashboard")
-        until(self.file.exists, "the scheduler did not come")
+        until(self.is_ready, "the scheduler did not come")
+
+    def is_ready(self) -> bool:
+        """Whether the scheduler has written all that its file is to have."""
+        try:
+            return bool(self.address)
+        except (OSError, ValueError):
+            return False
 
     def start(self, module: str, *words: str) -> subprocess.Popen[bytes]:
         """Starts a process."""

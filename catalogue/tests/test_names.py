@@ -41,7 +41,7 @@ class Names(unittest.TestCase):
         self.assertTrue(fits("A.B", "A.B"))
         self.assertTrue(fits("", "%40"))
         self.assertTrue(fits("A.\u00e9", "A%51%51"))
-        self.assertFalse(fits("..", "A%4D"))
+        self.assertFalse(fits("A.", "A%4D"))
         self.assertFalse(fits("A.B", "A.C"))
         self.assertFalse(fits("A.B", "A.BC"))
         self.assertFalse(fits("A.BC", "A.B"))

@@ -140,7 +140,7 @@ class Texts(unittest.TestCase):
 
     def test_words_that_would_be_something_else(self) -> None:
         """Operators and quotes of the index are words, and markup is text."""
-        for word in ('"', "AND", "NEAR(", "text:", "a OR b", "-", "*", "", "\u00e9", "^", "{", "'"):
+        for word in ('"', 'a"b', 'stock" OR "payroll', "AND", "NEAR(", "text:", "a OR b", "-", "*", "", "\u00e9", "^", "{", "'"):
             ran = typed("text", word)
             self.assertIn(ran.returncode, (0, 1), word)
             self.assertEqual(ran.stderr, "", word)

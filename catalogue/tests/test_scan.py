@@ -401,6 +401,8 @@ class Files(Case):
         ran = typed("scan", str(self.folder), "--processes", "1", "--dasd", program(), database=self.database)
         self.assertEqual((ran.returncode, ran.stdout), (0, "1 names: 1 volume\n"))
         self.assertRegex(ran.stderr, r"^1 asked in [0-9.]+ seconds, [0-9.]+ a second\n$")
+        ran = typed("scan", str(self.folder), "--dasd", program(), "--scratch", "/nowhere", database=self.database)
+        self.assertEqual((ran.returncode, ran.stderr), (1, "dasd-catalogue: there is no folder /nowhere\n"))
         ran = typed("scan", str(self.folder), "--dasd", "/nowhere/dasd", database=self.database)
         self.assertEqual((ran.returncode, ran.stderr), (1, "dasd-catalogue: there is no program /nowhere/dasd\n"))
 
