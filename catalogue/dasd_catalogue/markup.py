@@ -25,12 +25,12 @@ def escaped(child: Child) -> str:
     return html.escape(held.encode("utf-8", "replace").decode("utf-8"))
 
 
-def tag(name: str, /, *children: Child, **attributes: Child) -> Html:
+def tag(element: str, /, *children: Child, **attributes: Child) -> Html:
     """An element. An attribute that is None is left out; an underscore at its end is no part of its name, others are hyphens."""
     words = "".join(f' {key.rstrip("_").replace("_", "-")}="{escaped(value)}"' for key, value in attributes.items() if value is not None)
-    if name in VOID:
-        return Html(f"<{name}{words}>")
-    return Html(f"<{name}{words}>{''.join(map(escaped, children))}</{name}>")
+    if element in VOID:
+        return Html(f"<{element}{words}>")
+    return Html(f"<{element}{words}>{''.join(map(escaped, children))}</{element}>")
 
 
 def joined(parts: Iterable[Child]) -> Html:

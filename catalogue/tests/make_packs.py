@@ -18,10 +18,9 @@ from pathlib import Path
 
 sys.dont_write_bytecode = True
 TOP = Path(__file__).resolve().parent.parent.parent
-for _folder in (TOP, TOP / "conformance"):
-    sys.path.append(str(_folder))
+sys.path.append(str(TOP))
 
-from suite.volumes import Volume  # noqa: E402
+from conformance.suite.volumes import Volume  # noqa: E402
 from tools.common.images import Image  # noqa: E402
 from tools.common.record_forms import fixed_blocks, variable_blocks  # noqa: E402
 from tools.common.volume_layouts import Extents, Member, count_free, partition  # noqa: E402

@@ -7,7 +7,7 @@ import unittest
 
 from archive import Case
 from make_packs import HEADER, SLOT, pack, plain, with_broken_track, with_leftovers
-from suite.volumes import Volume, read_slot
+from conformance.suite.volumes import Volume, read_slot
 
 from dasd_catalogue.says import Geometry, library_hash, track_end, unloaded_hash, volume_hash
 

@@ -49,7 +49,7 @@ TREES = [
     Tree(("tools/", "sample/"), (".",)),
     Tree(("conformance/",), ("conformance",), LEFT_OPEN),
     Tree(("rows/",), ("rows", "conformance")),
-    Tree(("catalogue/",), ("catalogue", "catalogue/tests", "conformance", ".")),
+    Tree(("catalogue/",), ("catalogue", "catalogue/tests", "."), ("wrong-import-order", "redefined-outer-name", "invalid-name", "protected-access")),
     Tree(("release/",), ("release", "release/tests", ".")),
     Tree(("python/",), ("python",)),
     Tree(("web/examples.py",), ("web", "conformance")),
