@@ -16,7 +16,10 @@ TOP = HERE.parent
 
 TAKEN: tuple[str, ...] = ("CHANGELOG.md", "LICENSE", "THIRD_PARTY", "VERSION", "c", "conformance", "docs", "python", "rust")
 # Taken where they stand.
-ALSO = ("SECURITY.md", "CITATION.cff", "completions", "sample")
+ALSO = (
+    *("SECURITY.md", "CITATION.cff", "completions", "sample"),
+    *("catalogue/README.md", "catalogue/pyproject.toml", "catalogue/dasd-catalogue", "catalogue/dasd_catalogue"),
+)
 # What of these wants the kit or the repository's tools, or is for the repository alone.
 LEFT_OUT = (
     *("c/Makefile", "c/.gitignore", "c/tests/install.sh", "c/tests/compiled.sh", "c/tests/newer.sh"),
