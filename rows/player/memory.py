@@ -21,7 +21,7 @@ MOST_TAKINGS = 5000
 CASES = 8
 REFUSED = ("REFUSED out of memory", "REFUSED memory allocation failed")
 # what the stage says where it has none itself: for a line, for what a run writes, for a trace
-OWN = ("NO memory allocation failed", "REFUSED write fault")
+OWN = ("NO out of memory", "REFUSED write fault")
 OF_THE_STAGE = ("NO ", "REFUSED write fault", "RAN ")
 DECK = ["DECK LINE STORE 48 00000400", "DECK LINE STORE 400 3100050040000005 0800040000000000 1D0006000000000C",
         "DECK LINE STORE 500 0000000000", "DECK LINE STORE 600 0000000001000004 D5D6D7D8", "DECK LINE SIO 190", "DECK LINE STEP 100",
