@@ -16,6 +16,7 @@ from pathlib import Path
 HERE = Path(__file__).resolve().parent
 sys.path.insert(0, str(HERE.parent))
 
+from tools.common import kept
 from tools.common.kit import kit
 
 LINUX = "x86_64-unknown-linux-gnu"
@@ -109,6 +110,17 @@ def retargeted(text: str, triple: str, layout: str, dropped: str) -> str:
 
 
 def compile_for(module: Path, target: Target, made: Path) -> None:
+    """Compiles a module for a target, or takes what was made of it on this machine before."""
+    name = kept.sum_of([kept.kit_name(), Path(__file__), module, module.with_suffix(".words"), target.triple, target.suffix])
+    entry = kept.find("compiled", name)
+    if entry is None:
+        compile_anew(module, target, made)
+        kept.keep("compiled", name, {"made": made})
+    else:
+        made.write_bytes((entry / "made").read_bytes())
+
+
+def compile_anew(module: Path, target: Target, made: Path) -> None:
     """Compiles a module for a target. The name of what is read is always the same: it stands in what is made."""
     with tempfile.TemporaryDirectory() as name:
         folder = Path(name)

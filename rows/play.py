@@ -1,7 +1,7 @@
 #!/usr/bin/env python3
 """Plays the rows of the suites at a built stage, and says of each that comes out wrong what a person needs.
 
-    rows/play.py STAGE [--dasd DASD] [--only NAME] [--show] [SUITE ..]
+    rows/play.py STAGE [--dasd DASD [--dasd-alone]] [--only NAME] [--show] [SUITE ..]
 
 STAGE is the program of crates/test_stage, and DASD that of crates/dasd_cmd, for the suites that play it. Without SUITE all are played,
 several at a time. With --only those rows alone whose name has this text, and with --show each line and its answer too. The last
@@ -103,6 +103,7 @@ def parse_words() -> argparse.Namespace:
     words.add_argument("stage", metavar="STAGE")
     words.add_argument("suites", nargs="*", metavar="SUITE", help=", ".join(SUITES))
     words.add_argument("--dasd", metavar="DASD", default="", help="the program dasd")
+    words.add_argument("--dasd-alone", action="store_true", help="of the suites those that play that program")
     words.add_argument("--only", default="", metavar="NAME", help="rows whose name has this text")
     words.add_argument("--show", action="store_true", help="prints each line and its answer")
     words.add_argument("--first", action="store_true", help="stops at the first row that comes out wrong")
@@ -111,13 +112,18 @@ def parse_words() -> argparse.Namespace:
     return words.parse_intermixed_args()
 
 
+def played_by(programs: Programs, dasd_alone: bool) -> list[str]:
+    """The suites that these programs can play, or of them those of `dasd`."""
+    return [name for name, it in SUITES.items() if (programs.dasd if it.wants_dasd else not dasd_alone)]
+
+
 def main() -> int:
     said = parse_words()
     programs = Programs(str(Path(said.stage).resolve()), str(Path(said.dasd).resolve()) if said.dasd else "")
     unknown = [it for it in said.suites if it not in SUITES]
     if unknown:
         sys.exit("play.py: no such suite: %s" % ", ".join(unknown))
-    suites = said.suites or [name for name, it in SUITES.items() if programs.dasd or not it.wants_dasd]
+    suites = said.suites or played_by(programs, said.dasd_alone)
     alone = bool(said.only) or said.show
     parts = [Part(suite, rest, 1 if alone else PARTS, programs, said.only, said.show, said.first, said.seconds)
              for rest in range(1 if alone else PARTS) for suite in suites]

@@ -7,8 +7,9 @@ as `rt ci` checks each crate over those below it, and compiles what it proved. I
 today's files: so this is for a checkout where `rt ci`, or `rt lib` and `rt run` in these two crates, has just passed.
 
 The kit's folder of tools is stood in for by one whose `clang` keeps its module and then is the kit's; nothing of the kit is
-changed. What was captured is kept in crates/CRATE/out/captured until a source of the crate, of one below it or the kit is another:
-it is then captured anew. `rt ci` sets it aside with all else that earlier runs left.
+changed. What was captured is kept on this machine (tools/common/kept.py) by the kit, the crate's files and the bytes of the libraries
+below it; and so is what the kit keeps of a check, so that a crate of which little has changed is captured in less time. `rt ci`, whose
+verdict it is, proves from nothing.
 
 Beside MODULE.bc stands MODULE.words: the words that this clang was given, one on a line, without names of files and folders.
 
@@ -22,9 +23,13 @@ import tempfile
 from pathlib import Path
 
 from tools import TOP
+from tools.common import kept
 from tools.common.kit import Kit, KitCrate, keeping_tools, kit_crate
 
 CPU = "x86-64"
+# What a crate is made of, below its folder.
+PARTS = ("src", "specs", "proofs")
+
 
 class NotCaptured(Exception):
     """Why there is no module."""
@@ -34,39 +39,53 @@ class NotBuilt(NotCaptured):
     """Libraries below the crate do not stand in this checkout."""
 
 
-def build(crate: str, rtlib: Kit, known: KitCrate, into: Path) -> None:
-    """Proves and compiles the crate, and keeps its module, the compiler's words, and what the kit makes of it."""
+def name_of(known: KitCrate) -> str:
+    """A sum of all that a crate's module is made of: the kit, the crate's files, and the libraries below it as they were built."""
+    own = sorted(it for part in PARTS for it in (TOP / "crates" / known.name / part).rglob("*") if it.is_file())
+    built = sorted(it for below in known.below() for it in Path(below.rlib).rglob("*") if it.is_file())
+    parts: list[bytes | str | Path] = [kept.kit_name(), CPU, known.name, " ".join(known.of_kit)]
+    for it in [*own, *built]:
+        parts += [str(it.relative_to(TOP)), it]
+    return kept.sum_of(parts)
+
+
+def build(rtlib: Kit, known: KitCrate) -> dict[str, Path | bytes]:
+    """Proves and compiles the crate: its module, the compiler's words, and what the kit makes of it."""
+    with tempfile.TemporaryDirectory() as folder:
+        tools, made = keeping_tools(Path(folder))
+        built = Path(folder, "built")
+        again = Path(folder, "checks") if kept.is_anew() else kept.folder() / "checks" / known.name
+        again.mkdir(parents=True, exist_ok=True)
+        words = [*known.words(["--cpu", CPU]), "--toolchain", str(tools), "--backend", "llvm", "--incremental", str(again), "-o", str(built)]
+        if known.call(rtlib.RATTLE, "build", *words):
+            raise NotCaptured(f"crates/{known.name}: not proved, so nothing was made")
+        modules = list(made.glob("*.bc"))
+        if len(modules) != 1:
+            raise NotCaptured(f"the kit's compiler was given {len(modules)} modules, and one is wanted")
+        words_file = modules[0].with_suffix(".words")
+        return {"module": modules[0].read_bytes(), "words": words_file.read_bytes(), "made": built.read_bytes()}
+
+
+def captured(rtlib: Kit, known: KitCrate) -> Path:
+    """The folder of what was captured of a crate, now or before."""
     missing = [it.name for it in known.below() if not (Path(it.rlib) / "format").is_file()]
     if missing:
         raise NotBuilt(f"not built here: {', '.join(missing)}")
-    with tempfile.TemporaryDirectory() as folder:
-        tools, kept = keeping_tools(Path(folder))
-        built = Path(folder, "built")
-        words = [*known.words(["--cpu", CPU]), "--toolchain", str(tools), "--backend", "llvm", "-o", str(built)]
-        if known.call(rtlib.RATTLE, "build", *words):
-            raise NotCaptured(f"crates/{crate}: not proved, so nothing was made")
-        modules = list(kept.glob("*.bc"))
-        if len(modules) != 1:
-            raise NotCaptured(f"the kit's compiler was given {len(modules)} modules, and one is wanted")
-        for source, name in ((modules[0], "module"), (modules[0].with_suffix(".words"), "words"), (built, "made")):
-            shutil.copyfile(source, into / name)
+    kept.folder().mkdir(parents=True, exist_ok=True)
+    with (kept.folder() / f"lock-{known.name}").open("w") as lock:
+        fcntl.flock(lock, fcntl.LOCK_EX)
+        name = name_of(known)
+        found = kept.find("captured", name)
+        return found or kept.keep("captured", name, build(rtlib, known))
 
 
 def capture(crate: str, module: Path, made: Path | None = None) -> None:
     """Writes the crate's module, the compiler's words beside it, and to `made` what the kit makes: an archive, or a program's object."""
-    rtlib, known = kit_crate(TOP / "crates" / crate)
-    kept, stamp = TOP / "crates" / crate / "out" / "captured", known.stamp()
-    kept.mkdir(parents=True, exist_ok=True)
-    with (kept / "lock").open("w") as lock:
-        fcntl.flock(lock, fcntl.LOCK_EX)
-        if not (kept / "stamp").is_file() or (kept / "stamp").read_text(encoding="utf-8") != stamp:
-            (kept / "stamp").unlink(missing_ok=True)
-            build(crate, rtlib, known, kept)
-            (kept / "stamp").write_text(stamp, encoding="utf-8")
-        shutil.copyfile(kept / "module", module)
-        shutil.copyfile(kept / "words", module.with_suffix(".words"))
-        if made is not None:
-            shutil.copyfile(kept / "made", made)
+    entry = captured(*kit_crate(TOP / "crates" / crate))
+    shutil.copyfile(entry / "module", module)
+    shutil.copyfile(entry / "words", module.with_suffix(".words"))
+    if made is not None:
+        shutil.copyfile(entry / "made", made)
 
 
 def main() -> None:
