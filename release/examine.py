@@ -8,11 +8,14 @@ import sys
 import tempfile
 from pathlib import Path
 
+HERE = Path(__file__).resolve().parent
+sys.path.insert(0, str(HERE.parent))
+
 import compiling
 import third_party
 import wanted
+from tools.common import kept
 
-HERE = Path(__file__).resolve().parent
 ARM_CC = "aarch64-linux-gnu-gcc"
 ARM_ROOT = "/usr/aarch64-linux-gnu"
 WINDOWS_CC = "x86_64-w64-mingw32-gcc"
@@ -83,16 +86,48 @@ def ways() -> list[tuple[str, list[str]]]:
     return found
 
 
-def play(tree: Path, name: str, words: list[str]) -> list[str]:
-    """Builds the tree for a target and runs its checks, and prints how many vectors came out right."""
-    make(tree, "clean")
-    went_well, printed = make(tree, *words, "check")
+# What `make` checks of a tree, and how the paths begin of what it reads nothing of.
+PARTS = {
+    "check-library": ("docs/", "compiled/SHA256SUMS", "compiled/dasd-"),
+    "check-program": ("docs/", "compiled/SHA256SUMS", "compiled/libdasd", "compiled/heap-"),
+}
+PACKAGES = Path("/var/lib/dpkg/status")
+
+
+def name_of(tree: Path, words: list[str], part: str) -> str:
+    """A sum of what a part of a tree's check rests on: make's words, Debian's packages, and the tree's files."""
+    known = sorted(it for it in tree.rglob("*") if it.is_file() and not str(it.relative_to(tree)).startswith(PARTS[part]))
+    parts: list[bytes | str | Path] = [part, " ".join(words), *([PACKAGES] if PACKAGES.is_file() else [])]
+    for it in known:
+        parts += [str(it.relative_to(tree)), it]
+    return kept.sum_of(parts)
+
+
+def play_part(tree: Path, name: str, words: list[str], part: str) -> list[str]:
+    """Runs a part of a tree's checks for a target, and prints how many vectors came out right."""
+    went_well, printed = make(tree, *words, part)
     totals = [line for line in printed if re.match(r"(all|total|python)\b.*\d", line)]
-    print(f"{name}: {'all checks passed' if went_well else 'FAILED'}", *(f"    {it}" for it in totals), sep="\n")
+    print(f"{name}: {part}: {'passed' if went_well else 'FAILED'}", *(f"    {it}" for it in totals), sep="\n")
     if went_well:
         return []
     print(*printed[-15:], sep="\n")
-    return [f"{name}: `make check` fails"]
+    return [f"{name}: `make {part}` fails"]
+
+
+def play(tree: Path, name: str, words: list[str]) -> list[str]:
+    """Runs those of a tree's checks for a target that did not pass on this machine before, with the same files, and builds it."""
+    make(tree, "clean")
+    found = []
+    for part, made in {part: name_of(tree, words, part) for part in PARTS}.items():
+        if kept.find("played", made):
+            print(f"{name}: {part}: passed on this machine before, with the same files")
+            continue
+        wrong = play_part(tree, name, words, part)
+        found += wrong
+        if not wrong:
+            kept.keep("played", made, {})
+    went_well, printed = make(tree, *words, "all")
+    return found if went_well else [*found, *printed[-15:], f"{name}: `make` fails"]
 
 
 def flags(native: Path, arm: Path) -> list[str]:
