@@ -38,10 +38,11 @@ are named as in [FORMAT.md](../conformance/FORMAT.md). Sense bytes 2 to 5 are no
 ALIKE = """
 ## What is alike
 
-The results below count the vectors that come out right. With a Seek before each program these include data chaining of reads and updates, skipping,
-transfers, searches by identifier and key and with the multi-track bit, reads of every kind and where they leave the track, unit exception, updates of data and of keys, formatting writes that fit, a whole track made anew, seeks of each kind (except for sense bytes),
-Read IPL, and images with other track sizes. Images that Hercules wrote are the same track by track; it leaves what stood behind a track's end
-mark where it was.
+The results below count the vectors that come out right. With a Seek before each program these include data chaining of reads and updates,
+skipping, transfers, searches by identifier and key and with the multi-track bit, reads of every kind and where they leave the track, unit
+exception, updates of data and of keys, formatting writes that fit, a whole track made anew, seeks of each kind (except for sense bytes), Read
+IPL, and images with other track sizes. Images that Hercules wrote are the same track by track; it leaves what stood behind a track's end mark
+where it was.
 
 ## Lists by chance
 
