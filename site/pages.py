@@ -73,7 +73,8 @@ class Site:
 
     def text_of(self, page: str) -> str:
         """The text of a page for the folder: all but its fenced blocks may have links."""
-        lines, is_open = [], False
+        lines: list[str] = []
+        is_open = False
         for line in (TOP / page).read_text(encoding="utf-8").splitlines():
             fence = line.startswith("```")
             is_open ^= fence
@@ -84,7 +85,7 @@ class Site:
     def contents(self) -> str:
         """The contents behind the first page: a list of pages for each heading of contents.txt, in which each page stands once."""
         left = [it for it in self.pages if it != FIRST]
-        lists = []
+        lists: list[str] = []
         for block in (TOP / "site/contents.txt").read_text(encoding="utf-8").strip().split("\n\n")[1:]:
             heading, *patterns = block.splitlines()
             named = list(dict.fromkeys(it for pattern in patterns for it in left if fnmatch(it, pattern)))
