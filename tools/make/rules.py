@@ -3,7 +3,7 @@
     tools/run make/rules           writes the page
     tools/run make/rules --check   looks whether the page is what would be written; status 1 where it is not
 
-The rules stand in conformance/rules.txt, and where each is in docs/rule_places.txt. A definition, a function or a file that is not there is told, with
+The rules stand in conformance/rules.txt, and where each is in tools/make/rule_places.txt. A definition, a function or a file that is not there is told, with
 status 1, and so is a rule that one of the two files lacks or that no vector pins.
 """
 
@@ -52,7 +52,7 @@ def read_rules() -> tuple[dict[str, Rule], list[str]]:
         elif now and word in ("manual", "profile"):
             now.source.append(f"*profile* `{rest.strip()}`" if word == "profile" else rest.strip())
     wrong, placed = [], set()
-    for line in (TOP / "docs" / "rule_places.txt").read_text(encoding="utf-8").splitlines():
+    for line in (TOP / "tools" / "make" / "rule_places.txt").read_text(encoding="utf-8").splitlines():
         kind, *words = line.split() or [""]
         if kind == "rule":
             now = rules.get(words[0])
