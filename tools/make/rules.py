@@ -18,8 +18,10 @@ SUITE = TOP / "conformance"
 PAGE = TOP / "docs" / "RULES.md"
 HEAD = """# The rules, and where each stands
 
-For each rule of the [conformance suite](CONFORMANCE.md): its source, which is a topic of a manual or a choice of this project (*profile*, listed in [FORMAT.md](../conformance/FORMAT.md)), the definition that says it, the function that does it,
-and how many vectors pin it, with the first of them. `PoO` is *IBM System/360 Principles of Operation*, GA22-6821; `2841 and 2314` are the component descriptions GA26-5988 and GA26-3599. A comment above each definition says what it is; a function's contract says what it promises, and names the definition.
+For each rule of the [conformance suite](CONFORMANCE.md): its source, which is a topic of a manual or a choice of this project (*profile*,
+listed in [FORMAT.md](../conformance/FORMAT.md)), the definition that says it, the function that does it, and how many vectors pin it, with the
+first of them. `PoO` is *IBM System/360 Principles of Operation*, GA22-6821; `2841 and 2314` are the component descriptions GA26-5988 and
+GA26-3599. A comment above each definition says what it is; a function's contract says what it promises, and names the definition.
 
 `tools/make/rules.py` writes this page.
 
