@@ -1,50 +1,54 @@
 #!/usr/bin/env python3
-"""Writes docs/HERCULES.md from a run: each deck of hercules/ is played, and what Hercules answers stands beside what it must.
+"""Writes docs/HERCULES.md: each deck of hercules/ is played, and what Hercules answers stands beside what it must. The counts of whole
+runs are taken from results/.
 
-  hercules_page.py [--table TITLE=FILE ..] > ../docs/HERCULES.md
-
-A FILE is what run.py printed of a whole run."""
+  hercules_page.py > ../docs/HERCULES.md
+"""
 from __future__ import annotations
 
-import argparse
 import os
 import sys
-from typing import Optional, Sequence
+from typing import List, Optional, Sequence
 
 from ask import compared, read_deck
 from suite.adapters import Emulator
 from suite.adapters.hercules import HerculesEmulator
 from suite.vectors import HERE
 
-HEAD = """# What Hercules 3.13 does
+RESULTS = os.path.join(HERE, "results")
+# What run.py printed of whole runs.
+RUNS = {"as they are": "hercules-3.13.txt", "with a Seek before each program": "hercules-3.13-seek-first.txt"}
+SUMS = ("on manuals alone", "on the profile too", "all")
 
-What Hercules 3.13 (Debian's package `hercules`, 3.13-7) does otherwise than this suite's vectors say. Facts from a run, each with the
-command that shows it; `conformance/hercules_page.py` wrote this page, and writes it anew.
+HEAD = """# What Hercules 3.13 does differently
 
-How it is asked: a small supervisor in System/370 mode, bare metal, on one processor with 16 MB issues the instructions of a deck
-one after another, and keeps what came of each; storage and images are compared afterwards
-(`conformance/suite/adapters/hercules.py`). A step waits until the program's interruption pends. What that can't ask is left out:
-units, arrivals, a reset in the middle, storage of another size, images in several files.
+Where Hercules 3.13 (Debian's package `hercules`, 3.13-7) differs from what this suite's vectors say. Each fact comes from a run and has the
+command that shows it. `conformance/hercules_page.py` writes this page.
 
-In each deck below the volume is the suite's `x.img` at 190 where no other is named, and only what comes out otherwise has two
-answers. `must` is what this suite's vectors say; where that is a choice of the suite and no rule of a manual, the text says so. The
-manuals are named as in [FORMAT.md](../conformance/FORMAT.md). Sense bytes 2 to 5 are not compared.
+A small supervisor in System/370 mode, on a bare machine with one processor and 16 MB, issues the instructions of a deck one after another
+and keeps what came of each; storage and images are compared afterwards (`conformance/suite/adapters/hercules.py`). A step waits until the
+program's interruption pends. What can't be asked in this way is left out: units, arrivals, a reset in the middle, storage of another size,
+images in several files.
+
+In each deck below the volume is the suite's `x.img` at 190 unless another is named, and only an event that comes out differently has two
+answers. `must` is what this suite's vectors say; where that is a choice of the suite and no rule of a manual, the text says so. The manuals
+are named as in [FORMAT.md](../conformance/FORMAT.md). Sense bytes 2 to 5 are not compared.
 """
 
 ALIKE = """
 ## What is alike
 
-The vectors that come out right are the rows `right` of the tables below. With a Seek before each program they have among them data
-chaining of reads and updates, skipping, transfers, searches by identifier and key and with the multi-track bit, reads of every kind and
-where they leave the track, unit exception, updates of data and of keys, formatting writes that fit, a whole track made anew, seeks of
-each kind (but for sense bytes), Read IPL, and images with other track sizes. Images that Hercules wrote
-are the same track by track; it leaves what stood behind a track's end mark where it was.
+The results below count the vectors that come out right. With a Seek before each program these include data chaining of reads and updates,
+skipping, transfers, searches by identifier and key and with the multi-track bit, reads of every kind and where they leave the track, unit
+exception, updates of data and of keys, formatting writes that fit, a whole track made anew, seeks of each kind (except for sense bytes), Read
+IPL, and images with other track sizes. Images that Hercules wrote are the same track by track; it leaves what stood behind a track's end mark
+where it was.
 
-## By chance
+## Lists by chance
 
-`conformance/differ.py model hercules --plain --seek-first --readable --without-profile --lists 700` plays lists by chance whose programs each begin with a
-Seek, and which rest on no choice of this suite. Of 700 seeds 81 made such a list, and 44 came out otherwise, in 14 ways. Each is one of those above: 8, 11, 12,
-16, 17, 25, 28, 32, 33 and 34; of these 28, 32, 33 and 34 were found by it.
+`conformance/differ.py model hercules --plain --seek-first --readable --without-profile --lists 700` plays lists by chance whose programs each
+begin with a Seek, and which rest on no choice of this suite. Of 700 seeds 81 made such a list, and 44 came out differently, in 14 ways. Each of
+these is one of the facts above: 8, 11, 12, 16, 17, 25, 28, 32, 33 and 34; this search found 28, 32, 33 and 34.
 """
 
 
@@ -80,31 +84,33 @@ def by_vectors(names: Sequence[str]) -> str:
     return "" if names == ["-"] else ", and by the vector%s %s" % ("s" if len(names) > 1 else "", ", ".join("`%s`" % it for it in names))
 
 
-def tables(files: Sequence[str]) -> str:
-    """The tables of whole runs."""
-    out = ["", "## By rule", "",
-           "Vectors by rule: right, wrong, left out (they need what this way of asking lacks), declined (they name storage where the supervisor",
-           "stands). A vector is wrong with its first difference, and many of these show the same fact again.", ""]
-    for it in files:
-        title, _, path = it.partition("=")
-        with open(path, encoding="utf-8") as text:
-            lines = text.read().split("\n")
-        start = next(at for at, line in enumerate(lines) if line.startswith("Rule "))
-        out += ["### %s" % title, "", "```", *[line for line in lines[start:] if line], "```", ""]
-    return "\n".join(out)
+def sums(path: str) -> List[List[str]]:
+    """The last rows of what run.py printed: their names and their numbers."""
+    with open(path, encoding="utf-8") as text:
+        lines = [line for line in text if line.startswith(SUMS)]
+    return [[name, *line[len(name):].split()] for name, line in zip(SUMS, lines)]
+
+
+def results() -> str:
+    """The counts of whole runs, and where they stand rule by rule."""
+    out = ["", "## Results of the whole suite", "",
+           "Left out are vectors that need what this way of asking lacks; declined are those that name storage where the supervisor stands. A vector",
+           "is wrong with its first difference, and many vectors show the same fact again.", "",
+           "| Programs | Vectors | In all | Right | Wrong | Left out | Declined |", "|---|---|---|---|---|---|---|"]
+    for title, name in RUNS.items():
+        out += ["| %s | %s |" % (title, " | ".join(row)) for row in sums(os.path.join(RESULTS, name))]
+    links = " and ".join("[%s](../conformance/results/%s)" % (it, it) for it in RUNS.values())
+    return "\n".join([*out, "", "%s have the same rule by rule." % links])
 
 
 def main() -> int:
-    words = argparse.ArgumentParser(description=__doc__, formatter_class=argparse.RawDescriptionHelpFormatter)
-    words.add_argument("--table", action="append", default=[], metavar="TITLE=FILE")
-    said = words.parse_args()
     folder = os.path.join(HERE, "hercules")
     with HerculesEmulator() as emulator:
         facts = [section(number, os.path.join(folder, it), emulator) for number, it in enumerate(sorted(os.listdir(folder)), 1)]
     print(HEAD)
     print("\n".join(facts), end="")
-    print(ALIKE)
-    print(tables(said.table), end="")
+    print(ALIKE, end="")
+    print(results())
     return 0
 
 

@@ -2,6 +2,7 @@
 
 - Each crate of crates.txt has a README.md, and a row in docs/MAP.md; README.md at the top has at most 7,168 bytes.
 - Each link of a document leads to a file that is there.
+- tools/edits/README.md names the must-fail edits of the gate, each of them.
 - Each file of Rattle or antt that a document names is there: `crates/NAME/src/x.rt`, `NAME/specs/X.antt`; a name without a folder, as `Geometry.antt`,
   is looked for in the folder that was named last in its paragraph.
 - Each name that the last column of a table in a crate's README has in code, as `Drive::new` or `Follows`, stands in the crate's own files.
@@ -45,8 +46,9 @@ def crates() -> list[str]:
 
 
 def documents() -> list[Path]:
-    """All pages of the repository."""
-    return sorted({*TOP.glob("*.md"), *TOP.glob("docs/*.md"), *TOP.glob("crates/*/README.md")})
+    """All pages of the repository: not what was built, nor the page of a release's own tree."""
+    pages = {*TOP.glob("*.md"), *TOP.glob("docs/**/*.md"), *TOP.glob("*/README.md"), *TOP.glob("*/*/README.md")}
+    return sorted(it for it in pages if "out" not in it.parts and it.parent.name != "tarball")
 
 
 def check_crates(findings: Findings) -> None:
@@ -57,6 +59,19 @@ def check_crates(findings: Findings) -> None:
         findings.expect(f"`{name}`" in rows, f"docs/MAP.md: no row of {name}")
     size = len((TOP / "README.md").read_bytes())
     findings.expect(size <= MOST_BYTES, f"README.md has {size} bytes, more than {MOST_BYTES}")
+
+
+def check_edits(findings: Findings) -> None:
+    """The gate's must-fail edits are those of the page's table."""
+    page = TOP / "tools/edits/README.md"
+    if not page.is_file():
+        return
+    rows = [line.split("|")[2] for line in page.read_text(encoding="utf-8").splitlines() if line.startswith("| ")]
+    named = {code for row in rows for code in CODE.findall(row)}
+    here = {f"{it.parent.parent.name}/{it.stem}" for it in TOP.glob("crates/*/must-fail/*.edit")}
+    for name in sorted(named | here):
+        findings.expect(name in here, f"tools/edits/README.md: no must-fail edit {name}")
+        findings.expect(name in named, f"tools/edits/README.md: no row of {name}")
 
 
 def check_links(findings: Findings, page: Path, text: str) -> None:
@@ -104,6 +119,7 @@ def main() -> int:
     """Looks at all of it."""
     findings = Findings()
     check_crates(findings)
+    check_edits(findings)
     for page in documents():
         text = page.read_text(encoding="utf-8")
         check_links(findings, page, text)

@@ -128,7 +128,7 @@ def block(number: int, at: int) -> int:
 
 
 # What is another in each copy of the sample pack, by places: System Control Blocks (GC28-6628), 'Data Set Control Block', for those of the
-# table, and the layout of a slot (docs/DECISIONS.md) for the others.
+# table, and the layout of a slot (docs/DEFINITIONS.md) for the others.
 Changes = list[tuple[int, bytes]]
 COPIES: dict[str, Changes] = {
     "header.ckd": [(20, b"\1")],

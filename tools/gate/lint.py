@@ -52,6 +52,7 @@ TREES = [
     Tree(("catalogue/",), ("catalogue", "catalogue/tests", "."), ("wrong-import-order", "redefined-outer-name", "invalid-name", "protected-access")),
     Tree(("release/",), ("release", "release/tests", ".")),
     Tree(("python/",), ("python",)),
+    Tree(("site/",), ("site",)),
     Tree(("web/examples.py",), ("web", "conformance")),
     Tree(("web/",), ("web", "web/test", ".")),
 ]

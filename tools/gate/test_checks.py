@@ -103,6 +103,16 @@ class Checks(unittest.TestCase):
             "docs/MAP.md: no file crates/low/specs/Other.antt",
         )
 
+    def test_must_fail_edits(self) -> None:
+        edit = {"crates/low/must-fail/always_the_first.edit": "file: src/lib.rt\n"}
+        self.finds(check_documents, {**edit, "tools/edits/README.md": "| it answers the first | `low/always_the_first` |\n"})
+        self.finds(
+            check_documents,
+            {**edit, "tools/edits/README.md": "| it answers the last | `low/always_the_last` |\n"},
+            "tools/edits/README.md: no row of low/always_the_first",
+            "tools/edits/README.md: no must-fail edit low/always_the_last",
+        )
+
     def test_name_that_is_not_the_crates(self) -> None:
         self.finds(
             check_documents,

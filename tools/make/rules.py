@@ -3,7 +3,7 @@
     tools/run make/rules           writes the page
     tools/run make/rules --check   looks whether the page is what would be written; status 1 where it is not
 
-The rules stand in conformance/rules.txt, and where each is in docs/rule_places.txt. A definition, a function or a file that is not there is told, with
+The rules stand in conformance/rules.txt, and where each is in tools/make/rule_places.txt. A definition, a function or a file that is not there is told, with
 status 1, and so is a rule that one of the two files lacks or that no vector pins.
 """
 
@@ -18,10 +18,12 @@ SUITE = TOP / "conformance"
 PAGE = TOP / "docs" / "RULES.md"
 HEAD = """# The rules, and where each stands
 
-Of each rule of the [conformance suite](CONFORMANCE.md): the manual's topic or the choice of this project that it is (*profile*, as [FORMAT.md](../conformance/FORMAT.md) lists them), the definition that says it, the function that does it,
-and how many vectors pin it, with the first of them. `PoO` is *IBM System/360 Principles of Operation*, GA22-6821; `2841 and 2314` are the component descriptions GA26-5988 and GA26-3599. What each definition says stands above it; what a function promises stands in its contract, which names the definition.
+For each rule of the [conformance suite](CONFORMANCE.md): its source, which is a topic of a manual or a choice of this project (*profile*,
+listed in [FORMAT.md](../conformance/FORMAT.md)), the definition that says it, the function that does it, and how many vectors pin it, with the
+first of them. `PoO` is *IBM System/360 Principles of Operation*, GA22-6821; `2841 and 2314` are the component descriptions GA26-5988 and
+GA26-3599. A comment above each definition says what it is; a function's contract says what it promises, and names the definition.
 
-This page is written by `tools/make/rules.py`.
+`tools/make/rules.py` writes this page.
 
 | Rule | Source | Defined | Done | Vectors |
 |---|---|---|---|---|
@@ -52,7 +54,7 @@ def read_rules() -> tuple[dict[str, Rule], list[str]]:
         elif now and word in ("manual", "profile"):
             now.source.append(f"*profile* `{rest.strip()}`" if word == "profile" else rest.strip())
     wrong, placed = [], set()
-    for line in (TOP / "docs" / "rule_places.txt").read_text(encoding="utf-8").splitlines():
+    for line in (TOP / "tools" / "make" / "rule_places.txt").read_text(encoding="utf-8").splitlines():
         kind, *words = line.split() or [""]
         if kind == "rule":
             now = rules.get(words[0])

@@ -1,0 +1,126 @@
+"""Puts the pages of the repository into a folder for Sphinx.
+
+    site/pages.py FOLDER
+
+Each page stands there at its own path, README.md at the top as index.md with the contents behind it, and links are made for that folder: a
+link to a page stays; a file that is no page is copied beside the pages, as text where a browser would not show it; a folder without a page is
+named by its path. A link that leads nowhere stops it, with status 1. The last line is 'N pages, M files'."""
+
+import os
+import re
+import shutil
+import sys
+from fnmatch import fnmatch
+from pathlib import Path
+
+TOP = Path(__file__).resolve().parent.parent
+FIRST, INDEX = "README.md", "index.md"
+# What a browser shows by itself; every other file is copied as text.
+SHOWN = {".png", ".json", ".txt"}
+
+LINK = re.compile(r"(?<!!)\[([^\[\]]+)\]\((?![a-z]+:)([^()#\s]+)(#[^()\s]*)?\)")
+IMAGE = re.compile(r"!\[[^\]]*\]\(([^()\s]+)\)")
+PICTURE = re.compile(r'<picture>.*<img alt="([^"]*)" src="([^"]*)"></picture>')
+
+
+class BadLink(Exception):
+    """A link that leads nowhere; the text says where it stands."""
+
+
+def pages() -> list[str]:
+    """The paths of all pages: not what was built, nor the page of a release's own tree."""
+    found = {*TOP.glob("*.md"), *TOP.glob("docs/**/*.md"), *TOP.glob("conformance/**/*.md"), *TOP.glob("*/README.md"), *TOP.glob("*/*/README.md")}
+    paths = (it.relative_to(TOP) for it in found)
+    return sorted(str(it) for it in paths if "out" not in it.parts and "tarball" not in it.parts)
+
+
+class Site:
+    """The folder that is filled."""
+
+    def __init__(self, folder: Path) -> None:
+        self.folder, self.pages = folder, pages()
+        self.files: set[str] = set()
+
+    def place_of(self, path: str) -> str:
+        """Where a page or a file stands in the folder."""
+        if path == FIRST:
+            return INDEX
+        return path if path in self.pages or Path(path).suffix in SHOWN else f"{path}.txt"
+
+    def target(self, page: str, link: str) -> str:
+        """The path of the repository to which a link of a page leads: a page where a folder has one."""
+        path = os.path.normpath(os.path.join(os.path.dirname(page), link))
+        if not (TOP / path).exists():
+            raise BadLink(f"{page}: nothing at {link}")
+        first = os.path.normpath(os.path.join(path, FIRST))
+        return first if first in self.pages else path
+
+    def linked(self, page: str, link: re.Match[str]) -> str:
+        """A link of a page as it is in the folder."""
+        text, path = link[1], self.target(page, link[2])
+        if (TOP / path).is_dir():
+            return f"`{path}/`" if text.strip("`") in (path, link[2]) else f"{text} (`{path}/`)"
+        if path not in self.pages:
+            self.files.add(path)
+        place = os.path.relpath(self.place_of(path), os.path.dirname(page) or ".")
+        return f"[{text}]({place}{link[3] or ''})"
+
+    def pictured(self, page: str, line: str) -> str:
+        """A line with its picture as Markdown has it."""
+        line = PICTURE.sub(r"![\1](\2)", line)
+        self.files.update(self.target(page, it) for it in IMAGE.findall(line))
+        return line
+
+    def text_of(self, page: str) -> str:
+        """The text of a page for the folder: all but its fenced blocks may have links."""
+        lines: list[str] = []
+        is_open = False
+        for line in (TOP / page).read_text(encoding="utf-8").splitlines():
+            fence = line.startswith("```")
+            is_open ^= fence
+            plain = fence or is_open
+            lines.append(line if plain else LINK.sub(lambda it: self.linked(page, it), self.pictured(page, line)))
+        return "\n".join(lines) + "\n"
+
+    def contents(self) -> str:
+        """The contents behind the first page: a list of pages for each heading of contents.txt, in which each page stands once."""
+        left = [it for it in self.pages if it != FIRST]
+        lists: list[str] = []
+        for block in (TOP / "site/contents.txt").read_text(encoding="utf-8").strip().split("\n\n")[1:]:
+            heading, *patterns = block.splitlines()
+            named = list(dict.fromkeys(it for pattern in patterns for it in left if fnmatch(it, pattern)))
+            left = [it for it in left if it not in named]
+            if named:
+                lists.append("\n".join(["```{toctree}", ":hidden:", f":caption: {heading}", "", *(it.removesuffix(".md") for it in named), "```"]))
+        return "\n" + "\n\n".join(lists) + "\n"
+
+    def fill(self) -> None:
+        """Writes all pages, and copies what they lead to."""
+        texts = {self.place_of(it): self.text_of(it) for it in self.pages}
+        texts[INDEX] += self.contents()
+        for place, text in texts.items():
+            (self.folder / place).parent.mkdir(parents=True, exist_ok=True)
+            (self.folder / place).write_text(text, encoding="utf-8")
+        for path in self.files:
+            place = self.folder / self.place_of(path)
+            place.parent.mkdir(parents=True, exist_ok=True)
+            shutil.copyfile(TOP / path, place)
+
+
+def main() -> int:
+    """Fills the folder that is named."""
+    if len(sys.argv) != 2:
+        print(__doc__, file=sys.stderr)
+        return 2
+    site = Site(Path(sys.argv[1]))
+    try:
+        site.fill()
+    except BadLink as why:
+        print(why)
+        return 1
+    print(f"{len(site.pages)} pages, {len(site.files)} files")
+    return 0
+
+
+if __name__ == "__main__":
+    sys.exit(main())
