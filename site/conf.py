@@ -24,6 +24,7 @@ html_sidebars = {"**": ["about.html", "searchbox.html", "navigation.html"]}
 html_show_copyright = False
 html_show_sourcelink = False
 html_copy_source = False
+html_use_index = False
 html_theme_options: dict[str, Any] = {
     "description": "Channels, IBM 2311 and 2314 drives, and the program dasd",
     "fixed_sidebar": True,

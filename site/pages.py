@@ -102,9 +102,9 @@ class Site:
             (self.folder / place).parent.mkdir(parents=True, exist_ok=True)
             (self.folder / place).write_text(text, encoding="utf-8")
         for path in self.files:
-            place = self.folder / self.place_of(path)
-            place.parent.mkdir(parents=True, exist_ok=True)
-            shutil.copyfile(TOP / path, place)
+            copy = self.folder / self.place_of(path)
+            copy.parent.mkdir(parents=True, exist_ok=True)
+            shutil.copyfile(TOP / path, copy)
 
 
 def main() -> int:
