@@ -3,9 +3,10 @@
 from pathlib import Path
 from typing import Any
 
-project = "A verified disk subsystem for System/360 emulators"
+project = "dasd"
 version = release = (Path(__file__).parent.parent / "VERSION").read_text(encoding="utf-8").strip()
 language = "en"
+smartquotes = False
 
 extensions = ["myst_parser"]
 source_suffix = {".md": "markdown"}
@@ -24,8 +25,9 @@ html_sidebars = {"**": ["about.html", "searchbox.html", "navigation.html"]}
 html_show_copyright = False
 html_show_sourcelink = False
 html_copy_source = False
+html_use_index = False
 html_theme_options: dict[str, Any] = {
-    "description": "Channels, IBM 2311 and 2314 drives, and the program dasd",
+    "description": "A verified disk subsystem for System/360 emulators",
     "fixed_sidebar": True,
     "page_width": "1200px",
     "sidebar_width": "260px",

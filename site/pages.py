@@ -87,11 +87,14 @@ class Site:
         left = [it for it in self.pages if it != FIRST]
         lists: list[str] = []
         for block in (TOP / "site/contents.txt").read_text(encoding="utf-8").strip().split("\n\n")[1:]:
-            heading, *patterns = block.splitlines()
-            named = list(dict.fromkeys(it for pattern in patterns for it in left if fnmatch(it, pattern)))
-            left = [it for it in left if it not in named]
-            if named:
-                lists.append("\n".join(["```{toctree}", ":hidden:", f":caption: {heading}", "", *(it.removesuffix(".md") for it in named), "```"]))
+            heading, *lines = block.splitlines()
+            entries: list[str] = []
+            for pattern, _, title in (line.partition(" ") for line in lines):
+                named = [it for it in left if fnmatch(it, pattern)]
+                left = [it for it in left if it not in named]
+                entries += [f"{title} <{it}>" if title else it for it in named]
+            if entries:
+                lists.append("\n".join(["```{toctree}", ":hidden:", f":caption: {heading}", "", *entries, "```"]))
         return "\n" + "\n\n".join(lists) + "\n"
 
     def fill(self) -> None:
@@ -102,9 +105,9 @@ class Site:
             (self.folder / place).parent.mkdir(parents=True, exist_ok=True)
             (self.folder / place).write_text(text, encoding="utf-8")
         for path in self.files:
-            place = self.folder / self.place_of(path)
-            place.parent.mkdir(parents=True, exist_ok=True)
-            shutil.copyfile(TOP / path, place)
+            copy = self.folder / self.place_of(path)
+            copy.parent.mkdir(parents=True, exist_ok=True)
+            shutil.copyfile(TOP / path, copy)
 
 
 def main() -> int:

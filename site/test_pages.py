@@ -1,0 +1,63 @@
+"""Tests of pages.py, over a small repository that is made for each: `python3 site/test_pages.py`."""
+
+import tempfile
+import unittest
+from pathlib import Path
+from unittest import mock
+
+import pages
+
+FILES = {
+    "README.md": "# First\n\n[a deck](docs/DECKS.md), [the crates](crates), [one of them](crates/low)\n",
+    "docs/DECKS.md": "# Decks\n\n[first](../README.md#get-it), [`dasd.h`](../c/dasd.h), [form](form.json)\n\n```sh\necho '[x](y)'\n```\n",
+    "docs/NEW.md": '# New\n\n<picture><source srcset="pictures/a-dark.png"><img alt="A pack" src="pictures/a.png"></picture>\n',
+    "docs/form.json": "{}\n",
+    "docs/pictures/a.png": "",
+    "c/dasd.h": "/* calls */\n",
+    "crates/low/README.md": "# `low`\n",
+    "release/out/README.md": "# Not a page\n",
+    "site/contents.txt": "# The order.\n\nProgram\ndocs/DECKS.md How decks are written\n\nThe rest\n*\n",
+}
+
+
+class Pages(unittest.TestCase):
+    """What the folder for Sphinx has."""
+
+    def filled(self, changed: dict[str, str]) -> dict[str, str]:
+        """The texts of the folder, by their paths."""
+        with tempfile.TemporaryDirectory() as top, tempfile.TemporaryDirectory() as folder:
+            for name, text in {**FILES, **changed}.items():
+                Path(top, name).parent.mkdir(parents=True, exist_ok=True)
+                Path(top, name).write_text(text, encoding="utf-8")
+            with mock.patch.object(pages, "TOP", Path(top)):
+                pages.Site(Path(folder)).fill()
+            found = [it for it in Path(folder).rglob("*") if it.is_file()]
+            return {str(it.relative_to(folder)): it.read_text(encoding="utf-8") for it in found}
+
+    def test_pages_and_what_they_lead_to(self) -> None:
+        wanted = {"index.md", "docs/DECKS.md", "docs/NEW.md", "crates/low/README.md", "c/dasd.h.txt", "docs/form.json", "docs/pictures/a.png"}
+        self.assertEqual(set(self.filled({})), wanted)
+
+    def test_links(self) -> None:
+        made = self.filled({})
+        self.assertIn("[a deck](docs/DECKS.md), the crates (`crates/`), [one of them](crates/low/README.md)\n", made["index.md"])
+        self.assertIn("[first](../index.md#get-it), [`dasd.h`](../c/dasd.h.txt), [form](form.json)\n", made["docs/DECKS.md"])
+
+    def test_fenced_blocks_stay(self) -> None:
+        self.assertIn("echo '[x](y)'\n", self.filled({})["docs/DECKS.md"])
+
+    def test_pictures(self) -> None:
+        self.assertIn("\n![A pack](pictures/a.png)\n", self.filled({})["docs/NEW.md"])
+
+    def test_contents(self) -> None:
+        lists = self.filled({})["index.md"].split("```{toctree}\n")[1:]
+        self.assertEqual(lists[0], ":hidden:\n:caption: Program\n\nHow decks are written <docs/DECKS.md>\n```\n\n")
+        self.assertEqual(lists[1], ":hidden:\n:caption: The rest\n\ncrates/low/README.md\ndocs/NEW.md\n```\n")
+
+    def test_link_to_nothing(self) -> None:
+        with self.assertRaisesRegex(pages.BadLink, "docs/NEW.md: nothing at TIMES.md"):
+            self.filled({"docs/NEW.md": "# New\n\n[times](TIMES.md)\n"})
+
+
+if __name__ == "__main__":
+    unittest.main()
