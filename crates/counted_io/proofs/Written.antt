@@ -88,3 +88,7 @@ written_then (Err fault) a b c bytes h w = (
   },
   w.1 ∙ ap (λ n. n + 1) h.1,
 )
+
+-- no bytes more
+pub none_more : (l : List ℕ) → l ++ [] ≡ l
+none_more l = append-nil l

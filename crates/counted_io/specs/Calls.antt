@@ -19,3 +19,8 @@ CountsWrite before now (Err _) bytes = now ≡ before + 1
 abbrev pub PassesTaken : {E : Type 0} → (before now : List ℕ) → Result ℕ E → (bytes : List ℕ) → Type 0
 PassesTaken before now (Ok count) bytes = now ≡ before ++ take count bytes
 PassesTaken before now (Err _) bytes = now ≡ before
+
+-- all bytes that passed are flushed where the call answers no error, and else none more
+abbrev pub FlushesTaken : {T E : Type 0} → (before now : List ℕ) → Result T E → (passed : List ℕ) → Type 0
+FlushesTaken before now (Ok _) passed = now ≡ passed
+FlushesTaken before now (Err _) passed = now ≡ before

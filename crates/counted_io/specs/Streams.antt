@@ -3,15 +3,17 @@ use Rattle.std.specs.Prelude.{◌≡◌, ℕ, ◌+◌, List, ◌++◌, Option, R
 use Rattle.std.specs.Io.KnownBytes.{Appends, Consumes}
 use Rattle.counted_io.specs.declared.counted.Counted.{Counted}
 
--- what is known of its bytes, those that a reader has left or that a writer holds; the bytes that passed; how many calls failed
+-- What is known of its bytes, those that a reader has left or that a writer holds; the bytes that passed; those that had when it was
+-- flushed last; how many calls failed.
 pub record Stream : Type 0 where
   pub known : Option (List ℕ)
   pub passed : List ℕ
+  pub flushed : List ℕ
   pub failures : ℕ
 
 -- a counted reader or writer, by what is known of the bytes of the one within it
 abbrev pub seen_by : {T : Type 0} → (T → Option (List ℕ)) → Counted T → Stream
-seen_by known c = record { known = known c.inner; passed = c.passed.bytes; failures = c.failures }
+seen_by known c = record { known = known c.inner; passed = c.passed.bytes; flushed = c.flushed.bytes; failures = c.failures }
 
 -- these bytes were given, and are left no more
 pub record Gives (before after : Stream) (bytes : List ℕ) : Type 0 where
@@ -29,6 +31,10 @@ pub record TakesFront (before after : Stream) (bytes : List ℕ) : Type 0 where
   pub rest : List ℕ
   pub whole : bytes ≡ front ++ rest
   pub taken : Takes before after front
+
+-- nothing that was taken is held back: it was flushed since
+abbrev pub IsFlushed : Stream → Type 0
+IsFlushed s = s.flushed ≡ s.passed
 
 -- no call failed; one did
 abbrev pub NoneFailed : (before after : Stream) → Type 0

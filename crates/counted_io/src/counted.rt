@@ -3,14 +3,14 @@
 ghost use Rattle.std.specs.Prelude.{◌≡◌, []};
 ghost use Rattle.std.specs.Io.{ReadsAtMost, WritesAtMost};
 ghost use Rattle.std.specs.Io.KnownBytes.{Keeps, ReadConsumes, WriteAppends};
-ghost use Rattle.counted_io.specs.Calls.{CountsCall, CountsWrite, PassesTaken};
+ghost use Rattle.counted_io.specs.Calls.{CountsCall, CountsWrite, PassesTaken, FlushesTaken};
 
 use ghost_data::{Count, Trace};
 use std::io::{Read, Result, Write};
 
-/// A reader or a writer, the bytes that passed since it was made, and how many of its calls failed. Only contracts read these two;
-/// they take no memory and no code. With them a contract can say that a fault comes exactly where a call failed, and what was read
-/// of a reader of whose bytes nothing is known.
+/// A reader or a writer, the bytes that passed since it was made, those of them that were flushed, and how many of its calls failed.
+/// Only contracts read these three; they take no memory and no code. With them a contract can say that a fault comes exactly where a
+/// call failed, that nothing of a text is held back, and what was read of a reader of whose bytes nothing is known.
 ///
 /// A read or a flush fails where it answers an error; a write fails where it answers an error, or takes no byte of some.
 #[derive(Drop)]
@@ -19,6 +19,8 @@ pub struct Counted<T> {
     pub inner: T,
     /// The bytes that it gave, or that it took.
     pub passed: Trace,
+    /// The bytes that had passed when it was flushed last.
+    pub flushed: Trace,
     /// How many of its calls failed.
     pub failures: Count,
 }
@@ -28,11 +30,13 @@ impl<T> Counted<T> {
     pub fn new(inner: T) -> Counted<T>
         ensures inner { result.inner ≡ inner }
         ensures passed { result.passed.bytes ≡ [] }
+        ensures flushed { result.flushed.bytes ≡ [] }
         ensures failures { result.failures ≡ 0 }
     {
         Counted {
             inner,
             passed: Trace::new(),
+            flushed: Trace::new(),
             failures: Count::new(),
         }
     }
@@ -44,6 +48,7 @@ impl<T> Counted<T> {
         let Counted {
             inner,
             passed: _,
+            flushed: _,
             failures: _,
         } = self;
         inner
@@ -75,6 +80,7 @@ impl<W: Write> Write for Counted<W> {
         ensures bound { WritesAtMost result bytes.now }
         ensures bytes { WriteAppends (W.contents self.old.inner) (W.contents self.new.inner) result bytes.now }
         ensures passed { PassesTaken self.old.passed.bytes self.new.passed.bytes result bytes.now }
+        ensures flushed { self.new.flushed.bytes ≡ self.old.flushed.bytes }
         ensures counted { CountsWrite self.old.failures self.new.failures result bytes.now }
     {
         let written = self.inner.write(bytes);
@@ -91,14 +97,17 @@ impl<W: Write> Write for Counted<W> {
         written
     }
 
+    #[tactic(auto, using(crate::proofs::Written::none_more))]
     fn flush(&mut self) -> Result<()>
         ensures bytes { Keeps (W.contents self.old.inner) (W.contents self.new.inner) }
         ensures passed { self.new.passed.bytes ≡ self.old.passed.bytes }
+        ensures flushed { FlushesTaken self.old.flushed.bytes self.new.flushed.bytes result self.old.passed.bytes }
         ensures counted { CountsCall self.old.failures self.new.failures result }
     {
         let flushed = self.inner.flush();
-        if flushed.is_err() {
-            self.failures = self.failures.next();
+        match &flushed {
+            Ok(()) => self.flushed = self.passed.and(&[]),
+            Err(_) => self.failures = self.failures.next(),
         }
         flushed
     }

@@ -1,7 +1,7 @@
 //! Bytes are written whole.
 
-ghost use Rattle.std.specs.Prelude.{[]};
-ghost use Rattle.counted_io.specs.Streams.{seen_by, WritesWhole};
+ghost use Rattle.std.specs.Prelude.{[], OnOk};
+ghost use Rattle.counted_io.specs.Streams.{seen_by, WritesWhole, IsFlushed};
 
 use crate::counted::Counted;
 use std::io::Write;
@@ -39,7 +39,8 @@ pub fn write_whole<W: Write>(writer: &mut Counted<W>, bytes: &[u8]) -> Result<()
 ///
 /// The flush failed.
 pub fn flush_all<W: Write>(writer: &mut Counted<W>) -> Result<(), WriteFault>
-    ensures { WritesWhole result (seen_by W.contents writer.old) (seen_by W.contents writer.new) [] }
+    ensures written { WritesWhole result (seen_by W.contents writer.old) (seen_by W.contents writer.new) [] }
+    ensures flushed { OnOk result (IsFlushed (seen_by W.contents writer.new)) }
 {
     match writer.flush() {
         Ok(()) => Ok(()),
@@ -53,7 +54,8 @@ pub fn flush_all<W: Write>(writer: &mut Counted<W>) -> Result<(), WriteFault>
 ///
 /// A write failed, or took no byte, or the flush failed: it is the last call, and the first bytes may be written.
 pub fn write_flushed<W: Write>(writer: &mut Counted<W>, bytes: &[u8]) -> Result<(), WriteFault>
-    ensures { WritesWhole result (seen_by W.contents writer.old) (seen_by W.contents writer.new) bytes.now }
+    ensures written { WritesWhole result (seen_by W.contents writer.old) (seen_by W.contents writer.new) bytes.now }
+    ensures flushed { OnOk result (IsFlushed (seen_by W.contents writer.new)) }
 {
     match write_whole(writer, bytes) {
         Ok(()) => flush_all(writer),

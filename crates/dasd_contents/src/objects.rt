@@ -3,7 +3,7 @@
 ghost use Rattle.std.specs.Prelude.{◌≡◌, ◌≢◌, ◌<◌, ◌++◌, Some, length, OnOk, OnErr, IfErr};
 ghost use Rattle.std.specs.List.{flat_map};
 ghost use Rattle.std.specs.Io.KnownBytes.{Appends};
-ghost use Rattle.counted_io.specs.Streams.{seen_by, Takes, TakesFront};
+ghost use Rattle.counted_io.specs.Streams.{seen_by, Takes, TakesFront, IsFlushed};
 ghost use Rattle.dasd_volumes.specs.Printing.{CountsWrites};
 ghost use Rattle.dasd_contents.specs.Objects.{quoted_text, four_text, day_or_null, path_text, label_members, volume_object, name_members, number_members, comma_before, listed_extent, extents_text, set_object, block_object, finding_members, finding_object, volume_objects, contents_objects};
 
@@ -41,6 +41,7 @@ pub fn write_objects<W: Write>(
     ensures writes { CountsWrites result (seen_by W.contents writer.old) (seen_by W.contents writer.new) }
     ensures none { IfErr result (λ e. e ≡ VolumeFault.OutOfMemory → writer.new ≡ writer.old) }
     ensures fault { IfErr result (λ e. e ≢ VolumeFault.Store) }
+    ensures flushed { OnOk result (IsFlushed (seen_by W.contents writer.new)) }
 {
     let mut objects = Vec::new(alloc);
     if make_objects(alloc, &mut objects, Volume { path, geometry }, contents).is_err() {

@@ -1,7 +1,7 @@
 //! Formatting, listing and checking.
 
 ghost use Rattle.std.specs.Prelude.{◌≡◌, [], false, map, IfOk, IfErr, OnOk};
-ghost use Rattle.counted_io.specs.Streams.{seen_by, WritesWhole};
+ghost use Rattle.counted_io.specs.Streams.{seen_by, WritesWhole, IsFlushed};
 ghost use Rattle.ckd_track.specs.Model.{slot_size_of};
 ghost use Rattle.ckd_image.specs.Image.{new_file};
 ghost use Rattle.dasd_jobs.specs.Causes.{volume_fault};
@@ -53,6 +53,7 @@ pub fn format_file<F: ImageFiles, W: Write, P: Progress>(
     ensures formats { Formats result volume.entry.path.now volume.entry.model volume.entry.cylinders (F.written files.old) (F.written files.new)
         (seen_by W.contents writer.old) (seen_by W.contents writer.new) }
     ensures cleared { P.is_shown progress.new ≡ false }
+    ensures flushed { OnOk result (IsFlushed (seen_by W.contents writer.new)) }
 {
     let written = write_shown(alloc, files, progress, volume);
     progress.clear();
@@ -70,7 +71,8 @@ fn write_formatted<W: Write, P: Progress>(
     volume: NewVolume,
 ) -> Result<(), WriteFault>
     requires { P.is_shown _progress.now ≡ false }
-    ensures { WritesWhole result (seen_by W.contents writer.old) (seen_by W.contents writer.new) (formatted_line volume.entry.model volume.entry.cylinders) }
+    ensures written { WritesWhole result (seen_by W.contents writer.old) (seen_by W.contents writer.new) (formatted_line volume.entry.model volume.entry.cylinders) }
+    ensures flushed { OnOk result (IsFlushed (seen_by W.contents writer.new)) }
 {
     let mut line: ArrayString<40> = ArrayString::new();
     line.push_str("formatted ");
@@ -171,6 +173,7 @@ pub fn list_files<F: ImageFiles, W: Write>(
         (seen_by W.contents writer.old) (seen_by W.contents writer.new) }
     ensures writes { CountsLines result (seen_by W.contents writer.old) (seen_by W.contents writer.new) }
     ensures none { IfErr result (λ e. e ≡ JobFault.OutOfMemory → writer.new ≡ writer.old) }
+    ensures flushed { OnOk result (IsFlushed (seen_by W.contents writer.new)) }
 {
     let mut volume = open_volume(alloc, files, paths)?;
     match dasd_volumes::list(alloc, &mut volume, writer) {
@@ -198,6 +201,7 @@ pub fn check_files<F: ImageFiles, W: Write, P: Progress>(
         (seen_by W.contents writer.old) (seen_by W.contents writer.new) }
     ensures writes { CountsLines result (seen_by W.contents writer.old) (seen_by W.contents writer.new) }
     ensures none { IfErr result (λ e. e ≡ JobFault.OutOfMemory → writer.new ≡ writer.old) }
+    ensures flushed { OnOk result (IsFlushed (seen_by W.contents writer.new)) }
 {
     let mut volume = open_volume(alloc, files, paths)?;
     match dasd_volumes::check(alloc, &mut volume, writer, progress) {

@@ -1,7 +1,7 @@
 //! The tracks of a volume that can't be read.
 
-ghost use Rattle.std.specs.Prelude.{◌≡◌, ◌≢◌, ◌<◌, ◌≤◌, false, length, IfOk, IfErr};
-ghost use Rattle.counted_io.specs.Streams.{seen_by, WritesWhole};
+ghost use Rattle.std.specs.Prelude.{◌≡◌, ◌≢◌, ◌<◌, ◌≤◌, false, length, IfOk, IfErr, OnOk};
+ghost use Rattle.counted_io.specs.Streams.{seen_by, WritesWhole, IsFlushed};
 ghost use Rattle.ckd_track.specs.Track.{track_of};
 ghost use Rattle.dasd_volumes.specs.Printing.{PrintsText, CountsWrites, CountsFindings};
 ghost use Rattle.dasd_volumes.specs.Reading.{IsRead};
@@ -38,6 +38,7 @@ pub fn check<V: SlotReader, W: Write, P: Progress>(
     ensures none { IfErr result (λ e. e ≡ VolumeFault.OutOfMemory → writer.new ≡ writer.old) }
     ensures volume { IsRead result (V.volume volume.old) (V.volume volume.new) (V.failures volume.old) (V.failures volume.new) }
     ensures cleared { P.is_shown progress.new ≡ false }
+    ensures flushed { OnOk result (IsFlushed (seen_by W.contents writer.new)) }
 {
     progress.clear();
     let Ok(mut slot) = vec![in alloc; 0u8; volume.geometry().track_size as usize] else {
@@ -166,7 +167,8 @@ fn write_number<W: Write, P: Progress>(
     findings: u32,
 ) -> Result<(), WriteFault>
     requires { P.is_shown _progress.now ≡ false }
-    ensures { WritesWhole result (seen_by W.contents writer.old) (seen_by W.contents writer.new) (number_line findings) }
+    ensures written { WritesWhole result (seen_by W.contents writer.old) (seen_by W.contents writer.new) (number_line findings) }
+    ensures flushed { OnOk result (IsFlushed (seen_by W.contents writer.new)) }
 {
     let mut line: ArrayString<LINE> = ArrayString::new();
     put_decimal(&mut line, findings);

@@ -1,8 +1,8 @@
 //! A volume's tracks and records.
 
-ghost use Rattle.std.specs.Prelude.{◌≡◌, ◌≢◌, ◌+◌, ◌≤◌, ◌++◌, ◌<◌, length, IfErr};
+ghost use Rattle.std.specs.Prelude.{◌≡◌, ◌≢◌, ◌+◌, ◌≤◌, ◌++◌, ◌<◌, length, IfErr, OnOk};
 ghost use Rattle.std.specs.List.{flat_map};
-ghost use Rattle.counted_io.specs.Streams.{seen_by, WritesWhole};
+ghost use Rattle.counted_io.specs.Streams.{seen_by, WritesWhole, IsFlushed};
 ghost use Rattle.ckd_track.specs.Track.{track_of, record_in};
 ghost use Rattle.dasd_volumes.specs.Lines.{volume_line, track_line, record_line, track_lines, unreadable_line};
 ghost use Rattle.dasd_volumes.specs.Printing.{PrintsText, CountsWrites};
@@ -37,6 +37,7 @@ pub fn list<V: SlotReader, W: Write>(
     ensures writes { CountsWrites result (seen_by W.contents writer.old) (seen_by W.contents writer.new) }
     ensures none { IfErr result (λ e. e ≡ VolumeFault.OutOfMemory → writer.new ≡ writer.old) }
     ensures volume { IsRead result (V.volume volume.old) (V.volume volume.new) (V.failures volume.old) (V.failures volume.new) }
+    ensures flushed { OnOk result (IsFlushed (seen_by W.contents writer.new)) }
 {
     let geometry = volume.geometry();
     let Ok(mut slot) = vec![in alloc; 0u8; geometry.track_size as usize] else {

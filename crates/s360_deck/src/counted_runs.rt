@@ -1,6 +1,7 @@
 //! A deck is run between a reader and a writer whose failures are counted.
 
-ghost use Rattle.counted_io.specs.Streams.{seen_by};
+ghost use Rattle.std.specs.Prelude.{OnOk};
+ghost use Rattle.counted_io.specs.Streams.{seen_by, IsFlushed};
 ghost use Rattle.s360_deck.specs.CountedRuns.{CountedRuns};
 ghost use Rattle.s360_deck.specs.Runs.{StaysUnlessRun};
 
@@ -30,6 +31,7 @@ pub fn run_counted<R: Read, W: Write, S: ImageStore>(
         (seen_by W.contents writer.old) (seen_by W.contents writer.new) }
     ensures no_event { StaysUnlessRun result channel.old channel.new }
     ensures nothing_written { StaysUnlessRun result writer.old writer.new }
+    ensures flushed { OnOk result (IsFlushed (seen_by W.contents writer.new)) }
 {
     match read_text(alloc, reader) {
         Ok(text) => run_text(alloc, text.as_slice(), writer, channel),

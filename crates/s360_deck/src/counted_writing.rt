@@ -1,7 +1,7 @@
 //! The lines of answers are written, to a writer whose failures are counted.
 
-ghost use Rattle.std.specs.Prelude.{◌++◌, ◌∷◌, []};
-ghost use Rattle.counted_io.specs.Streams.{seen_by, WritesWhole};
+ghost use Rattle.std.specs.Prelude.{◌++◌, ◌∷◌, [], OnOk};
+ghost use Rattle.counted_io.specs.Streams.{seen_by, WritesWhole, IsFlushed};
 ghost use Rattle.s360_deck.specs.Lines.{answer_text, lines_text};
 
 use crate::lines::put_answer;
@@ -15,8 +15,9 @@ pub(crate) fn write_counted<W: Write>(
     writer: &mut Counted<W>,
     answers: &[Answer],
 ) -> Result<(), WriteFault>
-    ensures { WritesWhole result (seen_by W.contents writer.old) (seen_by W.contents writer.new)
+    ensures written { WritesWhole result (seen_by W.contents writer.old) (seen_by W.contents writer.new)
         (lines_text answers.now) }
+    ensures flushed { OnOk result (IsFlushed (seen_by W.contents writer.new)) }
 {
     for answer in answers {
         write_line(writer, answer)?;

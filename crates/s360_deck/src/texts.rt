@@ -1,7 +1,7 @@
 //! A deck is run from its text.
 
-ghost use Rattle.std.specs.Prelude.{◌≡◌};
-ghost use Rattle.counted_io.specs.Streams.{seen_by};
+ghost use Rattle.std.specs.Prelude.{◌≡◌, OnOk};
+ghost use Rattle.counted_io.specs.Streams.{seen_by, IsFlushed};
 ghost use Rattle.s360_deck.specs.CountedRuns.{run_fault};
 ghost use Rattle.s360_deck.specs.Runs.{StaysUnlessRun};
 ghost use Rattle.s360_deck.specs.Texts.{RunsText};
@@ -32,6 +32,7 @@ pub fn run_text<W: Write, S: ImageStore>(
         (seen_by W.contents writer.old) (seen_by W.contents writer.new) }
     ensures no_event { StaysUnlessRun result channel.old channel.new }
     ensures nothing_written { StaysUnlessRun result writer.old writer.new }
+    ensures flushed { OnOk result (IsFlushed (seen_by W.contents writer.new)) }
 {
     if text.len() > DECK_LENGTH {
         return Err(RunFault::Read);

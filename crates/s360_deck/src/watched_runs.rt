@@ -1,6 +1,7 @@
 //! A deck is run as ever, and watched.
 
-ghost use Rattle.counted_io.specs.Streams.{seen_by};
+ghost use Rattle.std.specs.Prelude.{OnOk};
+ghost use Rattle.counted_io.specs.Streams.{seen_by, IsFlushed};
 ghost use Rattle.s360_deck.specs.CountedRuns.{CountedRuns};
 ghost use Rattle.s360_deck.specs.Runs.{StaysUnlessRun};
 ghost use Rattle.s360_deck.specs.Texts.{RunsText};
@@ -36,6 +37,7 @@ pub fn run_watched<R: Read, W: Write, S: ImageStore, V: Watcher>(
         (seen_by W.contents writer.old) (seen_by W.contents writer.new) }
     ensures no_event { StaysUnlessRun result channel.old channel.new }
     ensures nothing_written { StaysUnlessRun result writer.old writer.new }
+    ensures flushed { OnOk result (IsFlushed (seen_by W.contents writer.new)) }
 {
     match read_text(alloc, reader) {
         Ok(text) => run_text_watched(alloc, text.as_slice(), writer, channel, watcher),
@@ -59,6 +61,7 @@ pub fn run_text_watched<W: Write, S: ImageStore, V: Watcher>(
         (seen_by W.contents writer.old) (seen_by W.contents writer.new) }
     ensures no_event { StaysUnlessRun result channel.old channel.new }
     ensures nothing_written { StaysUnlessRun result writer.old writer.new }
+    ensures flushed { OnOk result (IsFlushed (seen_by W.contents writer.new)) }
 {
     if text.len() > DECK_LENGTH {
         return Err(RunFault::Read);

@@ -34,4 +34,4 @@ returns-in_err-list_cylinder-clause-lines g c =
 -- the flush failed
 pub returns-clause-lines : goal.returns-clause-lines
 returns-clause-lines g c =
-    λ slots known. let are = c.loop-cylinder.invariant.lines slots known in front_then_none _ _ (seen_by g.W.Write.contents c.flush_all.new.writer) _ (search (rules, tests, are)) c.in-Err-flush_all.ensures.0
+    λ slots known. let are = c.loop-cylinder.invariant.lines slots known in front_then_none _ _ (seen_by g.W.Write.contents c.flush_all.new.writer) _ (search (rules, tests, are)) c.in-Err-flush_all.ensures.written.0
