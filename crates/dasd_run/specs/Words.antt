@@ -2,13 +2,11 @@
 use Rattle.std.specs.Prelude.{◌≡◌, ◌⊎◌, ◌×◌, ◌<◌, ⊥, ℕ, List, length, Option, Result, Ok, Err}
 use Rattle.counted_io.specs.Streams.{Stream}
 use Rattle.s360_deck.specs.declared.runs.RunFault.TheVariants as run
-use Rattle.s360_deck.specs.Deck.{events_of}
 use Rattle.s360_assembler.specs.Assembled.{assembled}
-use Rattle.s360_assembler.specs.Laws.{AreWordsOf}
+use Rattle.s360_assembler.specs.Laws.{AreWordsOf, NotDisassembled}
 use Rattle.s360_assembler.specs.declared.fault.AssemblyFault.{AssemblyFault}
 use Rattle.s360_assembler.specs.declared.fault.AssemblyFault.TheVariants as assembly
 use Rattle.s360_assembler.specs.declared.fault.DisassemblyFault.{DisassemblyFault}
-use Rattle.s360_assembler.specs.declared.fault.DisassemblyFault.TheVariants as disassembly
 use Rattle.dasd_run.specs.declared.commands.Ending.{Ending}
 use Rattle.dasd_run.specs.declared.fault.ProgramFault.{ProgramFault}
 use Rattle.dasd_run.specs.declared.fault.ProgramFault.TheVariants as fault
@@ -43,8 +41,7 @@ PrintsDeck result text before printed =
 -- why a deck is not put into words
 abbrev pub NotInWords : ProgramFault → (deck : List ℕ) → Type 0
 NotInWords (fault.Run run.Read) deck = 1048576 < length deck
-NotInWords (fault.Disassembly source (disassembly.Deck f)) deck = events_of deck ≡ Err f
-NotInWords (fault.Disassembly source f) deck = Unit {0}
+NotInWords (fault.Disassembly source f) deck = NotDisassembled f deck
 NotInWords fault.OutOfMemory deck = Unit {0}
 NotInWords f deck = ⊥
 

@@ -1,5 +1,5 @@
 -- The fields of a line: a label from its first column on, behind blanks an operation, behind blanks its operands, and behind these a remark.
-use Rattle.std.specs.Prelude.{ℕ, ◌+◌, List, [], ◌∷◌, length, take, drop, Bool, true, false, not, ◌&&◌, ◌||◌, ◌==◌, if◌then◌else◌}
+use Rattle.std.specs.Prelude.{ℕ, ◌+◌, List, [], ◌∷◌, length, take, drop, min, slice_index_or, Bool, true, false, not, ◌&&◌, ◌||◌, ◌==◌, if◌then◌else◌}
 use Rattle.std.specs.Char.{to_ascii_uppercase}
 use Rattle.std.specs.List.{position_or_len}
 use Rattle.s360_deck.specs.Deck.{is_blank}
@@ -45,10 +45,18 @@ label_of line = take (word_length line) line
 abbrev pub operation_at : List ℕ → ℕ
 operation_at line = word_length line + gap_length (drop (word_length line) line)
 
+abbrev pub is_apostrophe : ℕ → Bool
+is_apostrophe byte = byte == 39
+
+-- how many bytes stand before the first blank; or as far as the second apostrophe, where an apostrophe stands first
+abbrev pub operation_length : List ℕ → ℕ
+operation_length text =
+    if slice_index_or text 0 0 == 39 then min (position_or_len is_apostrophe (drop 1 text) + 2) (length text) else word_length text
+
 abbrev pub operation_of : List ℕ → List ℕ
 operation_of line =
     let text = drop (operation_at line) line in
-    take (word_length text) text
+    take (operation_length text) text
 
 -- where the operands begin
 abbrev pub operands_at : List ℕ → ℕ

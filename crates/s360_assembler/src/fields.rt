@@ -2,7 +2,7 @@
 
 ghost use Rattle.std.specs.Prelude.{◌≡◌, ◌≤◌, ◌-◌, take, length, false};
 ghost use Rattle.s360_assembler.specs.declared.fields.Quoting.TheVariants.{Outside};
-ghost use Rattle.s360_assembler.specs.Fields.{quoting_behind, raised_byte, raised, word_length, gap_length, label_of, operation_of, operation_at, operands_of, operands_at, operands_length, remark_of};
+ghost use Rattle.s360_assembler.specs.Fields.{quoting_behind, raised_byte, raised, word_length, gap_length, label_of, operation_of, operation_at, operation_length, operands_of, operands_at, operands_length, remark_of};
 
 use std::alloc::{AllocError, Global};
 
@@ -95,7 +95,7 @@ pub(crate) fn fields_of(line: &[u8]) -> Fields<'_>
 {
     let label = first_word(line);
     let operation_at = label.len() + gap_length(&line[label.len()..]);
-    let operation = first_word(&line[operation_at..]);
+    let operation = first_name(&line[operation_at..]);
     let behind = operation_at + operation.len();
     let operands_at = behind + gap_length(&line[behind..]);
     let operands = first_operands(&line[operands_at..]);
@@ -117,6 +117,20 @@ fn first_word(text: &[u8]) -> &[u8]
 {
     match text.iter().position(|byte| *byte == b' ' || *byte == b'\t') {
         Some(at) => &text[..at],
+        None => text,
+    }
+}
+
+// What stands before the first blank; or, where an apostrophe stands first, as far as the second one.
+fn first_name(text: &[u8]) -> &[u8]
+    ensures name { result.now ≡ take (operation_length text.now) text.now }
+    ensures inside { length result.now ≤ length text.now }
+{
+    let [b'\'', name @ ..] = text else {
+        return first_word(text);
+    };
+    match name.iter().position(|byte| *byte == b'\'') {
+        Some(at) => &text[..at + 2],
         None => text,
     }
 }

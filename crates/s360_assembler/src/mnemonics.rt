@@ -1,11 +1,11 @@
 //! The words of commands.
 
 ghost use Rattle.std.specs.Prelude.{◌≡◌, ◌≤◌, length, find};
-ghost use Rattle.std.specs.Str.{bytes_eq};
-ghost use Rattle.s360_assembler.specs.Mnemonics.{mnemonic, word_of, code_named, worded_codes};
+ghost use Rattle.s360_assembler.specs.Mnemonics.{mnemonic, word_of, names, quoted_name_of, is_multi_track, code_named, worded_codes};
 
-use arrayvec::ArrayString;
+use arrayvec::{ArrayString, ArrayVec};
 use ckd_sense::Command;
+use s360_explain::code_name;
 
 /// The codes that have words: Transfer In Channel, and those of the commands of the drives.
 const WORDED_CODES: [u8; 40] = [
@@ -73,7 +73,7 @@ pub fn word_of(code: u8) -> ArrayString<8>
     word
 }
 
-/// The code of a word, in capitals.
+/// The code of a word, as `SIDEQ`, or of a long name, as `'SEARCH ID EQUAL'`, in capitals.
 pub fn code_named(word: &[u8]) -> Option<u8>
     ensures { result ≡ code_named word.now }
 {
@@ -83,18 +83,44 @@ pub fn code_named(word: &[u8]) -> Option<u8>
 
 // The first of the codes that has this word.
 fn look_up(word: &[u8]) -> Option<u8>
-    ensures { result ≡ find (λ code. bytes_eq (word_of code) word.now) WORDED_CODES }
+    ensures { result ≡ find (λ code. names code word.now) WORDED_CODES }
 {
     WORDED_CODES.iter().copied().find(
         |code: &u8| -> bool
-            ensures { result ≡ bytes_eq (word_of code.now) word.now }
-        { is_word_of(*code, word) },
+            ensures { result ≡ names code.now word.now }
+        { names(*code, word) },
     )
 }
 
-// Whether a word is that of a code.
-fn is_word_of(code: u8, word: &[u8]) -> bool
-    ensures { result ≡ bytes_eq (word_of code) word.now }
+// Whether a word is that of a code, or its long name.
+fn names(code: u8, word: &[u8]) -> bool
+    ensures { result ≡ names code word.now }
 {
-    word_of(code).as_str().as_bytes() == word
+    word_of(code).as_str().as_bytes() == word || quoted_name_of(code).as_slice() == word
+}
+
+// The long name of a code, in capitals and in apostrophes.
+fn quoted_name_of(code: u8) -> ArrayVec<u8, 32>
+    ensures { result.items ≡ quoted_name_of code }
+{
+    let mut name = ArrayVec::new();
+    name.push(b'\'');
+    for byte in code_name(code).as_bytes() {
+        name.push(byte.to_ascii_uppercase());
+    }
+    if is_multi_track(code) {
+        name.try_extend_from_slice(b" MT").unwrap();
+    }
+    name.push(b'\'');
+    name
+}
+
+// Whether a code is that of a command with the multi-track bit.
+fn is_multi_track(code: u8) -> bool
+    ensures { result ≡ is_multi_track code }
+{
+    match Command::decode(code) {
+        Some(found) => found.multi_track,
+        None => false,
+    }
 }

@@ -1,7 +1,8 @@
 //! A deck in words.
 
-ghost use Rattle.std.specs.Prelude.{◌≡◌, true, IfOk};
-ghost use Rattle.s360_assembler.specs.Laws.{AreWordsOf, Disassembles};
+ghost use Rattle.std.specs.Prelude.{◌≡◌, true, Ok, IfOk, IfErr};
+ghost use Rattle.s360_deck.specs.Deck.{events_of};
+ghost use Rattle.s360_assembler.specs.Laws.{AreWordsOfEvents, NotDisassembled, Disassembles};
 
 use crate::assembling::assemble;
 use crate::events::are_same;
@@ -84,13 +85,14 @@ fn place_of(marks: &Marks, address: u32) -> Place {
 
 // Whether the statement at this place has its label, which the first one there has.
 fn takes_label(marks: &mut Marks, place: u32) -> bool {
-    match marks.get_mut(&place) {
-        Some(mark) if mark.is_place && !mark.is_labelled => {
-            mark.is_labelled = true;
-            true
-        }
-        _ => false,
+    let Some(mark) = marks.get_mut(&place) else {
+        return false;
+    };
+    let takes = mark.is_place && !mark.is_labelled;
+    if takes {
+        mark.is_labelled = true;
     }
+    takes
 }
 
 /// The most bytes of storage.
@@ -153,18 +155,21 @@ fn words_of(alloc: Global, events: &[Event]) -> Result<Vec<u8>, AllocError> {
 // The events of a deck.
 fn events_of(alloc: Global, deck: &[u8]) -> Result<Vec<Event>, DisassemblyFault>
     ensures ok { IfOk result (λ events. events_of deck.now ≡ Ok events.items) }
-    ensures err { IfErr result (λ fault. (fault ≡ DisassemblyFault.OutOfMemory) ⊎ IsNoDeck fault deck.now) }
+    ensures err { IfErr result (λ fault. NotDisassembled fault deck.now) }
 {
-    match parse(alloc, deck) {
-        Ok(events) => Ok(events),
-        Err(DeckFault::OutOfMemory) => Err(DisassemblyFault::OutOfMemory),
-        Err(fault) => Err(DisassemblyFault::Deck(fault)),
-    }
+    let fault = match parse(alloc, deck) {
+        Ok(events) => return Ok(events),
+        Err(DeckFault::OutOfMemory) => return Err(DisassemblyFault::OutOfMemory),
+        Err(DeckFault::Unknown(line)) => DeckFault::Unknown(line),
+        Err(DeckFault::Operand(line)) => DeckFault::Operand(line),
+        Err(DeckFault::LineTooLong(line)) => DeckFault::LineTooLong(line),
+    };
+    Err(DisassemblyFault::Deck(fault))
 }
 
 // Whether these words, assembled, are a deck of these events.
 fn are_words_of(alloc: Global, words: &[u8], events: &[Event]) -> Result<bool, AllocError>
-    ensures { IfOk result (λ are. are ≡ true → (again : List ℕ) × (assembled words.now ≡ Ok again) × (events_of again ≡ Ok events.now)) }
+    ensures { IfOk result (λ are. are ≡ true → AreWordsOfEvents events.now words.now) }
 {
     let again = match assemble(alloc, words) {
         Ok(again) => again,
