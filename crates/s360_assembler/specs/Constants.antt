@@ -1,5 +1,5 @@
 -- Constants and areas of storage, as operands spell them: how often, a letter for the kind, and what it is.
-use Rattle.std.specs.Prelude.{ℕ, ◌*◌, ◌-◌, List, [], ◌∷◌, length, take, drop, slice_index_or, replicate, flat_map, position, Bool, not, ◌&&◌, ◌||◌, ◌==◌, nat_le, Option, Some, None, option_map, option_and_then, if◌then◌else◌}
+use Rattle.std.specs.Prelude.{ℕ, ◌*◌, List, [], ◌∷◌, length, take, drop, slice_index_or, replicate, flat_map, position, Bool, not, ◌&&◌, ◌||◌, ◌==◌, nat_le, Option, Some, None, option_map, option_and_then, if◌then◌else◌}
 use Rattle.std.specs.List.{position_or_len}
 use Rattle.byteorder.specs.Endian.{big_bytes}
 use Rattle.volume_labels.specs.Ebcdic.{code_page_037}

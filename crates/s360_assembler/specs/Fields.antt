@@ -1,5 +1,5 @@
 -- The fields of a line: a label from its first column on, behind blanks an operation, behind blanks its operands, and behind these a remark.
-use Rattle.std.specs.Prelude.{ℕ, ◌+◌, List, [], ◌∷◌, length, take, drop, min, slice_index_or, Bool, true, false, not, ◌&&◌, ◌||◌, ◌==◌, if◌then◌else◌}
+use Rattle.std.specs.Prelude.{ℕ, ◌+◌, List, [], ◌∷◌, length, take, drop, min, slice_index_or, Bool, false, not, ◌&&◌, ◌||◌, ◌==◌, if◌then◌else◌}
 use Rattle.std.specs.Char.{to_ascii_uppercase}
 use Rattle.std.specs.List.{position_or_len}
 use Rattle.s360_deck.specs.Deck.{is_blank}

@@ -7,7 +7,7 @@ use Rattle.s360_assembler.specs.declared.deck.Deck.{Deck}
 use Rattle.s360_assembler.specs.declared.fault.Cause.{Cause}
 use Rattle.s360_assembler.specs.declared.fault.Cause.TheVariants as cause
 use Rattle.s360_assembler.specs.declared.statements.Statement.{Statement}
-use Rattle.s360_assembler.specs.declared.statements.Statement.TheVariants.{Nothing, Origin, Reserve, Constant, Pointer, Word, Event, EventAt}
+use Rattle.s360_assembler.specs.declared.statements.Statement.TheVariants.{Origin, Constant, Pointer, Word, Event, EventAt}
 use Rattle.s360_assembler.specs.declared.symbols.Symbol.{Symbol}
 use Rattle.s360_assembler.specs.declared.parts.Part.{Part}
 use Rattle.s360_assembler.specs.declared.parts.Part.TheVariants as part

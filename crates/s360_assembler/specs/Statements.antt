@@ -1,8 +1,8 @@
 -- Statements: what a line says.
-use Rattle.std.specs.Prelude.{ℕ, ◌+◌, ◌-◌, ◌%◌, List, [], length, take, drop, slice_index_or, Bool, ◌&&◌, ◌||◌, ◌==◌, nat_lt, nat_le, Option, Some, None, Result, Ok, Err, is_some, codes, if◌then◌else◌}
+use Rattle.std.specs.Prelude.{ℕ, ◌+◌, ◌-◌, ◌%◌, List, [], length, take, drop, slice_index_or, Bool, ◌&&◌, ◌||◌, ◌==◌, nat_lt, nat_le, Option, Some, None, Result, Ok, Err, is_some, codes, if◌then◌else◌, true, false, not}
 use Rattle.std.specs.List.{before_first, after_first}
 use Rattle.std.specs.Str.{bytes_eq}
-use Rattle.s360_deck.specs.Deck.{name_of, is_comment, without_return}
+use Rattle.s360_deck.specs.Deck.{name_of, is_comment}
 use Rattle.s360_deck.specs.Digits.{storage_address_of}
 use Rattle.s360_deck.specs.declared.spelling.EventName.{EventName}
 use Rattle.s360_deck.specs.declared.spelling.EventName.TheVariants as name

@@ -1,5 +1,5 @@
 -- Symbols, and where statements stand in storage.
-use Rattle.std.specs.Prelude.{◌≡◌, ◌⊎◌, ◌×◌, ℕ, ◌+◌, ◌-◌, ◌*◌, ◌/◌, List, [], ◌∷◌, ◌++◌, length, find, Bool, not, ◌==◌, nat_lt, nat_le, Option, Some, None, option_map, is_some, Result, Ok, Err, if◌then◌else◌}
+use Rattle.std.specs.Prelude.{◌≡◌, ◌⊎◌, ◌×◌, ℕ, ◌+◌, ◌-◌, ◌*◌, ◌/◌, List, [], ◌∷◌, ◌++◌, length, find, not, ◌==◌, nat_lt, nat_le, Option, Some, None, option_map, is_some, Result, Ok, Err, if◌then◌else◌, ◌&&◌}
 use Rattle.std.specs.Str.{bytes_eq}
 use Rattle.s360_assembler.specs.declared.fault.Cause.{Cause}
 use Rattle.s360_assembler.specs.declared.fault.Cause.TheVariants as cause
@@ -10,7 +10,7 @@ use Rattle.s360_assembler.specs.declared.numbers.Address.{Address}
 use Rattle.s360_assembler.specs.declared.numbers.Base.{Base}
 use Rattle.s360_assembler.specs.declared.numbers.Base.TheVariants as base
 use Rattle.s360_assembler.specs.declared.statements.Statement.{Statement}
-use Rattle.s360_assembler.specs.declared.statements.Statement.TheVariants.{Nothing, Origin, Reserve, Constant, Pointer, Word, Event, EventAt}
+use Rattle.s360_assembler.specs.declared.statements.Statement.TheVariants.{Origin, Reserve, Constant, Pointer, Word}
 use Rattle.s360_assembler.specs.declared.symbols.Symbol.{Symbol}
 use Rattle.s360_assembler.specs.Numbers.{is_symbol, padded}
 use Rattle.s360_assembler.specs.Fields.{operands_at}

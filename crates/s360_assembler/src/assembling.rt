@@ -1,9 +1,9 @@
 //! A text in words is assembled, in two passes over its lines.
 
-ghost use Rattle.std.specs.Prelude.{◌≡◌, ◌≤◌, [], IfOk};
+ghost use Rattle.std.specs.Prelude.{◌≡◌, ◌≤◌, [], IfOk, ◌<◌};
 ghost use Rattle.s360_deck.specs.Deck.{lines_of};
 ghost use Rattle.s360_assembler.specs.Parts.{seen};
-ghost use Rattle.s360_assembler.specs.Assembled.{fault_at, told, symbols_behind, deck_behind, new_deck, assembled, Writes, IsAssembled, HasSymbols};
+ghost use Rattle.s360_assembler.specs.Assembled.{told, symbols_behind, deck_behind, new_deck, assembled, Writes, IsAssembled, HasSymbols};
 
 use crate::deck::{Deck, add_part, close};
 use crate::fault::{AssemblyFault, Cause, Mistake};

@@ -1,8 +1,6 @@
 //! Constants and areas of storage, as operands spell them.
 
-ghost use Rattle.std.specs.Prelude.{◌≡◌, ◌≤◌, ◌<◌, ◌*◌, option_map, length, position, IfSome};
-ghost use Rattle.byteorder.specs.Endian.{big_bytes};
-ghost use Rattle.volume_labels.specs.Ebcdic.{code_page_037};
+ghost use Rattle.std.specs.Prelude.{◌≡◌, ◌≤◌, ◌<◌, option_map, length, IfSome};
 ghost use Rattle.s360_deck.specs.Digits.{stored_bytes_of};
 ghost use Rattle.s360_assembler.specs.Constants.{ebcdic_of, ebcdic_text, digits_length, times_of, unit_of, decimal_bytes, bytes_of_unit, repeated, constant_of, bytes_between, boundary_of_kind, boundary_of_unit, is_kind, length_of_unit, area_of};
 

@@ -1,6 +1,6 @@
 //! The fields of a line.
 
-ghost use Rattle.std.specs.Prelude.{◌≡◌, ◌≤◌, ◌-◌, take, length, false};
+ghost use Rattle.std.specs.Prelude.{◌≡◌, ◌≤◌, take, length, false, IfOk};
 ghost use Rattle.s360_assembler.specs.declared.fields.Quoting.TheVariants.{Outside};
 ghost use Rattle.s360_assembler.specs.Fields.{quoting_behind, raised_byte, raised, word_length, gap_length, label_of, operation_of, operation_at, operation_length, operands_of, operands_at, operands_length, remark_of};
 

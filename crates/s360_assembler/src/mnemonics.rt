@@ -96,7 +96,9 @@ fn look_up(word: &[u8]) -> Option<u8>
 fn names(code: u8, word: &[u8]) -> bool
     ensures { result ≡ names code word.now }
 {
-    word_of(code).as_str().as_bytes() == word || quoted_name_of(code).as_slice() == word
+    let short = word_of(code);
+    let long = quoted_name_of(code);
+    short.as_str().as_bytes() == word || long.as_slice() == word
 }
 
 // The long name of a code, in capitals and in apostrophes.

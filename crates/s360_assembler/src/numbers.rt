@@ -1,7 +1,7 @@
 //! Numbers, addresses and flags as operands spell them.
 
-ghost use Rattle.std.specs.Prelude.{◌≡◌, ◌≤◌, ◌<◌, ◌-◌, drop, length, position, IfSome};
-ghost use Rattle.std.specs.List.{slice_split, list_all};
+ghost use Rattle.std.specs.Prelude.{◌≡◌, ◌≤◌, length, position, IfSome, true};
+ghost use Rattle.std.specs.List.{slice_split};
 ghost use Rattle.s360_assembler.specs.Numbers.{number_in, number_to, is_letter, is_letter_or_digit, is_symbol, padded, base_of, is_sign, displaced, address_of, counted_from, flag_of, is_plus, flags_behind, flags_of};
 
 use s360_deck::number;

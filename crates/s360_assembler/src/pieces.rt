@@ -1,5 +1,7 @@
 //! What stands in storage, as statements would say it.
 
+ghost use Rattle.std.specs.Prelude.{◌<◌, ◌≤◌, length};
+
 use crate::mnemonics::word_of;
 use s360_words::{CAW_ADDRESS, Ccw, CcwFlags};
 
