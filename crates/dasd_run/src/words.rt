@@ -37,9 +37,9 @@ fn print<W: Write>(writer: &mut Counted<W>, bytes: &[u8]) -> Result<Ending, Prog
 fn of_assembly(alloc: Global, path: Option<&str>, fault: AssemblyFault) -> ProgramFault
     ensures { IsAssemblyFault result fault }
 {
-    match source_of(alloc, path) {
-        Some(source) => ProgramFault::Assembly(source, fault),
-        None => ProgramFault::OutOfMemory,
+    match (fault, source_of(alloc, path)) {
+        (AssemblyFault::OutOfMemory, _) | (_, None) => ProgramFault::OutOfMemory,
+        (fault, Some(source)) => ProgramFault::Assembly(source, fault),
     }
 }
 
@@ -47,9 +47,9 @@ fn of_assembly(alloc: Global, path: Option<&str>, fault: AssemblyFault) -> Progr
 fn of_disassembly(alloc: Global, path: Option<&str>, fault: DisassemblyFault) -> ProgramFault
     ensures { IsDisassemblyFault result fault }
 {
-    match source_of(alloc, path) {
-        Some(source) => ProgramFault::Disassembly(source, fault),
-        None => ProgramFault::OutOfMemory,
+    match (fault, source_of(alloc, path)) {
+        (DisassemblyFault::OutOfMemory, _) | (_, None) => ProgramFault::OutOfMemory,
+        (fault, Some(source)) => ProgramFault::Disassembly(source, fault),
     }
 }
 

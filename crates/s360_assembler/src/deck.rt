@@ -75,8 +75,8 @@ fn begin_store(text: &mut Vec<u8>, at: u32) -> Result<(), Cause>
 
 // Bytes in storage, in the `STORE` whose line is not done.
 fn go_on(deck: &mut Deck, bytes: &[u8]) -> Result<(), Cause>
-    requires { deck.old.stored + length bytes.now ≤ 128 }
-    requires { deck.old.next ≤ 4294967296 }
+    requires room { deck.old.stored + length bytes.now ≤ 128 }
+    requires place { deck.old.next ≤ 4294967296 }
     ensures ok { OnOk result (seen deck.new ≡ record {
       text = deck.old.text.items ++ (codes " " ++ bytes_text bytes.now);
       stored = deck.old.stored + length bytes.now;

@@ -127,8 +127,8 @@ pub(crate) fn part_of(
     line: &[u8],
     statement: Statement,
 ) -> Result<Part, Cause>
-    requires { here ≤ 16777216 }
-    requires { length line.now ≤ 512 }
+    requires inside { here ≤ 16777216 }
+    requires short { length line.now ≤ 512 }
     ensures { result ≡ part_of symbols.now here line.now statement }
 {
     let place = place_of(here, &statement);

@@ -61,8 +61,8 @@ impl<'a> Pieces<'a> {
     // What stands first, and how many bytes it takes.
     fn piece(&self) -> (Piece<'a>, usize)
         requires { 0 < length self.now.rest.now }
-        ensures { result.1 ≤ length self.now.rest.now }
-        ensures { 0 < result.1 }
+        ensures inside { result.1 ≤ length self.now.rest.now }
+        ensures some { 0 < result.1 }
     {
         if let [0, a, b, c, ..] = self.rest {
             if self.at == CAW_ADDRESS {

@@ -81,8 +81,8 @@ fn count_of(code: u8, text: &[u8]) -> Option<u16>
 
 // Address, flags and count of a word with this code.
 fn word_statement(code: u8, at: usize, text: &[u8]) -> Result<Statement, Mistake>
-    requires { at ≤ 1024 }
-    requires { length text.now ≤ 512 }
+    requires place { at ≤ 1025 }
+    requires short { length text.now ≤ 512 }
     ensures { result ≡ word_statement code at text.now }
 {
     let (first, behind) = split_at_comma(text);
@@ -106,8 +106,8 @@ fn word_statement(code: u8, at: usize, text: &[u8]) -> Result<Statement, Mistake
 
 // Code, address, flags and count.
 fn any_word_statement(at: usize, text: &[u8]) -> Result<Statement, Mistake>
-    requires { at ≤ 512 }
-    requires { length text.now ≤ 512 }
+    requires place { at ≤ 512 }
+    requires short { length text.now ≤ 512 }
     ensures { result ≡ any_word_statement at text.now }
 {
     let (first, behind) = split_at_comma(text);
@@ -182,8 +182,8 @@ fn event_statement(name: EventName, at: usize, text: &[u8]) -> Result<Statement,
 
 // What an operation says of its operands.
 fn named_statement(fields: &Fields) -> Result<Statement, Mistake>
-    requires { fields.now.operands_at ≤ 512 }
-    requires { length fields.now.operands.now ≤ 512 }
+    requires place { fields.now.operands_at ≤ 512 }
+    requires short { length fields.now.operands.now ≤ 512 }
     ensures { result ≡ named_statement (name_of fields.now.operation.now) fields.now.operation.now
         fields.now.operation_at fields.now.operands_at fields.now.operands.now }
 {
@@ -239,8 +239,8 @@ pub(crate) fn label_in(line: &[u8]) -> &[u8]
 ///
 /// It is too long, has no such operation, or an operand is wrong.
 pub(crate) fn statement_of(line: &[u8]) -> Result<Statement, Mistake>
-    ensures { result ≡ statement_of line.now }
-    ensures { OnOk result (length line.now ≤ 512) }
+    ensures value { result ≡ statement_of line.now }
+    ensures short { OnOk result (length line.now ≤ 512) }
 {
     if line.len() > LINE_LENGTH {
         return wrong(0, Cause::LongLine);

@@ -43,9 +43,9 @@ pub(crate) fn written(
     let remark = line.remark;
     match label {
         Some(address) => {
-            format!(in alloc; "L{address:06X}  {operation:<8}{operands:<27}{remark}")
+            format!(in alloc; "L{address:06X}  {operation:<8}{operands:<26} {remark}")
         }
-        None => format!(in alloc; "         {operation:<8}{operands:<27}{remark}"),
+        None => format!(in alloc; "         {operation:<8}{operands:<26} {remark}"),
     }
 }
 
