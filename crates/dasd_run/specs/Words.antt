@@ -1,12 +1,12 @@
 -- Channel programs in words: what is printed of a text that is assembled, and of a deck that is put into words.
-use Rattle.std.specs.Prelude.{◌≡◌, ◌⊎◌, ◌×◌, ◌<◌, ⊥, ℕ, List, length, Option, Result, Ok, Err}
+use Rattle.std.specs.Prelude.{◌≡◌, ◌⊎◌, ◌<◌, ⊥, ℕ, List, length, Option, Result, Ok, Err}
 use Rattle.counted_io.specs.Streams.{Stream}
 use Rattle.s360_deck.specs.declared.runs.RunFault.TheVariants as run
 use Rattle.s360_assembler.specs.Assembled.{assembled}
-use Rattle.s360_assembler.specs.Laws.{AreWordsOf, NotDisassembled}
+use Rattle.s360_disassembler.specs.Words.{AreWordsOf, NotDisassembled}
 use Rattle.s360_assembler.specs.declared.fault.AssemblyFault.{AssemblyFault}
 use Rattle.s360_assembler.specs.declared.fault.AssemblyFault.TheVariants as assembly
-use Rattle.s360_assembler.specs.declared.fault.DisassemblyFault.{DisassemblyFault}
+use Rattle.s360_disassembler.specs.declared.words.DisassemblyFault.{DisassemblyFault}
 use Rattle.dasd_run.specs.declared.commands.Ending.{Ending}
 use Rattle.dasd_run.specs.declared.fault.ProgramFault.{ProgramFault}
 use Rattle.dasd_run.specs.declared.fault.ProgramFault.TheVariants as fault

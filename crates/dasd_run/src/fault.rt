@@ -7,9 +7,10 @@ use dasd_jobs::JobFault;
 use dasd_unload::UnloadFault;
 use dasd_volumes::VolumeFault;
 use dasd_words::WordFault;
-use s360_assembler::{AssemblyFault, DisassemblyFault};
+use s360_assembler::AssemblyFault;
 use s360_channel::AttachFault;
 use s360_deck::{DeckFault, RunFault};
+use s360_disassembler::DisassemblyFault;
 use std::alloc::AllocError;
 use thiserror::Error;
 

@@ -10,8 +10,9 @@ use crate::decks::read_deck;
 use crate::fault::ProgramFault;
 use counted_io::{Counted, WriteFault, write_flushed};
 use dasd_jobs::{ImageFiles, JobFault};
-use s360_assembler::{AssemblyFault, DisassemblyFault, assemble, disassemble};
+use s360_assembler::{AssemblyFault, assemble};
 use s360_deck::RunFault;
+use s360_disassembler::{DisassemblyFault, disassemble};
 use std::alloc::Global;
 use std::io::{Read, Write};
 

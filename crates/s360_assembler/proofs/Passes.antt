@@ -1,5 +1,5 @@
 -- The two passes over the lines of a text: one line more.
-use Rattle.std.proofs.Common.{◌≡◌, ◌⊎◌, inl, inr, ◌∙◌, ◌+◌, ◌×◌, ℕ, List, ◌∷◌, Result, Ok, Err, refl, sym}
+use Rattle.std.proofs.Common.{◌≡◌, ◌⊎◌, inl, inr, ◌∙◌, ◌+◌, ℕ, List, ◌∷◌, Result, Ok, Err, refl, sym}
 use Rattle.s360_deck.specs.Deck.{lines_of, without_return}
 use Rattle.s360_assembler.specs.declared.fault.AssemblyFault.{AssemblyFault}
 use Rattle.s360_assembler.specs.declared.fault.AssemblyFault.TheVariants as fault

@@ -1,5 +1,5 @@
 -- A text in words, and the deck that it is.
-use Rattle.std.specs.Prelude.{◌≡◌, ◌⊎◌, ◌×◌, ℕ, ◌+◌, List, [], ◌∷◌, length, nat_lt, Result, Ok, Err, if◌then◌else◌}
+use Rattle.std.specs.Prelude.{◌≡◌, ◌⊎◌, ℕ, ◌+◌, List, [], ◌∷◌, length, nat_lt, Result, Ok, Err, if◌then◌else◌}
 use Rattle.std.specs.Global.{Vec}
 use Rattle.s360_deck.specs.Deck.{lines_of, without_return}
 use Rattle.s360_assembler.specs.declared.fault.AssemblyFault.{AssemblyFault}

@@ -61,7 +61,7 @@ quoted_name_of code =
 
 -- the codes of a row of the drive's commands
 abbrev pub codes_of_row : Row → List ℕ
-codes_of_row row = if row.has_multi_track then row.code ∷ row.code + 0x80 ∷ [] else row.code ∷ []
+codes_of_row row = if row.has_multi_track then row.code ∷ (row.code + 0x80) ∷ [] else row.code ∷ []
 
 -- the codes that have words: Transfer In Channel, and those of the drive's commands
 abbrev pub worded_codes : List ℕ

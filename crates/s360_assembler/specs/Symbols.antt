@@ -1,5 +1,5 @@
 -- Symbols, and where statements stand in storage.
-use Rattle.std.specs.Prelude.{◌≡◌, ◌⊎◌, ◌×◌, ℕ, ◌+◌, ◌-◌, ◌*◌, ◌/◌, List, [], ◌∷◌, ◌++◌, length, find, not, ◌==◌, nat_lt, nat_le, Option, Some, None, option_map, is_some, Result, Ok, Err, if◌then◌else◌, ◌&&◌}
+use Rattle.std.specs.Prelude.{◌≡◌, ◌⊎◌, ℕ, ◌+◌, ◌-◌, ◌*◌, ◌/◌, List, [], ◌∷◌, ◌++◌, length, find, not, ◌==◌, nat_lt, nat_le, Option, Some, None, option_map, is_some, Result, Ok, Err, if◌then◌else◌, ◌&&◌}
 use Rattle.std.specs.Str.{bytes_eq}
 use Rattle.s360_assembler.specs.declared.fault.Cause.{Cause}
 use Rattle.s360_assembler.specs.declared.fault.Cause.TheVariants as cause

@@ -1,6 +1,5 @@
-//! Why a text is no deck in words, and why a deck is not put into words.
+//! Why a text is not assembled.
 
-use s360_deck::DeckFault;
 use thiserror::Error;
 
 /// What is wrong with a line.
@@ -71,18 +70,4 @@ pub enum AssemblyFault {
     /// The deck would have more bytes than a deck may have.
     #[error("the deck has more than 1,048,576 bytes")]
     TooLong,
-}
-
-/// Why a deck is not put into words.
-#[derive(Clone, Copy, Debug, PartialEq, Eq, Error)]
-pub enum DisassemblyFault {
-    /// There is no memory.
-    #[error("out of memory")]
-    OutOfMemory,
-    /// The text is no deck.
-    #[error(transparent)]
-    Deck(DeckFault),
-    /// The words that were found are not those of the deck.
-    #[error("the words are not those of the deck")]
-    OtherDeck,
 }

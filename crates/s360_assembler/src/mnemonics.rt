@@ -87,7 +87,7 @@ fn look_up(word: &[u8]) -> Option<u8>
 {
     WORDED_CODES.iter().copied().find(
         |code: &u8| -> bool
-            ensures { result ≡ names code.now word.now }
+            ensures { result ≡ names code.now word.entry.now }
         { names(*code, word) },
     )
 }

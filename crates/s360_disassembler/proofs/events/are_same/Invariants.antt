@@ -1,5 +1,5 @@
 use Rattle.std.proofs.Common.{◌≡◌, drop, length}
-use Rattle.s360_assembler.proofs.events.are_same.Given as goal
+use Rattle.s360_disassembler.proofs.events.are_same.Given as goal
 
 -- where the events from here on are the same, all are
 abbrev pub invariant-loop-event : goal.invariant-loop-event

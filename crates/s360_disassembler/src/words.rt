@@ -2,19 +2,33 @@
 
 ghost use Rattle.std.specs.Prelude.{◌≡◌, true, Ok, IfOk, IfErr};
 ghost use Rattle.s360_deck.specs.Deck.{events_of};
-ghost use Rattle.s360_assembler.specs.Laws.{AreWordsOfEvents, NotDisassembled, Disassembles};
+ghost use Rattle.s360_disassembler.specs.Words.{AreWordsOfEvents, NotDisassembled, Disassembles};
 
-use crate::assembling::assemble;
 use crate::events::are_same;
-use crate::fault::{AssemblyFault, DisassemblyFault};
 use crate::pieces::{Piece, Pieces};
 use crate::word_lines::{
     Line, Place, constant_line, event_line, origin_line, pointer_line, word_line, written,
 };
+use s360_assembler::{AssemblyFault, assemble};
 use s360_deck::{DeckFault, parse};
 use s360_events::Event;
 use std::alloc::{AllocError, Global};
 use std::collections::BTreeMap;
+use thiserror::Error;
+
+/// Why a deck is not put into words.
+#[derive(Clone, Copy, Debug, PartialEq, Eq, Error)]
+pub enum DisassemblyFault {
+    /// There is no memory.
+    #[error("out of memory")]
+    OutOfMemory,
+    /// The text is no deck.
+    #[error(transparent)]
+    Deck(DeckFault),
+    /// The words that were found are not those of the deck.
+    #[error("the words are not those of the deck")]
+    OtherDeck,
+}
 
 /// What is known of an address that a word has.
 #[derive(Clone, Copy)]

@@ -1,8 +1,8 @@
 //! The lines of a deck in words: label, operation, operands and remark in columns.
 
-use crate::mnemonics::word_of;
 use crate::pieces::Piece;
 use arrayvec::ArrayString;
+use s360_assembler::word_of;
 use s360_events::Event;
 use s360_explain::code_name;
 use s360_words::{Ccw, CcwFlags};

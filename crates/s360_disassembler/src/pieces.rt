@@ -2,7 +2,7 @@
 
 ghost use Rattle.std.specs.Prelude.{◌<◌, ◌≤◌, length};
 
-use crate::mnemonics::word_of;
+use s360_assembler::word_of;
 use s360_words::{CAW_ADDRESS, Ccw, CcwFlags};
 
 /// How many equal bytes are said as one with their number.
