@@ -32,7 +32,13 @@ SIO 190
 STEP 100
 INT
 """
-COMMANDS = ["format", "list", "check", "dump", "compare", "vtoc", "extract", "explain", "run", "help"]
+TEXT = """         ORG   X'48'
+         DC    A(START)
+START    SEEK  *+16,CC,6
+         TIC   START
+         SHOW  START 8
+"""
+COMMANDS = ["format", "list", "check", "dump", "compare", "vtoc", "extract", "explain", "assemble", "disassemble", "run", "help"]
 WRONG = "fomrat"
 TRACE = "trace"
 # Of all data sets those that were whole before it stay.
@@ -64,6 +70,8 @@ JOBS = {
     "a deck that writes a record": Job(["run", "90=old.ckd", "91=new:2314:1"], DECK),
     "a deck that is traced": Job(["run", "--trace-to", TRACE, "90=old.ckd"], DECK),
     "a number in words": Job(["explain", "csw", "000004080C400014"]),
+    "a deck of a text in words": Job(["assemble"], TEXT),
+    "a deck in words": Job(["disassemble"], DECK),
     "the data sets of a volume": Job(["vtoc", "old.ckd"]),
     "the same in objects": Job(["vtoc", "--json", "old.ckd"]),
     "a data set": Job(["extract", "old.ckd", "PAY.CARDS", "--text"]),

@@ -5,7 +5,7 @@ import subprocess
 from dataclasses import dataclass, field
 from pathlib import Path
 
-ARGUMENT = re.compile(r"  (<\S.*?>(?:\.\.\.)?)  +(\S.*)")
+ARGUMENT = re.compile(r"  (<\S.*?>(?:\.\.\.)?|\[[A-Z]+\])  +(\S.*)")
 OPTION = re.compile(r"  (?:(-\w), |    )(--[a-z-]+)(?: <([^>]+)>)?(?:  +(\S.*))?")
 VALUES = re.compile(r"\[possible values: ([^\]]*)\]")
 DEFAULT = re.compile(r"\[default: ([^\]]*)\]")
@@ -16,6 +16,7 @@ KINDS = {
     "A": FILES,
     "B": FILES,
     "FILE": FILES,
+    "DECK": FILES,
     "DIR": FOLDERS,
     "VOLUME": VOLUMES,
     "M": NOTHING,
@@ -85,11 +86,11 @@ def sections(text: str) -> dict[str, list[str]]:
 
 
 def argument(line: str) -> Word:
-    """A line of the arguments. One that names several words, as PATH.. NAME, comes as often as it is wanted at least."""
+    """A line of the arguments; one that may be left out stands in brackets. One that names several words, as PATH.. NAME, comes as often as it is wanted at least."""
     found = ARGUMENT.fullmatch(line)
     if not found:
         raise ValueError(f"no argument: {line}")
-    names = re.findall(r"<([^>]+)>", found[1])
+    names = re.findall(r"[<[]([^]>]+)[]>]", found[1])
     return word(names[0] + (".." if found[1].endswith("...") and ".." not in names[0] else ""), found[2])
 
 

@@ -14,6 +14,7 @@ mod saves;
 mod traces;
 mod unload;
 mod vtoc;
+mod words;
 
 pub use crate::commands::{Ending, obey};
 pub use crate::fault::ProgramFault;

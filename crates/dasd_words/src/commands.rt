@@ -2,7 +2,7 @@
 
 use crate::options::{CommandRow, command};
 use crate::requests::{Asked, Request, WordFault};
-use crate::{archive, explain, extract, format, list, run, vtoc};
+use crate::{archive, assembler, explain, extract, format, list, run, vtoc};
 use clap::error::ErrorKind;
 use clap::{ArgMatches, Command, Error};
 use std::alloc::{AllocError, Global};
@@ -10,7 +10,7 @@ use std::alloc::{AllocError, Global};
 pub(crate) const NO_PATH: &str = "error: no path\n";
 
 /// The commands, in the order of the help.
-static COMMANDS: [CommandRow; 9] = [
+static COMMANDS: [CommandRow; 11] = [
     format::COMMAND,
     list::COMMAND,
     archive::CHECK,
@@ -19,6 +19,8 @@ static COMMANDS: [CommandRow; 9] = [
     vtoc::COMMAND,
     extract::COMMAND,
     explain::COMMAND,
+    assembler::ASSEMBLE,
+    assembler::DISASSEMBLE,
     run::COMMAND,
 ];
 
@@ -91,6 +93,8 @@ fn read_request<'a>(
         "vtoc" => vtoc::read(alloc, options),
         "extract" => extract::read(alloc, options),
         "explain" => explain::read(alloc, options),
+        "assemble" => Ok(assembler::read_assemble(options)),
+        "disassemble" => Ok(assembler::read_disassemble(options)),
         "run" => run::read(alloc, options),
         _ => Err(wrong(alloc, NO_COMMAND)),
     }

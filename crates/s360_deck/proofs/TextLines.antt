@@ -19,6 +19,11 @@ pub first_line : (text : List ℕ) → 0 < length text → lines_of text ≡ bef
 first_line [] some = absurd (omega arith)
 first_line (byte ∷ text) some = first_of byte text (byte == 10) refl
 
+-- the same of what stands before and behind the first line feed
+pub first_of_two : (text line behind : List ℕ) → line ≡ before_first (λ b. b == 10) text → behind ≡ after_first (λ b. b == 10) text
+    → 0 < length text → lines_of text ≡ line ∷ lines_of behind
+first_of_two text line behind first rest some = rw (first, rest) (first_line text some)
+
 -- what stands behind the first line is shorter
 pub behind_shorter : (text : List ℕ) → 0 < length text → length (after_first (λ b. b == 10) text) < length text
 behind_shorter text some = omega (arith, length-drop (position_or_len (λ b. b == 10) text + 1) text)

@@ -61,8 +61,8 @@ pub(crate) fn run_units(word: &[u8]) -> Option<u32>
     Some(value as u32)
 }
 
-/// The bytes that pairs of hexadecimal digits spell.
-pub(crate) fn bytes_of_digits(digits: &[u8]) -> Option<ArrayVec<u8, 128>>
+/// The bytes that pairs of hexadecimal digits, capitals, spell; of none, no bytes.
+pub fn bytes_of_digits(digits: &[u8]) -> Option<ArrayVec<u8, 128>>
     requires { length digits.now ≤ 256 }
     ensures { option_map (λ v. v.items) result ≡ bytes_of digits.now }
 {
@@ -91,8 +91,8 @@ fn digit(byte: u8, base: u32) -> Option<u32>
     (u32::from(value) < base).then_some(u32::from(value))
 }
 
-// The number that a word of `least` to `most` digits spells.
-fn number(word: &[u8], base: u32, least: usize, most: usize) -> Option<u64>
+/// The number that a word of `least` to `most` digits spells, of a base of at most 16. Letters are capitals.
+pub fn number(word: &[u8], base: u32, least: usize, most: usize) -> Option<u64>
     requires base { base ≤ 16 }
     requires most { most ≤ 10 }
     ensures value { result ≡ number_of base least most word.now }

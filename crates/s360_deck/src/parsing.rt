@@ -1,9 +1,9 @@
 //! The events of a deck, line by line.
 
-ghost use Rattle.std.specs.Prelude.{◌≡◌, ◌⊎◌, ◌==◌, map, option_map, length, Err, IfOk, OnOk, IfErr};
+ghost use Rattle.std.specs.Prelude.{◌≡◌, ◌⊎◌, ◌==◌, ◌<◌, ◌∷◌, map, option_map, length, Err, IfOk, OnOk, IfErr};
 ghost use Rattle.std.specs.List.{before_first, after_first, position};
 ghost use Rattle.s360_deck.specs.Digits.{stored_bytes_of};
-ghost use Rattle.s360_deck.specs.Deck.{without_return, is_blank, is_empty, words_of, name_of, only, two_of, device_address_in, units_in, run_units_in, joined, store_of, set_key_of, show_of, event_of, is_comment, words_read, line_read, fault_at, appended, events_of, IsRead};
+ghost use Rattle.s360_deck.specs.Deck.{lines_of, without_return, is_blank, is_empty, words_of, name_of, only, two_of, device_address_in, units_in, run_units_in, joined, store_of, set_key_of, show_of, event_of, is_comment, words_read, line_read, fault_at, appended, events_of, IsRead};
 
 use crate::digits::{
     bytes_of_digits, count, device_address, run_units, show_count, storage_address, storage_key,
@@ -72,10 +72,12 @@ fn told_on(fault: LineFault, number: usize) -> DeckFault
     }
 }
 
-// What stands before and behind the first line feed, or all and nothing where there is none.
-fn split_at_line_feed(text: &[u8]) -> (&[u8], &[u8])
+/// What stands before and behind the first line feed, or all and nothing where there is none.
+pub fn split_at_line_feed(text: &[u8]) -> (&[u8], &[u8])
     ensures before { result.0.now ≡ before_first (λ b. b == 10) text.now }
     ensures after { result.1.now ≡ after_first (λ b. b == 10) text.now }
+    ensures lines { 0 < length text.now → lines_of text.now ≡ result.0.now ∷ lines_of result.1.now }
+    ensures shorter { 0 < length text.now → length result.1.now < length text.now }
 {
     match position_of_line_feed(text) {
         Some(at) => (&text[..at], &text[at + 1..]),
@@ -103,7 +105,8 @@ fn read_line(alloc: Global, line: &[u8]) -> Result<Option<Event>, LineFault>
     }
 }
 
-fn without_carriage_return(line: &[u8]) -> &[u8]
+/// A line without the carriage return at its end, if it has one.
+pub fn without_carriage_return(line: &[u8]) -> &[u8]
     ensures { result.now ≡ without_return line.now }
 {
     match line {
@@ -163,7 +166,8 @@ fn begins_comment(word: &[u8]) -> bool
     }
 }
 
-fn event_name(word: &[u8]) -> Option<EventName>
+/// The event of this name, in capitals.
+pub fn event_name(word: &[u8]) -> Option<EventName>
     ensures { result ≡ name_of word.now }
 {
     if word == &b"ARRIVE"[..] {

@@ -1,2 +1,3 @@
 pub mod Bits
 pub mod Lines
+pub mod Names

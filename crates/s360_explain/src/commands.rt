@@ -1,7 +1,8 @@
 //! Command codes by their names.
 
-ghost use Rattle.std.specs.Prelude.{◌≡◌};
+ghost use Rattle.std.specs.Prelude.{◌≡◌, ◌≤◌, length};
 ghost use Rattle.s360_explain.specs.Lines.{code_of};
+ghost use Rattle.s360_explain.specs.Names.{command_name, code_name};
 
 use ckd_sense::{Command, CommandCode};
 
@@ -35,7 +36,10 @@ pub fn code_of(code: u8) -> Code
 }
 
 /// The name of a command, at most 22 letters long.
-pub fn command_name(command: Command) -> &'static str {
+pub fn command_name(command: Command) -> &'static str
+    ensures name { result.now ≡ command_name command }
+    ensures short { length result.now ≤ 22 }
+{
     match command {
         Command::NoOperation => "No-Operation",
         Command::Recalibrate => "Recalibrate",
@@ -66,8 +70,11 @@ pub fn command_name(command: Command) -> &'static str {
     }
 }
 
-/// The name of a command code, as far as it has one.
-pub fn code_name(code: u8) -> &'static str {
+/// The name of a command code, as far as it has one, at most 22 letters long.
+pub fn code_name(code: u8) -> &'static str
+    ensures name { result.now ≡ code_name code }
+    ensures short { length result.now ≤ 22 }
+{
     match code_of(code) {
         Code::Transfer => "Transfer In Channel",
         Code::Invalid | Code::Unknown => "(no command)",

@@ -1,0 +1,139 @@
+//! Channel programs in words.
+
+ghost use Rattle.std.specs.Prelude.{◌≡◌, option_map};
+ghost use Rattle.counted_io.specs.Streams.{seen_by};
+ghost use Rattle.dasd_run.specs.Runs.{Tells};
+ghost use Rattle.dasd_run.specs.Words.{IsAssemblyFault, IsDisassemblyFault, PrintsDeck, PrintsWords, WithText};
+
+use crate::commands::Ending;
+use crate::decks::read_deck;
+use crate::fault::ProgramFault;
+use counted_io::{Counted, WriteFault, write_flushed};
+use dasd_jobs::{ImageFiles, JobFault};
+use s360_assembler::{AssemblyFault, assemble};
+use s360_deck::RunFault;
+use s360_disassembler::{DisassemblyFault, disassemble};
+use std::alloc::Global;
+use std::io::{Read, Write};
+
+/// The most bytes of a text or of a deck.
+const MOST_BYTES: usize = 1_048_576;
+
+// What a text is called whose lines are told of.
+fn source_of(alloc: Global, path: Option<&str>) -> Option<String> {
+    path.unwrap_or("standard input").to_string(alloc).ok()
+}
+
+// Prints these bytes, and leaves none of them held back.
+fn print<W: Write>(writer: &mut Counted<W>, bytes: &[u8]) -> Result<Ending, ProgramFault>
+    ensures { Tells result bytes.now (seen_by W.contents writer.old) (seen_by W.contents writer.new) }
+{
+    match write_flushed(writer, bytes) {
+        Ok(()) => Ok(Ending::Done),
+        Err(WriteFault) => Err(ProgramFault::Job(JobFault::Write)),
+    }
+}
+
+// The fault of a text.
+fn of_assembly(alloc: Global, path: Option<&str>, fault: AssemblyFault) -> ProgramFault
+    ensures { IsAssemblyFault result fault }
+{
+    match (fault, source_of(alloc, path)) {
+        (AssemblyFault::OutOfMemory, _) | (_, None) => ProgramFault::OutOfMemory,
+        (fault, Some(source)) => ProgramFault::Assembly(source, fault),
+    }
+}
+
+// The fault of a deck.
+fn of_disassembly(alloc: Global, path: Option<&str>, fault: DisassemblyFault) -> ProgramFault
+    ensures { IsDisassemblyFault result fault }
+{
+    match (fault, source_of(alloc, path)) {
+        (DisassemblyFault::OutOfMemory, _) | (_, None) => ProgramFault::OutOfMemory,
+        (fault, Some(source)) => ProgramFault::Disassembly(source, fault),
+    }
+}
+
+// Prints the deck of a text.
+fn print_deck<W: Write>(
+    alloc: Global,
+    writer: &mut Counted<W>,
+    path: Option<&str>,
+    text: &[u8],
+) -> Result<Ending, ProgramFault>
+    ensures { PrintsDeck result text.now (seen_by W.contents writer.old) (seen_by W.contents writer.new) }
+{
+    if text.len() > MOST_BYTES {
+        return Err(ProgramFault::Run(RunFault::Read));
+    }
+    match assemble(alloc, text) {
+        Ok(deck) => print(writer, deck.as_slice()),
+        Err(fault) => Err(of_assembly(alloc, path, fault)),
+    }
+}
+
+// Prints the words of a deck.
+fn print_words<W: Write>(
+    alloc: Global,
+    writer: &mut Counted<W>,
+    path: Option<&str>,
+    deck: &[u8],
+) -> Result<Ending, ProgramFault>
+    ensures { PrintsWords result deck.now (seen_by W.contents writer.old) (seen_by W.contents writer.new) }
+{
+    if deck.len() > MOST_BYTES {
+        return Err(ProgramFault::Run(RunFault::Read));
+    }
+    match disassemble(alloc, deck) {
+        Ok(words) => print(writer, words.as_slice()),
+        Err(fault) => Err(of_disassembly(alloc, path, fault)),
+    }
+}
+
+/// Prints the deck of a text in words, of the file at this path or of the reader.
+///
+/// # Errors
+///
+/// It can't be read, it is wrong, or there is no memory: nothing is printed. A write fault comes exactly where a write failed, or the
+/// flush.
+pub(crate) fn assemble_text<F: ImageFiles, R: Read, W: Write>(
+    alloc: Global,
+    files: &mut F,
+    reader: &mut Counted<R>,
+    writer: &mut Counted<W>,
+    path: Option<&str>,
+) -> Result<Ending, ProgramFault>
+    ensures kept { F.written files.new ≡ F.written files.old }
+    ensures prints { WithText PrintsDeck result (option_map (λ path. path.now) path.entry)
+        (seen_by R.remaining reader.old) (seen_by R.remaining reader.new)
+        (seen_by W.contents writer.old) (seen_by W.contents writer.new) }
+{
+    match read_deck(alloc, files, reader, path) {
+        Ok(text) => print_deck(alloc, writer, path, text.as_slice()),
+        Err(fault) => Err(ProgramFault::Run(fault)),
+    }
+}
+
+/// Prints a deck in words, the one of the file at this path or of the reader.
+///
+/// # Errors
+///
+/// It can't be read, it is no deck, or there is no memory: nothing is printed. A write fault comes exactly where a write failed, or the
+/// flush.
+pub(crate) fn disassemble_deck<F: ImageFiles, R: Read, W: Write>(
+    alloc: Global,
+    files: &mut F,
+    reader: &mut Counted<R>,
+    writer: &mut Counted<W>,
+    path: Option<&str>,
+) -> Result<Ending, ProgramFault>
+    ensures kept { F.written files.new ≡ F.written files.old }
+    ensures prints { WithText PrintsWords result (option_map (λ path. path.now) path.entry)
+        (seen_by R.remaining reader.old) (seen_by R.remaining reader.new)
+        (seen_by W.contents writer.old) (seen_by W.contents writer.new) }
+{
+    match read_deck(alloc, files, reader, path) {
+        Ok(deck) => print_words(alloc, writer, path, deck.as_slice()),
+        Err(fault) => Err(ProgramFault::Run(fault)),
+    }
+}

@@ -1,0 +1,241 @@
+//! Constants and areas of storage, as operands spell them.
+
+ghost use Rattle.std.specs.Prelude.{◌≡◌, ◌≤◌, ◌<◌, option_map, length, IfSome};
+ghost use Rattle.s360_deck.specs.Digits.{stored_bytes_of};
+ghost use Rattle.s360_assembler.specs.Constants.{ebcdic_of, ebcdic_text, digits_length, times_of, unit_of, decimal_bytes, bytes_of_unit, repeated, constant_of, bytes_between, boundary_of_kind, boundary_of_unit, is_kind, length_of_unit, area_of};
+
+use arrayvec::ArrayVec;
+use byteorder::{BigEndian, ByteOrder};
+use s360_deck::{bytes_of_digits, number};
+use volume_labels::character;
+
+/// The bytes of a constant.
+pub(crate) type Bytes = ArrayVec<u8, 128>;
+
+/// What the address of a statement is a multiple of.
+#[derive(Clone, Copy)]
+pub enum Boundary {
+    /// One byte.
+    Byte,
+    /// Two bytes.
+    Halfword,
+    /// Four bytes.
+    Fullword,
+    /// Eight bytes.
+    Doubleword,
+}
+
+impl Boundary {
+    /// The bytes between two places of it.
+    pub fn bytes(self) -> u32
+        ensures value { result ≡ bytes_between self }
+        ensures some { 1 ≤ result }
+        ensures few { result ≤ 8 }
+    {
+        match self {
+            Boundary::Byte => 1,
+            Boundary::Halfword => 2,
+            Boundary::Fullword => 4,
+            Boundary::Doubleword => 8,
+        }
+    }
+}
+
+// The byte of a printing character of ASCII in EBCDIC.
+fn ebcdic_of(wanted: u8) -> Option<u8>
+    ensures { result ≡ ebcdic_of wanted }
+{
+    if wanted < 32 || 126 < wanted {
+        return None;
+    }
+    let mut byte: u16 = 0;
+    while byte < 256 {
+        if character(byte as u8) == wanted {
+            return Some(byte as u8);
+        }
+        byte += 1;
+    }
+    None
+}
+
+// A text in EBCDIC.
+fn ebcdic_text(text: &[u8]) -> Option<Bytes>
+    requires { length text.now ≤ 128 }
+    ensures { option_map (λ v. v.items) result ≡ ebcdic_text text.now }
+{
+    let mut bytes = ArrayVec::new();
+    for character in text {
+        bytes.push(ebcdic_of(*character)?);
+    }
+    Some(bytes)
+}
+
+// How many decimal digits a text begins with.
+fn digits_length(text: &[u8]) -> usize
+    ensures value { result ≡ digits_length text.now }
+    ensures inside { result ≤ length text.now }
+{
+    match text.iter().position(|byte| !byte.is_ascii_digit()) {
+        Some(at) => at,
+        None => text.len(),
+    }
+}
+
+// The number in front of a constant; 1 where there is none.
+fn times_of(text: &[u8]) -> Option<u32>
+    ensures value { result ≡ times_of text.now }
+    ensures bound { IfSome result (λ times. times < 268435456) }
+{
+    let digits = digits_length(text);
+    if digits == 0 {
+        return Some(1);
+    }
+    Some(number(&text[..digits], 10, 1, 7)? as u32)
+}
+
+/// What stands behind the number.
+pub(crate) fn unit_of(text: &[u8]) -> &[u8]
+    ensures { result.now ≡ unit_of text.now }
+{
+    &text[digits_length(text)..]
+}
+
+/// Bytes in a row.
+pub(crate) fn row_of(bytes: &[u8]) -> Bytes
+    requires { length bytes.now ≤ 128 }
+    ensures { result.items ≡ bytes.now }
+{
+    let mut row = ArrayVec::new();
+    row.try_extend_from_slice(bytes).unwrap();
+    row
+}
+
+// A number in four bytes.
+fn word_bytes(digits: &[u8]) -> Option<Bytes>
+    ensures { option_map (λ v. v.items) result ≡ decimal_bytes 4 4294967295 digits.now }
+{
+    let value = number(digits, 10, 1, 10)?;
+    if value > 4_294_967_295 {
+        return None;
+    }
+    let mut bytes = [0; 4];
+    BigEndian::write_u32(&mut bytes, value as u32);
+    Some(row_of(&bytes))
+}
+
+// A number in two bytes.
+fn halfword_bytes(digits: &[u8]) -> Option<Bytes>
+    ensures { option_map (λ v. v.items) result ≡ decimal_bytes 2 65535 digits.now }
+{
+    let value = number(digits, 10, 1, 10)?;
+    if value > 65_535 {
+        return None;
+    }
+    let mut bytes = [0; 2];
+    BigEndian::write_u16(&mut bytes, value as u16);
+    Some(row_of(&bytes))
+}
+
+// What a unit is.
+fn bytes_of_unit(unit: &[u8]) -> Option<Bytes>
+    ensures { option_map (λ v. v.items) result ≡ bytes_of_unit unit.now }
+{
+    match unit {
+        [b'X', b'\'', digits @ .., b'\''] => hexadecimal_bytes(digits),
+        [b'C', b'\'', text @ .., b'\''] if text.len() <= 128 => ebcdic_text(text),
+        [b'F', b'\'', digits @ .., b'\''] => word_bytes(digits),
+        [b'H', b'\'', digits @ .., b'\''] => halfword_bytes(digits),
+        _ => None,
+    }
+}
+
+// 1 to 128 bytes in pairs of digits.
+fn hexadecimal_bytes(digits: &[u8]) -> Option<Bytes>
+    ensures { option_map (λ v. v.items) result ≡ stored_bytes_of digits.now }
+{
+    if digits.len() < 2 || 256 < digits.len() {
+        return None;
+    }
+    bytes_of_digits(digits)
+}
+
+// So many times these bytes, 1 to 128 in all.
+fn repeated(times: u32, bytes: &[u8]) -> Option<Bytes>
+    requires { length bytes.now ≤ 128 }
+    ensures { option_map (λ v. v.items) result ≡ repeated times bytes.now }
+{
+    let size = u64::from(times) * bytes.len() as u64;
+    if size < 1 || 128 < size {
+        return None;
+    }
+    let mut all = ArrayVec::new();
+    let mut done = 0;
+    while done < times {
+        all.try_extend_from_slice(bytes).unwrap();
+        done += 1;
+    }
+    Some(all)
+}
+
+/// The bytes of a constant: 1 to 128.
+pub(crate) fn constant_of(text: &[u8]) -> Option<Bytes>
+    ensures { option_map (λ v. v.items) result ≡ constant_of text.now }
+{
+    let times = times_of(text)?;
+    let bytes = bytes_of_unit(unit_of(text))?;
+    repeated(times, bytes.as_slice())
+}
+
+// The boundary of a kind.
+fn boundary_of_kind(letter: u8) -> Boundary
+    ensures { result ≡ boundary_of_kind letter }
+{
+    match letter {
+        b'D' => Boundary::Doubleword,
+        b'F' | b'A' => Boundary::Fullword,
+        b'H' => Boundary::Halfword,
+        _ => Boundary::Byte,
+    }
+}
+
+/// The boundary that a unit stands on.
+pub(crate) fn boundary_of_unit(unit: &[u8]) -> Boundary
+    ensures { result ≡ boundary_of_unit unit.now }
+{
+    match unit {
+        [letter, ..] => boundary_of_kind(*letter),
+        [] => Boundary::Byte,
+    }
+}
+
+fn is_kind(letter: u8) -> bool
+    ensures { result ≡ is_kind letter }
+{
+    matches!(letter, b'X' | b'C' | b'H' | b'F' | b'D')
+}
+
+// A length behind X or C.
+fn length_of_unit(unit: &[u8]) -> Option<u32>
+    ensures { result ≡ length_of_unit unit.now }
+{
+    match unit {
+        [b'X' | b'C', b'L', digits @ ..] => Some(number(digits, 10, 1, 6)? as u32),
+        _ => None,
+    }
+}
+
+/// How many bytes an area has.
+pub(crate) fn area_of(text: &[u8]) -> Option<u32>
+    ensures { result ≡ area_of text.now }
+{
+    let unit = unit_of(text);
+    if let [letter] = unit {
+        if is_kind(*letter) {
+            return Some(times_of(text)? * boundary_of_kind(*letter).bytes());
+        }
+    }
+    if digits_length(text) > 0 {
+        return None;
+    }
+    length_of_unit(unit)
+}

@@ -1,0 +1,169 @@
+//! The fields of a line.
+
+ghost use Rattle.std.specs.Prelude.{◌≡◌, ◌≤◌, take, length, false, IfOk};
+ghost use Rattle.s360_assembler.specs.declared.fields.Quoting.TheVariants.{Outside};
+ghost use Rattle.s360_assembler.specs.Fields.{quoting_behind, raised_byte, raised, word_length, gap_length, label_of, operation_of, operation_at, operation_length, operands_of, operands_at, operands_length, remark_of};
+
+use std::alloc::{AllocError, Global};
+
+/// How a byte of a text is read.
+#[derive(Clone, Copy)]
+pub enum Quoting {
+    /// As all else.
+    Outside,
+    /// Right behind the letter C, which begins a text where an apostrophe follows.
+    Letter,
+    /// Within the apostrophes of a text.
+    Text,
+    /// Within other apostrophes.
+    Digits,
+}
+
+// How the byte behind this one is read.
+fn quoting_behind(quoting: Quoting, byte: u8) -> Quoting
+    ensures { result ≡ quoting_behind quoting byte }
+{
+    match quoting {
+        Quoting::Text | Quoting::Digits => {
+            if byte == b'\'' || byte == b'\n' {
+                Quoting::Outside
+            } else {
+                quoting
+            }
+        }
+        Quoting::Letter if byte == b'\'' => Quoting::Text,
+        Quoting::Outside if byte == b'\'' => Quoting::Digits,
+        _ => {
+            if byte == b'C' || byte == b'c' {
+                Quoting::Letter
+            } else {
+                Quoting::Outside
+            }
+        }
+    }
+}
+
+fn raised_byte(quoting: Quoting, byte: u8) -> u8
+    ensures { result ≡ raised_byte quoting byte }
+{
+    match quoting {
+        Quoting::Text => byte,
+        _ => byte.to_ascii_uppercase(),
+    }
+}
+
+/// The text with capitals for small letters, but within `C'..'`.
+pub(crate) fn raised(alloc: Global, text: &[u8]) -> Result<Vec<u8>, AllocError>
+    ensures { IfOk result (λ capitals. capitals.items ≡ raised Outside text.now) }
+{
+    let mut capitals = Vec::with_capacity(alloc, text.len())?;
+    let mut quoting = Quoting::Outside;
+    for byte in text {
+        capitals.push(raised_byte(quoting, *byte))?;
+        quoting = quoting_behind(quoting, *byte);
+    }
+    Ok(capitals)
+}
+
+/// The fields of a line.
+#[derive(Clone, Copy)]
+pub(crate) struct Fields<'a> {
+    /// What the line begins with, if that is no blank.
+    pub(crate) label: &'a [u8],
+    /// The operation.
+    pub(crate) operation: &'a [u8],
+    /// At which byte it begins.
+    pub(crate) operation_at: usize,
+    /// The operands.
+    pub(crate) operands: &'a [u8],
+    /// At which byte they begin.
+    pub(crate) operands_at: usize,
+    /// What stands behind them.
+    pub(crate) remark: &'a [u8],
+}
+
+/// The fields of a line.
+pub(crate) fn fields_of(line: &[u8]) -> Fields<'_>
+    ensures label { result.label.now ≡ label_of line.now }
+    ensures operation { result.operation.now ≡ operation_of line.now }
+    ensures operation_at { result.operation_at ≡ operation_at line.now }
+    ensures inside { result.operation_at ≤ length line.now }
+    ensures operands { result.operands.now ≡ operands_of line.now }
+    ensures operands_at { result.operands_at ≡ operands_at line.now }
+    ensures end { result.operands_at ≤ length line.now }
+    ensures remark { result.remark.now ≡ remark_of line.now }
+{
+    let label = first_word(line);
+    let operation_at = label.len() + gap_length(&line[label.len()..]);
+    let operation = first_name(&line[operation_at..]);
+    let behind = operation_at + operation.len();
+    let operands_at = behind + gap_length(&line[behind..]);
+    let operands = first_operands(&line[operands_at..]);
+    Fields {
+        label,
+        operation,
+        operation_at,
+        operands,
+        operands_at,
+        remark: &line[operands_at + operands.len()..],
+    }
+}
+
+// What stands before the first blank.
+fn first_word(text: &[u8]) -> &[u8]
+    ensures word { result.now ≡ take (word_length text.now) text.now }
+    ensures inside { length result.now ≤ length text.now }
+    ensures length { length result.now ≡ word_length text.now }
+{
+    match text.iter().position(|byte| *byte == b' ' || *byte == b'\t') {
+        Some(at) => &text[..at],
+        None => text,
+    }
+}
+
+// What stands before the first blank; or, where an apostrophe stands first, as far as the second one.
+fn first_name(text: &[u8]) -> &[u8]
+    ensures name { result.now ≡ take (operation_length text.now) text.now }
+    ensures inside { length result.now ≤ length text.now }
+{
+    let [b'\'', name @ ..] = text else {
+        return first_word(text);
+    };
+    match name.iter().position(|byte| *byte == b'\'') {
+        Some(at) => &text[..at + 2],
+        None => text,
+    }
+}
+
+// How many blanks a text begins with.
+fn gap_length(text: &[u8]) -> usize
+    ensures value { result ≡ gap_length text.now }
+    ensures inside { result ≤ length text.now }
+{
+    match text
+        .iter()
+        .position(|byte| !(*byte == b' ' || *byte == b'\t'))
+    {
+        Some(at) => at,
+        None => text.len(),
+    }
+}
+
+// What stands before the first blank that is not within apostrophes.
+fn first_operands(text: &[u8]) -> &[u8]
+    ensures operands { result.now ≡ take (operands_length false text.now) text.now }
+    ensures inside { length result.now ≤ length text.now }
+{
+    let mut is_quoted = false;
+    let mut at = 0;
+    for byte in text {
+        if (*byte == b' ' || *byte == b'\t') && !is_quoted {
+            return &text[..at];
+        }
+        if *byte == b'\'' {
+            is_quoted = !is_quoted;
+        }
+        at += 1;
+    }
+    text
+}
