@@ -32,7 +32,7 @@ SIO 190
 STEP 100
 INT
 """
-COMMANDS = ["format", "list", "check", "dump", "compare", "vtoc", "extract", "explain", "run", "help"]
+COMMANDS = ["format", "list", "check", "dump", "compare", "hash", "vtoc", "extract", "explain", "run", "help"]
 WRONG = "fomrat"
 TRACE = "trace"
 # Of all data sets those that were whole before it stay.
@@ -64,6 +64,8 @@ JOBS = {
     "a deck that writes a record": Job(["run", "90=old.ckd", "91=new:2314:1"], DECK),
     "a deck that is traced": Job(["run", "--trace-to", TRACE, "90=old.ckd"], DECK),
     "a number in words": Job(["explain", "csw", "000004080C400014"]),
+    "the hash of a volume": Job(["hash", "old.ckd"]),
+    "the same in an object": Job(["hash", "--json", "old.ckd"]),
     "the data sets of a volume": Job(["vtoc", "old.ckd"]),
     "the same in objects": Job(["vtoc", "--json", "old.ckd"]),
     "a data set": Job(["extract", "old.ckd", "PAY.CARDS", "--text"]),

@@ -7,6 +7,7 @@ mod decks;
 mod explain;
 mod extract;
 mod format;
+mod hash;
 mod list;
 mod listings;
 mod options;
