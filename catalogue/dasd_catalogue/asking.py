@@ -15,7 +15,7 @@ from collections import Counter
 from . import says
 from .answers import Answer, Finding, Set, Stamp, Task, Way
 from .images import MAGIC, BadPacking, first_bytes, is_called_image, opened, unpack
-from .program import NAME, Fault, Object, Volume
+from .program import NAME, Fault, Volume
 from .scratch import parent_for, scratch_folder
 from .unloading import unload
 
@@ -89,12 +89,11 @@ def ask_volume(answer: Answer, volume: Volume) -> None:
         if not answer.volume:
             return
     answer.state = "volume"
-    for name, part in (("list", ask_tracks), ("vtoc", ask_contents), ("extract", unload)):
+    for name, part in (("list", ask_tracks), ("hash", ask_hash), ("vtoc", ask_contents), ("extract", unload)):
         try:
             part(answer, volume)
         except Fault as fault:
             put_fault(answer, name, fault)
-    said_of(answer, volume)
 
 
 def put_fault(answer: Answer, command: str, fault: Fault) -> None:
@@ -131,6 +130,13 @@ def ask_tracks(answer: Answer, volume: Volume) -> None:
     answer.tracks = zlib.compress(json.dumps(tracks, separators=(",", ":")).encode())
 
 
+def ask_hash(answer: Answer, volume: Volume) -> None:
+    """The hash of what it says."""
+    for it in volume.ask("hash"):
+        if "hash" in it:
+            answer.said = bytes.fromhex(it["hash"])
+
+
 def ask_contents(answer: Answer, volume: Volume) -> None:
     """Its label, its data sets, and what is wrong with its table of contents."""
     for it in volume.ask("vtoc"):
@@ -140,11 +146,3 @@ def ask_contents(answer: Answer, volume: Volume) -> None:
             answer.sets.append(Set(it))
         elif "kind" in it:
             answer.findings.append(Finding("vtoc", "error", it))
-
-
-def said_of(answer: Answer, volume: Volume) -> None:
-    """The hash of what it says, where its geometry is known."""
-    known: Object = answer.volume
-    if "slot_size" in known:
-        geometry = says.Geometry(known["model"], known["heads"], known["cylinders"], known["slot_size"])
-        answer.said = says.volume_hash([os.path.join(volume.folder, os.fsencode(it)) for it in volume.names], geometry)

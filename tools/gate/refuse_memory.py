@@ -38,7 +38,7 @@ START    SEEK  *+16,CC,6
          TIC   START
          SHOW  START 8
 """
-COMMANDS = ["format", "list", "check", "dump", "compare", "vtoc", "extract", "explain", "assemble", "disassemble", "run", "help"]
+COMMANDS = ["format", "list", "check", "dump", "compare", "hash", "vtoc", "extract", "explain", "assemble", "disassemble", "run", "help"]
 WRONG = "fomrat"
 TRACE = "trace"
 # Of all data sets those that were whole before it stay.
@@ -72,6 +72,8 @@ JOBS = {
     "a number in words": Job(["explain", "csw", "000004080C400014"]),
     "a deck of a text in words": Job(["assemble"], TEXT),
     "a deck in words": Job(["disassemble"], DECK),
+    "the hash of a volume": Job(["hash", "old.ckd"]),
+    "the same in an object": Job(["hash", "--json", "old.ckd"]),
     "the data sets of a volume": Job(["vtoc", "old.ckd"]),
     "the same in objects": Job(["vtoc", "--json", "old.ckd"]),
     "a data set": Job(["extract", "old.ckd", "PAY.CARDS", "--text"]),

@@ -24,6 +24,7 @@ RIGHT: list[tuple[str, dict[str, Any]]] = [
     ("extract", {"path": "a", "name": "PAY", "bytes": 0}),
     ("extract", {"path": "a", "name": "PAY", "text": "no end of file"}),
     ("extract", {"path": "a", "files": 1, "findings": 1}),
+    ("hash", {"path": "a", "hash": "0123456789abcdef" * 4, "unreadable": 0}),
 ]
 # A line, and what of it is another: None takes a member away.
 PLANTED: list[tuple[int, dict[str, Any]]] = [
@@ -56,6 +57,9 @@ PLANTED: list[tuple[int, dict[str, Any]]] = [
     (13, {"name": ""}),
     (14, {"text": None}),
     (15, {"findings": 1.5}),
+    (16, {"hash": "0123456789ABCDEF" * 4}),
+    (16, {"hash": "0123456789abcdef" * 3}),
+    (16, {"unreadable": None}),
 ]
 
 

@@ -66,6 +66,8 @@ def commands(dasd: str, cylinders: int) -> list[tuple[str, list[str]]]:
         ("`dasd list`", [dasd, "list", "full.ckd"]),
         ("`dasd dump` of everything", [dasd, "dump", "full.ckd", *every]),
         ("`dasd compare` with a copy", [dasd, "compare", "full.ckd", "copy.ckd"]),
+        ("`sha256sum`", ["sha256sum", "full.ckd"]),
+        ("`dasd hash`", [dasd, "hash", "full.ckd"]),
         ("`dasd vtoc`", [dasd, "vtoc", "full.ckd"]),
         ("`dasd extract` of the sequential data set", [dasd, "extract", "full.ckd", "FULL.CARDS"]),
         ("the same with `--text`", [dasd, "extract", "full.ckd", "FULL.CARDS", "--text"]),

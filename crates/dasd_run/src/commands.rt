@@ -10,6 +10,7 @@ use crate::archive::{check_strictly, compare_both, dump_part};
 use crate::decks::{read_deck, run_deck, tell_fault};
 use crate::explain::explain;
 use crate::fault::ProgramFault;
+use crate::hash::hash_volume;
 use crate::list::list_part;
 use crate::runs::{Disks, build, finish};
 use crate::traces::{Traces, begin_trace, end_trace};
@@ -82,6 +83,7 @@ fn answer<F: Traces, R: Read, W: Write, P: Progress>(
         Request::CheckStrictly(volume) => check_strictly(alloc, files, writer, &volume),
         Request::Dump(volume, part) => dump_part(alloc, files, writer, &volume, part),
         Request::Compare(volumes) => compare_both(alloc, files, writer, &volumes),
+        Request::Hash(volume) => hash_volume(alloc, files, writer, &volume),
         Request::ListContents(volume) => list_contents(alloc, files, writer, &volume),
         Request::Extract(asked) => extract_set(alloc, files, writer, &asked),
         Request::ExtractAll(asked) => extract_volume(alloc, files, writer, &asked),

@@ -7,6 +7,7 @@ mod commands;
 mod decks;
 mod explain;
 mod fault;
+mod hash;
 mod list;
 mod remarks;
 mod runs;

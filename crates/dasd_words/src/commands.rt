@@ -2,7 +2,7 @@
 
 use crate::options::{CommandRow, command};
 use crate::requests::{Asked, Request, WordFault};
-use crate::{archive, assembler, explain, extract, format, list, run, vtoc};
+use crate::{archive, assembler, explain, extract, format, hash, list, run, vtoc};
 use clap::error::ErrorKind;
 use clap::{ArgMatches, Command, Error};
 use std::alloc::{AllocError, Global};
@@ -10,12 +10,13 @@ use std::alloc::{AllocError, Global};
 pub(crate) const NO_PATH: &str = "error: no path\n";
 
 /// The commands, in the order of the help.
-static COMMANDS: [CommandRow; 11] = [
+static COMMANDS: [CommandRow; 12] = [
     format::COMMAND,
     list::COMMAND,
     archive::CHECK,
     archive::DUMP,
     archive::COMPARE,
+    hash::COMMAND,
     vtoc::COMMAND,
     extract::COMMAND,
     explain::COMMAND,
@@ -90,6 +91,7 @@ fn read_request<'a>(
         "check" => archive::read_check(alloc, options),
         "dump" => archive::read_dump(alloc, options),
         "compare" => archive::read_compare(alloc, options),
+        "hash" => hash::read(alloc, options),
         "vtoc" => vtoc::read(alloc, options),
         "extract" => extract::read(alloc, options),
         "explain" => explain::read(alloc, options),

@@ -8,6 +8,7 @@ mod decks;
 mod explain;
 mod extract;
 mod format;
+mod hash;
 mod list;
 mod listings;
 mod options;

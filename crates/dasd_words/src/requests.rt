@@ -75,6 +75,8 @@ pub enum Request<'a> {
     Dump(PrintedVolume<'a>, DumpedPart),
     /// Print what differs of the volumes of two images.
     Compare(ComparedVolumes<'a>),
+    /// Print the hash of what a volume says.
+    Hash(PrintedVolume<'a>),
     /// Print what a volume holds: its label, its data sets, and what is wrong with them.
     ListContents(PrintedVolume<'a>),
     /// Take a data set, or a member of one, out of a volume.

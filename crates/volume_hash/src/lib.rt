@@ -1,0 +1,12 @@
+//! The hash of what a volume says: home addresses, counts, keys and data of all tracks, without what stands behind end marks.
+#![tactic(auto)]
+
+mod laws;
+mod lines;
+mod message;
+mod tracks;
+mod volumes;
+
+pub use crate::laws::message_is_what_they_say;
+pub use crate::lines::{Form, print_hash};
+pub use crate::volumes::{VolumeHash, hash_volume};
