@@ -135,8 +135,15 @@ fn run_volumes<F: Traces, R: Read, W: Write>(
     asked: DeckRun,
 ) -> Result<Ending, ProgramFault>
     ensures keeps { IfErr result (λ e. keeps_files e ≡ true → F.written files.new ≡ F.written files.old) }
-    ensures runs { RunsOrStops result asked.entry (seen_by R.remaining reader.old) (seen_by R.remaining reader.new)
-        (F.written files.old) (F.written files.new) (seen_by W.contents writer.old) (seen_by W.contents writer.new) }
+    ensures runs { RunsOrStops result asked.entry
+        (record {
+            read = seen_by R.remaining reader.old; printed = seen_by W.contents writer.old;
+            written = F.written files.old; opened = F.opened files.old
+        })
+        (record {
+            read = seen_by R.remaining reader.new; printed = seen_by W.contents writer.new;
+            written = F.written files.new; opened = F.opened files.new
+        }) }
 {
     let volumes = asked.volumes.as_slice();
     let mut tracer = begin_trace(alloc, files, &asked)?;
@@ -189,6 +196,7 @@ fn conclude<F: ImageFiles>(
 ) -> Result<(), ProgramFault>
     ensures keeps { IfErr result (λ e. keeps_files e ≡ true → F.written files.new ≡ F.written files.old) }
     ensures concludes { Concludes run result volumes.now channel (F.written files.old) (F.written files.new) }
+    ensures same { F.opened files.new ≡ F.opened files.old }
 {
     match run {
         Ok(()) => finish(alloc, files, volumes, channel),
