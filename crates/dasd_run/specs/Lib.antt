@@ -4,3 +4,4 @@ pub mod Decks
 pub mod Outside
 pub mod Runs
 pub mod Saves
+pub mod Answers
