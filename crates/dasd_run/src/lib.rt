@@ -15,7 +15,7 @@ mod traces;
 mod unload;
 mod vtoc;
 
-pub use crate::commands::{Ending, obey};
+pub use crate::commands::{Ending, answer, obey};
 pub use crate::fault::ProgramFault;
 pub use crate::runs::{Disks, build, finish};
 pub use crate::traces::Traces;
