@@ -333,7 +333,10 @@ impl<'a> ImageFiles for HostFiles<'a> {
 
     fn read(&mut self, alloc: Global, path: &str, most: usize) -> Result<Vec<u8>, FileFault> {
         match read_some(self.host, path, most) {
-            Ok(bytes) => Ok(bytes),
+            Ok(bytes) => {
+                self.opened = self.opened.with_unknown(path.as_bytes());
+                Ok(bytes)
+            }
             Err(fault) => Err(refused(&mut self.remarks, alloc, path, &fault)),
         }
     }

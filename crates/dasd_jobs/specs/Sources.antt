@@ -1,5 +1,6 @@
 -- Files that were opened to be read, and the volumes that they hold.
-use Rattle.std.specs.Prelude.{◌≡◌, ℕ, ◌+◌, List, [], ◌∷◌, ◌++◌, length, Option, Some, None, option_map, slice_range, Result, Ok, Err}
+use Rattle.std.specs.Prelude.{◌≡◌, ℕ, ◌+◌, ◌≤◌, List, [], ◌∷◌, ◌++◌, length, take, slice_range}
+use Rattle.std.specs.Prelude.{Option, Some, None, option_map, Result, Ok, Err}
 use Rattle.std.specs.List.{AllZip}
 use Rattle.ckd_track.specs.declared.geometries.Geometry.{Geometry}
 use Rattle.ckd_track.specs.Geometry.{tracks_of}
@@ -37,6 +38,13 @@ with_source opened path content = opened ++ record { path = path; content = cont
 abbrev pub OpensFile : {A E : Type 0} → Result A E → (content : A → Content) → (path : List ℕ) → (before now : List SourceFile) → Type 0
 OpensFile (Ok file) content path before now = now ≡ with_source before path (content file)
 OpensFile (Err _) content path before now = now ≡ before
+
+-- The file at this path was opened, and these are its first bytes: so many of them, or all where it has no more.
+pub record ReadsFront (path : List ℕ) (most : ℕ) (read : List ℕ) (before now : List SourceFile) : Type 0 where
+  pub content : Content
+  pub opened : now ≡ with_source before path content
+  pub few : length read ≤ most
+  pub front : (bytes : List ℕ) → content ≡ Some bytes → read ≡ take most bytes
 
 -- the files at these paths, in their order, hold this
 abbrev pub sources : (paths : List (List ℕ)) → (contents : List Content) → List SourceFile

@@ -1,7 +1,7 @@
 //! Files by their paths.
 
-ghost use Rattle.std.specs.Prelude.{◌≡◌, ◌≤◌, List, [], length, IfOk, OnOk, OnErr};
-ghost use Rattle.dasd_jobs.specs.Sources.{Content, SourceFile, IsLength, StandsIn, OpensFile};
+ghost use Rattle.std.specs.Prelude.{◌≡◌, List, [], IfOk, OnOk, OnErr};
+ghost use Rattle.dasd_jobs.specs.Sources.{Content, SourceFile, IsLength, StandsIn, OpensFile, ReadsFront};
 ghost use Rattle.dasd_jobs.specs.Written.{Replaced, with_file};
 
 use ckd_image::{ImageStore, StoreFault};
@@ -50,7 +50,7 @@ pub trait ImageFiles {
     // the files that were made or replaced so far, in order
     ghost written: { Self → List Replaced };
 
-    // the files that were opened or locked so far, in order
+    // the files that were opened, locked or read so far, in order
     ghost opened: { Self → List SourceFile };
 
     /// Opens a file to be read. It waits for no other user of the file, and is refused for none.
@@ -72,15 +72,15 @@ pub trait ImageFiles {
         ensures kept { written self.new ≡ written self.old }
         ensures opens { OpensFile result Self.Opened.content path.now (opened self.old) (opened self.new) };
 
-    /// The bytes of a file, at most so many of them.
+    /// The first bytes of a file, so many of them; all, where it has no more.
     ///
     /// # Errors
     ///
     /// The host can't read it, or there is no memory for them.
     fn read(&mut self, alloc: Global, path: &str, most: usize) -> Result<Vec<u8>, FileFault>
         ensures kept { written self.new ≡ written self.old }
-        ensures same { opened self.new ≡ opened self.old }
-        ensures few { IfOk result (λ bytes. length bytes.items ≤ most) };
+        ensures reads { IfOk result (λ bytes. ReadsFront path.now most bytes.items (opened self.old) (opened self.new)) }
+        ensures err { OnErr result (opened self.new ≡ opened self.old) };
 
     /// Begins a new file without bytes, which is to be at this path, in the place of a file that is there, if that is allowed.
     ///

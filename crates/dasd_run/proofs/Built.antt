@@ -9,30 +9,44 @@ use Rattle.s360_channel.specs.Channel.{ChannelState, AttachedState, is_at}
 use Rattle.s360_channel.specs.declared.faults.AttachFault.{AttachFault}
 use Rattle.s360_channel.specs.declared.faults.AttachFault.TheVariants.{UnitTaken, Full, OutOfMemory}
 use Rattle.dasd_words.specs.declared.volumes.Volume.{Volume}
+use Rattle.dasd_jobs.specs.Sources.{SourceFile}
 use Rattle.dasd_jobs.specs.declared.faults.JobFault.{JobFault}
 use Rattle.dasd_jobs.specs.declared.faults.JobFault.TheVariants as job
 use Rattle.dasd_run.specs.declared.fault.ProgramFault.{ProgramFault}
 use Rattle.dasd_run.specs.Faults.{attach_fault, volume_fault}
-use Rattle.dasd_run.specs.Runs.{IsDriveOf, AttachesOne}
-use Rattle.dasd_run.specs.Built.{IsNewChannel, is_addressed, has_address, NotAttached, NotBuilt}
+use Rattle.dasd_run.specs.Runs.{IsDriveOf, OpensVolumes, AttachesOne}
+use Rattle.dasd_run.specs.Built.{IsNewChannel, is_addressed, has_address, HasAddressOf, NotAttached, NotBuilt}
 
--- lists that agree place by place, and one more element of each
-and_both : {A B : Type 0} (R : A → B → Type 0) (xs : List A) (ys : List B) (x : A) (y : B) → AllZip R xs ys → R x y → AllZip R (xs ++ x ∷ []) (ys ++ y ∷ [])
-and_both R [] [] x y all one = (one, tt)
-and_both R [] (b ∷ ys) x y all one = absurd all
-and_both R (a ∷ xs) [] x y all one = absurd all
-and_both R (a ∷ xs) (b ∷ ys) x y all one = (all.0, and_both R xs ys x y all.1 one)
+-- one volume more: its drive stands behind the others, and its files were opened behind theirs
+opens_more : (vs : List Volume) (us : List AttachedState) (v : Volume) (u : AttachedState) (before between now : List SourceFile)
+    → OpensVolumes vs us before between → IsDriveOf v u between now → OpensVolumes (vs ++ v ∷ []) (us ++ u ∷ []) before now
+opens_more [] [] v u before between now so_far one = (now, subst (λ (l : List SourceFile). IsDriveOf v u l now) so_far one, refl)
+opens_more [] (x ∷ us) v u before between now so_far one = absurd so_far
+opens_more (w ∷ vs) [] v u before between now so_far one = absurd so_far
+opens_more (w ∷ vs) (x ∷ us) v u before between now so_far one =
+    (so_far.0, so_far.1, opens_more vs us v u so_far.0 between now so_far.2 one)
 
--- one more of each, where the first list is looked at up to a place
-pub next_both : {A B : Type 0} (R : A → B → Type 0) (xs : List A) (ys zs : List B) (i : ℕ) (x : A) (y : B) → i < length xs → x ≡ get_or xs i x → zs ≡ ys ++ y ∷ [] → AllZip R (take i xs) ys → R x y → AllZip R (take (i + 1) xs) zs
-next_both {A} R xs ys zs i x y inside is more all one =
+-- one more, where the volumes are looked at up to a place
+pub opens_next : (vs : List Volume) (us zs : List AttachedState) (i : ℕ) (v : Volume) (u : AttachedState) (before between now : List SourceFile)
+    → i < length vs → v ≡ get_or vs i v → zs ≡ us ++ u ∷ [] → OpensVolumes (take i vs) us before between → IsDriveOf v u between now
+    → OpensVolumes (take (i + 1) vs) zs before now
+opens_next vs us zs i v u before between now inside is more so_far one =
     rw more
-    (subst (λ (l : List A). AllZip R l (ys ++ y ∷ [])) (sym (rw add-one (take-suc xs i x inside) ∙ ap (λ z. take i xs ++ z ∷ []) (sym is)))
-    (and_both R (take i xs) ys x y all one))
+    (subst (λ (l : List Volume). OpensVolumes l (us ++ u ∷ []) before now)
+    (sym (rw add-one (take-suc vs i v inside) ∙ ap (λ z. take i vs ++ z ∷ []) (sym is)))
+    (opens_more (take i vs) us v u before between now so_far one))
+
+-- the drives have the addresses of their volumes
+pub addressed : (vs : List Volume) (us : List AttachedState) (before now : List SourceFile) → OpensVolumes vs us before now → AllZip HasAddressOf vs us
+addressed [] [] before now all = tt
+addressed [] (u ∷ us) before now all = absurd all
+addressed (v ∷ vs) [] before now all = absurd all
+addressed (v ∷ vs) (u ∷ us) before now all = (ap (λ (x : AttachedState). x.device) all.1.2, addressed vs us all.0 now all.2)
 
 -- one drive more leaves the rest
-pub still_new : (size number : ℕ) (v : Volume) (old new : ChannelState) → IsNewChannel size number old → AttachesOne v old new → IsNewChannel size number new
-still_new size number v old new h one = record {
+pub still_new : (size number : ℕ) (v : Volume) (old new : ChannelState) (before now : List SourceFile)
+    → IsNewChannel size number old → AttachesOne v old new before now → IsNewChannel size number new
+still_new size number v old new before now h one = record {
   number = ap (λ c. c.number) one.2 ∙ h.number;
   storage = ap (λ c. c.storage) one.2 ∙ h.storage;
   subchannel = ap (λ c. c.subchannel) one.2 ∙ h.subchannel;
@@ -57,23 +71,25 @@ stops_at f size number vs before i v is inside there sound why = inr (
 )
 
 -- there are as many drives as volumes
-same_count : (vs : List Volume) (us : List AttachedState) → AllZip IsDriveOf vs us → length us ≡ length vs
+same_count : (vs : List Volume) (us : List AttachedState) → AllZip HasAddressOf vs us → length us ≡ length vs
 same_count [] [] all = refl
 same_count [] (u ∷ us) all = absurd all
 same_count (v ∷ vs) [] all = absurd all
 same_count (v ∷ vs) (u ∷ us) all = ap suc (same_count vs us all.1)
 
 -- they have the addresses of their volumes, so that one is found at the same place
-same_place : (device : ℕ) (vs : List Volume) (us : List AttachedState) → AllZip IsDriveOf vs us → position_or_len (is_at device) us ≡ position_or_len (is_addressed device) vs
+same_place : (device : ℕ) (vs : List Volume) (us : List AttachedState) → AllZip HasAddressOf vs us
+    → position_or_len (is_at device) us ≡ position_or_len (is_addressed device) vs
 same_place device [] [] all = refl
 same_place device [] (u ∷ us) all = absurd all
 same_place device (v ∷ vs) [] all = absurd all
 same_place device (v ∷ vs) (u ∷ us) all =
-    let same : u.device ≡ v.device = ap (λ (x : AttachedState). x.device) all.0.2 in
+    let same : u.device ≡ v.device = all.0 in
     let behind = same_place device vs us all.1 in
     cc
 
-same_addresses : (device : ℕ) (vs : List Volume) (us : List AttachedState) → AllZip IsDriveOf vs us → is_some (position (is_at device) us) ≡ has_address device vs
+same_addresses : (device : ℕ) (vs : List Volume) (us : List AttachedState) → AllZip HasAddressOf vs us
+    → is_some (position (is_at device) us) ≡ has_address device vs
 same_addresses device vs us all =
     let place = same_place device vs us all in
     let count = same_count vs us all in
@@ -83,7 +99,8 @@ is_eight : (n : ℕ) → (n == 8) ≡ true → n ≡ 8
 is_eight n is = grind (arith, nat_tests)
 
 -- a drive is not attached
-pub is_refused : (f : AttachFault) (vs : List Volume) (c : ChannelState) (v : Volume) → AllZip IsDriveOf vs c.drives → RefusedAs v.device c f → NotAttached (attach_fault f) vs v
+pub is_refused : (f : AttachFault) (vs : List Volume) (c : ChannelState) (v : Volume) → AllZip HasAddressOf vs c.drives → RefusedAs v.device c f
+    → NotAttached (attach_fault f) vs v
 is_refused UnitTaken vs c v all r = sym (same_addresses v.device vs c.drives all) ∙ r
 is_refused Full vs c v all r = (sym (same_addresses v.device vs c.drives all) ∙ r.0, sym (same_count vs c.drives all) ∙ is_eight (length c.drives) r.1)
 is_refused (OutOfMemory e) vs c v all r = sym (same_addresses v.device vs c.drives all) ∙ r.0

@@ -1,7 +1,7 @@
 -- The channel of a run: what it is made of, and why there is none.
 use Rattle.std.specs.Prelude.{◌≡◌, ◌≤◌, ◌<◌, ◌⊎◌, ◌++◌, ◌∷◌, ◌==◌, ℕ, Bool, true, false, List, length, is_some, position}
 use Rattle.s360_words.specs.Storage.{is_size, cleared}
-use Rattle.s360_channel.specs.Channel.{ChannelState}
+use Rattle.s360_channel.specs.Channel.{ChannelState, AttachedState}
 use Rattle.s360_channel.specs.declared.subchannel.Subchannel.TheVariants.{Idle}
 use Rattle.dasd_words.specs.declared.volumes.Volume.{Volume}
 use Rattle.dasd_jobs.specs.declared.faults.JobFault.TheVariants as job
@@ -27,6 +27,10 @@ is_addressed device v = v.device == device
 
 abbrev pub has_address : (device : ℕ) → List Volume → Bool
 has_address device volumes = is_some (position (is_addressed device) volumes)
+
+-- a drive has the address of a volume
+abbrev pub HasAddressOf : Volume → AttachedState → Type 0
+HasAddressOf v u = u.device ≡ v.device
 
 -- Why a volume gets no drive behind those before it: its image is not opened, or one of those has its address; or there are eight, or
 -- no memory. That its image is in use is told where its address is not taken.

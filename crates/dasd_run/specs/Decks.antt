@@ -1,6 +1,7 @@
 -- The deck of a run: which text it is, and why there is none.
-use Rattle.std.specs.Prelude.{◌≡◌, ◌≤◌, ◌⊎◌, ℕ, List, length, Option, Some, None, IsSome, option_map}
+use Rattle.std.specs.Prelude.{◌≡◌, ◌⊎◌, ℕ, List, Option, Some, None, IsSome, option_map}
 use Rattle.counted_io.specs.Streams.{Stream}
+use Rattle.dasd_jobs.specs.Sources.{SourceFile, ReadsFront}
 use Rattle.s360_deck.specs.declared.fault.DeckFault.TheVariants.{OutOfMemory}
 use Rattle.s360_deck.specs.declared.runs.RunFault.{RunFault}
 use Rattle.s360_deck.specs.declared.runs.RunFault.TheVariants as run
@@ -13,10 +14,11 @@ use Rattle.dasd_run.specs.declared.fault.ProgramFault.TheVariants as fault
 abbrev pub deck_path : DeckRun → Option (List ℕ)
 deck_path asked = option_map (λ path. path.now) asked.deck
 
--- The text of a deck is all that the reader had; or it was read of the file at a path, which the reader has no part in.
-abbrev pub ReadsDeck : (path : Option (List ℕ)) → (before after : Stream) → (text : List ℕ) → Type 0
-ReadsDeck None before after text = ReadsWhole before after text
-ReadsDeck (Some path) before after text = (after ≡ before) × (length text ≤ 1048577)
+-- The text of a deck is all that the reader had, and no file was opened. Or it is that of the file at this path, which was opened, and no
+-- other: of one that is too long the first bytes, one more than a deck may have; and the reader keeps all.
+abbrev pub ReadsDeck : (path : Option (List ℕ)) → (before after : Stream) → (text : List ℕ) → (opened_before opened : List SourceFile) → Type 0
+ReadsDeck None before after text opened_before opened = ReadsWhole before after text × (opened ≡ opened_before)
+ReadsDeck (Some path) before after text opened_before opened = (after ≡ before) × ReadsFront path 1048577 text opened_before opened
 
 -- Why there is no text: a read failed, or the reader gave more than a deck may have, or there is no memory; or the file can't be read.
 abbrev pub NotRead : RunFault → (path : Option (List ℕ)) → (before after : Stream) → Type 0

@@ -1,7 +1,8 @@
 //! The commands of `dasd`.
 
-ghost use Rattle.std.specs.Prelude.{◌≡◌, true, IfErr};
+ghost use Rattle.std.specs.Prelude.{◌≡◌, true, map, IfErr};
 ghost use Rattle.counted_io.specs.Streams.{seen_by};
+ghost use Rattle.dasd_run.specs.Answers.{FormatsVolume, ListsVolume, ChecksVolume, Answers, ending_of};
 ghost use Rattle.dasd_run.specs.Faults.{keeps_files};
 ghost use Rattle.dasd_run.specs.Runs.{RunsOrStops, Tells};
 ghost use Rattle.dasd_run.specs.Saves.{Concludes};
@@ -64,8 +65,13 @@ pub fn obey<F: Traces, R: Read, W: Write, P: Progress>(
     answer(alloc, asked.request, files, reader, writer, progress)
 }
 
-// Does what is asked.
-fn answer<F: Traces, R: Read, W: Write, P: Progress>(
+/// Does what is asked, as `obey` does of words. A deck is read from `reader`, where the request names no file of it; `writer` takes what
+/// is printed, and of both the failures are counted; `progress` takes what is shown while a job over a large volume goes on.
+///
+/// # Errors
+///
+/// What stopped the command, as of `obey`.
+pub fn answer<F: Traces, R: Read, W: Write, P: Progress>(
     alloc: Global,
     request: Request,
     files: &mut F,
@@ -73,7 +79,16 @@ fn answer<F: Traces, R: Read, W: Write, P: Progress>(
     writer: &mut Counted<W>,
     progress: &mut P,
 ) -> Result<Ending, ProgramFault>
-    ensures { IfErr result (λ e. keeps_files e ≡ true → F.written files.new ≡ F.written files.old) }
+    ensures keeps { IfErr result (λ e. keeps_files e ≡ true → F.written files.new ≡ F.written files.old) }
+    ensures answers { Answers request.entry result
+        (record {
+            read = seen_by R.remaining reader.old; printed = seen_by W.contents writer.old;
+            written = F.written files.old; opened = F.opened files.old
+        })
+        (record {
+            read = seen_by R.remaining reader.new; printed = seen_by W.contents writer.new;
+            written = F.written files.new; opened = F.opened files.new
+        }) }
 {
     match request {
         Request::Format(asked) => format_volume(alloc, files, writer, progress, &asked),
@@ -102,7 +117,9 @@ fn format_volume<F: ImageFiles, W: Write, P: Progress>(
     progress: &mut P,
     asked: &NewImage,
 ) -> Result<Ending, ProgramFault>
-    ensures { IfErr result (λ e. keeps_files e ≡ true → F.written files.new ≡ F.written files.old) }
+    ensures keeps { IfErr result (λ e. keeps_files e ≡ true → F.written files.new ≡ F.written files.old) }
+    ensures formats { FormatsVolume result asked.now (F.written files.old) (F.written files.new)
+        (seen_by W.contents writer.old) (seen_by W.contents writer.new) }
 {
     let volume = NewVolume {
         path: asked.path,
@@ -123,7 +140,9 @@ fn list_volume<F: ImageFiles, W: Write>(
     writer: &mut Counted<W>,
     paths: &[&str],
 ) -> Result<Ending, ProgramFault>
-    ensures { F.written files.new ≡ F.written files.old }
+    ensures kept { F.written files.new ≡ F.written files.old }
+    ensures lists { ListsVolume result (map (λ path. path.now) paths.now) (F.opened files.old) (F.opened files.new)
+        (seen_by W.contents writer.old) (seen_by W.contents writer.new) }
 {
     match list_files(alloc, files, writer, paths) {
         Ok(()) => Ok(Ending::Done),
@@ -140,8 +159,15 @@ fn run_volumes<F: Traces, R: Read, W: Write>(
     asked: DeckRun,
 ) -> Result<Ending, ProgramFault>
     ensures keeps { IfErr result (λ e. keeps_files e ≡ true → F.written files.new ≡ F.written files.old) }
-    ensures runs { RunsOrStops result asked.entry (seen_by R.remaining reader.old) (seen_by R.remaining reader.new)
-        (F.written files.old) (F.written files.new) (seen_by W.contents writer.old) (seen_by W.contents writer.new) }
+    ensures runs { RunsOrStops result asked.entry
+        (record {
+            read = seen_by R.remaining reader.old; printed = seen_by W.contents writer.old;
+            written = F.written files.old; opened = F.opened files.old
+        })
+        (record {
+            read = seen_by R.remaining reader.new; printed = seen_by W.contents writer.new;
+            written = F.written files.new; opened = F.opened files.new
+        }) }
 {
     let volumes = asked.volumes.as_slice();
     let mut tracer = begin_trace(alloc, files, &asked)?;
@@ -165,12 +191,23 @@ fn check_volume<F: ImageFiles, W: Write, P: Progress>(
     progress: &mut P,
     paths: &[&str],
 ) -> Result<Ending, ProgramFault>
-    ensures { F.written files.new ≡ F.written files.old }
+    ensures kept { F.written files.new ≡ F.written files.old }
+    ensures checks { ChecksVolume result (map (λ path. path.now) paths.now) (F.opened files.old) (F.opened files.new)
+        (seen_by W.contents writer.old) (seen_by W.contents writer.new) }
 {
     match check_files(alloc, files, writer, progress, paths) {
-        Ok(0) => Ok(Ending::Done),
-        Ok(_) => Ok(Ending::Findings),
+        Ok(findings) => Ok(ending_of(findings)),
         Err(fault) => Err(ProgramFault::Job(fault)),
+    }
+}
+
+// How a check ends that counted so many findings.
+fn ending_of(findings: u32) -> Ending
+    ensures { result ≡ ending_of findings }
+{
+    match findings {
+        0 => Ending::Done,
+        _ => Ending::Findings,
     }
 }
 
@@ -194,6 +231,7 @@ fn conclude<F: ImageFiles>(
 ) -> Result<(), ProgramFault>
     ensures keeps { IfErr result (λ e. keeps_files e ≡ true → F.written files.new ≡ F.written files.old) }
     ensures concludes { Concludes run result volumes.now channel (F.written files.old) (F.written files.new) }
+    ensures same { F.opened files.new ≡ F.opened files.old }
 {
     match run {
         Ok(()) => finish(alloc, files, volumes, channel),

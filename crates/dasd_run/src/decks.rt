@@ -33,7 +33,7 @@ pub(crate) fn read_deck<F: ImageFiles, R: Read>(
 ) -> Result<Vec<u8>, RunFault>
     ensures kept { F.written files.new ≡ F.written files.old }
     ensures read { IfOk result (λ text. ReadsDeck (option_map (λ path. path.now) deck.entry)
-        (seen_by R.remaining reader.old) (seen_by R.remaining reader.new) text.items) }
+        (seen_by R.remaining reader.old) (seen_by R.remaining reader.new) text.items (F.opened files.old) (F.opened files.new)) }
     ensures not_read { IfErr result (λ fault. NotRead fault (option_map (λ path. path.now) deck.entry)
         (seen_by R.remaining reader.old) (seen_by R.remaining reader.new)) }
 {
@@ -55,7 +55,7 @@ fn read_input<F: ImageFiles, R: Read>(
 ) -> Result<Vec<u8>, RunFault>
     ensures kept { F.written files.new ≡ F.written files.old }
     ensures read { IfOk result (λ text. ReadsDeck None
-        (seen_by R.remaining reader.old) (seen_by R.remaining reader.new) text.items) }
+        (seen_by R.remaining reader.old) (seen_by R.remaining reader.new) text.items (F.opened files.old) (F.opened files.new)) }
     ensures not_read { IfErr result (λ fault. NotRead fault None
         (seen_by R.remaining reader.old) (seen_by R.remaining reader.new)) }
 {
@@ -97,7 +97,8 @@ pub(crate) fn run_deck<W: Write, T: Write + Drop>(
 
 /// Says more of a fault of the deck that this text is.
 pub(crate) fn tell_fault<F: ImageFiles>(files: &mut F, text: &[u8], run: Result<(), RunFault>)
-    ensures { F.written files.new ≡ F.written files.old }
+    ensures kept { F.written files.new ≡ F.written files.old }
+    ensures same { F.opened files.new ≡ F.opened files.old }
 {
     if let Err(fault) = run {
         if let Some(remark) = remark_of(text, fault) {

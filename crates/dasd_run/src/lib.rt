@@ -17,7 +17,7 @@ mod unload;
 mod vtoc;
 mod words;
 
-pub use crate::commands::{Ending, obey};
+pub use crate::commands::{Ending, answer, obey};
 pub use crate::fault::ProgramFault;
 pub use crate::runs::{Disks, build, finish};
 pub use crate::traces::Traces;

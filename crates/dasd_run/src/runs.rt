@@ -3,9 +3,9 @@
 ghost use Rattle.std.specs.Prelude.{◌≡◌, ◌<◌, [], true, false, position, IfOk, IfErr, OnOk};
 ghost use Rattle.std.specs.List.{AllZip};
 ghost use Rattle.s360_words.specs.Storage.{is_size};
-ghost use Rattle.dasd_run.specs.Built.{IsNewChannel, NotMade, is_addressed, NotAttached, NotBuilt};
+ghost use Rattle.dasd_run.specs.Built.{IsNewChannel, NotMade, is_addressed, HasAddressOf, NotAttached, NotBuilt};
 ghost use Rattle.dasd_run.specs.Faults.{keeps_files};
-ghost use Rattle.dasd_run.specs.Runs.{Opens, IsDriveOf, AttachesOne};
+ghost use Rattle.dasd_run.specs.Runs.{Opens, OpensVolumes, AttachesOne};
 ghost use Rattle.dasd_run.specs.Saves.{SavesRun};
 
 use crate::fault::{ProgramFault, of_attach, of_volume};
@@ -22,8 +22,8 @@ use std::alloc::Global;
 /// A channel over images that were read from files.
 pub type Disks = Channel<VolumeFile>;
 
-/// A channel with this number, over cleared main storage of this size, with a drive for each volume in the order of the words. No
-/// file is written.
+/// A channel with this number, over cleared main storage of this size, with a drive for each volume in the order of the words. The
+/// files of the volumes are opened in this order, and no other. No file is written.
 ///
 /// # Errors
 ///
@@ -38,7 +38,7 @@ pub fn build<F: ImageFiles>(
 ) -> Result<Disks, ProgramFault>
     ensures kept { F.written files.new ≡ F.written files.old }
     ensures is_new { IfOk result (λ c. IsNewChannel storage number c) }
-    ensures drives { IfOk result (λ c. AllZip IsDriveOf volumes.now c.drives) }
+    ensures drives { IfOk result (λ c. OpensVolumes volumes.now c.drives (F.opened files.old) (F.opened files.new)) }
     ensures not_built { IfErr result (λ e. NotBuilt e storage number volumes.now) }
 {
     let mut channel = new_channel(alloc, storage, number)?;
@@ -74,9 +74,9 @@ fn attach<F: ImageFiles>(
     before: &[Volume],
     volume: &Volume,
 ) -> Result<(), ProgramFault>
-    requires { AllZip IsDriveOf before.now channel.old.drives }
+    requires { AllZip HasAddressOf before.now channel.old.drives }
     ensures kept { F.written files.new ≡ F.written files.old }
-    ensures drive { OnOk result (AttachesOne volume.now channel.old channel.new) }
+    ensures drive { OnOk result (AttachesOne volume.now channel.old channel.new (F.opened files.old) (F.opened files.new)) }
     ensures not_attached { IfErr result (λ e. NotAttached e before.now volume.now) }
 {
     let image = match open(alloc, files, &volume.source) {
@@ -103,14 +103,14 @@ fn place_of(volumes: &[Volume], device: u8) -> Option<usize>
     )
 }
 
-// The image of a volume.
+// The image of a volume, for which its files are opened and no other.
 fn open<F: ImageFiles>(
     alloc: Global,
     files: &mut F,
     source: &VolumeSource,
 ) -> Result<Image<VolumeFile>, JobFault>
     ensures kept { F.written files.new ≡ F.written files.old }
-    ensures opens { IfOk result (λ image. Opens source.now image) }
+    ensures opens { IfOk result (λ image. Opens source.now image (F.opened files.old) (F.opened files.new)) }
 {
     match source {
         VolumeSource::Files(paths) => read_image(alloc, files, paths.as_slice()),
@@ -131,6 +131,7 @@ pub fn finish<F: ImageFiles>(
     channel: Disks,
 ) -> Result<(), ProgramFault>
     ensures saves { SavesRun result volumes.now channel (F.written files.old) (F.written files.new) }
+    ensures same { F.opened files.new ≡ F.opened files.old }
     ensures fault { IfErr result (λ e. keeps_files e ≡ false) }
 {
     if let SubchannelView::Working(device, _) = channel.state().subchannel {

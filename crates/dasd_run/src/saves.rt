@@ -25,7 +25,8 @@ pub(crate) fn save_all<F: ImageFiles>(
     volumes: &[Volume],
     images: &mut [GivenImage],
 ) -> Result<(), ProgramFault>
-    ensures { SavesAll result (zip volumes.now images.old) (F.written files.old) (F.written files.new) }
+    ensures saves { SavesAll result (zip volumes.now images.old) (F.written files.old) (F.written files.new) }
+    ensures same { F.opened files.new ≡ F.opened files.old }
 {
     for i in 0..volumes.len() {
         if let Some((_, image)) = take_image(images, i) {
@@ -57,7 +58,8 @@ fn save<F: ImageFiles>(
     volume: &Volume,
     image: Image<VolumeFile>,
 ) -> Result<(), JobFault>
-    ensures { SavesVolume result volume.now image (F.written files.old) (F.written files.new) }
+    ensures saves { SavesVolume result volume.now image (F.written files.old) (F.written files.new) }
+    ensures same { F.opened files.new ≡ F.opened files.old }
 {
     match &volume.source {
         VolumeSource::Files(paths) => write_back(alloc, files, paths.as_slice(), image),

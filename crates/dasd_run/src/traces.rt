@@ -31,7 +31,8 @@ pub trait Traces: ImageFiles {
         target: TraceTarget,
         beside: &[&str],
     ) -> Result<Self::Sink, FileFault>
-        ensures { Self.written self.new ≡ Self.written self.old };
+        ensures kept { Self.written self.new ≡ Self.written self.old }
+        ensures same { Self.opened self.new ≡ Self.opened self.old };
 }
 
 /// The trace that a run asks for, before anything else of it is opened.
@@ -45,6 +46,7 @@ pub(crate) fn begin_trace<F: Traces>(
     asked: &DeckRun,
 ) -> Result<Option<Tracer<F::Sink>>, ProgramFault>
     ensures kept { F.written files.new ≡ F.written files.old }
+    ensures same { F.opened files.new ≡ F.opened files.old }
     ensures no_trace { IfErr result (λ e. NoTrace e asked.now) }
 {
     let Some(target) = asked.trace else {

@@ -1,14 +1,15 @@
-use Rattle.std.proofs.Common.{◌≡◌, ◌∙◌, ℕ, List, true, inl, inr, refl, IfErr, subst, rules, tests}
-use Rattle.std.specs.List.{AllZip}
+use Rattle.std.proofs.Common.{◌≡◌, ◌∙◌, ℕ, List, true, inl, inr, refl, IfErr, subst, sym, rules, tests}
 use Rattle.std.proofs.lemmas.Result.{err_from_is_err_and}
 use Rattle.s360_deck.specs.Texts.{RunsText}
 use Rattle.dasd_words.specs.declared.volumes.Volume.{Volume}
 use Rattle.counted_io.specs.Streams.{seen_by}
+use Rattle.dasd_jobs.specs.Sources.{SourceFile}
 use Rattle.dasd_jobs.specs.Written.{Replaced}
 use Rattle.dasd_run.specs.declared.commands.Ending.TheVariants.{Done}
 use Rattle.dasd_run.specs.Built.{NotBuilt}
 use Rattle.dasd_run.specs.Faults.{keeps_files}
-use Rattle.dasd_run.specs.Runs.{IsDriveOf}
+use Rattle.dasd_run.specs.Decks.{deck_path, ReadsDeck}
+use Rattle.dasd_run.specs.Runs.{OpensVolumes}
 use Rattle.dasd_run.specs.Saves.{Concludes}
 use Rattle.dasd_run.proofs.Told.{stays_seen, kept_if_told}
 use Rattle.dasd_run.proofs.commands.run_volumes.Goals as goal
@@ -33,15 +34,30 @@ returns-in-Err-clause-runs g c = inr (inr c.in-Err.ensures.not_read, c.read_deck
 pub returns-clause-runs : goal.returns-clause-runs
 returns-clause-runs g c =
     let written = g.F.ImageFiles.written in
+    let opened = g.F.ImageFiles.opened in
+    let before = opened c.args.files.now in
+    let between = opened c.build.new.files in
     let r = c.run_deck-run.result in
+    let built = c.in_ok-channel.channel in
+    let text = c.in-Ok.text.items in
     let same_files : written c.tell_fault.new.files ≡ written c.args.files.now =
-    c.tell_fault.ensures ∙ c.read_deck.ensures.kept ∙ c.build.ensures.kept ∙ c.begin_trace.ensures.kept in
+    c.tell_fault.ensures.kept ∙ c.read_deck.ensures.kept ∙ c.build.ensures.kept ∙ c.begin_trace.ensures.kept in
+    let none_behind : opened c.conclude-concluded.new.files ≡ opened c.read_deck.new.files =
+    c.conclude-concluded.ensures.same ∙ c.tell_fault.ensures.same in
     inl (record {
-      built = c.in_ok-channel.channel;
+      built = built;
       is_new = c.in_ok-channel.ensures.is_new;
-      drives = subst (λ (vs : List Volume). AllZip IsDriveOf vs c.in_ok-channel.channel.drives) c.as_slice-volumes.ensures.value c.in_ok-channel.ensures.drives;
-      text = c.in-Ok.text.items;
-      reads = c.in-Ok.ensures.read;
+      opened = between;
+      drives =
+          subst (λ (vs : List Volume). OpensVolumes vs built.drives before between) c.as_slice-volumes.ensures.value
+          (subst (λ (l : List SourceFile). OpensVolumes c.as_slice-volumes.result.now built.drives l between) c.begin_trace.ensures.same
+          c.in_ok-channel.ensures.drives);
+      text = text;
+      reads =
+          subst
+          (λ (now : List SourceFile). ReadsDeck (deck_path c.args.asked) (seen_by g.R.Read.remaining c.args.reader.now)
+          (seen_by g.R.Read.remaining c.read_deck.new.reader) text between now)
+          (sym none_behind) c.in-Ok.ensures.read;
       run = r;
       last = c.run_deck-run.new.channel;
       runs =
@@ -62,7 +78,7 @@ pub returns-clause-keeps : goal.returns-clause-keeps
 returns-clause-keeps g c =
     let written = g.F.ImageFiles.written in
     let same_files : written c.tell_fault.new.files ≡ written c.args.files.now =
-    c.tell_fault.ensures ∙ c.read_deck.ensures.kept ∙ c.build.ensures.kept ∙ c.begin_trace.ensures.kept in
+    c.tell_fault.ensures.kept ∙ c.read_deck.ensures.kept ∙ c.build.ensures.kept ∙ c.begin_trace.ensures.kept in
     let kept = kept_if_told (written c.args.files.now) (written c.conclude-concluded.new.files) c.conclude-concluded.result c.end_trace-traced.result Done
     (subst (λ (before : List Replaced). IfErr c.conclude-concluded.result (λ e. keeps_files e ≡ true → written c.conclude-concluded.new.files ≡ before)) same_files c.conclude-concluded.ensures.keeps)
     c.end_trace-traced.ensures.kept in

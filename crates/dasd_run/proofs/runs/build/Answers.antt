@@ -1,16 +1,28 @@
-use Rattle.std.proofs.Common.{◌∙◌, ap, arith}
+use Rattle.std.proofs.Common.{◌∙◌, ◌+◌, take, ap, arith}
 use Rattle.std.proofs.lemmas.Result.{err_from_is_err_and}
-use Rattle.dasd_run.specs.Runs.{IsDriveOf}
-use Rattle.dasd_run.proofs.Built.{next_both, still_new, stops_at}
+use Rattle.dasd_run.proofs.Built.{opens_next, addressed, still_new, stops_at}
 use Rattle.dasd_run.proofs.runs.build.Goals as goal
 
 pub loop-i-preserved : goal.loop-i-preserved
 loop-i-preserved g c =
+    let opened = g.F.ImageFiles.opened in
+    let before = opened c.args.files.now in
+    let between = opened c.loop-i.files in
+    let now = opened c.attach.new.files in
+    let volumes = c.args.volumes.now in
+    let i = c.loop-i.i in
     let one = c.in_ok-attach.ensures.drive in
+    let more = ap (λ c. c.drives) one.2 in
+    let next =
+        opens_next volumes c.loop-i.channel.drives c.attach.new.channel.drives i c.index-volumes-i.result one.0 before between now
+        c.loop-i-test.true c.index-volumes-i.is more c.loop-i.invariant.drives one.1 in
     record {
       kept = c.attach.ensures.kept ∙ c.loop-i.invariant.kept;
-      is_new = still_new c.args.storage c.args.number c.index-volumes-i.result c.loop-i.channel c.attach.new.channel c.loop-i.invariant.is_new one;
-      drives = next_both IsDriveOf c.args.volumes.now c.loop-i.channel.drives c.attach.new.channel.drives c.loop-i.i c.index-volumes-i.result one.0 c.loop-i-test.true c.index-volumes-i.is (ap (λ c. c.drives) one.2) c.loop-i.invariant.drives one.1;
+      is_new =
+          still_new c.args.storage c.args.number c.index-volumes-i.result c.loop-i.channel c.attach.new.channel between now
+          c.loop-i.invariant.is_new one;
+      drives = next;
+      addresses = addressed (take (i + 1) volumes) c.attach.new.channel.drives before now next;
     }
 
 pub returns-in_err-attach-clause-not_built : goal.returns-in_err-attach-clause-not_built

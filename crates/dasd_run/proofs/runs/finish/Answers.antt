@@ -24,10 +24,27 @@ returns-clause-saves g c =
       images = images;
       unsaved = c.finish-images.result.reset.unsaved;
       finishes = c.finish-images.ensures;
-      saves = subst (λ (before : List Replaced). SavesAll c.save_all.result (zip c.args.volumes.now images) before (written c.save_all.new.files)) (told_too ∙ told) c.save_all.ensures;
+      saves =
+          subst (λ (before : List Replaced). SavesAll c.save_all.result (zip c.args.volumes.now images) before (written c.save_all.new.files))
+          (told_too ∙ told) c.save_all.ensures.saves;
     }
+
+-- and opens none
+pub returns-clause-same : goal.returns-clause-same
+returns-clause-same g c =
+    let opened = g.F.ImageFiles.opened in
+    let told : opened c.match-state.files ≡ opened c.args.files.now = elim c.match-state.branch [
+      | in-Working w ↦ ap opened w.files-is ∙ w.remark.ensures.same
+      | in_default w ↦ ap opened w.files-is
+    ] in
+    let told_too : opened c.match-reset.files ≡ opened c.match-state.files = elim c.match-reset.branch [
+      | in-Some w ↦ ap opened w.files-is ∙ w.remark-in-Some.ensures.same
+      | in_default-unsaved w ↦ ap opened w.files-is
+    ] in
+    c.save_all.ensures.same ∙ told_too ∙ told
 
 pub returns-clause-fault : goal.returns-clause-fault
 returns-clause-fault g c =
     let written = g.F.ImageFiles.written in
-    fault_of_files c.save_all.result (zip c.args.volumes.now c.finish-images.result.images) (written c.match-reset.files) (written c.save_all.new.files) c.save_all.ensures
+    fault_of_files c.save_all.result (zip c.args.volumes.now c.finish-images.result.images) (written c.match-reset.files)
+    (written c.save_all.new.files) c.save_all.ensures.saves

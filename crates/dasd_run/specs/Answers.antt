@@ -1,0 +1,67 @@
+-- What is done of each request.
+use Rattle.std.specs.Prelude.{◌≡◌, ◌==◌, ℕ, List, map, true, if◌then◌else◌, Result, Ok, Err, IfOk, IfErr}
+use Rattle.counted_io.specs.Streams.{Stream}
+use Rattle.dasd_volumes.specs.Volumes.{volume_text, check_text, NumberIn}
+use Rattle.dasd_words.specs.declared.requests.NewImage.{NewImage}
+use Rattle.dasd_words.specs.declared.requests.Request.{Request}
+use Rattle.dasd_words.specs.declared.requests.Request.TheVariants as request
+use Rattle.dasd_jobs.specs.Printed.{CountsLines, PrintsFiles}
+use Rattle.dasd_jobs.specs.Sources.{SourceFile, OfVolume}
+use Rattle.dasd_jobs.specs.Written.{Replaced, Formats}
+use Rattle.dasd_jobs.specs.declared.faults.JobFault.{JobFault}
+use Rattle.dasd_run.specs.declared.commands.Ending.{Ending}
+use Rattle.dasd_run.specs.declared.commands.Ending.TheVariants.{Done, Findings}
+use Rattle.dasd_run.specs.declared.fault.ProgramFault.{ProgramFault}
+use Rattle.dasd_run.specs.declared.fault.ProgramFault.TheVariants as fault
+use Rattle.dasd_run.specs.Faults.{keeps_files}
+use Rattle.dasd_run.specs.Outside.{Outside}
+use Rattle.dasd_run.specs.Runs.{RunsOrStops}
+
+-- how the program ends with a job over files: so, where the job is done; and else its fault is the program's
+abbrev pub ended : {A : Type 0} → (A → Ending) → Result A JobFault → Result Ending ProgramFault
+ended ending (Ok done) = Ok (ending done)
+ended ending (Err f) = Err (fault.Job f)
+
+-- a check has findings where it counts some
+abbrev pub ending_of : ℕ → Ending
+ending_of found = if found == 0 then Done else Findings
+
+-- the new image that is asked for is put at its path, and its line printed
+abbrev pub FormatsVolume : Result Ending ProgramFault → NewImage → (before now : List Replaced) → (printed_before printed : Stream) → Type 0
+FormatsVolume result asked before now printed_before printed =
+    (job : Result (Unit {0}) JobFault) × (result ≡ ended (λ done. Done) job)
+    × Formats job asked.path.now asked.model asked.cylinders before now printed_before printed
+
+-- the volume of the files at these paths is printed
+abbrev pub ListsVolume : Result Ending ProgramFault → (paths : List (List ℕ)) → (opened_before opened : List SourceFile) → (printed_before printed : Stream) → Type 0
+ListsVolume result paths opened_before opened printed_before printed =
+    (job : Result (Unit {0}) JobFault) × (result ≡ ended (λ done. Done) job)
+    × PrintsFiles job volume_text paths opened_before opened printed_before printed × CountsLines job printed_before printed
+
+-- its tracks that can't be read are printed, and it has findings where there are some
+abbrev pub ChecksVolume : Result Ending ProgramFault → (paths : List (List ℕ)) → (opened_before opened : List SourceFile) → (printed_before printed : Stream) → Type 0
+ChecksVolume result paths opened_before opened printed_before printed =
+    (job : Result ℕ JobFault) × (result ≡ ended ending_of job)
+    × IfOk job (λ n. OfVolume paths opened_before opened (λ v. NumberIn v n))
+    × PrintsFiles job check_text paths opened_before opened printed_before printed × CountsLines job printed_before printed
+
+-- no file is written, and nothing is read of the reader
+abbrev pub Looks : (before now : Outside) → Type 0
+Looks before now = (now.written ≡ before.written) × (now.read ≡ before.read)
+
+-- files are written, but none with a fault that says so; and nothing is read of the reader
+abbrev pub Unloads : Result Ending ProgramFault → (before now : Outside) → Type 0
+Unloads result before now = IfErr result (λ e. keeps_files e ≡ true → now.written ≡ before.written) × (now.read ≡ before.read)
+
+-- What is done of a request, and what it leaves outside of the program.
+abbrev pub Answers : Request → Result Ending ProgramFault → (before now : Outside) → Type 0
+Answers (request.Format asked) result before now =
+    FormatsVolume result asked before.written now.written before.printed now.printed × (now.read ≡ before.read)
+Answers (request.List paths) result before now =
+    ListsVolume result (map (λ path. path.now) paths.items) before.opened now.opened before.printed now.printed × Looks before now
+Answers (request.Check paths) result before now =
+    ChecksVolume result (map (λ path. path.now) paths.items) before.opened now.opened before.printed now.printed × Looks before now
+Answers (request.Run asked) result before now = RunsOrStops result asked before now
+Answers (request.Extract asked) result before now = Unloads result before now
+Answers (request.ExtractAll asked) result before now = Unloads result before now
+Answers asked result before now = Looks before now
