@@ -6,6 +6,7 @@ from typing import Any
 project = "dasd"
 version = release = (Path(__file__).parent.parent / "VERSION").read_text(encoding="utf-8").strip()
 language = "en"
+smartquotes = False
 
 extensions = ["myst_parser"]
 source_suffix = {".md": "markdown"}
