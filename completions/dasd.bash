@@ -51,6 +51,13 @@ _dasd() {
         _dasd_files
         return
         ;;
+    run:--trace-only)
+        _dasd_words failing
+        return
+        ;;
+    run:--trace-last)
+        return
+        ;;
     esac
     case $command in
     help)
@@ -86,7 +93,7 @@ _dasd() {
         ;;
     explain)
         if [[ $word == -* ]]; then _dasd_words --verbose -h --help; return; fi
-        [ "$COMP_CWORD" -eq 2 ] && _dasd_words csw sense ccw
+        [ "$COMP_CWORD" -eq 2 ] && _dasd_words csw sense ccw line
         ;;
     assemble)
         if [[ $word == -* ]]; then _dasd_words --verbose -h --help; return; fi
@@ -97,7 +104,7 @@ _dasd() {
         _dasd_files
         ;;
     run)
-        if [[ $word == -* ]]; then _dasd_words --storage --channel --deck --trace --trace-to --verbose -h --help; return; fi
+        if [[ $word == -* ]]; then _dasd_words --storage --channel --deck --trace --trace-to --trace-only --trace-last --trace-answers --trace-whole --verbose -h --help; return; fi
         if [ "$word" = = ]; then word='' before='='; fi
         [ "$before" = = ] && _dasd_files
         ;;

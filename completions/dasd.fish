@@ -54,7 +54,7 @@ complete -c dasd -n '__fish_seen_subcommand_from extract' -s h -l help -d 'Print
 complete -c dasd -n '__fish_seen_subcommand_from extract' -F
 complete -c dasd -n '__fish_seen_subcommand_from explain' -l verbose -d 'tells more of a fault, also where standard error is no terminal'
 complete -c dasd -n '__fish_seen_subcommand_from explain' -s h -l help -d 'Print help'
-complete -c dasd -n '__fish_seen_subcommand_from explain; and not __fish_seen_subcommand_from csw sense ccw' -a 'csw sense ccw' -d 'what the digits are'
+complete -c dasd -n '__fish_seen_subcommand_from explain; and not __fish_seen_subcommand_from csw sense ccw line' -a 'csw sense ccw line' -d 'what the digits are'
 complete -c dasd -n '__fish_seen_subcommand_from assemble' -l verbose -d 'tells more of a fault, also where standard error is no terminal'
 complete -c dasd -n '__fish_seen_subcommand_from assemble' -s h -l help -d 'Print help'
 complete -c dasd -n '__fish_seen_subcommand_from assemble' -F
@@ -66,6 +66,10 @@ complete -c dasd -n '__fish_seen_subcommand_from run' -l channel -x -d 'the numb
 complete -c dasd -n '__fish_seen_subcommand_from run' -l deck -r -F -d 'the deck; standard input where there is none'
 complete -c dasd -n '__fish_seen_subcommand_from run' -l trace -d 'tells on standard error what each channel command word does'
 complete -c dasd -n '__fish_seen_subcommand_from run' -l trace-to -r -F -d 'as --trace, into a file, whose bytes are replaced'
+complete -c dasd -n '__fish_seen_subcommand_from run' -l trace-only -x -a 'failing' -d 'traces those starts alone whose programs fail'
+complete -c dasd -n '__fish_seen_subcommand_from run' -l trace-last -x -d 'writes the last lines of the trace alone, at most so many'
+complete -c dasd -n '__fish_seen_subcommand_from run' -l trace-answers -d 'traces each answer too, as it is printed'
+complete -c dasd -n '__fish_seen_subcommand_from run' -l trace-whole -d 'traces each round of lines that comes again, and not how often it came'
 complete -c dasd -n '__fish_seen_subcommand_from run' -l verbose -d 'tells more of a fault, also where standard error is no terminal'
 complete -c dasd -n '__fish_seen_subcommand_from run' -s h -l help -d 'Print help'
 complete -c dasd -n '__fish_seen_subcommand_from run' -F

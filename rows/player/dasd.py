@@ -14,6 +14,7 @@
 | `dasd list a` | a command |
 | `< line`, `< ...` | a line that it prints; all that are left |
 | `~ line`, `~ ...` | a line that it shows on a terminal while it goes on |
+| `trace line`, `trace ...` | a line of its trace; all that are left. A trace of which a line is looked at has no others |
 | `keep`, `kept` | what it prints is kept; is what was kept |
 | `! dasd: read fault`, `usage`, `says X` | what it tells on standard error; a text of its words; which has this |
 | `remark text` | what it says of it where it is asked for more |
@@ -60,6 +61,8 @@ class DasdRow:
         self.program, self.folder = program, folder
         self.printed: list[str] = []
         self.shown: list[str] = []
+        self.traced: list[str] = []
+        self.looks_at_trace = False
         self.kept: list[str] = []
         self.told, self.status = "", 0
         self.remarks: list[str] = []
@@ -97,6 +100,7 @@ class DasdRow:
     def is_said(self, line: str) -> None:
         """That nothing came of the last command that no line said."""
         more = self.printed + self.shown + ([self.told] if self.told else [])
+        more += self.traced if self.looks_at_trace else []
         if more:
             raise Wrong(line, "nothing more before it", " | ".join(more))
 
@@ -137,8 +141,9 @@ class DasdRow:
 
     def looks(self, line: str, word: str, rest: str) -> bool:
         """Looks at what came of the last command, or what files hold; whether the line asks that."""
-        if word in ("<", "~", "remark"):
-            came = {"<": self.printed, "~": self.shown, "remark": self.remarks}[word]
+        if word in ("<", "~", "trace", "remark"):
+            came = {"<": self.printed, "~": self.shown, "trace": self.traced, "remark": self.remarks}[word]
+            self.looks_at_trace |= word == "trace"
             if rest == "...":
                 came.clear()
             else:
@@ -201,6 +206,8 @@ class DasdRow:
         elif self.shown:
             self.shown.append("is still shown")
         self.says(SHOWN.sub(b"", told).decode("utf-8"), out)
+        self.traced = self.held(traces).decode("latin1").splitlines() if traces and self.path(traces).is_file() else []
+        self.looks_at_trace = False
         self.next_command()
 
     def says(self, told: str, out: str) -> None:

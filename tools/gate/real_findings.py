@@ -200,13 +200,13 @@ def skip_suppress_and_seek_check_are_told_apart(s: Scratch) -> None:
         ("0510040010000010", "  skip: what is read does not go into storage"),
         (
             "0500040000000010",
-            "command 05 Write Data: writes the data of a record, right behind a Search ID Equal or Search Key Equal that found it equal",
+            "command 05 Write Data: writes the data of a record, right behind a Search ID Equal or Search Key Equal that compared all its bytes and was equal",
         ),
     ]:
         status, printed, told = s.dasd("explain", "ccw", word)
         same((status, line in printed.splitlines(), told), (0, True, ""), word)
     printed = s.dasd("explain", "sense", "8100")[1]
-    same("cause: the volume has no such cylinder or head: a seek was to go there" in printed.splitlines(), True, "a hint of seek check")
+    same("cause: the volume has no such bin, cylinder or head: a seek was to go there" in printed.splitlines(), True, "a hint of seek check")
     printed = s.dasd("explain", "csw", "00000428", "0E100320")[1]
     same("  protection check: the key of the program is not that of the block in storage" in printed.splitlines(), True, "protection check")
 

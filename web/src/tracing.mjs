@@ -153,7 +153,7 @@ export function traced(program, deck, { channel, storage, drives }) {
       });
     } else words.push(`${unit}=new:${drive.model}:${drive.cylinders}`);
   }
-  const options = ['--channel', String(channel), '--storage', String(storage), '--trace-to', 'trace'];
+  const options = ['--channel', String(channel), '--storage', String(storage), '--trace-to', 'trace', '--trace-whole'];
   const ended = program.run(['run', ...options, ...words], files, deckBytes(deck.text));
   if (ended.status && !ended.output.length) throw refusal(ended);
   return { answers: textOf(ended.output).split('\n').filter(Boolean), trace: textOf(ended.files.get('trace') ?? new Uint8Array(0)) };

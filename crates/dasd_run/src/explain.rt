@@ -5,7 +5,7 @@ use crate::fault::ProgramFault;
 use arrayvec::ArrayVec;
 use dasd_jobs::JobFault;
 use dasd_words::Noted;
-use s360_explain::{Lines, of_ccw, of_csw, of_ending, of_sense, of_status};
+use s360_explain::{Lines, of_ccw, of_csw, of_ending, of_pasted, of_sense, of_status};
 use s360_words::{Ccw, Csw};
 use std::io::Write;
 
@@ -17,6 +17,7 @@ fn lines_of(noted: Noted) -> Lines {
         Noted::Status(bytes) => of_stored(bytes),
         Noted::Sense(bytes) => of_sense_bytes(bytes),
         Noted::Ccw(bytes) => of_ccw(Ccw::from_bytes(bytes)),
+        Noted::Line(pasted) => of_pasted(pasted),
     }
 }
 

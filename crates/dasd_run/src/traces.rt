@@ -7,11 +7,11 @@ ghost use Rattle.dasd_run.specs.Faults.{keeps_files, opening_fault};
 use crate::fault::ProgramFault;
 use crate::remarks::Remark;
 use dasd_jobs::{FileFault, ImageFiles};
-use dasd_words::{DeckRun, TraceTarget, VolumeSource};
+use dasd_words::{AskedTrace, DeckRun, TraceTarget, VolumeSource};
 use s360_deck::RunFault;
 use std::alloc::Global;
 use std::io::Write;
-use trace_lines::Tracer;
+use trace_lines::{TracedLines, Tracer};
 
 /// Files, and what a trace can be written to beside them.
 pub trait Traces: ImageFiles {
@@ -49,19 +49,34 @@ pub(crate) fn begin_trace<F: Traces>(
     ensures same { F.opened files.new ≡ F.opened files.old }
     ensures no_trace { IfErr result (λ e. NoTrace e asked.now) }
 {
-    let Some(target) = asked.trace else {
+    let Some(trace) = asked.trace else {
         return Ok(None);
     };
     let beside = paths_of(alloc, asked)?;
-    if let TraceTarget::File(path) = target {
+    if let TraceTarget::File(path) = trace.target {
         if beside.iter().any(|other| *other == path) {
             files.remark(&Remark::Used(path));
             return Err(ProgramFault::TraceInUse);
         }
     }
-    match files.open_trace(alloc, target, beside.as_slice()) {
-        Ok(sink) => Ok(Some(Tracer::new(sink))),
+    match files.open_trace(alloc, trace.target, beside.as_slice()) {
+        Ok(sink) => Ok(Some(Tracer::new(alloc, sink, lines_of(&trace))?)),
         Err(fault) => Err(of_opening(fault)),
+    }
+}
+
+// Which lines the trace has.
+fn lines_of(asked: &AskedTrace) -> TracedLines
+    ensures whole { result.is_whole ≡ asked.now.is_whole }
+    ensures failing_only { result.failing_only ≡ asked.now.failing_only }
+    ensures last { result.last ≡ asked.now.last }
+    ensures with_answers { result.with_answers ≡ asked.now.with_answers }
+{
+    TracedLines {
+        is_whole: asked.is_whole,
+        failing_only: asked.failing_only,
+        last: asked.last,
+        with_answers: asked.with_answers,
     }
 }
 

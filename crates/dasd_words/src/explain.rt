@@ -1,4 +1,4 @@
-//! The words of `dasd explain`: numbers that somebody has noted, in hexadecimal digits.
+//! The words of `dasd explain`: numbers that somebody has noted, in hexadecimal digits, and lines that somebody has pasted.
 
 use crate::commands::wrong;
 use crate::options::{ArgKind, ArgRow, CommandRow, WORDS};
@@ -6,6 +6,7 @@ use crate::requests::{Noted, Request, WordFault};
 use arrayvec::ArrayVec;
 use clap::ArgMatches;
 use clap::builder::ValueParser;
+use s360_explain::read_pasted;
 use std::alloc::Global;
 
 const NO_NUMBER: &str = "error: no number\n";
@@ -17,13 +18,18 @@ const SENSE_RULE: &str = "error: sense takes 2 to 12 hexadecimal digits, an even
 
 const CCW_RULE: &str = "error: ccw takes 16 hexadecimal digits\n";
 
+const LINE_RULE: &str =
+    "error: line takes a line with a status, sense bytes or a channel command word, of an answer or of a trace\n";
+
 /// The numbers, as `dasd explain --help` shows them.
 const NUMBER_TABLE: &str = "\
 csw takes a channel status word of 16 digits, as INT and TIO of a deck answer it in two groups; its second half of 8
 digits, which has status and residual count; or the 4 digits that SIO and HIO answer with CC 1. sense takes one to six
-sense bytes, ccw a channel command word of 16 digits. Digits may stand in several words.
+sense bytes, ccw a channel command word of 16 digits. Digits may stand in several words. line takes a line that SIO,
+TIO, HIO or INT was answered with, or a line of a trace.
 
-Example: dasd explain csw 00000428 0E000320";
+Example: dasd explain csw 00000428 0E000320
+         dasd explain line 'INT 190 00000428 0E000320'";
 
 /// The most bytes of a number.
 const MOST_BYTES: usize = 8;
@@ -37,11 +43,11 @@ pub(crate) const COMMAND: CommandRow = CommandRow {
         ArgRow {
             id: "NUMBER",
             help: "what the digits are",
-            kind: ArgKind::Words(ValueParser::Names(&["csw", "sense", "ccw"]), 1, 1),
+            kind: ArgKind::Words(ValueParser::Names(&["csw", "sense", "ccw", "line"]), 1, 1),
         },
         ArgRow {
             id: "DIGITS",
-            help: "hexadecimal digits, in one word or in several",
+            help: "hexadecimal digits, in one word or in several, or a line",
             kind: WORDS,
         },
     ],
@@ -52,6 +58,9 @@ pub(crate) fn read<'a>(alloc: Global, options: &ArgMatches<'a>) -> Result<Reques
     let (Some(name), Some(words)) = (options.get_str("NUMBER"), options.get_strs("DIGITS")) else {
         return Err(wrong(alloc, NO_NUMBER));
     };
+    if name == "line" {
+        return read_line(alloc, words);
+    }
     let rule = match name {
         "csw" => CSW_RULE,
         "sense" => SENSE_RULE,
@@ -64,6 +73,19 @@ pub(crate) fn read<'a>(alloc: Global, options: &ArgMatches<'a>) -> Result<Reques
     match noted {
         Some(noted) => Ok(Request::Explain(noted)),
         None => Err(wrong(alloc, rule)),
+    }
+}
+
+// What stands in a line, whose words may be one word or several.
+fn read_line<'a>(alloc: Global, words: &[&'a str]) -> Result<Request<'a>, WordFault> {
+    let mut line = String::new(alloc);
+    for word in words {
+        line.push_str(word)?;
+        line.push_str(" ")?;
+    }
+    match read_pasted(line.as_str()) {
+        Some(pasted) => Ok(Request::Explain(Noted::Line(pasted))),
+        None => Err(wrong(alloc, LINE_RULE)),
     }
 }
 

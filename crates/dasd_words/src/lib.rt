@@ -20,7 +20,7 @@ mod vtoc;
 pub use crate::commands::read_words;
 pub use crate::decks::{DECK_TABLE, operand_rule};
 pub use crate::requests::{
-    Asked, ComparedVolumes, DeckRun, DumpedPart, ExtractedSet, ExtractedVolume, ListedPart,
-    NewImage, Noted, Numbers, PrintedVolume, Request, SetName, TraceTarget, WordFault,
+    Asked, AskedTrace, ComparedVolumes, DeckRun, DumpedPart, ExtractedSet, ExtractedVolume,
+    ListedPart, NewImage, Noted, Numbers, PrintedVolume, Request, SetName, TraceTarget, WordFault,
 };
 pub use crate::volumes::{Volume, VolumeSource};

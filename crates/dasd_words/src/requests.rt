@@ -3,6 +3,7 @@
 use crate::volumes::Volume;
 use arrayvec::ArrayVec;
 use ckd_track::DriveModel;
+use s360_explain::Pasted;
 use std::alloc::AllocError;
 
 /// What `dasd` is asked to do, and how.
@@ -43,7 +44,7 @@ pub struct ListedPart {
     pub used_only: bool,
 }
 
-/// A number that somebody has noted.
+/// What somebody has noted.
 #[derive(Drop)]
 pub enum Noted {
     /// A channel status word.
@@ -56,6 +57,8 @@ pub enum Noted {
     Sense(ArrayVec<u8, 8>),
     /// A channel command word.
     Ccw([u8; 8]),
+    /// What stands in a line of an answer or of a trace.
+    Line(Pasted),
 }
 
 /// What `dasd` is asked to do.
@@ -172,10 +175,25 @@ pub struct DeckRun<'a> {
     pub channel: u8,
     /// The file of the deck; none is standard input.
     pub deck: Option<&'a str>,
-    /// Where its trace goes; none is written without that.
-    pub trace: Option<TraceTarget<'a>>,
+    /// Its trace, if one is written.
+    pub trace: Option<AskedTrace<'a>>,
     /// The volumes, in the order of the words.
     pub volumes: Vec<Volume<'a>>,
+}
+
+/// The trace of a deck.
+#[derive(Clone, Copy)]
+pub struct AskedTrace<'a> {
+    /// Where it goes.
+    pub target: TraceTarget<'a>,
+    /// Whether starts are left out whose programs do not fail.
+    pub failing_only: bool,
+    /// How many lines are written at most, which are the last ones.
+    pub last: Option<u32>,
+    /// Whether it tells each answer too.
+    pub with_answers: bool,
+    /// Whether a round of lines that comes again is told each time.
+    pub is_whole: bool,
 }
 
 /// Where the trace of a deck goes.

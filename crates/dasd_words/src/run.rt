@@ -2,7 +2,7 @@
 
 use crate::decks::DECK_TABLE;
 use crate::options::{ArgKind, ArgRow, CommandRow, FILE, Value, WORDS};
-use crate::requests::{DeckRun, Request, TraceTarget, WordFault};
+use crate::requests::{AskedTrace, DeckRun, Request, TraceTarget, WordFault};
 use crate::volumes::{Volume, add_volume, read_volume};
 use clap::ArgMatches;
 use clap::builder::ValueParser;
@@ -12,6 +12,9 @@ use std::alloc::Global;
 const STORAGE: u32 = 65_536;
 
 const CHANNEL: u8 = 1;
+
+/// The most lines of a trace of which only the last are written.
+const MOST_LINES: i64 = 100_000;
 
 /// The command, with its options.
 pub(crate) const COMMAND: CommandRow = CommandRow {
@@ -58,6 +61,34 @@ pub(crate) const COMMAND: CommandRow = CommandRow {
             }),
         },
         ArgRow {
+            id: "trace-only",
+            help: "traces those starts alone whose programs fail",
+            kind: ArgKind::Valued(Value {
+                name: "WHICH",
+                parser: ValueParser::Names(&["failing"]),
+                ..FILE
+            }),
+        },
+        ArgRow {
+            id: "trace-last",
+            help: "writes the last lines of the trace alone, at most so many",
+            kind: ArgKind::Valued(Value {
+                name: "N",
+                parser: ValueParser::Signed(1, MOST_LINES),
+                ..FILE
+            }),
+        },
+        ArgRow {
+            id: "trace-answers",
+            help: "traces each answer too, as it is printed",
+            kind: ArgKind::Flag,
+        },
+        ArgRow {
+            id: "trace-whole",
+            help: "traces each round of lines that comes again, and not how often it came",
+            kind: ArgKind::Flag,
+        },
+        ArgRow {
             id: "VOLUME",
             help: "a drive: UU=PATH, or UU=new:M:N for a new volume in memory",
             kind: WORDS,
@@ -79,14 +110,29 @@ pub(crate) fn read<'a>(alloc: Global, options: &ArgMatches<'a>) -> Result<Reques
     }))
 }
 
-// Where the trace goes.
-fn read_trace<'a>(options: &ArgMatches<'a>) -> Option<TraceTarget<'a>> {
-    match options.get_str("trace-to") {
-        Some(path) => Some(TraceTarget::File(path)),
-        None => options
-            .get_flag("trace")
-            .then_some(TraceTarget::StandardError),
-    }
+// The trace, if one of its words is there; without a file it goes to standard error.
+fn read_trace<'a>(options: &ArgMatches<'a>) -> Option<AskedTrace<'a>> {
+    let failing_only = options.get_str("trace-only").is_some();
+    let last = options.get_one::<u32>("trace-last");
+    let with_answers = options.get_flag("trace-answers");
+    let is_whole = options.get_flag("trace-whole");
+    let target = match options.get_str("trace-to") {
+        Some(path) => TraceTarget::File(path),
+        None => TraceTarget::StandardError,
+    };
+    let is_asked = options.get_flag("trace")
+        || matches!(target, TraceTarget::File(_))
+        || failing_only
+        || last.is_some()
+        || with_answers
+        || is_whole;
+    is_asked.then_some(AskedTrace {
+        target,
+        failing_only,
+        last,
+        with_answers,
+        is_whole,
+    })
 }
 
 fn read_volumes<'a>(alloc: Global, words: &[&'a str]) -> Result<Vec<Volume<'a>>, WordFault> {

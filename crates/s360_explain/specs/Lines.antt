@@ -1,5 +1,5 @@
 -- The lines of an explanation: which there are, and in which order.
-use Rattle.std.specs.Prelude.{ℕ, ◌+◌, ◌*◌, ◌%◌, List, [], ◌∷◌, ◌++◌, map, Bool, not, ◌==◌, Option, Some, None, is_some, filter, find, if◌then◌else◌}
+use Rattle.std.specs.Prelude.{ℕ, ◌+◌, ◌*◌, ◌%◌, List, [], ◌∷◌, ◌++◌, map, Bool, not, ◌&&◌, ◌==◌, Option, Some, None, is_some, filter, find, if◌then◌else◌}
 use Rattle.s360_words.specs.Words.{has, is_transfer, has_reserved_flags}
 use Rattle.s360_words.specs.declared.words.Ccw.{Ccw}
 use Rattle.s360_words.specs.declared.words.Csw.{Csw}
@@ -13,6 +13,8 @@ use Rattle.s360_explain.specs.declared.commands.Code.{Code}
 use Rattle.s360_explain.specs.declared.commands.Code.TheVariants as code
 use Rattle.s360_explain.specs.declared.lines.Line.{Line}
 use Rattle.s360_explain.specs.declared.lines.Line.TheVariants as line
+use Rattle.s360_explain.specs.declared.pasted.Pasted.{Pasted}
+use Rattle.s360_explain.specs.declared.pasted.Pasted.TheVariants as pasted
 
 -- Bits.
 
@@ -38,9 +40,15 @@ status_lines unit channel = field_lines UnitStatus unit ++ field_lines ChannelSt
 abbrev pub ending_lines : (unit channel count : ℕ) → List Line
 ending_lines unit channel count = status_lines unit channel ++ (line.Residual count ∷ [])
 
--- all of it
-abbrev pub csw_lines : Csw → List Line
-csw_lines csw = line.Key csw.key ∷ line.NextWord csw.address ∷ ending_lines csw.unit.0 csw.channel.0 csw.count
+-- whether no program has left it: key, address, channel status and count are zero, and channel end is off
+abbrev pub is_of_no_program : Csw → Bool
+is_of_no_program csw = csw.key == 0 && csw.address == 0 && csw.channel.0 == 0 && csw.count == 0 && not (has csw.unit.0 0x08)
+
+-- all of it; of one that no program has left the status alone
+unfoldable pub csw_lines : Csw → List Line
+csw_lines csw =
+    if is_of_no_program csw then line.NoProgram ∷ status_lines csw.unit.0 csw.channel.0
+    else line.Key csw.key ∷ line.NextWord csw.address ∷ ending_lines csw.unit.0 csw.channel.0 csw.count
 
 -- Sense bytes.
 
@@ -89,8 +97,24 @@ abbrev pub operand_lines : Ccw → List Line
 operand_lines ccw =
     line.Address ccw.address ∷ field_lines CcwFlags ccw.flags.0 ++ reserved_lines ccw ++ (line.Count ccw.count ∷ [])
 
+-- a word as a trace tells it, without its flags, and the unit status behind it
+abbrev pub traced_lines : Ccw → (unit : ℕ) → List Line
+traced_lines ccw unit =
+    line.Command ccw.code (code_of ccw.code)
+    ∷ (if is_transfer ccw then line.Target ccw.address ∷ []
+    else line.Address ccw.address ∷ line.Count ccw.count ∷ field_lines UnitStatus unit)
+
 -- all of a word; of a transfer in channel nothing counts but where it goes
 abbrev pub ccw_lines : Ccw → List Line
 ccw_lines ccw =
     line.Command ccw.code (code_of ccw.code)
     ∷ (if is_transfer ccw then line.Target ccw.address ∷ [] else operand_lines ccw)
+
+-- A pasted line.
+
+-- what stands in it, by what it is
+abbrev pub pasted_lines : Pasted → List Line
+pasted_lines (pasted.Status csw) = csw_lines csw
+pasted_lines (pasted.Stored unit channel) = status_lines unit.0 channel.0
+pasted_lines (pasted.Sense first second) = sense_lines (first ∷ second ∷ [])
+pasted_lines (pasted.Word ccw unit) = traced_lines ccw unit.0

@@ -34,11 +34,11 @@ pub fn cause_text(sense: u16) -> &'static str {
         0x0004 =>
             "the file mask does not allow this seek, or does not allow the multi-track bit to go on at the next head",
         0x8010 =>
-            "a write without the search that found its record equal right before it, or a second Set File Mask in one program",
+            "a write without the search right before it that compared all bytes and was equal, or a second Set File Mask in one program",
         0x0008 => "the index passed twice, and no such area was found",
         0x0020 => "the cylinder's last head was passed",
         0x0802 => "the track can't be read",
-        0x8100 => "the volume has no such cylinder or head",
+        0x8100 => "the volume has no such bin, cylinder or head",
         0x0040 => "the record does not fit the track",
         0x1000 => "the image's file could not be read or written",
         _ => "no cause of these drives alone",

@@ -2,7 +2,7 @@
 
 ghost use Rattle.std.specs.Prelude.{◌≡◌, ◌+◌, ◌≤◌, ◌<◌, ◌++◌, ◌∷◌, [], length};
 ghost use Rattle.s360_explain.specs.Bits.{bits_of};
-ghost use Rattle.s360_explain.specs.Lines.{lines_of_bits, bit_lines, field_lines, status_lines, ending_lines, csw_lines, sense_lines, ccw_lines, cause_line, has_nonzero};
+ghost use Rattle.s360_explain.specs.Lines.{lines_of_bits, bit_lines, field_lines, status_lines, ending_lines, is_of_no_program, csw_lines, sense_lines, traced_lines, ccw_lines, cause_line, has_nonzero};
 
 use crate::bits::{Field, name_of, named_bits};
 use crate::causes::{cause_text, hint_text, is_reported};
@@ -20,6 +20,8 @@ pub enum Line {
     Key(u8),
     /// The command address of a channel status word: 8 more than where the last word stands.
     NextWord(u32),
+    /// No program has left a channel status word.
+    NoProgram,
     /// A field as a number; its bits stand behind it.
     Number(Field, u16),
     /// A bit of a field that is on.
@@ -119,11 +121,28 @@ pub fn of_ending(unit: UnitStatus, channel: ChannelStatus, count: u16) -> Lines
     lines
 }
 
+// Whether no program has left a channel status word: a drive was busy, or its device end came by itself.
+fn is_of_no_program(csw: &Csw) -> bool
+    ensures { result ≡ is_of_no_program csw.now }
+{
+    csw.key == 0
+        && csw.address == 0
+        && csw.channel.0 == 0
+        && csw.count == 0
+        && csw.unit.0 & 0x08 == 0
+}
+
 /// What a channel status word says.
+#[tactic(auto, unfolding(crate::specs::Lines::csw_lines))]
 pub fn of_csw(csw: Csw) -> Lines
     ensures { result.items ≡ csw_lines csw }
 {
     let mut lines = Lines::new();
+    if is_of_no_program(&csw) {
+        lines.push(Line::NoProgram);
+        put_status(&mut lines, csw.unit, csw.channel);
+        return lines;
+    }
     lines.push(Line::Key(csw.key));
     lines.push(Line::NextWord(csw.address));
     put_status(&mut lines, csw.unit, csw.channel);
@@ -197,6 +216,22 @@ pub fn of_ccw(ccw: Ccw) -> Lines
     lines
 }
 
+/// What a word of a trace says, whose flags are not told there, and the unit status behind it.
+pub fn of_traced(ccw: Ccw, unit: UnitStatus) -> Lines
+    ensures { result.items ≡ traced_lines ccw unit.0 }
+{
+    let mut lines = Lines::new();
+    lines.push(Line::Command(ccw.code, code_of(ccw.code)));
+    if ccw.is_transfer() {
+        lines.push(Line::Target(ccw.address));
+        return lines;
+    }
+    lines.push(Line::Address(ccw.address));
+    lines.push(Line::Count(ccw.count));
+    put_field(&mut lines, Field::UnitStatus, u16::from(unit.0));
+    lines
+}
+
 impl fmt::Display for Line {
     fn fmt<W: fmt::Write>(&self, f: &mut fmt::Formatter<W>) -> fmt::Result {
         match *self {
@@ -205,6 +240,10 @@ impl fmt::Display for Line {
                 let last = next.wrapping_sub(8) & 0x00FF_FFFF;
                 write!(f, "address {next:06X}: the last word stands at {last:06X}")
             }
+            Line::NoProgram => write!(
+                f,
+                "no program has left it: key, address and residual count are of none"
+            ),
             Line::Number(field, number) => Heading(field, number).fmt(f),
             Line::Bit(field, bit) => write!(
                 f,
@@ -227,6 +266,10 @@ impl fmt::Display for Line {
                 "bytes 2 to 5 are not zeros, as those of these drives are"
             ),
             Line::Command(code, kind) => CommandLine(code, kind).fmt(f),
+            Line::Target(address) if address % 8 != 0 => write!(
+                f,
+                "goes to {address:06X}, which is no multiple of 8: program check"
+            ),
             Line::Target(address) => write!(
                 f,
                 "goes to {address:06X}, which must be a multiple of 8; flags and count do not count"

@@ -51,7 +51,7 @@ fn channel_text(bit: u16) -> &'static str {
         0x40 =>
             "the count is not the length that the drive had or wanted, and its indication is not suppressed",
         0x20 =>
-            "a word or its address is not valid: a count of zero, a flag that must be zero, a place outside storage, or a Transfer In Channel behind another",
+            "the channel address word, a word or its address is not valid: a count of zero, a bit that must be zero, a place outside storage or no multiple of 8, or a Transfer In Channel that comes first or behind another",
         0x10 => "the key of the program is not that of the block in storage",
         0x08 => "data was wrong in the channel or in storage, which no channel here reports",
         0x04 => "the channel failed, which no channel here reports",
@@ -64,7 +64,7 @@ fn channel_text(bit: u16) -> &'static str {
 fn flag_text(bit: u16) -> &'static str {
     match bit {
         0x80 =>
-            "the next word has a further data area of the same command; its code does not count",
+            "the next word has a further data area of the same command; its code does not count, but for that of a Transfer In Channel",
         0x40 => "the next word has a further command, where chain data is off",
         0x20 => "incorrect length is not reported, where chain data is off",
         0x10 => "what is read does not go into storage",
@@ -82,7 +82,7 @@ fn first_sense_text(bit: u16) -> &'static str {
         0x0800 => "what was read from the track is not valid",
         0x0400 => "the channel was too late, which no drive here reports",
         0x0200 => "the track is flagged, which no drive here reports",
-        _ => "the arm can't be moved there: the volume has no such cylinder or head",
+        _ => "the arm can't be moved there: the volume has no such bin, cylinder or head",
     }
 }
 
@@ -139,11 +139,12 @@ fn transfer_text(command: Command) -> &'static str {
         Command::WriteHomeAddress =>
             "writes the home address, which must be the track's own, and leaves no record behind it",
         Command::WriteR0 =>
-            "writes record 0, right behind a Search HA Equal that was equal or Write Home Address, and leaves no record behind it",
+            "writes record 0, right behind a Search HA Equal that compared all bytes and was equal or Write Home Address, and leaves no record behind it",
         Command::WriteCountKeyAndData =>
-            "writes a record, right behind a search that found the one before it equal or a write of that one, and leaves none behind it",
+            "writes a record, right behind a Search ID Equal or Search Key Equal that compared all bytes of the one before it and was equal or a write of that one, and leaves none behind it",
         Command::WriteData =>
-            "writes the data of a record, right behind a Search ID Equal or Search Key Equal that found it equal",
-        _ => "writes key and data of a record, right behind a Search ID Equal that found it equal",
+            "writes the data of a record, right behind a Search ID Equal or Search Key Equal that compared all its bytes and was equal",
+        _ =>
+            "writes key and data of a record, right behind a Search ID Equal that compared all its bytes and was equal",
     }
 }

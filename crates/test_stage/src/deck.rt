@@ -9,12 +9,12 @@ use crate::streams::{DeckReader, Reads, Writes};
 use crate::verbs::OfDeck;
 use counted_io::Counted;
 use s360_channel::drive;
-use s360_deck::{RunFault, parse, run, run_counted, run_watched, serial};
+use s360_deck::{DeckFault, RunFault, parse, run, run_counted, run_watched, serial};
 use s360_events::{Answer, Event};
 use stage_files::{Line, MEMORY, Said, Word};
 use std::alloc::{AllocError, Global};
 use std::mem;
-use trace_lines::Tracer;
+use trace_lines::{TracedLines, Tracer};
 
 /// Adds to a deck, or says how it is read and written.
 #[derive(Clone, Copy)]
@@ -264,8 +264,15 @@ fn run_with_counts(alloc: Global, channel: &mut Disks, reader: DeckReader, write
 }
 
 fn run_traced(alloc: Global, channel: &mut Disks, reader: DeckReader, writes: Writes) -> Ran {
+    let Ok(mut tracer) = Tracer::new(alloc, Vec::new(alloc), TracedLines::ALL) else {
+        return Ran {
+            result: Err(RunFault::Deck(DeckFault::OutOfMemory)),
+            trace: None,
+            reads: reader.reads,
+            writes,
+        };
+    };
     let (mut reader, mut writes) = (Counted::new(reader), Counted::new(writes));
-    let mut tracer = Tracer::new(Vec::new(alloc));
     let result = run_watched(alloc, &mut reader, &mut writes, channel, &mut tracer);
     Ran {
         result,

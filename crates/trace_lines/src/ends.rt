@@ -1,19 +1,18 @@
 //! What a trace tells of a program's end.
 
-use crate::found::{found_at_end, found_so_far};
-use crate::line::{Behind, Line, tell_not_taken, word_at};
-use crate::reasons::{self, has_unit_check};
-use crate::seen::Seen;
+use crate::seen::{Seen, place_in};
 use crate::trace::Trace;
 use bitflags::Flags;
-use ckd_sense::Sense;
-use s360_explain::{ChannelNames, SenseNames};
-use s360_words::{Ccw, ChannelStatus, Csw, UnitStatus};
+use s360_explain::ChannelNames;
+use s360_program::view::{AtWork, ProgramView};
+use s360_words::{BLOCK_SIZE, Ccw, ChannelStatus, Csw, UnitStatus};
+use trace_words::reasons::{self, has_unit_check};
+use trace_words::{Behind, Found, Line, found_at_end, found_so_far, just, tell_not_taken, word_at};
 
 impl Trace {
-    /// The program is over.
-    pub(crate) fn ends(&mut self, seen: &Seen) {
-        let Some((_, csw)) = seen.ended else {
+    /// The program is over that was so before its last unit.
+    pub(crate) fn ends(&mut self, before: ProgramView, seen: &Seen) {
+        let Some(csw) = seen.ended else {
             return;
         };
         let last = csw.address.wrapping_sub(8) & 0x00FF_FFFF;
@@ -22,17 +21,64 @@ impl Trace {
             None => false,
         };
         let code = self.tell_last(last, &csw, seen);
-        if let Some(reason) = reasons::of_channel(&csw, last, was_taken, seen.storage) {
-            self.tell_check(csw.channel, reason);
+        self.tell_channel(&csw, before.at_work, was_taken, seen);
+        self.tell_unit(csw.unit, code, seen);
+        self.forget_command();
+    }
+
+    // Why the channel ended the program, if it did.
+    fn tell_channel(&mut self, csw: &Csw, before: AtWork, was_taken: bool, seen: &Seen) {
+        if csw.channel.contains(ChannelStatus::PROGRAM_CHECK) && !was_taken {
+            let last = csw.address.wrapping_sub(8) & 0x00FF_FFFF;
+            self.tell_check(csw.channel);
+            return self
+                .text
+                .line(reasons::of_word(last, word_at(seen.storage, last)));
         }
-        if has_unit_check(csw.unit) {
+        if csw.channel.0 & !ChannelStatus::PROGRAM_CONTROLLED_INTERRUPTION.0 == 0 {
+            return;
+        }
+        self.tell_check(csw.channel);
+        if csw.channel.contains(ChannelStatus::INCORRECT_LENGTH) {
+            self.text.line(reasons::of_length(csw.count));
+        } else {
+            self.tell_refused_byte(csw, before, seen);
+        }
+    }
+
+    // The place in storage that a byte could not go to or come from.
+    fn tell_refused_byte(&mut self, csw: &Csw, before: AtWork, seen: &Seen) {
+        let Some(at) = next_byte(before) else {
+            return self.text.line("an address under the word can't be used");
+        };
+        match seen.storage.key(at) {
+            Some(key) => {
+                self.text.put("the block of ");
+                self.text.address(at - at % BLOCK_SIZE);
+                self.text.put(" has the key ");
+                self.text.digit(key);
+                self.text.put(", and the program ");
+                self.text.digit(csw.key);
+            }
+            None => {
+                self.text.put("the address ");
+                self.text.address(at);
+                self.text.put(" is outside storage, which has ");
+                self.text.number(seen.storage.size() as u64);
+                self.text.put(" bytes");
+            }
+        }
+        self.text.end();
+    }
+
+    // Why a command ended in unit check, and that its record has no data.
+    fn tell_unit(&mut self, unit: UnitStatus, code: u8, seen: &Seen) {
+        if has_unit_check(unit) {
             self.tell_sense(code, seen);
         }
-        if csw.unit.contains(UnitStatus::UNIT_EXCEPTION) {
+        if unit.contains(UnitStatus::UNIT_EXCEPTION) {
             self.text.line("    unit exception: the record has no data, as at the end of a file");
         }
-        self.line = None;
-        self.met = None;
     }
 
     // The line of the word in which a program ended; the code of its command.
@@ -41,7 +87,9 @@ impl Trace {
         match (self.line, word) {
             (Some(line), _) if line.at == last => self.tell_over(line, csw, seen),
             (None, Some(ccw)) if !csw.channel.contains(ChannelStatus::PROGRAM_CHECK) => {
+                self.tell_lost_credit(ccw);
                 self.tell_asked(ccw);
+                self.counted = Some(last);
                 self.tell_over(Line::of(last, ccw), csw, seen)
             }
             (before, _) => self.tell_not_reached(last, word, before, csw.unit),
@@ -68,76 +116,100 @@ impl Trace {
     }
 
     fn tell_over(&mut self, line: Line, csw: &Csw, seen: &Seen) -> u8 {
-        let satisfied = csw.unit.contains(UnitStatus::STATUS_MODIFIER);
-        let place = reasons::place_in(seen.drive, csw.unit);
         let behind = Behind {
             unit: csw.unit,
             how: "",
             left: Some(csw.count),
         };
-        line.tell(
-            found_at_end(&line, self.met, satisfied, place),
-            &behind,
-            &mut self.text,
-        );
+        line.tell(self.found_by(&line, csw, seen), &behind, &mut self.text);
+        self.tell_filled_by(&line, csw.unit);
         line.code
     }
 
-    /// A program is cut, if one runs.
-    pub(crate) fn cut(&mut self, seen: &Seen) {
+    // What the command came to in which a program ended.
+    fn found_by(&self, line: &Line, csw: &Csw, seen: &Seen) -> Found {
+        let satisfied = csw.unit.contains(UnitStatus::STATUS_MODIFIER);
+        let place = place_in(seen.drive, csw.unit);
+        found_at_end(line, self.met, &self.passed, satisfied, place)
+    }
+
+    // What a write has filled with zeros in which a program ended, unless it failed.
+    fn tell_filled_by(&mut self, line: &Line, unit: UnitStatus) {
+        if !has_unit_check(unit) {
+            self.tell_filled(line);
+        }
+    }
+
+    /// A program is cut, if one runs; whether the track that it wrote is lost.
+    pub(crate) fn cut(&mut self, is_lost: bool, seen: &Seen) {
         if self.program.is_none() || seen.program.is_some() {
             return;
         }
-        let mut code = 0;
-        if let Some(line) = self.line {
-            self.tell_cut(&line, seen);
-            code = line.code;
+        let line = self.line;
+        if let Some(line) = line {
+            self.tell_cut(&line, is_lost, seen);
         }
-        self.line = None;
-        self.met = None;
-        match seen.ended {
-            Some((_, csw)) if has_unit_check(csw.unit) => self.tell_sense(code, seen),
-            _ => {}
-        }
-    }
-
-    fn tell_cut(&mut self, line: &Line, seen: &Seen) {
-        let Some((_, csw)) = seen.ended else {
-            return self.tell_so_far(line, "cut");
-        };
-        if !line.is_told {
-            let behind = Behind {
-                unit: csw.unit,
-                how: "cut; ",
-                left: Some(csw.count),
+        if let Some(csw) = seen.ended {
+            let code = match line {
+                Some(line) => line.code,
+                None => 0,
             };
-            line.tell(found_so_far(line, self.met), &behind, &mut self.text);
+            self.tell_unit(csw.unit, code, seen);
+        }
+        self.forget_command();
+    }
+
+    // The word in which a program is cut. Of one that a reset cuts no status is known.
+    fn tell_cut(&mut self, line: &Line, is_lost: bool, seen: &Seen) {
+        if line.is_told {
+            return;
+        }
+        let (came, behind, failed) = match seen.ended {
+            Some(csw) => {
+                let behind = Behind {
+                    unit: csw.unit,
+                    how: "cut; ",
+                    left: Some(csw.count),
+                };
+                (
+                    self.found_by(line, &csw, seen),
+                    behind,
+                    has_unit_check(csw.unit),
+                )
+            }
+            None => (self.found_by_reset(line, seen), just("cut"), is_lost),
+        };
+        line.tell(came, &behind, &mut self.text);
+        if !failed {
+            self.tell_filled(line);
         }
     }
 
-    /// That the channel ended a program, or did not begin it, and why; the interruption that a word asked for ends none.
-    pub(crate) fn tell_check(&mut self, channel: ChannelStatus, reason: &str) {
+    // What a command came to that a reset cut: where the arm stands, or the area.
+    fn found_by_reset(&self, line: &Line, seen: &Seen) -> Found {
+        let place = place_in(seen.drive, UnitStatus(0));
+        match found_at_end(line, None, &self.passed, false, place) {
+            Found::Nothing => found_so_far(line, self.met),
+            found => found,
+        }
+    }
+
+    /// That the channel ended a program, or did not begin it; the interruption that a word asked for ends none.
+    pub(crate) fn tell_check(&mut self, channel: ChannelStatus) {
         let asked = ChannelStatus::PROGRAM_CONTROLLED_INTERRUPTION;
+        self.fails = true;
         self.text.put("    ");
         self.text
             .show(&ChannelNames(ChannelStatus(channel.0 & !asked.0)));
         self.text.put(": ");
-        self.text.line(reason);
     }
+}
 
-    /// The sense bytes of a drive, and why.
-    pub(crate) fn tell_sense(&mut self, code: u8, seen: &Seen) {
-        let Some(drive) = seen.drive else {
-            return;
-        };
-        let [first, second, _, _, _, _] = drive.sense;
-        let sense = Sense(u16::from_be_bytes([first, second]));
-        self.text.put("    sense ");
-        self.text.bytes(&[first, second]);
-        self.text.put(": ");
-        self.text.show(&SenseNames(sense));
-        self.text.end();
-        self.text.put("    ");
-        self.text.line(reasons::of_unit_check(code, sense));
+// Where the next byte goes or comes from, if the next unit moves one.
+fn next_byte(at_work: AtWork) -> Option<u32> {
+    match at_work {
+        AtWork::Moving(_, at) => Some(at),
+        AtWork::Looking(ccw) => Some(ccw.address),
+        AtWork::Fetching => None,
     }
 }

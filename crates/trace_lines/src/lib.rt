@@ -2,16 +2,13 @@
 //! a channel between two units.
 #![tactic(auto)]
 
+mod checks;
+mod credits;
 mod ends;
-mod events;
-mod found;
-mod line;
-mod met;
-mod reasons;
 mod seen;
 mod starts;
-mod text;
 mod trace;
 mod tracer;
 
-pub use crate::tracer::{TraceFault, Tracer};
+pub use crate::tracer::Tracer;
+pub use trace_output::{TraceFault, TracedLines};

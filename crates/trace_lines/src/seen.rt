@@ -4,11 +4,12 @@ use ckd_command::Registers;
 use ckd_drive::Drive;
 use ckd_image::ImageStore;
 use ckd_position::{Area, Position};
-use s360_channel::{Channel, DriveView, SubchannelView};
+use s360_channel::{Channel, DriveView, SubchannelView, Watched};
 use s360_events::Answer;
 use s360_program::view::ProgramView;
 use s360_trace::Moment;
-use s360_words::{Csw, Storage};
+use s360_words::{Csw, Storage, UnitStatus};
+use trace_words::reasons::has_unit_check;
 
 /// What is seen.
 #[derive(Clone, Copy)]
@@ -17,9 +18,10 @@ pub(crate) struct Seen<'a> {
     /// The program that runs, and what its drive shows.
     pub(crate) program: Option<ProgramView>,
     pub(crate) work: Option<Work<'a>>,
-    /// The ending that pends, where no program runs, and its drive.
-    pub(crate) ended: Option<(u8, Csw)>,
-    /// The drive of that ending, or of the start that was made.
+    /// The ending that pends, where no program runs.
+    pub(crate) ended: Option<Csw>,
+    /// The drive of the program that runs or ended, or of the start that was made; else that of the program before.
+    pub(crate) device: Option<u8>,
     pub(crate) drive: Option<DriveView>,
 }
 
@@ -34,35 +36,37 @@ pub(crate) struct Work<'a> {
     pub(crate) slot: Option<&'a [u8]>,
 }
 
-/// What is seen of a channel.
-pub(crate) fn seen_of<'a, S: ImageStore>(moment: Moment, channel: &'a Channel<S>) -> Seen<'a> {
-    let program = program_of(channel);
-    let ended = match program {
-        Some(_) => None,
-        None => ending_of(channel),
-    };
-    let device = match (moment, ended) {
-        (Moment::Behind(_, Answer::Sio(address, _)), _) => Some((*address % 256) as u8),
-        (_, Some((device, _))) => Some(device),
-        _ => None,
+/// What is seen of a channel, whose last program was that of this drive.
+pub(crate) fn seen_of<'a, S: ImageStore>(
+    moment: Moment,
+    channel: &'a Channel<S>,
+    before: Option<u8>,
+) -> Seen<'a> {
+    let watched = channel.program();
+    let (device, ended) = match (watched, moment) {
+        (Some(watched), _) => (Some(watched.device), None),
+        (None, Moment::Behind(_, Answer::Sio(address, _))) => (Some((*address % 256) as u8), None),
+        (None, _) => ending_of(channel, before),
     };
     Seen {
         storage: channel.storage(),
-        program,
+        program: program_in(watched),
         work: work_of(channel.drive_at_work()),
         ended,
+        device,
         drive: drive_of(channel, device),
     }
 }
 
-fn program_of<S: ImageStore>(channel: &Channel<S>) -> Option<ProgramView> {
-    Some(channel.program()?.program)
+fn program_in(watched: Option<Watched>) -> Option<ProgramView> {
+    Some(watched?.program)
 }
 
-fn ending_of<S: ImageStore>(channel: &Channel<S>) -> Option<(u8, Csw)> {
+// The ending that pends and its drive; without one the drive of the program before.
+fn ending_of<S: ImageStore>(channel: &Channel<S>, before: Option<u8>) -> (Option<u8>, Option<Csw>) {
     match channel.state().subchannel {
-        SubchannelView::Pending(device, csw) => Some((device, csw)),
-        _ => None,
+        SubchannelView::Pending(device, csw) => (Some(device), Some(csw)),
+        _ => (before, None),
     }
 }
 
@@ -84,4 +88,12 @@ fn work_of<'a, S: ImageStore>(drive: Option<&'a Drive<S>>) -> Option<Work<'a>> {
         area,
         slot: drive.slot(),
     })
+}
+
+/// Where a drive's arm stands or goes to behind a command that has not failed.
+pub(crate) fn place_in(drive: Option<DriveView>, unit: UnitStatus) -> Option<(u16, u16)> {
+    match drive {
+        Some(drive) if !has_unit_check(unit) => Some((drive.cylinder, drive.head)),
+        _ => None,
+    }
 }

@@ -1,46 +1,53 @@
 //! What a trace tells of a program's start, and of a command's.
 
-use crate::found::{Found, found_at_end};
-use crate::line::{Behind, CHAINED, Line, just, tell_not_taken, word_at};
-use crate::reasons::{self, has_unit_check};
-use crate::seen::Seen;
-use crate::trace::Trace;
+use crate::seen::{Seen, place_in};
+use crate::trace::{Leave, Trace};
 use bitflags::Flags;
 use s360_events::{Condition, Status};
 use s360_program::view::{AtWork, ProgramView};
 use s360_words::{Ccw, ChannelStatus, UnitStatus};
+use trace_words::reasons::{self, has_unit_check};
+use trace_words::{Behind, CHAINED, Found, Line, found_at_end, just, tell_not_taken};
 
 impl Trace {
     /// What came of a start.
     pub(crate) fn started(&mut self, condition: &Condition<Status>, seen: &Seen) {
         match condition {
             Condition::Zero => {
-                self.line = None;
-                self.met = None;
-                self.known = None;
+                self.begins_anew();
                 if let Some(program) = seen.program {
                     self.begins(program, seen);
                 }
             }
             Condition::Stored(status) if !status.unit.contains(UnitStatus::BUSY) => {
+                self.begins_anew();
                 self.stored(*status, seen);
             }
             _ => {}
         }
     }
 
-    // A start that stored status, as its first word was not taken, was rejected, or was over at once.
+    // A program begins: nothing is known of its track.
+    fn begins_anew(&mut self) {
+        self.forget_command();
+        self.known = None;
+        self.leave = Leave::Nothing;
+        self.counted = None;
+    }
+
+    // A start that stored status, as its first word was not taken, was rejected, or was over at once. The status may stand over the word.
     fn stored(&mut self, status: Status, seen: &Seen) {
-        let word = seen.storage.caw_word();
+        let word = self.start.address_word;
         let at = word & 0x00FF_FFFF;
-        let ccw = word_at(seen.storage, at);
+        let ccw = self.start.word;
         if status.channel.contains(ChannelStatus::PROGRAM_CHECK) {
             let mut reason = reasons::BAD_ADDRESS_WORD;
             if word & 0x0F00_0000 == 0 {
                 tell_not_taken(at, ccw, None, UnitStatus(0), &mut self.text);
-                reason = reasons::of_word(at, seen.storage);
+                reason = reasons::of_word(at, ccw);
             }
-            return self.tell_check(status.channel, reason);
+            self.tell_check(status.channel);
+            return self.text.line(reason);
         }
         if let Some(ccw) = ccw {
             self.over_at_once(Line::of(at, ccw), status, seen);
@@ -54,17 +61,14 @@ impl Trace {
         {
             self.text.line("        asks for an interruption");
         }
-        let place = reasons::place_in(seen.drive, status.unit);
+        let place = place_in(seen.drive, status.unit);
         let behind = Behind {
             unit: status.unit,
             how: "",
             left: None,
         };
-        line.tell(
-            found_at_end(&line, None, false, place),
-            &behind,
-            &mut self.text,
-        );
+        let came = found_at_end(&line, None, &self.passed, false, place);
+        line.tell(came, &behind, &mut self.text);
         if has_unit_check(status.unit) {
             self.tell_sense(line.code, seen);
         }
@@ -74,8 +78,9 @@ impl Trace {
     pub(crate) fn begins(&mut self, now: ProgramView, seen: &Seen) {
         match now.at_work {
             AtWork::Looking(ccw) | AtWork::Moving(ccw, _) => {
+                self.forget_command();
                 self.line = Some(Line::of(now.last, ccw));
-                self.met = None;
+                self.counted = Some(now.last);
                 self.tell_asked(ccw);
             }
             AtWork::Fetching => {
@@ -97,10 +102,9 @@ impl Trace {
             return;
         };
         let place = Some((work.registers.cylinder, work.registers.head));
-        line.tell(
-            found_at_end(&line, None, false, place),
-            &CHAINED,
-            &mut self.text,
-        );
+        let came = found_at_end(&line, None, &self.passed, false, place);
+        line.tell(came, &CHAINED, &mut self.text);
+        self.counted = Some(at);
+        self.leave = Leave::Nothing;
     }
 }

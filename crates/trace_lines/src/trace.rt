@@ -1,54 +1,112 @@
 //! What a trace tells of units and events, by what is seen between them.
 
-use crate::events::tell_answer;
-use crate::found::{Found, found_at_end, found_so_far, is_credited};
-use crate::line::{CHAINED, Line, SKIPS, just};
-use crate::met::{Met, are_of_one_record, count_in, tell_credit};
 use crate::seen::{Seen, Work};
-use crate::text::Text;
-use ckd_command::Registers;
+use ckd_command::{Credit, Registers};
 use ckd_position::Area;
-use s360_events::{Answer, Event};
+use s360_deck::AnswerLine;
+use s360_events::{Answer, Condition, Event};
 use s360_program::view::{AtWork, ProgramView};
 use s360_trace::Moment;
-use s360_words::Ccw;
+use s360_words::{Ccw, Storage};
+use trace_words::{
+    CHAINED, Found, Line, Met, Passed, SKIPS, Text, are_of_one_record, count_in, found_at_end,
+    found_so_far, just, tell_answer, word_at,
+};
 
 /// What was seen, and the lines that tell of it.
 #[derive(Clone, Copy)]
 pub(crate) struct Trace {
+    /// Whether each answer is told as a deck prints it.
+    with_answers: bool,
     pub(crate) text: Text,
+    /// Whether a start is told in it, and whether that a program fails.
+    pub(crate) starts: bool,
+    pub(crate) fails: bool,
     /// What was seen last of the program, and the drive's registers then.
     pub(crate) program: Option<ProgramView>,
-    registers: Option<Registers>,
+    pub(crate) registers: Option<Registers>,
+    /// The drive of the last program.
+    pub(crate) device: Option<u8>,
     /// The word at work.
     pub(crate) line: Option<Line>,
-    /// What its command has met.
+    /// What its command has met, and what has passed in it.
     pub(crate) met: Option<Met>,
+    pub(crate) passed: Passed,
     /// The last record of the track whose count area was seen.
     pub(crate) known: Option<Met>,
+    /// What the command before left for a write.
+    pub(crate) leave: Leave,
+    /// The last word that was taken and has a count.
+    pub(crate) counted: Option<u32>,
+    /// What a start found in storage, before it stored anything there.
+    pub(crate) start: Start,
+}
+
+/// What a command leaves for the write that may stand right behind it.
+#[derive(Clone, Copy)]
+pub(crate) enum Leave {
+    /// Nothing that is known.
+    Nothing,
+    /// So much of the track behind the record that it found or made.
+    Room(u32),
+    /// Not this credit: a search compared so many bytes, and not all, of which there are so many where that is known.
+    TooFew(Credit, u32, Option<u32>),
+}
+
+/// The channel address word, and the first word of a program.
+#[derive(Clone, Copy)]
+pub(crate) struct Start {
+    pub(crate) address_word: u32,
+    pub(crate) word: Option<Ccw>,
+}
+
+impl Start {
+    /// What a start finds.
+    fn of(storage: &Storage) -> Start {
+        let address_word = storage.caw_word();
+        Start {
+            address_word,
+            word: word_at(storage, address_word & 0x00FF_FFFF),
+        }
+    }
 }
 
 impl Trace {
     /// Nothing was seen.
-    pub(crate) fn new() -> Trace {
+    pub(crate) fn new(with_answers: bool) -> Trace {
         Trace {
+            with_answers,
             text: Text::new(),
+            starts: false,
+            fails: false,
             program: None,
             registers: None,
+            device: None,
             line: None,
             met: None,
+            passed: Passed::NONE,
             known: None,
+            leave: Leave::Nothing,
+            counted: None,
+            start: Start {
+                address_word: 0,
+                word: None,
+            },
         }
     }
 
     /// What is seen at a moment; it is kept, to be compared with what is seen next.
     pub(crate) fn look(&mut self, moment: Moment, seen: &Seen) {
+        self.starts = false;
+        self.fails = false;
         match moment {
+            Moment::Before(Event::Sio(_)) => self.start = Start::of(seen.storage),
             Moment::Before(_) => {}
             Moment::Unit => self.unit(seen),
             Moment::Behind(event, answer) => self.behind(event, answer, seen),
         }
         self.program = seen.program;
+        self.device = seen.device;
         self.registers = match &seen.work {
             Some(work) => Some(work.registers),
             None => None,
@@ -57,13 +115,24 @@ impl Trace {
 
     // What is behind an event.
     fn behind(&mut self, event: &Event, answer: &Answer, seen: &Seen) {
-        match event {
-            Event::Store(_, _) | Event::Key(_, _) | Event::Show(_, _) => return,
-            Event::Hio(_) | Event::Reset => self.cut(seen),
-            _ => {}
+        if matches!(event, Event::Hio(_) | Event::Reset) {
+            self.cut(matches!(answer, Answer::Reset(Some(_))), seen);
         }
-        tell_answer(answer, &mut self.text);
+        if self.with_answers {
+            self.text.put("= ");
+            self.text.show(&AnswerLine(answer));
+            self.text.end();
+        }
+        if matches!(
+            event,
+            Event::Store(_, _) | Event::Key(_, _) | Event::Show(_, _)
+        ) {
+            return;
+        }
+        tell_answer(answer, self.counted, &mut self.text);
         if let Answer::Sio(_, condition) = answer {
+            self.starts = !matches!(condition, Condition::Two);
+            self.fails = matches!(condition, Condition::Three);
             self.started(condition, seen);
         }
     }
@@ -77,7 +146,7 @@ impl Trace {
                 }
                 self.goes_on(before, now, seen);
             }
-            (Some(_), None) => self.ends(seen),
+            (Some(before), None) => self.ends(before, seen),
             _ => {}
         }
     }
@@ -126,7 +195,7 @@ impl Trace {
     fn goes_on(&mut self, before: ProgramView, now: ProgramView, seen: &Seen) {
         match (before.at_work, now.at_work) {
             (AtWork::Fetching, _) => {
-                self.tell_lost_credit(now.last, seen);
+                self.tell_used_credit(now.last, seen);
                 self.begins(now, seen);
             }
             (_, AtWork::Fetching) => self.closes(now.next != before.next, seen),
@@ -144,8 +213,10 @@ impl Trace {
             AtWork::Moving(_, address) => address,
             _ => ccw.address,
         };
+        let byte = seen.storage.byte(at);
+        self.passed.passes(byte);
         if let Some(line) = &mut self.line {
-            line.moves(seen.storage.byte(at));
+            line.moves(byte);
         }
     }
 
@@ -164,8 +235,18 @@ impl Trace {
             }
             _ => {
                 self.line = Some(line.chained(at, ccw));
+                self.counted = Some(at);
                 self.tell_asked(ccw);
             }
+        }
+    }
+
+    /// The line of a word that is still at work, if there is one, at the trace's end.
+    pub(crate) fn still_runs(&mut self) {
+        self.starts = false;
+        self.fails = false;
+        if let Some(line) = self.line {
+            self.tell_so_far(&line, "still runs");
         }
     }
 
@@ -187,13 +268,19 @@ impl Trace {
             return;
         };
         let place = Some((work.registers.cylinder, work.registers.head));
-        let came = found_at_end(&line, self.met, skips, place);
+        let came = found_at_end(&line, self.met, &self.passed, skips, place);
         line.tell(came, if skips { &SKIPS } else { &CHAINED }, &mut self.text);
+        self.tell_key_met(&line, work);
+        self.tell_filled(&line);
+        self.leaves(&line, skips, seen);
+        self.forget_command();
+    }
+
+    /// No command is at work.
+    pub(crate) fn forget_command(&mut self) {
         self.line = None;
         self.met = None;
-        if let Some(credit) = work.registers.credit {
-            tell_credit("leaves a credit", credit, &mut self.text);
-        }
+        self.passed = Passed::NONE;
     }
 
     /// A word that asks for an interruption.
@@ -209,29 +296,11 @@ impl Trace {
             return;
         };
         if work.registers.head == before.head {
+            self.passed.has_turned = true;
             return self.text.line("        the index passes");
         }
         self.text.put("        the next head: ");
         self.text.number(work.registers.head as u64);
         self.text.end();
-    }
-
-    // A credit that is gone as a command begins.
-    fn tell_lost_credit(&mut self, at: u32, seen: &Seen) {
-        let (Some(before), Some(ccw)) = (self.registers, seen.storage.ccw_at(at)) else {
-            return;
-        };
-        let Some(credit) = before.credit else {
-            return;
-        };
-        if ccw.is_transfer() {
-            return;
-        }
-        let does = if is_credited(ccw.code) {
-            "uses the credit"
-        } else {
-            "takes the credit away"
-        };
-        tell_credit(does, credit, &mut self.text);
     }
 }

@@ -5,28 +5,28 @@ use crate::trace::Trace;
 use ckd_image::ImageStore;
 use s360_channel::Channel;
 use s360_trace::{Moment, Watcher};
+use std::alloc::{AllocError, Global};
 use std::io::Write;
-
-/// A trace could not be written.
-#[derive(Clone, Copy)]
-pub struct TraceFault;
+use trace_output::{TraceFault, TraceOutput, TracedLines};
 
 /// Writes a trace of what it sees. A write that fails is its last, and is told at the end; what is watched goes on.
 #[derive(Drop)]
 pub struct Tracer<W: Write + Drop> {
-    writer: W,
-    has_failed: bool,
     trace: Trace,
+    output: TraceOutput<W>,
 }
 
 impl<W: Write + Drop> Tracer<W> {
-    /// A trace that goes to this writer.
-    pub fn new(writer: W) -> Tracer<W> {
-        Tracer {
-            writer,
-            has_failed: false,
-            trace: Trace::new(),
-        }
+    /// A trace of which these lines go to a writer. All memory that it takes is taken here.
+    ///
+    /// # Errors
+    ///
+    /// There is no memory for the lines that it keeps.
+    pub fn new(alloc: Global, writer: W, lines: TracedLines) -> Result<Tracer<W>, AllocError> {
+        Ok(Tracer {
+            trace: Trace::new(lines.with_answers),
+            output: TraceOutput::new(alloc, writer, lines)?,
+        })
     }
 
     /// Ends the trace, with the line of a word that is still at work, and gives the writer back.
@@ -36,34 +36,35 @@ impl<W: Write + Drop> Tracer<W> {
     /// A write failed, or the last flush: the trace is not whole.
     pub fn into_writer(self) -> Result<W, TraceFault> {
         let mut tracer = self;
-        if let Some(line) = tracer.trace.line {
-            tracer.trace.tell_so_far(&line, "still runs");
-        }
-        tracer.write();
-        if tracer.writer.flush().is_err() || tracer.has_failed {
-            return Err(TraceFault);
-        }
-        let Tracer {
-            writer,
-            has_failed: _,
-            trace: _,
-        } = tracer;
-        Ok(writer)
+        tracer.trace.still_runs();
+        tracer.tell(false);
+        let Tracer { trace: _, output } = tracer;
+        output.into_writer()
     }
 
-    // Writes the lines of a look.
-    fn write(&mut self) {
-        let text = &mut self.trace.text;
-        if !self.has_failed && !text.as_bytes().is_empty() {
-            self.has_failed = self.writer.write_all(text.as_bytes()).is_err() || !text.is_whole;
+    // Hands on the lines of a look, which may be at a unit.
+    fn tell(&mut self, at_unit: bool) {
+        if !at_unit {
+            self.output.event();
         }
-        text.clear();
+        if self.trace.starts {
+            self.output.starts();
+        }
+        self.output.take(self.trace.text.as_str(), at_unit);
+        if self.trace.fails {
+            self.output.program_fails();
+        }
+        if !self.trace.text.is_whole {
+            self.output.lacks();
+        }
+        self.trace.text.clear();
     }
 }
 
 impl<W: Write + Drop> Watcher for Tracer<W> {
     fn look<S: ImageStore>(&mut self, moment: Moment, channel: &Channel<S>) {
-        self.trace.look(moment, &seen_of(moment, channel));
-        self.write();
+        let seen = seen_of(moment, channel, self.trace.device);
+        self.trace.look(moment, &seen);
+        self.tell(matches!(moment, Moment::Unit));
     }
 }

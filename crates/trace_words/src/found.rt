@@ -2,12 +2,16 @@
 
 use crate::line::Line;
 use crate::met::{Met, tell_met};
+use crate::passed::Passed;
 use crate::text::Text;
 use ckd_sense::{Command, FileMask, SeekPermission, WritePermission};
 
+/// How many bytes a seek address has.
+const SEEK_ADDRESS: u32 = 6;
+
 /// What a command worked on, and what came of it.
 #[derive(Clone, Copy)]
-pub(crate) enum Found {
+pub enum Found {
     /// Nothing that is known.
     Nothing,
     /// An area of the track, and what a search came to there; empty, if it was none or is not over.
@@ -21,7 +25,7 @@ pub(crate) enum Found {
 }
 
 /// Tells it.
-pub(crate) fn tell_found(found: &Found, text: &mut Text) {
+pub fn tell_found(found: &Found, text: &mut Text) {
     match found {
         Found::Nothing => {}
         Found::Area(met, outcome) => {
@@ -59,7 +63,7 @@ fn tell_mask(mask: &FileMask, text: &mut Text) {
 }
 
 /// What a command has met that is not over.
-pub(crate) fn found_so_far(line: &Line, met: Option<Met>) -> Found {
+pub fn found_so_far(line: &Line, met: Option<Met>) -> Found {
     match (met, line.command()) {
         (Some(met), Some(Command::WriteR0 | Command::WriteCountKeyAndData)) => Found::Behind(met),
         (Some(met), _) => Found::Area(met, ""),
@@ -68,22 +72,25 @@ pub(crate) fn found_so_far(line: &Line, met: Option<Met>) -> Found {
 }
 
 /// What a command came to that is over: the area that it met, and a search's outcome there; where the arm stands, if that is known; or
-/// the mask.
-pub(crate) fn found_at_end(
+/// the mask. A search of no bytes has no outcome, and a seek of too few has moved nothing.
+pub fn found_at_end(
     line: &Line,
     met: Option<Met>,
+    passed: &Passed,
     satisfied: bool,
     place: Option<(u16, u16)>,
 ) -> Found {
     match (line.command(), place, met) {
         (None, _, _) => Found::Nothing,
+        (Some(Command::Seek | Command::SeekCylinder | Command::SeekHead), _, _)
+            if passed.count < SEEK_ADDRESS => { Found::Nothing }
         (
             Some(Command::Seek | Command::SeekCylinder | Command::SeekHead | Command::Recalibrate),
             place,
             _,
         ) => place_of(place),
-        (Some(Command::SetFileMask), _, _) => mask_of(line),
-        (Some(command), _, Some(met)) if !outcomes(command).0.is_empty() => {
+        (Some(Command::SetFileMask), _, _) => mask_of(passed),
+        (Some(command), _, Some(met)) if passed.count > 0 && !outcomes(command).0.is_empty() => {
             let (equal, unequal) = outcomes(command);
             Found::Area(met, if satisfied { equal } else { unequal })
         }
@@ -99,10 +106,10 @@ fn place_of(place: Option<(u16, u16)>) -> Found {
     }
 }
 
-// The mask that a word's byte has set, if it took one.
-fn mask_of(line: &Line) -> Found {
-    if line.moved > 0 && !line.is_chained {
-        Found::Mask(FileMask::from_byte(line.first[0]))
+// The mask that the first byte of its command has set, if that took one.
+fn mask_of(passed: &Passed) -> Found {
+    if passed.count > 0 {
+        Found::Mask(FileMask::from_byte(passed.first[0]))
     } else {
         Found::Nothing
     }
@@ -121,6 +128,6 @@ fn outcomes(command: Command) -> (&'static str, &'static str) {
 }
 
 /// Whether the command of a code needs a credit.
-pub(crate) fn is_credited(code: u8) -> bool {
+pub fn is_credited(code: u8) -> bool {
     matches!(code, 0x15 | 0x1D | 0x05 | 0x0D)
 }

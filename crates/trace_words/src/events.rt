@@ -9,8 +9,9 @@ const BUSY: &str = "CC 2, the channel is busy";
 
 const NO_DEVICE: &str = "CC 3, no such device";
 
-/// Tells an answer, in words.
-pub(crate) fn tell_answer(answer: &Answer, text: &mut Text) {
+/// Tells an answer, in words; of a program's channel status word also of which word the residual count is, where that was another than
+/// the last, and that word is known.
+pub fn tell_answer(answer: &Answer, counted: Option<u32>, text: &mut Text) {
     match answer {
         Answer::Sio(address, condition) => {
             tell_instruction("SIO ", *address, text);
@@ -27,11 +28,11 @@ pub(crate) fn tell_answer(answer: &Answer, text: &mut Text) {
         }
         Answer::Tio(address, condition) => {
             tell_instruction("TIO ", *address, text);
-            tell_tested(condition, text);
+            tell_tested(condition, counted, text);
         }
         Answer::Interrupt(Some((address, csw))) => {
             tell_instruction("INT ", *address, text);
-            tell_csw(*csw, text);
+            tell_csw(*csw, counted, text);
         }
         answer => tell_other(answer, text),
     }
@@ -58,12 +59,12 @@ fn tell_code(condition: &Condition<Status>, zero: &str, two: &str, text: &mut Te
 }
 
 // A condition code of Test I/O.
-fn tell_tested(condition: &Condition<Csw>, text: &mut Text) {
+fn tell_tested(condition: &Condition<Csw>, counted: Option<u32>, text: &mut Text) {
     match condition {
         Condition::Zero => text.put("CC 0, available"),
         Condition::Stored(csw) => {
             text.put("CC 1, CSW stored: ");
-            tell_csw(*csw, text);
+            tell_csw(*csw, counted, text);
         }
         Condition::Two => text.put(BUSY),
         Condition::Three => text.put(NO_DEVICE),
@@ -131,21 +132,24 @@ fn tell_status(unit: UnitStatus, channel: ChannelStatus, text: &mut Text) {
     text.show(&ChannelNames(channel));
 }
 
-/// The digits of keys.
-static KEYS: [&str; 16] = [
-    "0", "1", "2", "3", "4", "5", "6", "7", "8", "9", "A", "B", "C", "D", "E", "F",
-];
-
 // A channel status word, by its bits: of one that no program has left, the status alone.
-fn tell_csw(csw: Csw, text: &mut Text) {
+fn tell_csw(csw: Csw, counted: Option<u32>, text: &mut Text) {
     tell_status(csw.unit, csw.channel, text);
     if csw.channel.0 == 0 && csw.unit.0 & UnitStatus::CHANNEL_END.0 == 0 {
         return;
     }
+    let last = csw.address.wrapping_sub(8) & 0x00FF_FFFF;
     text.put("; last word ");
-    text.address(csw.address.wrapping_sub(8) & 0x00FF_FFFF);
+    text.address(last);
     text.put("; residual count ");
     text.number(csw.count as u64);
+    match counted {
+        Some(at) if at != last => {
+            text.put(" of ");
+            text.address(at);
+        }
+        _ => {}
+    }
     text.put("; key ");
-    text.put(KEYS[(csw.key % 16) as usize]);
+    text.digit(csw.key);
 }

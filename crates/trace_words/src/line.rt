@@ -22,33 +22,36 @@ const SHOWN: usize = 6;
 
 /// What is known of a word at work.
 #[derive(Clone, Copy)]
-pub(crate) struct Line {
+pub struct Line {
     /// Where the word stands.
-    pub(crate) at: u32,
+    pub at: u32,
     /// The word.
-    pub(crate) ccw: Ccw,
+    pub ccw: Ccw,
     /// The code of its command, which stands in the first word of the command's.
-    pub(crate) code: u8,
+    pub code: u8,
     /// Whether it has a further area of that command.
-    pub(crate) is_chained: bool,
+    pub is_chained: bool,
     /// How many bytes moved under it.
-    pub(crate) moved: u32,
+    pub moved: u32,
     /// The first of them.
-    pub(crate) first: [u8; SHOWN],
+    pub first: [u8; SHOWN],
     /// Whether it is written already.
-    pub(crate) is_told: bool,
+    pub is_told: bool,
 }
 
 /// What comes behind a word: the unit status, if there is one, how the program goes on or came to its end, and the residual count.
 #[derive(Clone, Copy)]
-pub(crate) struct Behind {
-    pub(crate) unit: UnitStatus,
-    pub(crate) how: &'static str,
-    pub(crate) left: Option<u16>,
+pub struct Behind {
+    /// The unit status; zero where there is none.
+    pub unit: UnitStatus,
+    /// How the program goes on, or came to its end.
+    pub how: &'static str,
+    /// The residual count.
+    pub left: Option<u16>,
 }
 
 /// A word behind which nothing more is known than this.
-pub(crate) fn just(how: &'static str) -> Behind {
+pub fn just(how: &'static str) -> Behind {
     Behind {
         unit: UnitStatus(0),
         how,
@@ -57,14 +60,14 @@ pub(crate) fn just(how: &'static str) -> Behind {
 }
 
 /// Channel end and device end, and a chain of commands.
-pub(crate) const CHAINED: Behind = Behind {
+pub const CHAINED: Behind = Behind {
     unit: UnitStatus(0x0C),
     how: "chained",
     left: None,
 };
 
 /// The same with status modifier, so that a word is skipped.
-pub(crate) const SKIPS: Behind = Behind {
+pub const SKIPS: Behind = Behind {
     unit: UnitStatus(0x4C),
     how: "skips one",
     left: None,
@@ -72,7 +75,7 @@ pub(crate) const SKIPS: Behind = Behind {
 
 impl Line {
     /// The line of a word whose command begins.
-    pub(crate) fn of(at: u32, ccw: Ccw) -> Line {
+    pub fn of(at: u32, ccw: Ccw) -> Line {
         Line {
             at,
             ccw,
@@ -85,7 +88,7 @@ impl Line {
     }
 
     /// The line of a word that has a further area of the same command.
-    pub(crate) fn chained(&self, at: u32, ccw: Ccw) -> Line {
+    pub fn chained(&self, at: u32, ccw: Ccw) -> Line {
         let mut line = Line::of(at, ccw);
         line.code = self.code;
         line.is_chained = true;
@@ -93,7 +96,7 @@ impl Line {
     }
 
     /// A byte moved more; one that was skipped is not known.
-    pub(crate) fn moves(&mut self, byte: Option<u8>) {
+    pub fn moves(&mut self, byte: Option<u8>) {
         if let (Some(slot), Some(byte)) = (self.first.get_mut(self.moved as usize), byte) {
             *slot = byte;
         }
@@ -101,12 +104,12 @@ impl Line {
     }
 
     /// The command of the word, if it is one of the drive's.
-    pub(crate) fn command(&self) -> Option<Command> {
+    pub fn command(&self) -> Option<Command> {
         Some(Command::decode(self.code)?.command)
     }
 
     /// Tells the word, what its command found, and what comes behind it.
-    pub(crate) fn tell(&self, found: Found, behind: &Behind, text: &mut Text) {
+    pub fn tell(&self, found: Found, behind: &Behind, text: &mut Text) {
         text.put(" ");
         text.address(self.at);
         text.put(" ");
@@ -183,7 +186,7 @@ fn tell_behind(behind: &Behind, text: &mut Text) {
 }
 
 /// The word at an address, unless no word can stand there.
-pub(crate) fn word_at(storage: &Storage, at: u32) -> Option<Ccw> {
+pub fn word_at(storage: &Storage, at: u32) -> Option<Ccw> {
     if at % 8 != 0 {
         return None;
     }
@@ -191,7 +194,7 @@ pub(crate) fn word_at(storage: &Storage, at: u32) -> Option<Ccw> {
 }
 
 /// Tells a word that was not taken, behind the line of the one before it where it was to have a further area.
-pub(crate) fn tell_not_taken(
+pub fn tell_not_taken(
     at: u32,
     word: Option<Ccw>,
     before: Option<Line>,

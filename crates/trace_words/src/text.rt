@@ -3,22 +3,22 @@
 use arrayvec::ArrayString;
 use std::fmt::{Display, Write};
 
-/// More bytes than the lines of a look have: eight at most, with the names of all sense bits in one of them.
+/// More bytes than the lines of a look have: ten at most, with the names of all sense bits in one of them.
 const ROOM: usize = 2_048;
 
 /// Lines, the last of which may be under way.
 #[derive(Clone, Copy)]
-pub(crate) struct Text {
+pub struct Text {
     lines: ArrayString<ROOM>,
     /// Where the last line begins.
     begin: usize,
     /// Whether there was room for all.
-    pub(crate) is_whole: bool,
+    pub is_whole: bool,
 }
 
 impl Text {
     /// No lines.
-    pub(crate) fn new() -> Text {
+    pub fn new() -> Text {
         Text {
             lines: ArrayString::new(),
             begin: 0,
@@ -27,60 +27,65 @@ impl Text {
     }
 
     /// What there is.
-    pub(crate) fn as_bytes(&self) -> &[u8] {
-        self.lines.as_str().as_bytes()
+    pub fn as_str(&self) -> &str {
+        self.lines.as_str()
     }
 
     /// Forgets all lines.
-    pub(crate) fn clear(&mut self) {
+    pub fn clear(&mut self) {
         self.lines.clear();
         self.begin = 0;
     }
 
     /// This text.
-    pub(crate) fn put(&mut self, text: &str) {
+    pub fn put(&mut self, text: &str) {
         self.is_whole = self.lines.write_str(text).is_ok() && self.is_whole;
     }
 
     /// A value, as it is printed.
-    pub(crate) fn show<T: Display>(&mut self, value: &T) {
+    pub fn show<T: Display>(&mut self, value: &T) {
         self.is_whole = write!(self.lines, "{value}").is_ok() && self.is_whole;
     }
 
     /// A decimal number.
-    pub(crate) fn number(&mut self, number: u64) {
+    pub fn number(&mut self, number: u64) {
         self.is_whole = write!(self.lines, "{number}").is_ok() && self.is_whole;
     }
 
     /// A count in five columns.
-    pub(crate) fn count(&mut self, count: u16) {
+    pub fn count(&mut self, count: u16) {
         self.is_whole = write!(self.lines, "{count:>5}").is_ok() && self.is_whole;
     }
 
+    /// A number below 16 in its digit.
+    pub fn digit(&mut self, number: u8) {
+        self.is_whole = write!(self.lines, "{number:X}").is_ok() && self.is_whole;
+    }
+
     /// A byte in two digits.
-    pub(crate) fn byte(&mut self, byte: u8) {
+    pub fn byte(&mut self, byte: u8) {
         self.is_whole = write!(self.lines, "{byte:02X}").is_ok() && self.is_whole;
     }
 
     /// Bytes, each in two digits.
-    pub(crate) fn bytes(&mut self, bytes: &[u8]) {
+    pub fn bytes(&mut self, bytes: &[u8]) {
         for byte in bytes {
             self.byte(*byte);
         }
     }
 
     /// An input/output address in three digits.
-    pub(crate) fn device(&mut self, address: u16) {
+    pub fn device(&mut self, address: u16) {
         self.is_whole = write!(self.lines, "{address:03X}").is_ok() && self.is_whole;
     }
 
     /// An address in storage in six digits.
-    pub(crate) fn address(&mut self, address: u32) {
+    pub fn address(&mut self, address: u32) {
         self.is_whole = write!(self.lines, "{address:06X}").is_ok() && self.is_whole;
     }
 
     /// Blanks up to a column of the line, and one at least.
-    pub(crate) fn pad(&mut self, column: usize) {
+    pub fn pad(&mut self, column: usize) {
         self.put(" ");
         for _ in self.lines.len().saturating_sub(self.begin)..column {
             self.put(" ");
@@ -88,13 +93,13 @@ impl Text {
     }
 
     /// A line of this text.
-    pub(crate) fn line(&mut self, text: &str) {
+    pub fn line(&mut self, text: &str) {
         self.put(text);
         self.end();
     }
 
     /// The line's end.
-    pub(crate) fn end(&mut self) {
+    pub fn end(&mut self) {
         self.put("\n");
         self.begin = self.lines.len();
     }
