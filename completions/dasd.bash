@@ -15,7 +15,7 @@ _dasd() {
     local word=${COMP_WORDS[COMP_CWORD]} before=${COMP_WORDS[COMP_CWORD - 1]} command=${COMP_WORDS[1]}
     COMPREPLY=()
     if [ "$COMP_CWORD" -eq 1 ]; then
-        _dasd_words format list check dump compare vtoc extract explain run help -h --help -V --version
+        _dasd_words format list check dump compare vtoc extract explain run help --verbose -h --help -V --version
         return
     fi
     case $command:$before in
@@ -73,7 +73,7 @@ _dasd() {
         _dasd_files
         ;;
     compare)
-        if [[ $word == -* ]]; then _dasd_words --tracks --json --verbose -h --help; return; fi
+        if [[ $word == -* ]]; then _dasd_words --tracks --whole --json --verbose -h --help; return; fi
         _dasd_files
         ;;
     vtoc)

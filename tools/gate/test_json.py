@@ -24,6 +24,8 @@ RIGHT: list[tuple[str, dict[str, Any]]] = [
     ("extract", {"path": "a", "name": "PAY", "bytes": 0}),
     ("extract", {"path": "a", "name": "PAY", "text": "no end of file"}),
     ("extract", {"path": "a", "files": 1, "findings": 1}),
+    ("vtoc", {"path": "a", "serial": "ABC123", "owner": ""}),
+    ("vtoc", {"path": "a", "fault": "wrong length", "remarks": ["a: its length is 41471 bytes"]}),
 ]
 # A line, and what of it is another: None takes a member away.
 PLANTED: list[tuple[int, dict[str, Any]]] = [
@@ -56,6 +58,12 @@ PLANTED: list[tuple[int, dict[str, Any]]] = [
     (13, {"name": ""}),
     (14, {"text": None}),
     (15, {"findings": 1.5}),
+    (16, {"owner": None}),
+    (16, {"free_tracks": 1}),
+    (17, {"fault": ""}),
+    (17, {"remarks": None}),
+    (17, {"remarks": [1]}),
+    (17, {"serial": "ABC123"}),
 ]
 
 
