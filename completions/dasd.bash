@@ -80,7 +80,7 @@ _dasd() {
         _dasd_files
         ;;
     compare)
-        if [[ $word == -* ]]; then _dasd_words --tracks --json --verbose -h --help; return; fi
+        if [[ $word == -* ]]; then _dasd_words --tracks --whole --json --verbose -h --help; return; fi
         _dasd_files
         ;;
     vtoc)

@@ -1,5 +1,6 @@
 # fish completion for dasd. Made by tools/make/completions.py of the words of `dasd --help`.
 complete -c dasd -f
+complete -c dasd -n '__fish_use_subcommand' -l verbose -d 'tells more of a fault, also where standard error is no terminal'
 complete -c dasd -n '__fish_use_subcommand' -s h -l help -d 'Print help'
 complete -c dasd -n '__fish_use_subcommand' -s V -l version -d 'Print version'
 complete -c dasd -n __fish_use_subcommand -a format -d 'Writes a new image'
@@ -16,7 +17,7 @@ complete -c dasd -n __fish_use_subcommand -a run -d 'Runs a deck of channel inst
 complete -c dasd -n __fish_use_subcommand -a help -d 'Print this message or the help of the given subcommand(s)'
 complete -c dasd -n '__fish_seen_subcommand_from help' -a 'format list check dump compare vtoc extract explain assemble disassemble run help'
 complete -c dasd -n '__fish_seen_subcommand_from format' -l model -x -a '2311 2314' -d 'the drive'
-complete -c dasd -n '__fish_seen_subcommand_from format' -l cylinders -x -d 'the number of cylinders'
+complete -c dasd -n '__fish_seen_subcommand_from format' -l cylinders -x -d 'the number of cylinders, 1 to 65535'
 complete -c dasd -n '__fish_seen_subcommand_from format' -l no-replace -d 'refuses to replace a file'
 complete -c dasd -n '__fish_seen_subcommand_from format' -l verbose -d 'tells more of a fault, also where standard error is no terminal'
 complete -c dasd -n '__fish_seen_subcommand_from format' -s h -l help -d 'Print help'
@@ -37,6 +38,7 @@ complete -c dasd -n '__fish_seen_subcommand_from dump' -l verbose -d 'tells more
 complete -c dasd -n '__fish_seen_subcommand_from dump' -s h -l help -d 'Print help'
 complete -c dasd -n '__fish_seen_subcommand_from dump' -F
 complete -c dasd -n '__fish_seen_subcommand_from compare' -l tracks -d 'prints how many tracks differ, and no more'
+complete -c dasd -n '__fish_seen_subcommand_from compare' -l whole -d 'takes each of A and B for one file, whose name may have a +'
 complete -c dasd -n '__fish_seen_subcommand_from compare' -l json -d 'prints one object of JSON a line'
 complete -c dasd -n '__fish_seen_subcommand_from compare' -l verbose -d 'tells more of a fault, also where standard error is no terminal'
 complete -c dasd -n '__fish_seen_subcommand_from compare' -s h -l help -d 'Print help'

@@ -8,6 +8,7 @@
 // FAIL_ONCE     with any value, only the first such write to that file fails, and the others are made
 // FAIL_PUT      the name of a file, without folders, in whose place no file can be put
 // FAIL_READ     the read with this number, of those at a place in a file, fails, and each later one
+// SHORT_READS   a read, at a place in a file or not, gives at most so many bytes
 // FAIL_READS    the path of a file to which each such read adds a byte
 // PUTS          the path of a file to which each file that is put in a place adds a line: its path
 
@@ -23,6 +24,7 @@
 #include <unistd.h>
 
 static ssize_t (*next_write)(int, const void *, size_t);
+static ssize_t (*next_read)(int, void *, size_t);
 static ssize_t (*next_pread)(int, void *, size_t, off_t);
 static int (*next_open)(const char *, int, ...);
 static int (*next_close)(int);
@@ -31,6 +33,7 @@ static int (*next_link)(const char *, const char *);
 
 static size_t output_room;
 static size_t file_room;
+static size_t most_read;
 static unsigned long failing_read;
 static unsigned long reads;
 static int failing_file = -1;
@@ -50,6 +53,7 @@ static int opened_log(const char *name) {
 
 __attribute__((constructor)) static void begin(void) {
     *(void **)&next_write = dlsym(RTLD_NEXT, "write");
+    *(void **)&next_read = dlsym(RTLD_NEXT, "read");
     *(void **)&next_pread = dlsym(RTLD_NEXT, "pread");
     *(void **)&next_open = dlsym(RTLD_NEXT, "open");
     *(void **)&next_close = dlsym(RTLD_NEXT, "close");
@@ -58,6 +62,7 @@ __attribute__((constructor)) static void begin(void) {
     output_room = number("FAIL_OUTPUT", (size_t)-1);
     file_room = number("FAIL_FILE", (size_t)-1);
     failing_read = number("FAIL_READ", 0);
+    most_read = number("SHORT_READS", (size_t)-1);
     log_file = opened_log("FAIL_READS");
     puts_file = opened_log("PUTS");
 }
@@ -100,12 +105,17 @@ ssize_t write(int to, const void *bytes, size_t length) {
     return next_write(to, bytes, length);
 }
 
+// How many bytes a read gives that is asked for so many.
+static size_t given(size_t length) { return length < most_read ? length : most_read; }
+
+ssize_t read(int from, void *into, size_t length) { return next_read(from, into, given(length)); }
+
 ssize_t pread(int from, void *into, size_t length, off_t at) {
     reads += 1;
     if (log_file >= 0 && next_write(log_file, "r", 1) != 1) {
         _exit(3);
     }
-    return failing_read > 0 && reads >= failing_read ? failed() : next_pread(from, into, length, at);
+    return failing_read > 0 && reads >= failing_read ? failed() : next_pread(from, into, given(length), at);
 }
 
 int open(const char *path, int flags, ...) {

@@ -141,7 +141,7 @@ def ask_contents(answer: Answer, volume: Volume) -> None:
     """Its label, its data sets, and what is wrong with its table of contents."""
     for it in volume.ask("vtoc"):
         if "serial" in it:
-            answer.volume.update({name: it[name] for name in ("serial", "owner", "contents", "free_tracks", "free_blocks")})
+            answer.volume.update({name: it[name] for name in ("serial", "owner", "contents", "free_tracks", "free_blocks") if name in it})
         elif "organisation" in it:
             answer.sets.append(Set(it))
         elif "kind" in it:

@@ -29,7 +29,7 @@ CREATE INDEX files_by_of ON files (of) WHERE of IS NOT NULL;
 CREATE TABLE faults (file INTEGER NOT NULL REFERENCES files (id), number INTEGER NOT NULL, stage TEXT NOT NULL, text TEXT NOT NULL,
     PRIMARY KEY (file, number)) WITHOUT ROWID;
 
--- each volume; serial and what stands behind it are NULL where it has no label or no table of contents
+-- each volume; serial and owner are NULL where it has no label, and what stands behind them where it has no table of contents
 CREATE TABLE volumes (
     file INTEGER PRIMARY KEY REFERENCES files (id),
     serial TEXT, owner TEXT, contents TEXT, free_tracks INTEGER, free_blocks INTEGER,

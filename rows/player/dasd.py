@@ -9,6 +9,7 @@
 | `> SIO 190`, `>bytes 0A` | a line, or bytes, of the deck on standard input of the next command |
 | `reader` | standard input can't be read |
 | `writer 12`, `flush` | a write to standard output fails, behind so many bytes, or as it is flushed |
+| `short 7` | a read gives at most so many bytes |
 | `tracer 40`, `once 40` | a write to the trace fails behind so many bytes, and each behind it; that write alone |
 | `put a` | the file can't be put in its place |
 | `dasd list a` | a command |
@@ -20,7 +21,7 @@
 | `remark text` | what it says of it where it is asked for more |
 | `status 1`, `replaced x y` | its status; the files that it has put in place, in order |
 | `same a b`, `length a 512`, `holds a 5 43` | what files hold |
-| `reads list b` | each read of the file fails in turn, and all behind it: a front of what it prints, and a store fault |
+| `reads list b` | each read of the file fails in turn, and all behind it: a front of what it prints, a store fault, and which file it was and where |
 | `memory list a` | each taking of memory is refused in turn: no memory |
 
 A file whose name begins with `locked` may not be written, and one whose name begins with `busy` is another program's."""
@@ -48,7 +49,9 @@ from .text import BadRow, Block, Case, Wrong, bytes_of, is_next, read_blocks, sa
 SHOWN = re.compile(rb"\r([^\r\x1b]*)\x1b\[K")
 TRACE = "trace.of.the.row"
 # lines that let calls of the next command fail, and what failing_calls.c knows them by
-FAILING = {"writer": "FAIL_OUTPUT", "flush": "FAIL_FLUSH", "tracer": "FAIL_FILE", "put": "FAIL_PUT"}
+FAILING = {"writer": "FAIL_OUTPUT", "flush": "FAIL_FLUSH", "short": "SHORT_READS", "tracer": "FAIL_FILE", "put": "FAIL_PUT"}
+# what is told where a file can't be read on: the fault, and the file with the place and the host's words
+UNREAD = re.compile(r"dasd: (?:store|read) fault\n  (?P<path>\S+): at byte \d+: Input/output error\n")
 MOST_REFUSED = 400
 # how long the program may be silent before it is ended
 SECONDS = 600
@@ -268,7 +271,8 @@ class DasdRow:
         for at in range(1, number + 1):
             out, told = self.run(words, {"FAIL_READ": str(at)})
             told = SHOWN.sub(b"", told)
-            same("read %d of %d fails" % (at, number), (1, True), (self.status, told in (b"dasd: store fault\n", b"dasd: read fault\n")))
+            is_told = UNREAD.fullmatch(told.decode("ascii"))
+            same("read %d of %d fails" % (at, number), (1, True), (self.status, bool(is_told) and is_told["path"] in words))
             same("read %d of %d fails: a front is printed" % (at, number), True, whole.startswith(out) and (not out or out.endswith("\n")))
         log.unlink()
 

@@ -167,8 +167,9 @@ def make_packs(folder: Path) -> list[list[str]]:
         shutil.copy(folder / "pack.ckd", folder / name)
         for at, held in changes:
             put(folder / name, at, held)
+    (folder / "short.ckd").write_bytes((folder / "pack.ckd").read_bytes()[:-1])
     vectors = sorted((TOP / "conformance/vectors").glob("*.img"))
-    return [["pack.ckd"], ["half_1.ckd", "half_2.ckd"], *[[it] for it in COPIES], *[[str(it)] for it in vectors]]
+    return [["pack.ckd"], ["half_1.ckd", "half_2.ckd"], *[[it] for it in COPIES], ["short.ckd"], *[[str(it)] for it in vectors]]
 
 
 def play(dasd: Path, folder: Path, lines: Lines) -> None:

@@ -178,7 +178,9 @@ def compare_labels_alone(comparison: readings.Comparison, dasd: str, folder: pat
         readings.run("dasdinit", image, model, "INIT01", "3")
         listed = readings.run("dasdls", image).stdout.decode("latin-1").splitlines()
         found = readings.run(dasd, "vtoc", image)
-        comparison.same(f"{image.name} of dasdinit: data sets", len(found.stdout.splitlines()) - 1, len(listed[1:]), "dasdls")
+        lines = found.stdout.decode("latin-1").splitlines()
+        comparison.same(f"{image.name} of dasdinit: serial", lines[0][:6], "INIT01", "dasdinit")
+        comparison.same(f"{image.name} of dasdinit: data sets", len(lines) - 2, len(listed[1:]), "dasdls")
         comparison.same(f"{image.name} of dasdinit: status", found.returncode, 1, "this script")
 
 

@@ -6,10 +6,11 @@ A command is run once as it is, and what it printed and left is kept; then once 
 fail, once or from there on (by Debian's `strace --inject`), and once more for each, killed there. Wanted is:
 
 - With status 0 the command printed what it prints, and left what it leaves: no failure is told as success, and no byte that the file did not hold is printed.
-- With another status a fault is told on standard error (that of a read, where reads fail from there on), what was printed is the beginning of
-  what it prints, and each file is the old one or the new one, whole; no file stays behind.
+- With another status a fault is told on standard error (that of a read, where reads fail from there on), and behind it the host's words for what failed, with
+  the file and, of a read at a place, that place; what was printed is the beginning of what it prints, and each file is the old one or the new one, whole; no file stays behind.
 - Where only the call fails that takes a file's first, hidden name away, all is as it was meant to be, and that name stays beside the other.
-- A program that is killed leaves each file the old one or the new one, whole. What it had begun to write may stay, under a name that begins with `.dasd-`.
+- A program that is killed leaves each file the old one or the new one, whole. What it had begun to write may stay, under a name that begins with `.dasd-`; the next
+  command that writes a file into that folder removes it, and says so.
 - Where a file takes its place, it was synced before that, and its folder is synced behind it.
 
 It runs crates/dasd_cmd/out/dasd_cmd, as `rt ci` leaves it; with --built FILE that program; with words behind, the commands whose names have one of them.
@@ -17,6 +18,7 @@ The last line is 'N failures of N calls, M came out wrong', and the status 1 whe
 """
 
 import argparse
+import errno
 import os
 import re
 import shutil
@@ -39,6 +41,7 @@ ERRORS = {
     "statx": ["EIO"],
     "read": ["EIO", "EIO on", "EINTR"],
     "pread64": ["EIO", "EIO on", "EINTR"],
+    "getdents64": ["EIO"],
     "write": ["EIO", "ENOSPC", "ENOSPC on", "EINTR"],
     "ftruncate": ["EIO"],
     "fsync": ["EIO"],
@@ -93,12 +96,13 @@ COMMANDS = [
 
 
 class Came(NamedTuple):
-    """What became of a command: status, output, what it said, and the files by their paths."""
+    """What became of a command: status, output, what it said, the files by their paths, and what of drafts the next command left or did not tell."""
 
     status: int
     printed: bytes
     told: bytes
     files: dict[str, bytes]
+    kept: list[str]
 
 
 class Failure(NamedTuple):
@@ -132,14 +136,25 @@ def files_in(folder: Path) -> dict[str, bytes]:
     return {str(it.relative_to(folder)): it.read_bytes() for it in sorted(folder.rglob("*")) if it.is_file()}
 
 
+def kept_drafts(dasd: Path, folder: Path) -> list[str]:
+    """The drafts that stay, or go without a word, where the next command formats a file beside them."""
+    kept = []
+    for draft in sorted(folder.rglob(f"{DRAFT}*")):
+        words = [str(dasd), "format", "--verbose", "--cylinders", "1", "after.ckd"]
+        done = subprocess.run(words, cwd=draft.parent, capture_output=True, timeout=60, check=False)
+        if done.returncode or draft.exists() or draft.name.encode() not in done.stderr:
+            kept.append(draft.name)
+    return kept
+
+
 def play(dasd: Path, command: Command, tracing: list[str]) -> Came:
-    """Runs a command under strace in a folder of its own."""
+    """Runs a command under strace in a folder of its own, and asks it for all that it has to say."""
     with tempfile.TemporaryDirectory(prefix="fail_calls-") as room:
         folder = Path(room)
         fill(folder)
-        words = ["strace", "-qq", *tracing, str(dasd), *command.words]
+        words = ["strace", "-qq", *tracing, str(dasd), *command.words, "--verbose"]
         done = subprocess.run(words, cwd=folder, input=command.given, capture_output=True, timeout=60, check=False)
-        return Came(done.returncode, done.stdout, done.stderr, files_in(folder))
+        return Came(done.returncode, done.stdout, done.stderr, files_in(folder), kept_drafts(dasd, folder))
 
 
 def old_files() -> dict[str, bytes]:
@@ -191,11 +206,16 @@ def is_old_or_new(came: Came, old: dict[str, bytes], new: dict[str, bytes], kill
 
 def untold(failure: Failure, came: Came) -> str | None:
     """What is wrong with what a command says that ended with a fault; where all writes fail it can't say anything."""
-    if failure.how.endswith(" on") and failure.call == "write":
+    error, _, on = failure.how.partition(" ")
+    if on and failure.call == "write":
         return None
-    if failure.how.endswith(" on") and b"read fault" not in came.told:
-        return f"status {came.status}, and no fault of a read is told"
-    return None if came.told else f"status {came.status}, and no fault is told"
+    first, *more = came.told.decode(errors="replace").splitlines() or [""]
+    if not first.startswith("dasd: ") or on and "read fault" not in first:
+        return f"status {came.status}, and no fault{' of a read' if on else ''} is told"
+    why = f": {os.strerror(getattr(errno, error))}"
+    if failure.call == "pread64":
+        why = f": at byte [0-9]+{why}"
+    return None if any(re.fullmatch(rf"  \S.*{why}", line) for line in more) else f"status {came.status}, and it is not told which file it was and why"
 
 
 def judge(failure: Failure, came: Came, good: Came, old: dict[str, bytes]) -> str | None:
@@ -207,6 +227,8 @@ def judge(failure: Failure, came: Came, good: Came, old: dict[str, bytes]) -> st
         return None if left == good.files else "it ends as if all were well, and left something else"
     if not killed and (fault := untold(failure, came)):
         return fault
+    if came.kept and killed:
+        return f"{came.kept[0]} stays behind the next command, or goes without a word"
     if not good.printed.startswith(came.printed):
         return "it printed what it does not print"
     return is_old_or_new(came, old, good.files, killed)

@@ -55,8 +55,9 @@ def expected() -> dict[int, str]:
     return {
         1: "packs/short.ckd.fault:dasd: wrong length\n",
         3: "".join(sorted(f"packs/{number:03}.ckd|1\n" for number in faulty)),
-        4: f"reserved bytes|{len(reserved)}\nunreadable|{len(faulty)}\n",
-        5: "".join(sorted(f"packs/{number:03}.ckd\n" for number in range(VOLUMES))),
+        4: "packs/short.ckd|wrong length\n",
+        5: f"reserved bytes|{len(reserved)}\nunreadable|{len(faulty)}\n",
+        6: "".join(sorted(f"packs/{number:03}.ckd\n" for number in range(VOLUMES))),
     }
 
 

@@ -3,7 +3,7 @@
 Each row makes files, runs commands and says what they print, end with and leave: links, pipes, devices, modes, owners, full
 disks, broken pipes, odd names and files that are no images; kills, runs at once and traces in tools/gate/real_runs.py, `dasd extract` in
 tools/gate/real_extracts.py, strict checks, dumps and comparisons in tools/gate/real_archives.py, findings in tools/gate/real_findings.py,
-and lists in tools/gate/real_lists.py. A row that needs root, a small file
+lists in tools/gate/real_lists.py, and what is told beside a fault's line in tools/gate/real_reasons.py. A row that needs root, a small file
 system of its own or a device, where these can't be had, is skipped, with a word.
 
 It runs crates/dasd_cmd/out/dasd_cmd, as `rt ci` or `rt run` leaves it; with --built FILE that program; with words behind, the
@@ -15,7 +15,6 @@ is not 0.
 import argparse
 import os
 import pty
-import shutil
 import socket
 import stat
 import subprocess
@@ -28,12 +27,12 @@ from pathlib import Path
 from conformance.suite.volumes import HEADER
 from tools import TOP
 from tools.common.images import slot_at
-from tools.gate import real_archives, real_extracts, real_findings, real_lists, real_runs
-from tools.gate.scratch_files import ANSWERS, ROWS, WRITE, How, Scratch, Skipped, fault, header, is_held, row, same, volume, wrote
+from tools.gate import real_archives, real_extracts, real_findings, real_lists, real_reasons, real_runs
+from tools.gate.scratch_files import ANSWERS, ONE_VOLUME, ROWS, WRITE, How, Scratch, Skipped, fault, header, is_held, row, same, small_disk, volume, wrote
 
 
 # The modules whose rows stand in ROWS with those below.
-OTHERS = (real_archives, real_extracts, real_findings, real_lists, real_runs)
+OTHERS = (real_archives, real_extracts, real_findings, real_lists, real_reasons, real_runs)
 
 
 # Links.
@@ -184,20 +183,14 @@ def folder_that_may_not_be_written(s: Scratch) -> None:
 
 @row
 def disk_that_is_full(s: Scratch) -> None:
-    s.path("small").mkdir()
-    if shutil.which("mount") is None:
-        raise Skipped("there is no mount")
-    mounted = subprocess.run(["mount", "-t", "tmpfs", "-o", "size=80k", "none", s.path("small")], capture_output=True, check=False)
-    if mounted.returncode:
-        raise Skipped("no file system can be mounted")
-    try:
+    told = "write fault\n  small/vol.ckd: No space left on device"
+    with small_disk(s) as small:
         s.put("small/vol.ckd", volume())
         same(s.write("90=small/vol.ckd"), fault("write fault", ANSWERS.format(unit="190")))
-        same(s.dasd("format", "small/vol.ckd", "--cylinders", "2"), fault("write fault"))
+        same(s.write("--verbose", "90=small/vol.ckd"), fault(told, ANSWERS.format(unit="190")))
+        same(s.dasd("format", "--verbose", "small/vol.ckd", "--cylinders", "2"), fault(told))
         is_held(s.path("small/vol.ckd"), volume())
-        same(os.listdir(s.path("small")), ["vol.ckd"])
-    finally:
-        subprocess.run(["umount", s.path("small")], check=True)
+        same(os.listdir(small), ["vol.ckd"])
 
 
 @row
@@ -205,10 +198,21 @@ def output_that_is_full(s: Scratch) -> None:
     if not os.path.exists("/dev/full"):
         raise Skipped("there is no /dev/full")
     s.put("vol.ckd", volume())
-    for words in (["list", "vol.ckd"], ["check", "vol.ckd"], ["format", "new.ckd", "--cylinders", "1"], ["--version"]):
+    real_extracts.spell(s.path("pack.ckd"), real_extracts.SETS[:3])
+    s.path("out").mkdir()
+    commands = [
+        ["list", "vol.ckd"], ["list", "--json", "vol.ckd"], ["check", "vol.ckd"], ["check", "--strict", "vol.ckd"], ["dump", "vol.ckd", "0", "0"],
+        ["compare", "vol.ckd", "vol.ckd"], ["vtoc", "pack.ckd"], ["vtoc", "--json", "pack.ckd"], ["extract", "pack.ckd", "PAY.CARDS"],
+        ["extract", "--all", "out", "pack.ckd"], ["explain", "csw", "00000428", "0E000320"], ["format", "new.ckd", "--cylinders", "1"],
+    ]  # fmt: skip
+    for words in commands:
         with open("/dev/full", "wb") as full:
-            status, _, told = s.dasd(*words, how=How(stdout=full))
-        same((status, told), (1, "dasd: write fault\n"), " ".join(words))
+            status, _, told = s.dasd(*words, "--verbose", how=How(stdout=full))
+        wanted = 2 if words[0] == "compare" else 1
+        same((status, told), (wanted, "dasd: write fault\n  standard output: No space left on device\n"), " ".join(words))
+    for word, status in (("--version", 1), ("--help", 2)):
+        with open("/dev/full", "wb") as full:
+            same(s.dasd(word, how=How(stdout=full))[::2], (status, "dasd: write fault\n"), word)
     with open("/dev/full", "wb") as full:
         same(s.write("90=vol.ckd", how=How(stdout=full))[::2], (1, "dasd: write fault\n"))
     is_held(s.path("vol.ckd"), volume(data="D5D6D7D8"))
@@ -379,9 +383,9 @@ def more_is_told_where_it_is_asked(s: Scratch) -> None:
     told = {
         ("list", "work.ckd"): "read fault\n  work.ckd: No such file or directory\n",
         ("list", "."): "read fault\n  .: Is a directory\n",
-        ("list", "a.ckd"): "image in several files\n  a.ckd: it ends with cylinder 1, and the files behind it are not named\n",
-        ("list", "a.ckd", "b.ckd"): "image in several files\n  b.ckd: it is named as file 2 and bears the number 1\n",
-        ("list", "vol.ckd", "a.ckd"): "image in several files\n  vol.ckd: it is named as file 1 and bears the number 0\n",
+        ("list", "a.ckd"): f"image in several files\n  a.ckd: it ends with cylinder 1, and the files behind it are not named\n{ONE_VOLUME}",
+        ("list", "a.ckd", "b.ckd"): f"image in several files\n  b.ckd: it is named as file 2 and bears the number 1\n{ONE_VOLUME}",
+        ("list", "vol.ckd", "a.ckd"): f"image in several files\n  vol.ckd: it is named as file 1 and bears the number 0\n{ONE_VOLUME}",
         ("run", "90=vol.ckd", "91=vol.ckd"): "image in use\n  vol.ckd: this run uses it already\n",
     }
     for words, text in told.items():
@@ -397,8 +401,9 @@ def more_is_told_where_it_is_asked(s: Scratch) -> None:
         same(s.dasd("run", "--verbose", "90=vol.ckd", deck=deck), fault(text), deck[:20])
     both = WRITE.format(data="D5D6D7D8", unit="190") + WRITE.format(data="D5D6D7D8", unit="191")
     ran = s.dasd("run", "--verbose", "90=vol.ckd", "91=late.ckd", deck=both)
-    same((ran[0], ran[2].splitlines()[0]), (1, "dasd: write fault"))
-    same(ran[2].splitlines()[1:], ["  late.ckd: it may not be written", "  late.ckd was not written; vol.ckd was"])
+    warned = "  late.ckd: what the deck changes can't be saved: it may not be written"
+    same((ran[0], ran[2].splitlines()[:2]), (1, [warned, "dasd: write fault"]))
+    same(ran[2].splitlines()[2:], ["  late.ckd: it may not be written", "  late.ckd was not written; vol.ckd was"])
 
 
 @row

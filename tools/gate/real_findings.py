@@ -12,7 +12,7 @@ from conformance.suite.volumes import Address, Record, Volume, address
 from tools.common.images import Image
 from tools.common.volume_layouts import Extents, directory_blocks, ebcdic
 from tools.gate.real_extracts import CARDS, LIBRARY, LINES, MODEL, card, raw, spell
-from tools.gate.scratch_files import PLAIN, WRITE, Run, Scratch, Skipped, fault, give, header, is_held, row, same, volume, waiting_run
+from tools.gate.scratch_files import ONE_VOLUME, PLAIN, WRITE, Run, Scratch, Skipped, fault, give, header, is_held, row, same, volume, waiting_run
 
 FREE_BLOCK, FIRST_SET, LAST_SET = 2, 3, 8
 EXTENTS_AT, NEXT_AT = 61, 91  # where a block of format 1 has its extents and the next block's address, behind its key
@@ -186,7 +186,7 @@ def header_alone_and_files_of_one_highest_cylinder_have_their_reason(s: Scratch)
     s.put("a.ckd", header(MODEL, 1, 1) + new_cylinder(0) + new_cylinder(1))
     s.put("b.ckd", header(MODEL, 2, 1) + new_cylinder(2))
     s.put("c.ckd", header(MODEL, 3, 0) + new_cylinder(3))
-    told = fault("image in several files\n  b.ckd: its highest cylinder is 1, and 1 more follow")
+    told = fault(f"image in several files\n  b.ckd: its highest cylinder is 1, and 1 more follow\n{ONE_VOLUME}".rstrip())
     same(s.dasd("list", "--verbose", "a.ckd", "b.ckd", "c.ckd"), told)
 
 

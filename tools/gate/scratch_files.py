@@ -3,6 +3,7 @@
 What a volume must hold is made here, by the conformance suite's spelling of an image, and not by the program."""
 
 import os
+import shutil
 import subprocess
 from collections.abc import Callable, Iterator
 from contextlib import contextmanager
@@ -23,6 +24,8 @@ STEP 100
 INT
 """
 ANSWERS = "STORE OK\n" * 4 + "SIO {unit} CC 0\nSTEP 20\nINT {unit} 00000418 0C000000\n"
+# What is remarked of each image in several files.
+ONE_VOLUME = "  a command takes one volume: several paths are the files of one image, in order\n"
 # What a command did: its status, what it printed, and what it said on standard error.
 Ended = tuple[int, str, str]
 Run = subprocess.Popen[bytes]
@@ -166,3 +169,19 @@ def waiting_run(scratch: Scratch, *volumes: str, name: str = "deck") -> Iterator
     with open(scratch.path(name), "wb", buffering=0) as deck:
         yield run, deck
     scratch.path(name).unlink()
+
+
+@contextmanager
+def small_disk(scratch: Scratch) -> Iterator[Path]:
+    """A folder `small` with a file system of 80 kilobytes of its own; where none can be mounted the row is skipped."""
+    folder = scratch.path("small")
+    folder.mkdir()
+    if shutil.which("mount") is None:
+        raise Skipped("there is no mount")
+    mounted = subprocess.run(["mount", "-t", "tmpfs", "-o", "size=80k", "none", folder], capture_output=True, check=False)
+    if mounted.returncode:
+        raise Skipped("no file system can be mounted")
+    try:
+        yield folder
+    finally:
+        subprocess.run(["umount", folder], check=True)

@@ -25,6 +25,8 @@ RIGHT: list[tuple[str, dict[str, Any]]] = [
     ("extract", {"path": "a", "name": "PAY", "text": "no end of file"}),
     ("extract", {"path": "a", "files": 1, "findings": 1}),
     ("hash", {"path": "a", "hash": "0123456789abcdef" * 4, "unreadable": 0}),
+    ("vtoc", {"path": "a", "serial": "ABC123", "owner": ""}),
+    ("vtoc", {"path": "a", "fault": "wrong length", "remarks": ["a: its length is 41471 bytes"]}),
 ]
 # A line, and what of it is another: None takes a member away.
 PLANTED: list[tuple[int, dict[str, Any]]] = [
@@ -60,6 +62,12 @@ PLANTED: list[tuple[int, dict[str, Any]]] = [
     (16, {"hash": "0123456789ABCDEF" * 4}),
     (16, {"hash": "0123456789abcdef" * 3}),
     (16, {"unreadable": None}),
+    (17, {"owner": None}),
+    (17, {"free_tracks": 1}),
+    (18, {"fault": ""}),
+    (18, {"remarks": None}),
+    (18, {"remarks": [1]}),
+    (18, {"serial": "ABC123"}),
 ]
 
 

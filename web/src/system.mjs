@@ -39,7 +39,7 @@
 
 export const KIND = { REGULAR: 0o100000, FOLDER: 0o040000, PIPE: 0o010000 };
 export const FLAG = { WRITES: 0o3, CREATES: 0o100, EXCLUSIVE: 0o200, TRUNCATES: 0o1000, APPENDS: 0o2000 };
-export const ERROR = { NO_ENTRY: 2, BAD_DESCRIPTOR: 9, EXISTS: 17, IS_FOLDER: 21, INVALID: 22, NO_TERMINAL: 25, NO_SPACE: 28, NO_SEEK: 29 };
+export const ERROR = { NO_ENTRY: 2, BAD_DESCRIPTOR: 9, EXISTS: 17, IS_FOLDER: 21, INVALID: 22, NO_TERMINAL: 25, NO_SPACE: 28, NO_SEEK: 29, NOT_SUPPORTED: 95 };
 
 /** Of fcntl: F_DUPFD_CLOEXEC; of statx: AT_SYMLINK_NOFOLLOW. */
 const DUPLICATE = 1030, NO_FOLLOW = 0x100;
@@ -277,6 +277,9 @@ function paths(memory, error, host) {
     rename: (from, to) => error.done(() => host.rename(memory.text(from), memory.text(to))),
     link: (from, to) => error.done(() => host.link(memory.text(from), memory.text(to))),
     unlink: path => error.done(() => host.unlink(memory.text(path))),
+    // no folder is read, so what a program left that was killed stays
+    rattle_open_dir_at: () => error.done(() => { throw new SystemFault(ERROR.NOT_SUPPORTED); }),
+    getdents64: () => error.counted(() => { throw new SystemFault(ERROR.NOT_SUPPORTED); }),
   };
 }
 

@@ -29,7 +29,10 @@ import { tarOf } from './tar.mjs';
  * @typedef {{ name: string, created: string | null, expires: string | null, organisation: string, format: string, recordLength: number,
  *   blockLength: number, keyLength: number, tracks: number, used: number, extents: Extent[] }} DataSet
  */
-/** @typedef {{ serial: string, owner: string, freeTracks: number, freeBlocks: number, contents: Extent }} Label */
+/**
+ * The last three are null where the volume has no table of contents.
+ * @typedef {{ serial: string, owner: string, freeTracks: number | null, freeBlocks: number | null, contents: Extent | null }} Label
+ */
 /**
  * What is wrong with the table of contents.
  * @typedef {{ cylinder: number, head: number, record: number, kind: string, text: string }} ContentsFault
@@ -130,7 +133,8 @@ function dataSet(it) {
  * @returns {Label}
  */
 function labelOf(it) {
-  return { serial: it.serial, owner: it.owner, freeTracks: it.free_tracks, freeBlocks: it.free_blocks, contents: it.contents };
+  const { serial, owner, free_tracks: freeTracks = null, free_blocks: freeBlocks = null, contents = null } = it;
+  return { serial, owner, freeTracks, freeBlocks, contents };
 }
 
 /**
@@ -182,7 +186,8 @@ export class Volumes {
   constructor(program) { this.program = program; }
 
   /**
-   * Runs a command over a volume's files; a run that fails and prints nothing is thrown with the program's words.
+   * Runs a command over a volume's files. A run that fails and prints nothing is thrown with the program's words, and so is each with a fault
+   * whose objects are read.
    * @param {string[]} words
    * @param {Files} files
    * @param {string[]} [behind]
@@ -190,7 +195,8 @@ export class Volumes {
    */
   #run(words, files, behind = [], folders = []) {
     const own = renamed(files), ended = this.program.run([...words, ...own.keys(), ...behind], own, '', folders);
-    if (ended.status && !ended.output.length) throw refusal(ended);
+    const isRefused = words.includes('--json') ? ended.errors.length : !ended.output.length;
+    if (ended.status && isRefused) throw refusal(ended);
     return ended;
   }
 
@@ -312,7 +318,7 @@ export class Volumes {
     const both = [renamed(one, 'one'), renamed(other, 'other')], names = both.map(it => [...it.keys()].join('+'));
     const files = new Map([...both[0], ...both[1]]);
     const ended = this.program.run(['compare', '--json', ...names], files);
-    if (ended.status && !ended.output.length) throw refusal(ended);
+    if (ended.errors.length) throw refusal(ended);
     const found = objects(textOf(ended.output)), tracks = tracksOf(found.filter(it => 'cylinder' in it));
     const geometry = found.find(it => 'text' in it && !('cylinder' in it));
     const text = textOf(this.program.run(['compare', ...names], files).output);

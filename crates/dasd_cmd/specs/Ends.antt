@@ -1,12 +1,13 @@
 -- The status of the program.
-use Rattle.std.specs.Prelude.{ℕ, Result, Ok, Err}
+use Rattle.std.specs.Prelude.{ℕ, Bool, true, false, Result, Ok, Err}
 use Rattle.dasd_run.specs.declared.commands.Ending.{Ending}
 use Rattle.dasd_run.specs.declared.commands.Ending.TheVariants.{Done, Findings}
 use Rattle.dasd_run.specs.declared.fault.ProgramFault.{ProgramFault}
 use Rattle.dasd_run.specs.Faults.{status_of}
 
--- 0 where there is nothing to report, 1 where a volume has findings, and else that of the fault
-abbrev pub ended_status : Result Ending ProgramFault → ℕ
-ended_status (Ok Done) = 0
-ended_status (Ok Findings) = 1
-ended_status (Err fault) = status_of fault
+-- 0 where there is nothing to report, 1 where a volume has findings, and else that of the fault; of a comparison that is 2
+abbrev pub ended_status : (compares : Bool) → Result Ending ProgramFault → ℕ
+ended_status compares (Ok Done) = 0
+ended_status compares (Ok Findings) = 1
+ended_status true (Err fault) = 2
+ended_status false (Err fault) = status_of fault

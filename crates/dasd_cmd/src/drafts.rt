@@ -2,14 +2,18 @@
 
 ghost use Rattle.std.specs.Prelude.{◌≡◌, [], length, IfOk};
 
-use crate::host::wrong;
+use crate::locks::wrong;
+use crate::remarks::Remarks;
 use ckd_image::{ImageStore, StoreFault};
 use ghost_data::{Count, Trace};
-use std::fs::{self, File, Metadata, OpenOptions, Permissions};
+use std::fs::{self, File, Metadata, OpenOptions, Permissions, TryLockError};
 use std::io::{Error, ErrorKind, Write};
 use std::os::unix::fs::{MetadataExt, OpenOptionsExt, PermissionsExt, fchown};
 use std::path::{Path, PathBuf};
 use std::{io, process};
+
+/// What the name of a new file begins with, before the number of its program and a number of its own.
+pub(crate) const NAME_BEGIN: &str = ".dasd-";
 
 /// How many names are tried for a new file.
 const NAMES: u32 = 1_000;
@@ -28,6 +32,7 @@ pub(crate) struct Old {
 /// not come about it is removed.
 pub(crate) struct HostDraft<'a> {
     host: &'a HostRuntime,
+    remarks: &'a Remarks<'a>,
     file: File,
     /// Where it is written.
     beside: PathBuf,
@@ -48,6 +53,7 @@ impl Drop for HostDraft<'_> {
         }
         let HostDraft {
             host: _,
+            remarks: _,
             file: _,
             beside: _,
             given: _,
@@ -64,6 +70,7 @@ impl<'a> HostDraft<'a> {
     /// Begins a file without bytes, with mode and owner of the old one.
     pub(crate) fn begin(
         host: &'a HostRuntime,
+        remarks: &'a Remarks<'a>,
         path: &str,
         old: Option<Old>,
     ) -> io::Result<HostDraft<'a>>
@@ -76,6 +83,7 @@ impl<'a> HostDraft<'a> {
         };
         let draft = HostDraft {
             host,
+            remarks,
             file,
             beside,
             given,
@@ -152,8 +160,10 @@ impl ImageStore for HostDraft<'_> {
     #[tactic(auto, using(crate::proofs::Behind::written_behind))]
     fn write_at(&mut self, at: u64, bytes: &[u8]) -> Result<(), StoreFault> {
         let end = self.len.checked_add(bytes.len() as u64);
+        let is_end = at == self.len;
         match end {
-            Some(end) if at == self.len && self.file.write_all(bytes).is_ok() => {
+            Some(end)
+                if is_end && append(&mut self.file, self.remarks, self.given.as_str(), bytes) => {
                 self.written = self.written.and(bytes);
                 self.len = end;
                 Ok(())
@@ -166,12 +176,23 @@ impl ImageStore for HostDraft<'_> {
     }
 }
 
-// Makes a file in the folder of a path, where nothing stands.
+// Writes bytes at the end of a new file, and says whether that is done; if not, it is remarked why.
+fn append(file: &mut File, remarks: &Remarks, path: &str, bytes: &[u8]) -> bool {
+    match file.write_all(bytes) {
+        Ok(()) => true,
+        Err(fault) => {
+            remarks.note_fault(path, &fault);
+            false
+        }
+    }
+}
+
+// Makes a file in the folder of a path, where nothing stands, and keeps it locked, so that it is seen to be at work.
 fn create_beside(host: &HostRuntime, path: Path<'_>, mode: u32) -> io::Result<(File, PathBuf)> {
     let folder = folder_of(path);
     let number = process::id(host.process());
     for turn in 0..NAMES {
-        let name = format!(in host.alloc(); ".dasd-{number}-{turn}")?;
+        let name = format!(in host.alloc(); "{NAME_BEGIN}{number}-{turn}")?;
         let beside = folder.join(host.alloc(), name.as_str())?;
         let made = OpenOptions::new()
             .write(true)
@@ -179,7 +200,14 @@ fn create_beside(host: &HostRuntime, path: Path<'_>, mode: u32) -> io::Result<(F
             .mode(mode)
             .open(host, beside.as_str());
         match made {
-            Ok(file) => return Ok((file, beside)),
+            Ok(file) => match is_held(host, &file, beside.as_str()) {
+                Ok(true) => return Ok((file, beside)),
+                Ok(false) => {}
+                Err(fault) => {
+                    let _ = fs::remove_file(host, beside.as_str());
+                    return Err(fault);
+                }
+            },
             Err(fault) if fault.kind() == ErrorKind::AlreadyExists => {}
             Err(fault) => return Err(fault),
         }
@@ -187,8 +215,23 @@ fn create_beside(host: &HostRuntime, path: Path<'_>, mode: u32) -> io::Result<(F
     Err(Error::from(ErrorKind::AlreadyExists))
 }
 
-// The folder of a path.
-fn folder_of(path: Path<'_>) -> Path<'_> {
+// Locks a new file, and says whether it still has its name: what clears up behind others may have come between. Where a file system has
+// no locks it goes without.
+fn is_held(host: &HostRuntime, file: &File, path: &str) -> io::Result<bool> {
+    match file.try_lock() {
+        Err(TryLockError::WouldBlock) => return Ok(false),
+        Ok(()) | Err(TryLockError::Error(_)) => {}
+    }
+    let made = file.metadata()?;
+    match fs::symlink_metadata(host, path) {
+        Ok(there) => Ok(there.dev() == made.dev() && there.ino() == made.ino()),
+        Err(fault) if fault.kind() == ErrorKind::NotFound => Ok(false),
+        Err(fault) => Err(fault),
+    }
+}
+
+/// The folder of a path.
+pub(crate) fn folder_of(path: Path<'_>) -> Path<'_> {
     match path.parent() {
         Some(folder) if !folder.as_str().is_empty() => folder,
         _ => Path::new("."),

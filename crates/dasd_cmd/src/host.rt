@@ -1,21 +1,25 @@
 //! Files of the host.
 
-ghost use Rattle.std.specs.Prelude.{◌≡◌, ◌+◌, [], length};
+ghost use Rattle.std.specs.Prelude.{◌≡◌, [], IfOk};
 
-use crate::drafts::{HostDraft, Old};
+use crate::drafts::{HostDraft, Old, folder_of};
+use crate::leftovers::clear_folder;
+use crate::locks::{
+    Locked, find_old, is_locked, keep, list_done, mark_done, open_locked, open_trace_file,
+    try_to_replace, wrong,
+};
+use crate::names::{is_read_alone, open_spelled};
 use crate::reading::{HostFile, read_some};
+use crate::remarks::Remarks;
 use crate::traces::{TraceFile, TraceOutput};
 use dasd_jobs::{FileFault, ImageFiles, Sources, Written};
 use dasd_run::Traces;
 use dasd_words::TraceTarget;
 use std::alloc::Global;
-use std::fs::{File, Metadata, OpenOptions, TryLockError};
+use std::fs::File;
 use std::io::{BufWriter, Error, ErrorKind};
-use std::os::unix::fs::MetadataExt;
-use std::{fmt, fs, io};
-
-/// How often a file is opened again that was replaced before it was locked.
-const TRIES: usize = 16;
+use std::path::Path;
+use std::{fmt, io};
 
 /// The files of the host, and what is remarked of them.
 #[derive(Drop)]
@@ -25,27 +29,17 @@ pub(crate) struct HostFiles<'a> {
     opened: Sources,
     /// The files that are locked until the end.
     locked: Vec<Locked>,
-    remarks: String,
+    /// The folders that were cleared of what killed programs left.
+    cleared: Vec<String>,
+    remarks: &'a Remarks<'a>,
     is_verbose: bool,
-}
-
-/// A file of the host: its device, and its number there.
-type Node = (u64, u64);
-
-/// A file that is locked.
-#[derive(Drop)]
-struct Locked {
-    _file: File,
-    device: u64,
-    node: u64,
-    path: String,
-    /// Whether a new file has taken its place.
-    is_done: bool,
+    /// Whether paths are spelled, since a word is no text.
+    are_spelled: bool,
 }
 
 impl<'a> HostFiles<'a> {
     /// The files of this host, none of which was written yet.
-    pub(crate) fn new(host: &'a HostRuntime) -> HostFiles<'a>
+    pub(crate) fn new(host: &'a HostRuntime, remarks: &'a Remarks<'a>) -> HostFiles<'a>
         ensures written { result.written.files ≡ [] }
         ensures opened { result.opened.files ≡ [] }
     {
@@ -54,245 +48,136 @@ impl<'a> HostFiles<'a> {
             written: Written::new(),
             opened: Sources::new(),
             locked: Vec::new(host.alloc()),
-            remarks: String::new(host.alloc()),
+            cleared: Vec::new(host.alloc()),
+            remarks,
             is_verbose: false,
+            are_spelled: false,
         }
     }
 
-    /// What was remarked, a line each.
-    pub(crate) fn remarks(&self) -> &str {
-        self.remarks.as_str()
+    /// From now on paths are spelled.
+    pub(crate) fn spell_names(&mut self) {
+        self.are_spelled = true;
     }
 
-    /// Whether the words ask for remarks.
-    pub(crate) fn is_verbose(&self) -> bool {
-        self.is_verbose
+    // Opens a file to be read.
+    fn open_file(&self, path: &str) -> io::Result<File> {
+        if self.are_spelled {
+            open_spelled(self.host, path)
+        } else {
+            File::open(self.host, path)
+        }
+    }
+
+    // Refuses to replace or to make a file of a name that is no text.
+    fn must_be_text(&self, path: &str) -> io::Result<()> {
+        if self.are_spelled && is_read_alone(path) {
+            return Err(wrong("a file whose name is not UTF-8 is only read"));
+        }
+        Ok(())
+    }
+
+    /// Whether remarks are told: the words ask for them, or somebody sits at standard error.
+    pub(crate) fn tells(&self) -> bool {
+        self.is_verbose || self.remarks.is_terminal()
+    }
+
+    /// Clears the line of a terminal that shows how far a file is read.
+    pub(crate) fn clear_line(&self) {
+        self.remarks.clear_line();
+    }
+
+    /// Tells what was remarked, on standard error.
+    pub(crate) fn print_remarks(&self) {
+        self.remarks.print();
     }
 
     // Notes why a file was not written, and which were.
-    fn not_written(&mut self, path: &str, fault: &Error) -> FileFault
-        ensures written { self.new.written ≡ self.old.written }
-        ensures opened { self.new.opened ≡ self.old.opened }
-    {
+    fn not_written(&self, path: &str, fault: &Error) -> FileFault {
+        let told = self.remarks.refuse(path, fault);
         let alloc = self.host.alloc();
-        let told = refused(&mut self.remarks, alloc, path, fault);
         if let Some(done) = list_done(self.locked.as_slice(), alloc) {
-            if let Ok(text) = format!(in alloc; "{path} was not written{done}") {
-                note(&mut self.remarks, alloc, text.as_str());
-            }
+            self.remarks.note(&NotWritten {
+                path,
+                done: done.as_str(),
+            });
         }
         told
     }
-}
 
-// The files that were replaced, if there is one and there is memory to say so.
-fn list_done(held: &[Locked], alloc: Global) -> Option<String> {
-    let mut done = String::new(alloc);
-    for locked in held {
-        if locked.is_done {
-            let path = locked.path.as_str();
-            let text = format!(in alloc; "; {path} was").ok()?;
-            done.push_str(text.as_str()).ok()?;
+    // Says before a deck is run why what it changes of a file could not be saved, if somebody is to hear it.
+    fn forewarn(&self, path: &str) -> Result<(), FileFault> {
+        if !self.tells() {
+            return Ok(());
+        }
+        match try_to_replace(self.host, self.remarks, path) {
+            Ok(()) => Ok(()),
+            Err(fault) if fault.kind() == ErrorKind::OutOfMemory => Err(FileFault::OutOfMemory),
+            Err(fault) => {
+                self.remarks.warn(path, &fault);
+                Ok(())
+            }
         }
     }
-    (!done.is_empty()).then_some(done)
-}
 
-// Notes that a new file has taken the place of one that is locked.
-fn mark_done(held: &mut [Locked], node: Option<Node>) {
-    for locked in held.iter_mut() {
-        if node == Some((locked.device, locked.node)) {
-            locked.is_done = true;
-        }
+    // What is at a path that is to be written: a file that may be replaced, which is locked from now on, or none.
+    fn find_old(&mut self, path: &str, replaces: bool) -> io::Result<Option<Old>>
+        ensures written { self.new.written ≡ self.old.written }
+        ensures opened { self.new.opened ≡ self.old.opened }
+    {
+        self.must_be_text(path)?;
+        find_old(self.host, &mut self.locked, path, replaces)
     }
-}
 
-// One line more of remarks; where there is no memory for it, it is left out.
-fn note(remarks: &mut String, alloc: Global, text: &str) {
-    if let Ok(line) = format!(in alloc; "  {text}\n") {
-        let _ = remarks.push_str(line.as_str());
-    }
-}
-
-// Notes why a path was refused, in the host's words, and what that is to the program.
-fn refused(remarks: &mut String, alloc: Global, path: &str, fault: &Error) -> FileFault {
-    if fault.kind() == ErrorKind::OutOfMemory {
-        return FileFault::OutOfMemory;
-    }
-    if let Ok(text) = format!(in alloc; "{path}: {fault}") {
-        let words = text
-            .as_str()
-            .split_once(" (os error")
-            .map_or(text.as_str(), |(words, _)| words);
-        note(remarks, alloc, words);
-    }
-    match fault.kind() {
-        ErrorKind::AlreadyExists => FileFault::Exists,
-        ErrorKind::ResourceBusy => FileFault::InUse,
-        _ => FileFault::Refused,
-    }
-}
-
-// A file that is not as it must be.
-pub(crate) fn wrong(why: &str) -> Error {
-    Error::new(ErrorKind::InvalidInput, why)
-}
-
-// A file that is in use.
-fn busy(why: &str) -> Error {
-    Error::new(ErrorKind::ResourceBusy, why)
-}
-
-// Whether a file was locked already.
-fn is_locked(locked: &[Locked], known: &Metadata) -> bool {
-    locked.iter().any(|held| held.device == known.dev() && held.node == known.ino())
-}
-
-// Whether a file was locked by this path, which then was another one than the path leads to now.
-fn was_locked_by(locked: &[Locked], path: &str) -> bool {
-    locked.iter().any(|held| held.path.as_str() == path)
-}
-
-// The file that a path leads to, if there is one.
-fn node_at(host: &HostRuntime, path: &str) -> Option<Node> {
-    let known = fs::metadata(host, path).ok()?;
-    Some((known.dev(), known.ino()))
-}
-
-// Opens a regular file, for writing too where that is allowed.
-fn open_regular(host: &HostRuntime, path: &str) -> io::Result<File> {
-    let known = fs::metadata(host, path)?;
-    if !known.is_file() {
-        return Err(wrong("not a regular file"));
-    }
-    if !known.permissions().readonly() {
-        if let Ok(file) = OpenOptions::new().read(true).write(true).open(host, path) {
-            return Ok(file);
-        }
-    }
-    File::open(host, path)
-}
-
-// Locks a file that was opened; a file that may not be written may be read by several users.
-fn lock_file(file: &File, may_write: bool) -> io::Result<()> {
-    let locked = if may_write {
-        file.try_lock()
-    } else {
-        file.try_lock_shared()
-    };
-    match locked {
-        Ok(()) => Ok(()),
-        Err(TryLockError::WouldBlock) => Err(busy("another program has locked it")),
-        Err(TryLockError::Error(fault)) => Err(fault),
-    }
-}
-
-// Opens a regular file and locks it. One that was replaced before it was locked is opened again.
-fn open_locked(host: &HostRuntime, held: &[Locked], path: &str) -> io::Result<(File, Metadata)> {
-    for _ in 0..TRIES {
-        let file = open_regular(host, path)?;
-        let known = file.metadata()?;
-        if is_locked(held, &known) {
-            return Ok((file, known));
-        }
-        lock_file(&file, !known.permissions().readonly())?;
-        let there = fs::metadata(host, path)?;
-        if there.dev() == known.dev() && there.ino() == known.ino() {
-            return Ok((file, known));
-        }
-    }
-    Err(busy("another program replaces it"))
-}
-
-// Keeps a file locked until the end.
-fn keep(
-    held: &mut Vec<Locked>,
-    alloc: Global,
-    path: &str,
-    file: &File,
-    known: &Metadata,
-) -> io::Result<()> {
-    let locked = Locked {
-        _file: file.try_clone()?,
-        device: known.dev(),
-        node: known.ino(),
-        path: path.to_string(alloc)?,
-        is_done: false,
-    };
-    match held.push(locked) {
-        Ok(()) => Ok(()),
-        Err(_) => Err(Error::from(ErrorKind::OutOfMemory)),
-    }
-}
-
-// What is at a path that is to be written: a file that may be replaced, which is locked from now on, or none.
-fn find_old(
-    host: &HostRuntime,
-    held: &mut Vec<Locked>,
-    path: &str,
-    replaces: bool,
-) -> io::Result<Option<Old>> {
-    if let Err(fault) = fs::symlink_metadata(host, path) {
-        return match fault.kind() {
-            ErrorKind::NotFound => Ok(None),
-            _ => Err(fault),
+    // Begins a new file for a path, in the place of the old one, if there is one. Its folder is cleared of what killed programs left.
+    fn begin_draft(&mut self, path: &str, old: Option<Old>) -> io::Result<HostDraft<'a>>
+        ensures written { self.new.written ≡ self.old.written }
+        ensures opened { self.new.opened ≡ self.old.opened }
+        ensures empty { IfOk result (λ draft. draft.written.bytes ≡ []) }
+    {
+        let beside = match &old {
+            Some(old) => old.path.as_path(),
+            None => Path::new(path),
         };
-    }
-    if !replaces {
-        return Err(Error::new(
-            ErrorKind::AlreadyExists,
-            "it is there, and is not to be replaced",
-        ));
-    }
-    let target = fs::canonicalize(host, path)?;
-    let (file, known) = open_locked(host, held, target.as_str())?;
-    if known.permissions().readonly() {
-        return Err(wrong("it may not be written"));
-    }
-    let _may_write = OpenOptions::new().write(true).open(host, target.as_str())?;
-    if !is_locked(held.as_slice(), &known) {
-        if was_locked_by(held.as_slice(), path) {
-            return Err(wrong("another program has replaced it"));
+        let folder = folder_of(beside).as_str().to_string(self.host.alloc())?;
+        if !is_among(self.cleared.as_slice(), folder.as_str()) {
+            clear_folder(self.host, self.remarks, Path::new(folder.as_str()))?;
+            self.cleared.push(folder)?;
         }
-        keep(held, host.alloc(), path, &file, &known)?;
+        HostDraft::begin(self.host, self.remarks, path, old)
     }
-    Ok(Some(Old {
-        path: target,
-        known,
-    }))
 }
 
-// Opens a file for a trace. A regular one is locked until the end; it is none of these files, and not standard input or output.
-fn open_trace_file(
-    host: &HostRuntime,
-    held: &mut Vec<Locked>,
-    path: &str,
-    beside: &[&str],
-) -> io::Result<TraceFile> {
-    let input = node_at(host, "/dev/stdin");
-    let output = node_at(host, "/dev/stdout");
-    let file = OpenOptions::new()
-        .write(true)
-        .create(true)
-        .open(host, path)?;
-    let known = file.metadata()?;
-    if !known.is_file() {
-        return Ok(TraceFile::new(file, false));
+// Whether a path is one of these.
+fn is_among(paths: &[String], path: &str) -> bool {
+    paths.iter().any(|other| other.as_str() == path)
+}
+
+/// A file that was not written, and those that were before it.
+#[derive(Clone, Copy)]
+struct NotWritten<'a> {
+    path: &'a str,
+    done: &'a str,
+}
+
+impl fmt::Display for NotWritten<'_> {
+    fn fmt<W: fmt::Write>(&self, f: &mut fmt::Formatter<W>) -> fmt::Result {
+        write!(f, "{} was not written{}", self.path, self.done)
     }
-    let node = Some((known.dev(), known.ino()));
-    if node == input || node == output {
-        return Err(busy("it is standard input or output"));
+}
+
+/// A file that was named before.
+#[derive(Clone, Copy)]
+struct Used<'a>(&'a str);
+
+impl fmt::Display for Used<'_> {
+    fn fmt<W: fmt::Write>(&self, f: &mut fmt::Formatter<W>) -> fmt::Result {
+        write!(f, "{}: this run uses it already", self.0)
     }
-    if beside.iter().any(|other| node_at(host, other) == node) {
-        return Err(busy("this run uses it already"));
-    }
-    lock_file(&file, true)?;
-    keep(held, host.alloc(), path, &file, &known)?;
-    Ok(TraceFile::new(file, true))
 }
 
 impl<'a> ImageFiles for HostFiles<'a> {
-    type Opened = HostFile;
+    type Opened = HostFile<'a>;
 
     type Draft = HostDraft<'a>;
 
@@ -300,55 +185,68 @@ impl<'a> ImageFiles for HostFiles<'a> {
 
     ghost opened = { λ f. f.opened.files };
 
-    fn open(&mut self, alloc: Global, path: &str) -> Result<HostFile, FileFault> {
-        match HostFile::open(self.host, path) {
+    fn open(&mut self, _alloc: Global, path: &str) -> Result<HostFile<'a>, FileFault> {
+        let opened = match self.open_file(path) {
+            Ok(file) => HostFile::open(self.host.alloc(), self.remarks, path, file),
+            Err(fault) => Err(fault),
+        };
+        match opened {
             Ok(file) => {
                 self.opened = self.opened.with_unknown(path.as_bytes());
                 Ok(file)
             }
-            Err(fault) => Err(refused(&mut self.remarks, alloc, path, &fault)),
+            Err(fault) => Err(self.remarks.refuse(path, &fault)),
         }
     }
 
-    fn lock(&mut self, alloc: Global, path: &str) -> Result<HostFile, FileFault> {
-        let (file, known) = match open_locked(self.host, self.locked.as_slice(), path) {
+    fn lock(&mut self, alloc: Global, path: &str) -> Result<HostFile<'a>, FileFault> {
+        let found = match self.must_be_text(path) {
+            Ok(()) => open_locked(self.host, self.locked.as_slice(), path),
+            Err(fault) => Err(fault),
+        };
+        let (file, known) = match found {
             Ok(found) => found,
-            Err(fault) => return Err(refused(&mut self.remarks, alloc, path, &fault)),
+            Err(fault) => return Err(self.remarks.refuse(path, &fault)),
         };
         if is_locked(self.locked.as_slice(), &known) {
-            note_twice(&mut self.remarks, alloc, path);
+            self.remarks.note(&Used(path));
             return Err(FileFault::Twice);
         }
         if let Err(fault) = keep(&mut self.locked, alloc, path, &file, &known) {
-            return Err(refused(&mut self.remarks, alloc, path, &fault));
+            return Err(self.remarks.refuse(path, &fault));
         }
-        match HostFile::of(alloc, file, known.len()) {
+        self.forewarn(path)?;
+        match HostFile::of(alloc, self.remarks, path, file, known.len()) {
             Ok(file) => {
                 self.opened = self.opened.with_unknown(path.as_bytes());
                 Ok(file)
             }
-            Err(fault) => Err(refused(&mut self.remarks, alloc, path, &fault)),
+            Err(fault) => Err(self.remarks.refuse(path, &fault)),
         }
     }
 
-    fn read(&mut self, alloc: Global, path: &str, most: usize) -> Result<Vec<u8>, FileFault> {
-        match read_some(self.host, path, most) {
+    fn read(&mut self, _alloc: Global, path: &str, most: usize) -> Result<Vec<u8>, FileFault> {
+        let read = match self.open_file(path) {
+            Ok(file) => read_some(self.host.alloc(), file, most),
+            Err(fault) => Err(fault),
+        };
+        match read {
             Ok(bytes) => {
                 self.opened = self.opened.with_unknown(path.as_bytes());
                 Ok(bytes)
             }
-            Err(fault) => Err(refused(&mut self.remarks, alloc, path, &fault)),
+            Err(fault) => Err(self.remarks.refuse(path, &fault)),
         }
     }
 
     fn begin(
         &mut self,
-        alloc: Global,
+        _alloc: Global,
         path: &str,
         replaces: bool,
     ) -> Result<HostDraft<'a>, FileFault> {
-        let begun = match find_old(self.host, &mut self.locked, path, replaces) {
-            Ok(old) => HostDraft::begin(self.host, path, old),
+        let begun = match self.find_old(path, replaces) {
+            Ok(old) => self.begin_draft(path, old),
             Err(fault) => Err(fault),
         };
         match begun {
@@ -371,10 +269,7 @@ impl<'a> ImageFiles for HostFiles<'a> {
     }
 
     fn remark<T: fmt::Display>(&mut self, text: &T) {
-        let alloc = self.host.alloc();
-        if let Ok(text) = format!(in alloc; "{text}") {
-            note(&mut self.remarks, alloc, text.as_str());
-        }
+        self.remarks.note(text);
     }
 
     fn ask_remarks(&mut self) {
@@ -394,19 +289,21 @@ impl<'a> Traces for HostFiles<'a> {
         let output = match target {
             TraceTarget::StandardError => TraceOutput::StandardError(self.host),
             TraceTarget::File(path) => {
-                match open_trace_file(self.host, &mut self.locked, path, beside) {
-                    Ok(file) => TraceOutput::File(file),
-                    Err(fault) => return Err(refused(&mut self.remarks, alloc, path, &fault)),
+                let opened = match self.must_be_text(path) {
+                    Ok(()) => open_trace_file(self.host, &mut self.locked, path, beside),
+                    Err(fault) => Err(fault),
+                };
+                match opened {
+                    Ok((file, is_regular)) => {
+                        let Ok(path) = path.to_string(alloc) else {
+                            return Err(FileFault::OutOfMemory);
+                        };
+                        TraceOutput::File(TraceFile::new(file, path, self.remarks, is_regular))
+                    }
+                    Err(fault) => return Err(self.remarks.refuse(path, &fault)),
                 }
             }
         };
         BufWriter::new(alloc, output).map_err(|_| FileFault::OutOfMemory)
-    }
-}
-
-// Notes that a file was named before.
-fn note_twice(remarks: &mut String, alloc: Global, path: &str) {
-    if let Ok(text) = format!(in alloc; "{path}: this run uses it already") {
-        note(remarks, alloc, text.as_str());
     }
 }

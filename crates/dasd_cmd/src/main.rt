@@ -2,8 +2,13 @@
 #![tactic(auto)]
 
 mod drafts;
+mod faults;
 mod host;
+mod leftovers;
+mod locks;
+mod names;
 mod reading;
+mod remarks;
 mod terminal;
 mod traces;
 
@@ -11,13 +16,18 @@ ghost use Rattle.std.specs.Prelude.{◌≡◌};
 ghost use Rattle.std.specs.Process.{exit_status};
 ghost use Rattle.dasd_cmd.specs.Ends.{ended_status};
 
+use crate::faults::{note_rule, write_fault};
 use crate::host::HostFiles;
-use crate::terminal::{HostOutput, TerminalLine};
+use crate::names::spelled_words;
+use crate::remarks::{Remarks, Shown};
+use crate::terminal::{HostInput, HostOutput, TerminalLine};
 use counted_io::Counted;
-use dasd_jobs::JobFault;
+use dasd_jobs::{ImageFiles, JobFault};
 use dasd_run::{Ending, ProgramFault, obey};
+use dasd_words::is_comparison;
+use std::alloc::{AllocError, Global};
 use std::env;
-use std::io::{BufReader, BufWriter, ErrorKind, IsTerminal};
+use std::io::{BufWriter, ErrorKind};
 use std::process::ExitCode;
 
 /// A No-Operation, which is accepted and over at once, so that no interruption is left.
@@ -28,91 +38,117 @@ SHOW 40 8
 INT
 ";
 
-/// What is said of words that are no text.
-const NO_TEXT: &str = "error: a word is not UTF-8\n";
+/// The status of a comparison that came to no end, as that of `cmp`.
+const NOT_COMPARED: u8 = 2;
 
 /// What `dasd` does without words.
 const STORED_RUN: [&str; 3] = ["dasd", "run", "90=new:2311:1"];
 
 fn main(rt: HostRuntime) -> ExitCode {
-    let mut files = HostFiles::new(&rt);
-    let Ok(writer) = BufWriter::new(rt.alloc(), HostOutput::new(&rt)) else {
-        return conclude(&rt, &files, Err(ProgramFault::OutOfMemory));
+    let remarks = Remarks::new(&rt);
+    let mut files = HostFiles::new(&rt, &remarks);
+    let words = match host_words(&rt, &mut files) {
+        Ok(words) => words,
+        Err(fault) => return conclude(&rt, &files, false, Err(fault)),
     };
+    let (Ok(words), Ok(writer)) = (
+        texts(rt.alloc(), words.as_slice()),
+        BufWriter::new(rt.alloc(), HostOutput::new(&rt, &remarks)),
+    ) else {
+        return conclude(&rt, &files, false, Err(ProgramFault::OutOfMemory));
+    };
+    let words = words.as_slice();
+    let compares = is_comparison(words);
     let mut writer = Counted::new(writer);
-    match answer(&rt, &mut files, &mut writer) {
+    match answer(&rt, &remarks, &mut files, &mut writer, words) {
         Err(ProgramFault::Job(JobFault::Write)) if writer.inner.get_ref().is_broken() => {
-            ExitCode::FAILURE
+            ExitCode::from(if compares { NOT_COMPARED } else { 1 })
         }
-        ended => conclude(&rt, &files, ended),
+        ended => conclude(&rt, &files, compares, ended),
     }
 }
 
+// The words as texts.
+fn texts(alloc: Global, words: &[String]) -> Result<Vec<&str>, AllocError> {
+    let mut texts = Vec::new(alloc);
+    for word in words {
+        texts.push(word.as_str())?;
+    }
+    Ok(texts)
+}
+
 // The status of what was done, behind what is said of it on standard error; help goes to standard output.
-fn conclude(rt: &HostRuntime, files: &HostFiles, ended: Result<Ending, ProgramFault>) -> ExitCode
-    ensures { exit_status result ≡ ended_status ended }
+fn conclude(
+    rt: &HostRuntime,
+    files: &HostFiles,
+    compares: bool,
+    ended: Result<Ending, ProgramFault>,
+) -> ExitCode
+    ensures { exit_status result ≡ ended_status compares ended }
 {
     let status = match &ended {
         Ok(Ending::Done) => 0,
         Ok(Ending::Findings) => 1,
+        Err(_) if compares => NOT_COMPARED,
         Err(fault) => fault.status(),
     };
+    files.clear_line();
     match ended {
         Ok(_) => {}
-        Err(ProgramFault::Help(text)) => {
-            let _ = print!(rt; "{text}");
-        }
+        Err(ProgramFault::Help(text)) => print_help(rt, text.as_str()),
         Err(ProgramFault::Words(text)) => {
+            let text = Shown(text.as_str());
             let _ = eprint!(rt; "{text}");
         }
         Err(fault) => {
             let _ = eprintln!(rt; "dasd: {fault}");
         }
     }
-    if files.is_verbose() || rt.stderr().is_terminal() {
-        let remarks = files.remarks();
-        let _ = eprint!(rt; "{remarks}");
+    if files.tells() {
+        files.print_remarks();
     }
     ExitCode::from(status)
+}
+
+// Prints help, and says where that can't be.
+fn print_help(rt: &HostRuntime, text: &str) {
+    if let Err(fault) = print!(rt; "{text}") {
+        if fault.kind() != ErrorKind::BrokenPipe {
+            let _ = eprintln!(rt; "dasd: write fault");
+        }
+    }
 }
 
 // Does what the words of the host ask, or else the stored run.
 fn answer(
     rt: &HostRuntime,
+    remarks: &Remarks,
     files: &mut HostFiles,
     writer: &mut Counted<BufWriter<HostOutput>>,
+    words: &[&str],
 ) -> Result<Ending, ProgramFault> {
     let alloc = rt.alloc();
-    let words = host_words(rt)?;
-    let mut list = Vec::new(alloc);
-    for word in &words {
-        list.push(word.as_str())
-            .map_err(|_| ProgramFault::OutOfMemory)?;
+    let mut progress = TerminalLine::new(rt, remarks);
+    if words.len() <= 1 {
+        let mut deck = Counted::new(&STORED_DECK[..]);
+        return obey(alloc, &STORED_RUN, files, &mut deck, writer, &mut progress);
     }
-    let mut progress = TerminalLine::new(rt);
-    if list.len() > 1 {
-        obey(
-            alloc,
-            list.as_slice(),
-            files,
-            &mut Counted::new(rt.reader()),
-            writer,
-            &mut progress,
-        )
-    } else {
-        obey(
-            alloc,
-            &STORED_RUN,
-            files,
-            &mut Counted::new(&STORED_DECK[..]),
-            writer,
-            &mut progress,
-        )
+    if words.iter().any(|word| *word == "--verbose") {
+        files.ask_remarks();
     }
+    let mut deck = Counted::new(HostInput::new(rt.reader(), remarks));
+    let ended = obey(alloc, words, files, &mut deck, writer, &mut progress);
+    if let Err(fault) = &ended {
+        note_rule(alloc, words, remarks, fault);
+        if !writer.inner.get_ref().has_failed() {
+            write_fault(alloc, words, remarks, writer, fault);
+        }
+    }
+    ended
 }
 
-// The words that the host gave, the program's name first.
-fn host_words(rt: &HostRuntime) -> Result<Vec<String>, ProgramFault> {
+// The words that the host gave, the program's name first. Where one is no text they are spelled, and the files are told so.
+fn host_words(rt: &HostRuntime, files: &mut HostFiles) -> Result<Vec<String>, ProgramFault> {
     let mut list = Vec::new(rt.alloc());
     match env::args(rt) {
         Ok(words) => {
@@ -122,9 +158,9 @@ fn host_words(rt: &HostRuntime) -> Result<Vec<String>, ProgramFault> {
             Ok(list)
         }
         Err(fault) if fault.kind() == ErrorKind::OutOfMemory => Err(ProgramFault::OutOfMemory),
-        Err(_) => match NO_TEXT.to_string(rt.alloc()) {
-            Ok(text) => Err(ProgramFault::Words(text)),
-            Err(_) => Err(ProgramFault::OutOfMemory),
-        },
+        Err(_) => {
+            files.spell_names();
+            spelled_words(rt).map_err(|_| ProgramFault::OutOfMemory)
+        }
     }
 }

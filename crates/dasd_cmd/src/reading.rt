@@ -2,13 +2,13 @@
 
 ghost use Rattle.std.specs.Prelude.{◌≡◌, ◌≤◌, length, None, IfOk, OnOk, OnErr};
 
-use crate::host::wrong;
+use crate::remarks::Remarks;
 use ckd_image::StoreFault;
 use dasd_jobs::{OpenedFile, is_header};
 use std::alloc::Global;
-use std::fs::{self, File};
+use std::fs::File;
 use std::io;
-use std::io::{ErrorKind, Read};
+use std::io::{Error, ErrorKind, Read};
 use std::os::unix::fs::FileExt;
 
 /// The bytes of a header, by which a pipe is judged before it is read on.
@@ -22,7 +22,7 @@ const WINDOW: usize = 65_536;
 
 /// A regular file, with the bytes that were read ahead.
 #[derive(Drop)]
-pub(crate) struct RegularFile {
+struct RegularFile {
     file: File,
     len: u64,
     /// Where the bytes stand that were read ahead.
@@ -88,77 +88,111 @@ impl RegularFile {
     }
 }
 
-/// A file that is read in place, or what was read of a pipe or of a device.
+/// The bytes of a file: they are read in place, or were read of a pipe or of a device.
 #[derive(Drop)]
-pub(crate) enum HostFile {
+enum FileBytes {
     /// A regular file.
     Regular(RegularFile),
     /// All that a pipe gave; of one that begins no image only the beginning.
     Read(Vec<u8>),
 }
 
-impl HostFile {
-    /// Opens a file to be read.
-    pub(crate) fn open(host: &HostRuntime, path: &str) -> io::Result<HostFile> {
-        let mut file = File::open(host, path)?;
+/// A file that was opened to be read. Where its bytes can't be, it remarks where and why.
+#[derive(Drop)]
+pub(crate) struct HostFile<'a> {
+    bytes: FileBytes,
+    path: String,
+    remarks: &'a Remarks<'a>,
+}
+
+impl<'a> HostFile<'a> {
+    /// A file that was opened to be read; what is no regular one is read at once.
+    pub(crate) fn open(
+        alloc: Global,
+        remarks: &'a Remarks<'a>,
+        path: &str,
+        mut file: File,
+    ) -> io::Result<HostFile<'a>> {
         let known = file.metadata()?;
         if known.is_file() {
-            return HostFile::of(host.alloc(), file, known.len());
+            return HostFile::of(alloc, remarks, path, file, known.len());
         }
-        let mut bytes = Vec::new(host.alloc());
+        let mut bytes = Vec::new(alloc);
         read_up_to(&mut file, &mut bytes, HEADER)?;
         if is_header(bytes.as_slice()) {
             read_up_to(&mut file, &mut bytes, usize::MAX)?;
         }
-        Ok(HostFile::Read(bytes))
+        Ok(HostFile {
+            bytes: FileBytes::Read(bytes),
+            path: path.to_string(alloc)?,
+            remarks,
+        })
     }
 
     /// A regular file of this length.
-    pub(crate) fn of(alloc: Global, file: File, len: u64) -> io::Result<HostFile> {
-        Ok(HostFile::Regular(RegularFile::new(alloc, file, len)?))
+    pub(crate) fn of(
+        alloc: Global,
+        remarks: &'a Remarks<'a>,
+        path: &str,
+        file: File,
+        len: u64,
+    ) -> io::Result<HostFile<'a>> {
+        let path = path.to_string(alloc)?;
+        Ok(HostFile {
+            bytes: FileBytes::Regular(RegularFile::new(alloc, file, len)?),
+            path,
+            remarks,
+        })
     }
 }
 
-impl OpenedFile for HostFile {
+impl OpenedFile for HostFile<'_> {
     // a read of the host gives bytes of which no contract knows
     ghost content = { λ _. None };
 
     fn len(&self) -> u64 {
-        match self {
-            HostFile::Regular(it) => it.len,
-            HostFile::Read(bytes) => bytes.len() as u64,
+        match &self.bytes {
+            FileBytes::Regular(it) => it.len,
+            FileBytes::Read(bytes) => bytes.len() as u64,
         }
     }
 
     fn read_at(&mut self, at: u64, into: &mut [u8]) -> Result<(), StoreFault> {
-        match self {
-            HostFile::Regular(it) => it.read_at(at, into).map_err(|_| StoreFault),
-            HostFile::Read(bytes) => copy_at(bytes.as_slice(), at, into),
+        let read = match &mut self.bytes {
+            FileBytes::Regular(it) => {
+                self.remarks.show_reading(self.path.as_str(), at, it.len);
+                it.read_at(at, into)
+            }
+            FileBytes::Read(bytes) => copy_at(bytes.as_slice(), at, into),
+        };
+        match read {
+            Ok(()) => Ok(()),
+            Err(fault) => {
+                self.remarks.note_reading(self.path.as_str(), at, &fault);
+                Err(StoreFault)
+            }
         }
     }
 }
 
 // Copies the bytes from `at` on that fill `into`.
-fn copy_at(bytes: &[u8], at: u64, into: &mut [u8]) -> Result<(), StoreFault> {
-    let Ok(at) = usize::try_from(at) else {
-        return Err(StoreFault);
-    };
+fn copy_at(bytes: &[u8], at: u64, into: &mut [u8]) -> io::Result<()> {
+    let at = usize::try_from(at).unwrap_or(usize::MAX);
     let behind = bytes.get(at..).unwrap_or(&[]);
     match behind.get(..into.len()) {
         Some(found) => {
             into.copy_from_slice(found);
             Ok(())
         }
-        None => Err(StoreFault),
+        None => Err(Error::from(ErrorKind::UnexpectedEof)),
     }
 }
 
 /// The bytes of a file, at most so many.
-pub(crate) fn read_some(host: &HostRuntime, path: &str, most: usize) -> io::Result<Vec<u8>>
+pub(crate) fn read_some(alloc: Global, mut file: File, most: usize) -> io::Result<Vec<u8>>
     ensures { IfOk result (λ bytes. length bytes.items ≤ most) }
 {
-    let mut file = fs::open(host, path)?;
-    let mut bytes = Vec::new(host.alloc());
+    let mut bytes = Vec::new(alloc);
     read_up_to(&mut file, &mut bytes, most)?;
     Ok(bytes)
 }

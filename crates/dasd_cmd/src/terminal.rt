@@ -3,29 +3,27 @@
 ghost use Rattle.std.specs.Prelude.{◌≡◌, false};
 ghost use Rattle.std.specs.Io.{WritesAtMost};
 
+use crate::remarks::{ERASE_BEHIND, Remarks};
 use dasd_jobs::{Progress, Stage};
 use std::io;
-use std::io::{ErrorKind, IsTerminal, Write};
-
-/// What erases the rest of a terminal's line.
-const ERASE_BEHIND: &str = "\u{1B}[K";
+use std::io::{ErrorKind, Read, Write};
 
 /// A line of standard error, where that is a terminal; it is written over by the next, and is nothing elsewhere.
 #[derive(Drop)]
 pub(crate) struct TerminalLine<'a> {
     host: &'a HostRuntime,
-    is_terminal: bool,
+    remarks: &'a Remarks<'a>,
     is_shown: bool,
 }
 
 impl<'a> TerminalLine<'a> {
     /// The line of this host's standard error, which shows nothing yet.
-    pub(crate) fn new(host: &'a HostRuntime) -> TerminalLine<'a>
+    pub(crate) fn new(host: &'a HostRuntime, remarks: &'a Remarks<'a>) -> TerminalLine<'a>
         ensures { result.is_shown ≡ false }
     {
         TerminalLine {
             host,
-            is_terminal: host.stderr().is_terminal(),
+            remarks,
             is_shown: false,
         }
     }
@@ -35,7 +33,8 @@ impl Progress for TerminalLine<'_> {
     ghost is_shown = { λ line. line.is_shown };
 
     fn show(&mut self, stage: Stage) {
-        if self.is_terminal {
+        if self.remarks.is_terminal() {
+            self.remarks.show_stages();
             let _ = eprint!(self.host; "\r{stage}{ERASE_BEHIND}");
             self.is_shown = true;
         }
@@ -49,19 +48,23 @@ impl Progress for TerminalLine<'_> {
     }
 }
 
-/// Standard output, and whether its reader has gone.
+/// Standard output, and whether its reader has gone. Why it takes nothing more is remarked.
 #[derive(Drop)]
 pub(crate) struct HostOutput<'a> {
     host: &'a HostRuntime,
+    remarks: &'a Remarks<'a>,
     is_broken: bool,
+    is_told: bool,
 }
 
 impl<'a> HostOutput<'a> {
     /// The output of this host.
-    pub(crate) fn new(host: &'a HostRuntime) -> HostOutput<'a> {
+    pub(crate) fn new(host: &'a HostRuntime, remarks: &'a Remarks<'a>) -> HostOutput<'a> {
         HostOutput {
             host,
+            remarks,
             is_broken: false,
+            is_told: false,
         }
     }
 
@@ -69,18 +72,73 @@ impl<'a> HostOutput<'a> {
     pub(crate) fn is_broken(&self) -> bool {
         self.is_broken
     }
+
+    /// Whether a write failed.
+    pub(crate) fn has_failed(&self) -> bool {
+        self.is_broken || self.is_told
+    }
+
+    // Keeps what a write that failed says of the output.
+    fn note(&mut self, fault: &io::Error) {
+        if fault.kind() == ErrorKind::BrokenPipe {
+            self.is_broken = true;
+        } else if fault.kind() != ErrorKind::Interrupted && !self.is_told {
+            self.remarks.note_fault("standard output", fault);
+            self.is_told = true;
+        }
+    }
 }
 
 impl Write for HostOutput<'_> {
     fn write(&mut self, bytes: &[u8]) -> io::Result<usize> {
+        self.remarks.clear_line();
         let written = io::writer(self.host).write(bytes);
         if let Err(fault) = &written {
-            self.is_broken = self.is_broken || fault.kind() == ErrorKind::BrokenPipe;
+            self.note(fault);
         }
         written
     }
 
     fn flush(&mut self) -> io::Result<()> {
         Ok(())
+    }
+}
+
+/// Standard input. Why it can't be read on is remarked; a read that a signal ended is made again.
+#[derive(Drop)]
+pub(crate) struct HostInput<'a, R> {
+    reader: R,
+    remarks: &'a Remarks<'a>,
+    given: u64,
+}
+
+impl<'a, R: Read> HostInput<'a, R> {
+    /// The input that this reader reads.
+    pub(crate) fn new(reader: R, remarks: &'a Remarks<'a>) -> HostInput<'a, R> {
+        HostInput {
+            reader,
+            remarks,
+            given: 0,
+        }
+    }
+}
+
+impl<R: Read> Read for HostInput<'_, R> {
+    fn read(&mut self, into: &mut [u8]) -> io::Result<usize> {
+        for _ in 0..u64::MAX {
+            match self.reader.read(into) {
+                Ok(count) => {
+                    self.given = self.given.saturating_add(count as u64);
+                    return Ok(count);
+                }
+                Err(fault) if fault.kind() == ErrorKind::Interrupted => {}
+                Err(fault) => {
+                    self.remarks
+                        .note_reading("standard input", self.given, &fault);
+                    return Err(fault);
+                }
+            }
+        }
+        Ok(0)
     }
 }

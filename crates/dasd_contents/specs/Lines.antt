@@ -48,6 +48,10 @@ abbrev pub label_line : VolumeLabel → ContentsBlock → List ℕ
 label_line l t = concat (
     text_of false l.serial ∷ codes "  owner " ∷ owner_text l.owner ∷ codes "  VTOC " ∷ extent_text t.extent ∷ line_feed ∷ [])
 
+-- the label of a volume that has no table of contents
+abbrev pub label_alone : VolumeLabel → List ℕ
+label_alone l = concat (text_of false l.serial ∷ codes "  owner " ∷ owner_text l.owner ∷ codes "  no VTOC" ∷ line_feed ∷ [])
+
 -- what stands above the columns
 unfoldable pub heading : List ℕ
 heading = codes "Data set                                     Created  Expires  Org Recfm Lrecl Blksz Tracks   Used Extents" ++ line_feed
@@ -83,10 +87,11 @@ finding_line f = concat (codes "finding " ∷ place_text f.place ∷ codes " " �
 
 -- The whole.
 
--- the label, the data sets in the order of their blocks, and the free tracks; none of them where the volume has no label or no table
+-- the label, the data sets in the order of their blocks, and the free tracks; the label alone where there is no table, and nothing where
+-- there is no label
 abbrev pub volume_lines : Geometry → List Block → Option VolumeLabel → Option ContentsBlock → List ℕ
 volume_lines g blocks None table = []
-volume_lines g blocks (Some l) None = []
+volume_lines g blocks (Some l) None = label_alone l
 volume_lines g blocks (Some l) (Some t) = label_line l t ++ (heading ++ (flat_map (block_line g blocks) blocks ++ free_line g blocks t))
 
 -- what `dasd vtoc` prints of what a volume holds: the lines of the volume, and one for each thing that is wrong

@@ -42,6 +42,11 @@ label_members l t free = concat (
     codes ",\"serial\":\"" ∷ quoted_text l.serial ∷ codes "\",\"owner\":\"" ∷ quoted_text l.owner ∷ codes "\",\"contents\":" ∷ four_text t.extent
     ∷ codes ",\"free_tracks\":" ∷ decimal free ∷ codes ",\"free_blocks\":" ∷ decimal t.free_blocks ∷ codes "}" ∷ line_feed ∷ [])
 
+-- the label of a volume that has no table
+unfoldable pub alone_members : VolumeLabel → List ℕ
+alone_members l = concat (
+    codes ",\"serial\":\"" ∷ quoted_text l.serial ∷ codes "\",\"owner\":\"" ∷ quoted_text l.owner ∷ codes "\"}" ∷ line_feed ∷ [])
+
 abbrev pub volume_object : (path : List ℕ) → VolumeLabel → ContentsBlock → (free : ℕ) → List ℕ
 volume_object path l t free = path_text path ++ label_members l t free
 
@@ -90,10 +95,11 @@ finding_object path f = path_text path ++ finding_members f
 
 -- The whole.
 
--- the volume, and the data sets in the order of their blocks; none of them where the volume has no label or no table
+-- the volume, and the data sets in the order of their blocks; the volume's label alone where there is no table, and nothing where there is
+-- no label
 abbrev pub volume_objects : (path : List ℕ) → Geometry → List Block → Option VolumeLabel → Option ContentsBlock → List ℕ
 volume_objects path g blocks None table = []
-volume_objects path g blocks (Some l) None = []
+volume_objects path g blocks (Some l) None = path_text path ++ alone_members l
 volume_objects path g blocks (Some l) (Some t) = volume_object path l t (tracks_free g blocks) ++ flat_map (block_object path g blocks) blocks
 
 -- what `dasd vtoc --json` prints of what a volume holds: the objects of the volume, and one for each thing that is wrong

@@ -7,7 +7,7 @@ ghost use Rattle.counted_io.specs.Streams.{seen_by, Takes, TakesFront, IsFlushed
 ghost use Rattle.dasd_volumes.specs.Printing.{CountsWrites};
 ghost use Rattle.dasd_contents.specs.Sets.{is_data_set, number_of_free};
 ghost use Rattle.dasd_contents.specs.Words.{format_text};
-ghost use Rattle.dasd_contents.specs.Lines.{tracks_in, tracks_owned, tracks_used, tracks_free, at_left, label_line, heading, name_columns, number_columns, set_line, block_line, free_line, finding_line, volume_lines, contents_lines};
+ghost use Rattle.dasd_contents.specs.Lines.{tracks_in, tracks_owned, tracks_used, tracks_free, at_left, label_line, label_alone, heading, name_columns, number_columns, set_line, block_line, free_line, finding_line, volume_lines, contents_lines};
 
 use crate::blocks::Block;
 use crate::checks::number_of_free;
@@ -78,7 +78,7 @@ fn make_lines<W: Write>(
     }
 }
 
-// The lines of a volume that has a label and a table.
+// The lines of a volume that has a label.
 fn write_volume<W: Write>(
     alloc: Global,
     writer: &mut W,
@@ -93,7 +93,7 @@ fn write_volume<W: Write>(
         return Ok(());
     };
     let Some(table) = contents.table else {
-        return Ok(());
+        return write_alone(writer, &label);
     };
     let blocks = contents.found.blocks.as_slice();
     let Ok(()) = write_label(writer, &label, &table) else {
@@ -118,6 +118,19 @@ fn write_label<W: Write>(
     let owner = Owner(&label.owner);
     let extent = Bounds(table.extent);
     writeln!(writer, "{serial}  owner {owner}  VTOC {extent}")
+}
+
+// The line of a label without a table.
+fn write_alone<W: Write>(writer: &mut W, label: &VolumeLabel) -> Result<(), VolumeFault>
+    ensures lines { OnOk result (Appends (W.contents writer.old) (W.contents writer.new) (label_alone label.now)) }
+    ensures fault { IfErr result (λ e. e ≢ VolumeFault.Store) }
+{
+    let serial = text(&label.serial);
+    let owner = Owner(&label.owner);
+    match writeln!(writer, "{serial}  owner {owner}  no VTOC") {
+        Ok(()) => Ok(()),
+        Err(_) => Err(VolumeFault::Write),
+    }
 }
 
 // The line above the columns.

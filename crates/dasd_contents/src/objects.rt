@@ -5,7 +5,7 @@ ghost use Rattle.std.specs.List.{flat_map};
 ghost use Rattle.std.specs.Io.KnownBytes.{Appends};
 ghost use Rattle.counted_io.specs.Streams.{seen_by, Takes, TakesFront, IsFlushed};
 ghost use Rattle.dasd_volumes.specs.Printing.{CountsWrites};
-ghost use Rattle.dasd_contents.specs.Objects.{quoted_text, four_text, day_or_null, path_text, label_members, volume_object, name_members, number_members, comma_before, listed_extent, extents_text, set_object, block_object, finding_members, finding_object, volume_objects, contents_objects};
+ghost use Rattle.dasd_contents.specs.Objects.{quoted_text, four_text, day_or_null, path_text, label_members, alone_members, volume_object, name_members, number_members, comma_before, listed_extent, extents_text, set_object, block_object, finding_members, finding_object, volume_objects, contents_objects};
 
 use crate::blocks::Block;
 use crate::findings::Finding;
@@ -127,7 +127,7 @@ impl fmt::Display for DayOrNull {
     }
 }
 
-// The objects of a volume that has a label and a table.
+// The objects of a volume that has a label.
 fn write_known<W: Write>(
     alloc: Global,
     writer: &mut W,
@@ -142,7 +142,7 @@ fn write_known<W: Write>(
         return Ok(());
     };
     let Some(table) = contents.table else {
-        return Ok(());
+        return write_alone(writer, volume.path, &label);
     };
     let blocks = contents.found.blocks.as_slice();
     let free = tracks_free(alloc, volume.geometry, blocks)?;
@@ -171,6 +171,37 @@ fn write_volume<W: Write>(
 {
     write_path(writer, path)?;
     write_contents(writer, label, table, free)
+}
+
+// The object of a volume with a label and without a table.
+fn write_alone<W: Write>(writer: &mut W, path: &str, label: &VolumeLabel) -> Result<(), VolumeFault>
+    ensures lines { OnOk result (Appends (W.contents writer.old) (W.contents writer.new) (path_text path.now ++ alone_members label.now)) }
+    ensures fault { IfErr result (λ e. e ≢ VolumeFault.Store) }
+{
+    match write_label(writer, path, label) {
+        Ok(()) => Ok(()),
+        Err(_) => Err(VolumeFault::Write),
+    }
+}
+
+// The same; a write that failed is told as the writer tells it.
+fn write_label<W: Write>(writer: &mut W, path: &str, label: &VolumeLabel) -> io::Result<()>
+    ensures { OnOk result (Appends (W.contents writer.old) (W.contents writer.new) (path_text path.now ++ alone_members label.now)) }
+{
+    write_path(writer, path)?;
+    write_names_alone(writer, label)
+}
+
+// What a label says, where there is no table.
+fn write_names_alone<W: Write>(writer: &mut W, label: &VolumeLabel) -> io::Result<()>
+    ensures { OnOk result (Appends (W.contents writer.old) (W.contents writer.new) (alone_members label.now)) }
+{
+    writeln!(
+        writer,
+        ",\"serial\":\"{}\",\"owner\":\"{}\"}}",
+        Quoted(&label.serial),
+        Quoted(&label.owner)
+    )
 }
 
 // What a label says, where the table is, and what is free.

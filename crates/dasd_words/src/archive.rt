@@ -2,21 +2,25 @@
 
 use crate::commands::{NO_PATH, wrong};
 use crate::listings::{self, PATHS, read_joined, read_paths};
-use crate::options::{ArgKind, ArgRow, CommandRow, JSON, WORD};
+use crate::options::{ArgKind, ArgRow, CommandRow, JSON, WORD, WORDS};
 use crate::requests::{ComparedVolumes, DumpedPart, Numbers, PrintedVolume, Request, WordFault};
 use clap::ArgMatches;
-use clap::builder::ValueParser;
 use std::alloc::Global;
 
-const NO_NUMBERS: &str = "error: no cylinder and head behind the paths, as 0 3 or 0-2 3 1-4\n";
+const NO_NUMBERS: &str = "\
+error: no cylinder and head behind the paths, as 0 3, 0-2 3 1-4 or 0x14 0x3
+Numbers are decimal, or hexadecimal behind 0x, as places are printed; records have those from 0 to 255.
+";
 
 const STRICT_JSON: &str = "error: --json goes with --strict\n";
 
 /// The name of the words of a dump.
 const DUMP_WORDS: &str = "PATH.. CYLINDER HEAD [RECORD]";
 
-/// All numbers of records.
+/// All numbers of records, and the last of them.
 const ALL_NUMBERS: &str = "0-255";
+
+const LAST_RECORD: u16 = 255;
 
 /// `dasd check`, with the words of a strict one.
 pub(crate) const CHECK: CommandRow = CommandRow {
@@ -57,8 +61,8 @@ pub(crate) const DUMP: CommandRow = CommandRow {
     args: &[
         ArgRow {
             id: DUMP_WORDS,
-            help: "the files of an image, and numbers or ranges such as 0-2; records by their numbers",
-            kind: ArgKind::Words(ValueParser::String, 3, usize::MAX),
+            help: "the files of an image, and numbers or ranges such as 0-2 or 0x14; records by their numbers",
+            kind: WORDS,
         },
         JSON,
     ],
@@ -78,12 +82,15 @@ pub(crate) fn read_dump<'a>(
     };
     let (count, part) = match (with_records, words) {
         (Some(part), _) => (words.len() - 3, part),
-        (None, [.., cylinders, heads]) => match numbers_of(cylinders, heads, ALL_NUMBERS) {
+        (None, [_, .., cylinders, heads]) => match numbers_of(cylinders, heads, ALL_NUMBERS) {
             Some(part) => (words.len() - 2, part),
             None => return Err(wrong(alloc, NO_NUMBERS)),
         },
         _ => return Err(wrong(alloc, NO_NUMBERS)),
     };
+    if part.records.last > LAST_RECORD {
+        return Err(wrong(alloc, NO_NUMBERS));
+    }
     let paths = read_paths(alloc, &words[..count])?;
     let json = options.get_flag("json");
     Ok(Request::Dump(PrintedVolume { paths, json }, part))
@@ -98,7 +105,7 @@ fn numbers_of(cylinders: &str, heads: &str, records: &str) -> Option<DumpedPart>
     })
 }
 
-/// A decimal number, or two with a hyphen between, the first of which is not greater.
+/// A number, or two with a hyphen between, the first of which is not greater.
 pub(crate) fn read_numbers(word: &str) -> Option<Numbers> {
     let (first, last) = word.split_once('-').unwrap_or((word, word));
     let first = read_number(first)?;
@@ -106,12 +113,25 @@ pub(crate) fn read_numbers(word: &str) -> Option<Numbers> {
     (first <= last).then_some(Numbers { first, last })
 }
 
-// Decimal digits alone.
-fn read_number(digits: &str) -> Option<u16> {
-    if !digits.bytes().all(|byte| byte.is_ascii_digit()) {
+// Decimal digits, or hexadecimal ones behind 0x. Places are printed in hexadecimal, with zeros before them: so digits with zeros before
+// them are a number only where they are the same one in both.
+fn read_number(word: &str) -> Option<u16> {
+    if let Some(digits) = word.strip_prefix("0x") {
+        return read_hexadecimal(digits);
+    }
+    if !word.bytes().all(|byte| byte.is_ascii_digit()) {
         return None;
     }
-    digits.parse::<u16>().ok()
+    let number = word.parse::<u16>().ok()?;
+    (number < 10 || !word.starts_with('0')).then_some(number)
+}
+
+// Hexadecimal digits alone.
+fn read_hexadecimal(digits: &str) -> Option<u16> {
+    if !digits.bytes().all(|byte| byte.is_ascii_hexdigit()) {
+        return None;
+    }
+    u16::from_str_radix(digits, 16).ok()
 }
 
 /// `dasd compare`.
@@ -135,6 +155,11 @@ pub(crate) const COMPARE: CommandRow = CommandRow {
             help: "prints how many tracks differ, and no more",
             kind: ArgKind::Flag,
         },
+        ArgRow {
+            id: "whole",
+            help: "takes each of A and B for one file, whose name may have a +",
+            kind: ArgKind::Flag,
+        },
         JSON,
     ],
 };
@@ -147,10 +172,24 @@ pub(crate) fn read_compare<'a>(
     let (Some(one), Some(other)) = (options.get_str("A"), options.get_str("B")) else {
         return Err(wrong(alloc, NO_PATH));
     };
+    let is_whole = options.get_flag("whole");
     Ok(Request::Compare(ComparedVolumes {
-        one: read_joined(alloc, one)?,
-        other: read_joined(alloc, other)?,
+        one: read_compared(alloc, one, is_whole)?,
+        other: read_compared(alloc, other, is_whole)?,
         lists: !options.get_flag("tracks"),
         json: options.get_flag("json"),
     }))
+}
+
+// The files of a volume that is compared: one whole word, or those that plus signs join.
+fn read_compared<'a>(
+    alloc: Global,
+    word: &'a str,
+    is_whole: bool,
+) -> Result<Vec<&'a str>, WordFault> {
+    if is_whole {
+        read_paths(alloc, &[word])
+    } else {
+        read_joined(alloc, word)
+    }
 }

@@ -1,6 +1,6 @@
 //! The commands of `dasd`: each has a module of its own, for its options and for what they ask.
 
-use crate::options::{CommandRow, command};
+use crate::options::{CommandRow, VERBOSE, command, with_arg};
 use crate::requests::{Asked, Request, WordFault};
 use crate::{archive, assembler, explain, extract, format, hash, list, run, vtoc};
 use clap::error::ErrorKind;
@@ -34,7 +34,7 @@ fn dasd_command<'a>(alloc: Global) -> Result<Command<'a>, AllocError> {
     for row in &COMMANDS {
         dasd = with_command(alloc, dasd, row)?;
     }
-    Ok(dasd)
+    with_arg(alloc, dasd, &VERBOSE)
 }
 
 // The program with the command of one row more.
@@ -60,8 +60,11 @@ pub fn read_words<'a>(alloc: Global, words: &'a [&'a str]) -> Result<Asked<'a>, 
 
 const NO_COMMAND: &str = "error: no command\n";
 
-// The words as the options of `dasd` and of its commands.
-fn match_words<'a>(alloc: Global, words: &'a [&'a str]) -> Result<ArgMatches<'a>, WordFault> {
+/// The words as the options of `dasd` and of its commands.
+pub(crate) fn match_words<'a>(
+    alloc: Global,
+    words: &'a [&'a str],
+) -> Result<ArgMatches<'a>, WordFault> {
     match dasd_command(alloc)?.try_get_matches_from(words) {
         Ok(matches) => Ok(matches),
         Err(error) => Err(told(alloc, &error)),
@@ -75,7 +78,7 @@ fn read_matches<'a>(alloc: Global, matches: &ArgMatches<'a>) -> Result<Asked<'a>
     };
     Ok(Asked {
         request: read_request(alloc, name, options)?,
-        is_verbose: options.get_flag("verbose"),
+        is_verbose: options.get_flag("verbose") || matches.get_flag("verbose"),
     })
 }
 

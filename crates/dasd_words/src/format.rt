@@ -35,7 +35,7 @@ pub(crate) const COMMAND: CommandRow = CommandRow {
         },
         ArgRow {
             id: "cylinders",
-            help: "the number of cylinders",
+            help: "the number of cylinders, 1 to 65535",
             kind: ArgKind::Valued(Value {
                 name: "N",
                 parser: ValueParser::Signed(1, u16::MAX as i64),

@@ -12,6 +12,7 @@ mod hash;
 mod list;
 mod listings;
 mod options;
+mod refused;
 mod requests;
 mod run;
 mod volumes;
@@ -19,6 +20,9 @@ mod vtoc;
 
 pub use crate::commands::read_words;
 pub use crate::decks::{DECK_TABLE, operand_rule};
+pub use crate::refused::{
+    VOLUME_RULE, first_bad_volume, is_comparison, object_path, taken_address,
+};
 pub use crate::requests::{
     Asked, AskedTrace, ComparedVolumes, DeckRun, DumpedPart, ExtractedSet, ExtractedVolume,
     ListedPart, NewImage, Noted, Numbers, PrintedVolume, Request, SetName, TraceTarget, WordFault,

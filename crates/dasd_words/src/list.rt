@@ -8,7 +8,10 @@ use crate::requests::{ListedPart, Numbers, Request, WordFault};
 use clap::ArgMatches;
 use std::alloc::Global;
 
-const NO_CYLINDERS: &str = "error: --cylinder wants a number or a range, as 3 or 0-2\n";
+const NO_CYLINDERS: &str = "\
+error: --cylinder wants a number or a range, as 3, 0-2 or 0x14
+Numbers are decimal, or hexadecimal behind 0x, as places are printed.
+";
 
 /// The command, with its words.
 pub(crate) const COMMAND: CommandRow = CommandRow {

@@ -76,8 +76,8 @@ pub(crate) const JSON: ArgRow = ArgRow {
     kind: ArgKind::Flag,
 };
 
-/// The option of each command for more about a fault.
-const VERBOSE: ArgRow = ArgRow {
+/// The option of each command, and of the program itself, for more about a fault.
+pub(crate) const VERBOSE: ArgRow = ArgRow {
     id: "verbose",
     help: "tells more of a fault, also where standard error is no terminal",
     kind: ArgKind::Flag,
@@ -94,8 +94,8 @@ pub(crate) fn command<'a>(alloc: Global, row: &CommandRow) -> Result<Command<'a>
     with_arg(alloc, command, &VERBOSE)
 }
 
-// A command with the option or the words of one row more.
-fn with_arg<'a>(
+/// A command with the option or the words of one row more.
+pub(crate) fn with_arg<'a>(
     alloc: Global,
     command: Command<'a>,
     row: &ArgRow,

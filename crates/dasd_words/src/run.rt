@@ -24,7 +24,7 @@ pub(crate) const COMMAND: CommandRow = CommandRow {
     args: &[
         ArgRow {
             id: "storage",
-            help: "the size of main storage in bytes",
+            help: "the size of main storage in bytes: 4096 to 16777216, a multiple of 2048",
             kind: ArgKind::Valued(Value {
                 name: "N",
                 parser: ValueParser::Signed(0, u32::MAX as i64),
@@ -34,7 +34,7 @@ pub(crate) const COMMAND: CommandRow = CommandRow {
         },
         ArgRow {
             id: "channel",
-            help: "the number of the channel",
+            help: "the number of the channel, 0 to 6",
             kind: ArgKind::Valued(Value {
                 name: "N",
                 parser: ValueParser::Signed(0, u8::MAX as i64),

@@ -1,0 +1,227 @@
+//! Files of the host that are locked, and that may be replaced.
+
+use crate::drafts::{HostDraft, Old};
+use crate::remarks::Remarks;
+use std::alloc::Global;
+use std::fs::{File, Metadata, OpenOptions, TryLockError};
+use std::io::{Error, ErrorKind};
+use std::os::unix::fs::MetadataExt;
+use std::{fs, io};
+
+/// How often a file is opened again that was replaced before it was locked.
+const TRIES: usize = 16;
+
+/// A file of the host: its device, and its number there.
+pub(crate) type Node = (u64, u64);
+
+/// A file that is locked.
+#[derive(Drop)]
+pub(crate) struct Locked {
+    _file: File,
+    device: u64,
+    node: u64,
+    path: String,
+    /// Whether a new file has taken its place.
+    is_done: bool,
+}
+
+/// The files that were replaced, if there is one and there is memory to say so.
+pub(crate) fn list_done(held: &[Locked], alloc: Global) -> Option<String> {
+    let mut done = String::new(alloc);
+    for locked in held {
+        if locked.is_done {
+            let path = locked.path.as_str();
+            let text = format!(in alloc; "; {path} was").ok()?;
+            done.push_str(text.as_str()).ok()?;
+        }
+    }
+    (!done.is_empty()).then_some(done)
+}
+
+/// Notes that a new file has taken the place of one that is locked.
+pub(crate) fn mark_done(held: &mut [Locked], node: Option<Node>) {
+    for locked in held.iter_mut() {
+        if node == Some((locked.device, locked.node)) {
+            locked.is_done = true;
+        }
+    }
+}
+
+// A file that is not as it must be.
+pub(crate) fn wrong(why: &str) -> Error {
+    Error::new(ErrorKind::InvalidInput, why)
+}
+
+// A file that is in use.
+fn busy(why: &str) -> Error {
+    Error::new(ErrorKind::ResourceBusy, why)
+}
+
+/// Whether a file was locked already.
+pub(crate) fn is_locked(locked: &[Locked], known: &Metadata) -> bool {
+    locked.iter().any(|held| held.device == known.dev() && held.node == known.ino())
+}
+
+// Whether a file was locked by this path, which then was another one than the path leads to now.
+fn was_locked_by(locked: &[Locked], path: &str) -> bool {
+    locked.iter().any(|held| held.path.as_str() == path)
+}
+
+// The file that a path leads to, if there is one.
+fn node_at(host: &HostRuntime, path: &str) -> Option<Node> {
+    let known = fs::metadata(host, path).ok()?;
+    Some((known.dev(), known.ino()))
+}
+
+// Opens a regular file, for writing too where that is allowed.
+fn open_regular(host: &HostRuntime, path: &str) -> io::Result<File> {
+    let known = fs::metadata(host, path)?;
+    if !known.is_file() {
+        return Err(wrong("not a regular file"));
+    }
+    if !known.permissions().readonly() {
+        if let Ok(file) = OpenOptions::new().read(true).write(true).open(host, path) {
+            return Ok(file);
+        }
+    }
+    File::open(host, path)
+}
+
+// Locks a file that was opened; a file that may not be written may be read by several users.
+fn lock_file(file: &File, may_write: bool) -> io::Result<()> {
+    let locked = if may_write {
+        file.try_lock()
+    } else {
+        file.try_lock_shared()
+    };
+    match locked {
+        Ok(()) => Ok(()),
+        Err(TryLockError::WouldBlock) => Err(busy("another program has locked it")),
+        Err(TryLockError::Error(fault)) => Err(fault),
+    }
+}
+
+/// Opens a regular file and locks it. One that was replaced before it was locked is opened again.
+pub(crate) fn open_locked(
+    host: &HostRuntime,
+    held: &[Locked],
+    path: &str,
+) -> io::Result<(File, Metadata)> {
+    for _ in 0..TRIES {
+        let file = open_regular(host, path)?;
+        let known = file.metadata()?;
+        if is_locked(held, &known) {
+            return Ok((file, known));
+        }
+        lock_file(&file, !known.permissions().readonly())?;
+        let there = fs::metadata(host, path)?;
+        if there.dev() == known.dev() && there.ino() == known.ino() {
+            return Ok((file, known));
+        }
+    }
+    Err(busy("another program replaces it"))
+}
+
+/// Keeps a file locked until the end.
+pub(crate) fn keep(
+    held: &mut Vec<Locked>,
+    alloc: Global,
+    path: &str,
+    file: &File,
+    known: &Metadata,
+) -> io::Result<()> {
+    let locked = Locked {
+        _file: file.try_clone()?,
+        device: known.dev(),
+        node: known.ino(),
+        path: path.to_string(alloc)?,
+        is_done: false,
+    };
+    match held.push(locked) {
+        Ok(()) => Ok(()),
+        Err(_) => Err(Error::from(ErrorKind::OutOfMemory)),
+    }
+}
+
+/// What is at a path that is to be written: a file that may be replaced, which is locked from now on, or none.
+pub(crate) fn find_old(
+    host: &HostRuntime,
+    held: &mut Vec<Locked>,
+    path: &str,
+    replaces: bool,
+) -> io::Result<Option<Old>> {
+    if let Err(fault) = fs::symlink_metadata(host, path) {
+        return match fault.kind() {
+            ErrorKind::NotFound => Ok(None),
+            _ => Err(fault),
+        };
+    }
+    if !replaces {
+        return Err(Error::new(
+            ErrorKind::AlreadyExists,
+            "it is there, and is not to be replaced",
+        ));
+    }
+    let target = fs::canonicalize(host, path)?;
+    let (file, known) = open_locked(host, held, target.as_str())?;
+    if known.permissions().readonly() {
+        return Err(wrong("it may not be written"));
+    }
+    let _may_write = OpenOptions::new().write(true).open(host, target.as_str())?;
+    if !is_locked(held.as_slice(), &known) {
+        if was_locked_by(held.as_slice(), path) {
+            return Err(wrong("another program has replaced it"));
+        }
+        keep(held, host.alloc(), path, &file, &known)?;
+    }
+    Ok(Some(Old {
+        path: target,
+        known,
+    }))
+}
+
+/// Begins what would replace a file, and takes it back.
+pub(crate) fn try_to_replace(host: &HostRuntime, remarks: &Remarks, path: &str) -> io::Result<()> {
+    let known = fs::metadata(host, path)?;
+    if known.permissions().readonly() {
+        return Err(wrong("it may not be written"));
+    }
+    let target = fs::canonicalize(host, path)?;
+    let _may_write = OpenOptions::new().write(true).open(host, target.as_str())?;
+    let old = Old {
+        path: target,
+        known,
+    };
+    let _tried = HostDraft::begin(host, remarks, path, Some(old))?;
+    Ok(())
+}
+
+/// Opens a file for a trace, and says whether it is a regular one. That is locked until the end; it is none of these files, and not
+/// standard input or output.
+pub(crate) fn open_trace_file(
+    host: &HostRuntime,
+    held: &mut Vec<Locked>,
+    path: &str,
+    beside: &[&str],
+) -> io::Result<(File, bool)> {
+    let input = node_at(host, "/dev/stdin");
+    let output = node_at(host, "/dev/stdout");
+    let file = OpenOptions::new()
+        .write(true)
+        .create(true)
+        .open(host, path)?;
+    let known = file.metadata()?;
+    if !known.is_file() {
+        return Ok((file, false));
+    }
+    let node = Some((known.dev(), known.ino()));
+    if node == input || node == output {
+        return Err(busy("it is standard input or output"));
+    }
+    if beside.iter().any(|other| node_at(host, other) == node) {
+        return Err(busy("this run uses it already"));
+    }
+    lock_file(&file, true)?;
+    keep(held, host.alloc(), path, &file, &known)?;
+    Ok((file, true))
+}

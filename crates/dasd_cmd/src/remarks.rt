@@ -1,0 +1,201 @@
+//! What is told on standard error beside the line of a fault.
+
+use dasd_jobs::FileFault;
+use std::alloc::Global;
+use std::cell::{Cell, RefCell};
+use std::fmt;
+use std::io::{Error, ErrorKind, IsTerminal};
+
+/// What erases the rest of a terminal's line.
+pub(crate) const ERASE_BEHIND: &str = "\u{1B}[K";
+
+/// So many bytes are a step of the line that shows how far a file is read.
+const STEP: u64 = 1 << 22;
+
+/// A megabyte.
+const MEGABYTE: u64 = 1 << 20;
+
+/// What is remarked while a command goes on, a line each: which file it was, and why; and, where standard error is a terminal, a line that
+/// shows how far a large file is read, unless the command shows what it is about itself. All stands in cells, so that a file that was
+/// opened and one that is written tell theirs themselves.
+#[derive(Drop)]
+pub(crate) struct Remarks<'a> {
+    host: &'a HostRuntime,
+    alloc: Global,
+    lines: RefCell<String>,
+    is_terminal: bool,
+    has_stages: Cell<bool>,
+    is_shown: Cell<bool>,
+    step: Cell<u64>,
+}
+
+impl<'a> Remarks<'a> {
+    /// No remark, on the standard error of this host.
+    pub(crate) fn new(host: &'a HostRuntime) -> Remarks<'a> {
+        let alloc = host.alloc();
+        Remarks {
+            host,
+            alloc,
+            lines: RefCell::new(String::new(alloc)),
+            is_terminal: host.stderr().is_terminal(),
+            has_stages: Cell::new(false),
+            is_shown: Cell::new(false),
+            step: Cell::new(0),
+        }
+    }
+
+    /// Whether somebody sits at standard error.
+    pub(crate) fn is_terminal(&self) -> bool {
+        self.is_terminal
+    }
+
+    /// The command shows itself what it is about.
+    pub(crate) fn show_stages(&self) {
+        self.clear_line();
+        self.has_stages.set(true);
+    }
+
+    /// Shows how far a file of so many bytes is read, where it is large.
+    pub(crate) fn show_reading(&self, path: &str, at: u64, len: u64) {
+        let step = at / STEP;
+        if !self.is_terminal || self.has_stages.get() || len <= STEP || step == self.step.get() {
+            return;
+        }
+        self.step.set(step);
+        let (path, read, all) = (Shown(path), at / MEGABYTE, len / MEGABYTE);
+        let _ = eprint!(self.host; "\rreading {path}: {read} of {all} MB{ERASE_BEHIND}");
+        self.is_shown.set(true);
+    }
+
+    /// Clears the line that shows how far a file is read, before something else is written.
+    pub(crate) fn clear_line(&self) {
+        if self.is_shown.get() {
+            let _ = eprint!(self.host; "\r{ERASE_BEHIND}");
+            self.is_shown.set(false);
+        }
+    }
+
+    /// One line more; where there is no memory for it, it is left out.
+    pub(crate) fn note<T: fmt::Display>(&self, remark: &T) {
+        let Ok(text) = format!(in self.alloc; "{remark}") else {
+            return;
+        };
+        let shown = Shown(text.as_str());
+        if let Ok(line) = format!(in self.alloc; "  {shown}\n") {
+            if let Ok(mut lines) = self.lines.try_borrow_mut() {
+                let _ = lines.push_str(line.as_str());
+            }
+        }
+    }
+
+    /// Why the host refused something of a file, in its words.
+    pub(crate) fn note_fault(&self, path: &str, fault: &Error) {
+        if let Ok(text) = format!(in self.alloc; "{fault}") {
+            let why = words_of(text.as_str());
+            self.note(&Refused { path, why });
+        }
+    }
+
+    /// Why the bytes of a file from a place on could not be read. One that has become shorter since it was opened has none there.
+    pub(crate) fn note_reading(&self, path: &str, at: u64, fault: &Error) {
+        if fault.kind() == ErrorKind::UnexpectedEof {
+            let why = "the file has become shorter";
+            self.note(&Unread { path, at, why });
+        } else if let Ok(text) = format!(in self.alloc; "{fault}") {
+            let why = words_of(text.as_str());
+            self.note(&Unread { path, at, why });
+        }
+    }
+
+    /// Says at once, on standard error, why what a run changes of a file can't be saved.
+    pub(crate) fn warn(&self, path: &str, fault: &Error) {
+        if let Ok(text) = format!(in self.alloc; "{fault}") {
+            let path = Shown(path);
+            let why = words_of(text.as_str());
+            self.clear_line();
+            let _ = eprintln!(self.host; "  {path}: what the deck changes can't be saved: {why}");
+        }
+    }
+
+    /// Notes why a path was refused, and says what that is to the program.
+    pub(crate) fn refuse(&self, path: &str, fault: &Error) -> FileFault {
+        let kind = fault.kind();
+        if kind == ErrorKind::OutOfMemory {
+            return FileFault::OutOfMemory;
+        }
+        self.note_fault(path, fault);
+        match kind {
+            ErrorKind::AlreadyExists => FileFault::Exists,
+            ErrorKind::ResourceBusy => FileFault::InUse,
+            _ => FileFault::Refused,
+        }
+    }
+
+    /// All of them, two blanks before each; none where there is no memory for them.
+    pub(crate) fn text(&self) -> Option<String> {
+        match self.lines.try_borrow() {
+            Ok(lines) => lines.as_str().to_string(self.alloc).ok(),
+            Err(_) => None,
+        }
+    }
+
+    /// Writes them to standard error.
+    pub(crate) fn print(&self) {
+        if let Ok(lines) = self.lines.try_borrow() {
+            let text = lines.as_str();
+            let _ = eprint!(self.host; "{text}");
+        }
+    }
+}
+
+/// A file that the host refused, and its words for it.
+#[derive(Clone, Copy)]
+struct Refused<'a> {
+    path: &'a str,
+    why: &'a str,
+}
+
+impl fmt::Display for Refused<'_> {
+    fn fmt<W: fmt::Write>(&self, f: &mut fmt::Formatter<W>) -> fmt::Result {
+        write!(f, "{}: {}", self.path, self.why)
+    }
+}
+
+/// A file whose bytes from a place on were not read, and why.
+#[derive(Clone, Copy)]
+struct Unread<'a> {
+    path: &'a str,
+    at: u64,
+    why: &'a str,
+}
+
+impl fmt::Display for Unread<'_> {
+    fn fmt<W: fmt::Write>(&self, f: &mut fmt::Formatter<W>) -> fmt::Result {
+        write!(f, "{}: at byte {}: {}", self.path, self.at, self.why)
+    }
+}
+
+// The host's words for a fault, without its number.
+fn words_of(text: &str) -> &str {
+    text.split_once(" (os error")
+        .map_or(text, |(words, _)| words)
+}
+
+/// A text whose control characters but the ends of lines are shown by their numbers, as `\x1B`, so that no name of a file writes on a
+/// terminal what it likes.
+#[derive(Clone, Copy)]
+pub(crate) struct Shown<'a>(pub(crate) &'a str);
+
+impl fmt::Display for Shown<'_> {
+    fn fmt<W: fmt::Write>(&self, f: &mut fmt::Formatter<W>) -> fmt::Result {
+        for character in self.0.chars() {
+            if character.is_control() && character != '\n' {
+                let number = character as u32;
+                write!(f, "\\x{number:02X}")?;
+            } else {
+                write!(f, "{character}")?;
+            }
+        }
+        Ok(())
+    }
+}

@@ -1,0 +1,81 @@
+//! What is said of words that a command refuses, or that it can't do.
+
+use crate::commands::{match_words, read_words};
+use crate::requests::Request;
+use crate::volumes::read_volume;
+use std::alloc::Global;
+
+/// What a word of a volume must be.
+pub const VOLUME_RULE: &str =
+    "a VOLUME is UU=PATH or UU=new:M:N: UU is two hexadecimal digits, M is 2311 or 2314, N is 1 to 65535; \
+an image has at most eight files";
+
+/// The first VOLUME among the words of a run that is of another form.
+pub fn first_bad_volume<'a>(alloc: Global, words: &'a [&'a str]) -> Option<&'a str> {
+    let matches = match_words(alloc, words).ok()?;
+    let (_, options) = matches.subcommand()?;
+    for word in options.get_strs("VOLUME")? {
+        if read_volume(word).is_none() {
+            return Some(*word);
+        }
+    }
+    None
+}
+
+/// The first address that an earlier volume of a run has too.
+pub fn taken_address(alloc: Global, words: &[&str]) -> Option<u8> {
+    let asked = read_words(alloc, words).ok()?;
+    let Request::Run(run) = asked.request else {
+        return None;
+    };
+    let volumes = run.volumes.as_slice();
+    for i in 0..volumes.len() {
+        let device = volumes[i].device;
+        if volumes[..i].iter().any(|before| before.device == device) {
+            return Some(device);
+        }
+    }
+    None
+}
+
+/// The path that objects of JSON have which these words ask for: those of the volume's files, joined by plus signs. None is where they
+/// ask for no objects.
+pub fn object_path(alloc: Global, words: &[&str]) -> Option<String> {
+    let asked = read_words(alloc, words).ok()?;
+    match asked.request {
+        Request::ListPart(volume, _) | Request::Dump(volume, _) => {
+            joined(alloc, volume.json, volume.paths.as_slice())
+        }
+        Request::CheckStrictly(volume) | Request::ListContents(volume) => {
+            joined(alloc, volume.json, volume.paths.as_slice())
+        }
+        Request::Compare(volumes) => joined(alloc, volumes.json, volumes.one.as_slice()),
+        Request::ExtractAll(volume) => joined(alloc, volume.json, volume.paths.as_slice()),
+        _ => None,
+    }
+}
+
+/// Whether these words ask for a comparison: its name is the first of them, but for options, behind the program's own.
+pub fn is_comparison(words: &[&str]) -> bool {
+    for word in words.iter().skip(1) {
+        if !word.starts_with('-') {
+            return *word == "compare";
+        }
+    }
+    false
+}
+
+// These paths with plus signs between, where objects are asked for.
+fn joined(alloc: Global, json: bool, paths: &[&str]) -> Option<String> {
+    if !json {
+        return None;
+    }
+    let mut joined = String::new(alloc);
+    for (i, path) in paths.iter().enumerate() {
+        if i > 0 {
+            joined.push('+').ok()?;
+        }
+        joined.push_str(path).ok()?;
+    }
+    Some(joined)
+}

@@ -1,0 +1,230 @@
+"""Rows of tools/gate/real_files.py: what is told beside the one line of a fault, before a deck is run, and of what killed programs left."""
+# pylint: disable=missing-function-docstring  # the name of a row says what it is
+
+import fcntl
+import json
+import os
+import pty
+import signal
+import subprocess
+import time
+
+from tools.gate.scratch_files import ANSWERS, NOBODY, WRITE, How, Scratch, Skipped, fault, is_held, row, same, volume, waiting_run
+
+VERBOSE = "--verbose"
+
+
+# Before a deck is run.
+
+
+def is_warned(s: Scratch, why: str, how: How) -> None:
+    """A run that can't save its volume says so before it has its deck; what is there stays."""
+    os.mkfifo(s.path("deck"), 0o666)
+    s.path("deck").chmod(0o666)
+    run = s.start("run", VERBOSE, "--deck", "deck", "90=own/vol.ckd", how=how)
+    assert run.stderr is not None
+    with open(s.path("deck"), "wb", buffering=0) as deck:
+        same(run.stderr.readline().decode(), f"  own/vol.ckd: what the deck changes can't be saved: {why}\n")
+        deck.write(WRITE.format(data="D5D6D7D8", unit="190").encode())
+    out, told = run.communicate(timeout=60)
+    same((run.returncode, out.decode(), told.decode().splitlines()[0]), (1, ANSWERS.format(unit="190"), "dasd: write fault"))
+    is_held(s.path("own/vol.ckd"), volume())
+    s.path("deck").unlink()
+
+
+def put_own(s: Scratch, mode: int) -> None:
+    """A volume in a folder of its own."""
+    s.path("own").mkdir()
+    s.put("own/vol.ckd", volume()).chmod(mode)
+
+
+@row
+def file_that_may_not_be_written_is_told_before_the_deck(s: Scratch) -> None:
+    put_own(s, 0o444)
+    is_warned(s, "it may not be written", How())
+
+
+@row
+def folder_that_may_not_be_written_is_told_before_the_deck(s: Scratch) -> None:
+    if os.geteuid() != 0:
+        raise Skipped("no other user without root")
+    put_own(s, 0o666)
+    s.folder.chmod(0o755)
+    is_warned(s, "Permission denied", How(is_nobodys=True))
+
+
+@row
+def owner_that_can_not_be_kept_is_told_before_the_deck(s: Scratch) -> None:
+    if os.geteuid() != 0:
+        raise Skipped("no other user without root")
+    put_own(s, 0o666)
+    s.folder.chmod(0o755)
+    os.chown(s.path("own"), NOBODY, NOBODY)
+    is_warned(s, "Operation not permitted", How(is_nobodys=True))
+    same(os.listdir(s.path("own")), ["vol.ckd"])
+
+
+@row
+def run_that_can_save_its_volume_says_nothing_before_its_deck(s: Scratch) -> None:
+    s.put("vol.ckd", volume())
+    same(s.write(VERBOSE, "90=vol.ckd")[::2], (0, ""))
+    same(s.names(), ["vol.ckd"])
+
+
+# What killed programs left.
+
+
+def number_of_a_program_that_ended() -> int:
+    """The number of a program that no longer runs."""
+    with subprocess.Popen(["true"]) as ended:
+        ended.wait()
+    return ended.pid
+
+
+@row
+def what_a_killed_program_left_is_removed_by_the_next_and_told(s: Scratch) -> None:
+    s.put("vol.ckd", volume())
+    run = s.start("format", "new.ckd", "--cylinders", "20000")
+    for _ in range(1000):
+        left = [it for it in s.names() if it.startswith(".dasd-") and s.path(it).stat().st_size > 1 << 20]
+        if left or run.poll() is not None:
+            break
+        time.sleep(0.002)
+    run.send_signal(signal.SIGINT)
+    run.communicate(timeout=60)
+    same((len(left), run.returncode), (1, -signal.SIGINT), "a program that was interrupted")
+    same(s.dasd("check", VERBOSE, "vol.ckd"), (0, "0 findings\n", ""))
+    same(s.names(), sorted([*left, "vol.ckd"]))
+    status, _, told = s.write(VERBOSE, "90=vol.ckd")
+    same((status, told.partition(left[0])[2]), (0, ": a program that was killed had left it, and it is removed\n"))
+    same(s.names(), ["vol.ckd"])
+
+
+@row
+def new_files_of_others_stay(s: Scratch) -> None:
+    ended = number_of_a_program_that_ended()
+    s.put(f".dasd-{os.getpid()}-0", b"of a program that runs")
+    s.put(f".dasd-{ended}-0", b"locked")
+    s.put(f".dasd-{ended}-x", b"another name")
+    s.put(f".dasd-{ended}", b"another name")
+    s.put(f".dasd-+{ended}-0", b"another name")
+    s.put("vol.ckd", volume())
+    s.path(f".dasd-{ended}-1").symlink_to("vol.ckd")
+    s.path(f".dasd-{ended}-2").mkdir()
+    os.mkfifo(s.path(f".dasd-{ended}-3"))
+    before = s.names()
+    with open(s.path(f".dasd-{ended}-0"), "rb") as held:
+        fcntl.flock(held, fcntl.LOCK_EX)
+        same(s.dasd("format", VERBOSE, "vol.ckd", "--cylinders", "1"), (0, "formatted 2311 1 cylinders\n", ""))
+    same(s.names(), before)
+
+
+@row
+def files_of_a_program_that_runs_are_not_removed_by_another(s: Scratch) -> None:
+    s.put("vol.ckd", volume())
+    run = s.start("format", "new.ckd", "--cylinders", "20000")
+    for _ in range(20):
+        same(s.dasd("format", VERBOSE, "vol.ckd", "--cylinders", "1"), (0, "formatted 2311 1 cylinders\n", ""))
+    run.communicate(timeout=60)
+    same((run.returncode, s.names()), (0, ["new.ckd", "vol.ckd"]))
+
+
+# While a command goes on.
+
+
+def seen_by_a_terminal(s: Scratch, words: list[str]) -> tuple[int, str, bytes]:
+    """The status of a command, what it printed, and what a terminal at its standard error saw."""
+    ours, theirs = pty.openpty()
+    run = s.start(*words, how=How(stderr=theirs))
+    os.close(theirs)
+    seen = b""
+    while True:
+        try:
+            piece = os.read(ours, 65536)
+        except OSError:  # nobody has its other end any more
+            break
+        if not piece:
+            break
+        seen += piece
+    out = run.communicate(timeout=60)[0].decode()
+    os.close(ours)
+    return run.returncode, out, seen
+
+
+@row
+def how_far_a_large_file_is_read_is_shown_and_erased(s: Scratch) -> None:
+    for name in ("vol.ckd", "other.ckd"):
+        s.put(name, volume(cylinders=300))
+    for words in (["check", "--strict", "vol.ckd"], ["compare", "vol.ckd", "other.ckd"], ["list", "--used", "vol.ckd"], ["dump", "vol.ckd", "299", "0"]):
+        status, out, seen = seen_by_a_terminal(s, words)
+        same((status, out), (0, s.dasd(*words)[1]), " ".join(words))
+        same(b"\rreading vol.ckd: " in seen and seen.endswith(b"\r\x1b[K"), True, f"that {words[0]} shows how far it is, and erases it")
+    same(b"reading" in seen_by_a_terminal(s, ["check", "vol.ckd"])[2], False, "that a check with stages shows no other line")
+    s.put("small.ckd", volume(cylinders=100))
+    same(seen_by_a_terminal(s, ["check", "--strict", "small.ckd"])[2], b"", "what is shown of a small file")
+
+
+# Words and names.
+
+
+@row
+def control_characters_of_a_name_are_not_written_to_a_terminal(s: Scratch) -> None:
+    same(s.dasd("list", VERBOSE, "a\x1b[31m\rb"), fault("read fault\n  a\\x1B[31m\\x0Db: No such file or directory"))
+    same(s.dasd("list", "--a\x1b[31m", "b")[2].count("\x1b"), 0, "escapes in a text of words")
+
+
+@row
+def files_of_names_that_are_no_text_are_read(s: Scratch) -> None:
+    name, held = os.fsdecode(b"caf\xe9 \\.ckd"), volume(data="D5D6D7D8")
+    spelled = "caf\\xE9 \\x5C.ckd"
+    s.put(name, held)
+    s.put("plain.ckd", held)
+    same(s.dasd("check", name), (0, "0 findings\n", ""))
+    same(s.dasd("list", name), s.dasd("list", "plain.ckd"))
+    same(s.dasd("compare", name, "plain.ckd"), (0, "0 tracks differ\n", ""))
+    same(s.dasd("dump", name, "0", "0"), s.dasd("dump", "plain.ckd", "0", "0"))
+    same(json.loads(s.dasd("list", "--json", name)[1].splitlines()[0])["path"], spelled)
+    s.put(os.fsdecode(b"\xe9.deck"), b"INT\n")
+    same(s.dasd("run", "--deck", os.fsdecode(b"\xe9.deck"), "90=plain.ckd"), (0, "INT NONE\n", ""))
+    why = "a file whose name is not UTF-8 is only read"
+    same(s.dasd("run", VERBOSE, f"90={name}", deck="INT\n"), fault(f"read fault\n  {spelled}: {why}"))
+    same(s.dasd("format", VERBOSE, name), fault(f"write fault\n  {spelled}: {why}"))
+    missing = os.fsdecode(b"\xff")
+    same(s.dasd("list", VERBOSE, missing), fault("read fault\n  \\xFF: No such file or directory"))
+    is_held(s.path(name), held)
+    same(len(s.names()), 3)
+
+
+@row
+def fault_is_an_object_where_objects_are_asked_for(s: Scratch) -> None:
+    s.put("short.ckd", volume()[:-1])
+    s.put("two.ckd", volume())
+    wanted = {
+        ("vtoc", "none.ckd"): ("none.ckd", "read fault", ["none.ckd: No such file or directory"]),
+        ("check", "--strict", "short.ckd"): ("short.ckd", "wrong length", ["short.ckd: its length is 41471 bytes"]),
+        ("list", "two.ckd", "two.ckd"): ("two.ckd+two.ckd", "image in several files", None),
+        ("dump", "two.ckd", "5", "0"): ("two.ckd", "no such track", ["dasd list says how many cylinders and heads a volume has"]),
+        ("compare", "two.ckd", "none.ckd"): ("two.ckd", "read fault", ["none.ckd: No such file or directory"]),
+        ("extract", "--all", ".", "short.ckd"): ("short.ckd", "wrong length", ["short.ckd: its length is 41471 bytes"]),
+    }
+    for words, (path, text, remarks) in wanted.items():
+        status, out, told = s.dasd(*words, "--json")
+        same((status, told), (2 if words[0] == "compare" else 1, f"dasd: {text}\n"), " ".join(words))
+        found = json.loads(out)
+        same((sorted(found), found["path"], found["fault"]), (["fault", "path", "remarks"], path, text), " ".join(words))
+        if remarks is not None:
+            same(found["remarks"], remarks, " ".join(words))
+    same(s.dasd("vtoc", "none.ckd"), fault("read fault"))
+    same(s.dasd("vtoc", "--json")[:2], (2, ""))
+
+
+@row
+def waiting_run_has_its_deck_read_to_the_end(s: Scratch) -> None:
+    s.put("vol.ckd", volume())
+    with waiting_run(s, "90=vol.ckd") as (run, deck):
+        for piece in WRITE.format(data="D5D6D7D8", unit="190").encode().splitlines(keepends=True):
+            deck.write(piece)
+            time.sleep(0.01)
+        deck.close()
+        same((run.communicate(timeout=60)[0].decode(), run.returncode), (ANSWERS.format(unit="190"), 0))
+    is_held(s.path("vol.ckd"), volume(data="D5D6D7D8"))
