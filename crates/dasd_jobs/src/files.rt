@@ -93,7 +93,8 @@ pub trait ImageFiles {
         ensures same { opened self.new ≡ opened self.old }
         ensures empty { IfOk result (λ draft. Self.Draft.content draft ≡ []) };
 
-    /// Puts the new file that was begun for this path there.
+    /// Puts the new file that was begun for this path there. All its bytes are on the disk before it takes its place; that it has
+    /// taken the place of an old one is on the disk behind this, and that it is a new one is so behind `settle`.
     ///
     /// # Errors
     ///
@@ -101,6 +102,12 @@ pub trait ImageFiles {
     fn put(&mut self, path: &str, draft: Self::Draft) -> Result<(), FileFault>
         ensures ok { OnOk result (written self.new ≡ with_file (written self.old) path.now (Self.Draft.content draft)) }
         ensures err { OnErr result (written self.new ≡ written self.old) }
+        ensures same { opened self.new ≡ opened self.old };
+
+    /// Has the names of the new files on the disk that were put there, as far as the host does that. Before this a crash may leave each
+    /// of them whole or not at all.
+    fn settle(&mut self)
+        ensures kept { written self.new ≡ written self.old }
         ensures same { opened self.new ≡ opened self.old };
 
     /// Something that the one line of a fault, or a run that is done, leaves out: one line, told where it is asked for.

@@ -140,7 +140,10 @@ fn write_new<F: ImageFiles>(
     let mut draft = draft;
     match write_volume(&mut draft, Geometry::new(volume.model, volume.cylinders)) {
         Ok(()) => match files.put(volume.path, draft) {
-            Ok(()) => Ok(()),
+            Ok(()) => {
+                files.settle();
+                Ok(())
+            }
             Err(fault) => Err(of_write(fault)),
         },
         Err(_) => Err(JobFault::Write),

@@ -53,6 +53,7 @@ pub fn begin_file<F: ImageFiles>(
     path: &str,
 ) -> Result<DraftWriter<F::Draft>, JobFault>
     ensures kept { F.written files.new ≡ F.written files.old }
+    ensures same { F.opened files.new ≡ F.opened files.old }
     ensures empty { IfOk result (λ new. F.Draft.content new.draft ≡ []) }
 {
     match files.begin(alloc, path, false) {
@@ -71,7 +72,8 @@ pub fn put_file<F: ImageFiles>(
     path: &str,
     new: DraftWriter<F::Draft>,
 ) -> Result<(), JobFault>
-    ensures { WritesFile result path.now (F.Draft.content new.draft) (F.written files.old) (F.written files.new) }
+    ensures file { WritesFile result path.now (F.Draft.content new.draft) (F.written files.old) (F.written files.new) }
+    ensures same { F.opened files.new ≡ F.opened files.old }
 {
     let DraftWriter { draft } = new;
     match files.put(path, draft) {
