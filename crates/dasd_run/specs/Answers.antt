@@ -1,6 +1,6 @@
 -- What is done of each request.
-use Rattle.std.specs.Prelude.{◌≡◌, ◌==◌, ℕ, List, map, true, if◌then◌else◌, Result, Ok, Err, IfOk, IfErr}
-use Rattle.counted_io.specs.Streams.{Stream}
+use Rattle.std.specs.Prelude.{◌≡◌, ◌==◌, ℕ, List, map, option_map, true, if◌then◌else◌, Result, Ok, Err, IfOk, IfErr, OnOk}
+use Rattle.counted_io.specs.Streams.{Stream, IsFlushed}
 use Rattle.dasd_volumes.specs.Volumes.{volume_text, check_text, NumberIn}
 use Rattle.dasd_words.specs.declared.requests.NewImage.{NewImage}
 use Rattle.dasd_words.specs.declared.requests.Request.{Request}
@@ -16,6 +16,7 @@ use Rattle.dasd_run.specs.declared.fault.ProgramFault.TheVariants as fault
 use Rattle.dasd_run.specs.Faults.{keeps_files}
 use Rattle.dasd_run.specs.Outside.{Outside}
 use Rattle.dasd_run.specs.Runs.{RunsOrStops}
+use Rattle.dasd_run.specs.Words.{PrintsDeck, PrintsWords, WithText}
 
 -- how the program ends with a job over files: so, where the job is done; and else its fault is the program's
 abbrev pub ended : {A : Type 0} → (A → Ending) → Result A JobFault → Result Ending ProgramFault
@@ -26,17 +27,18 @@ ended ending (Err f) = Err (fault.Job f)
 abbrev pub ending_of : ℕ → Ending
 ending_of found = if found == 0 then Done else Findings
 
--- the new image that is asked for is put at its path, and its line printed
+-- the new image that is asked for is put at its path, and its line printed and flushed
 abbrev pub FormatsVolume : Result Ending ProgramFault → NewImage → (before now : List Replaced) → (printed_before printed : Stream) → Type 0
 FormatsVolume result asked before now printed_before printed =
     (job : Result (Unit {0}) JobFault) × (result ≡ ended (λ done. Done) job)
-    × Formats job asked.path.now asked.model asked.cylinders before now printed_before printed
+    × Formats job asked.path.now asked.model asked.cylinders before now printed_before printed × OnOk job (IsFlushed printed)
 
--- the volume of the files at these paths is printed
+-- the volume of the files at these paths is printed, and none of it held back
 abbrev pub ListsVolume : Result Ending ProgramFault → (paths : List (List ℕ)) → (opened_before opened : List SourceFile) → (printed_before printed : Stream) → Type 0
 ListsVolume result paths opened_before opened printed_before printed =
     (job : Result (Unit {0}) JobFault) × (result ≡ ended (λ done. Done) job)
     × PrintsFiles job volume_text paths opened_before opened printed_before printed × CountsLines job printed_before printed
+    × OnOk job (IsFlushed printed)
 
 -- its tracks that can't be read are printed, and it has findings where there are some
 abbrev pub ChecksVolume : Result Ending ProgramFault → (paths : List (List ℕ)) → (opened_before opened : List SourceFile) → (printed_before printed : Stream) → Type 0
@@ -44,6 +46,7 @@ ChecksVolume result paths opened_before opened printed_before printed =
     (job : Result ℕ JobFault) × (result ≡ ended ending_of job)
     × IfOk job (λ n. OfVolume paths opened_before opened (λ v. NumberIn v n))
     × PrintsFiles job check_text paths opened_before opened printed_before printed × CountsLines job printed_before printed
+    × OnOk job (IsFlushed printed)
 
 -- no file is written, and nothing is read of the reader
 abbrev pub Looks : (before now : Outside) → Type 0
@@ -61,6 +64,8 @@ Answers (request.List paths) result before now =
     ListsVolume result (map (λ path. path.now) paths.items) before.opened now.opened before.printed now.printed × Looks before now
 Answers (request.Check paths) result before now =
     ChecksVolume result (map (λ path. path.now) paths.items) before.opened now.opened before.printed now.printed × Looks before now
+Answers (request.Assemble path) result before now = WithText PrintsDeck result (option_map (λ path. path.now) path) before now
+Answers (request.Disassemble path) result before now = WithText PrintsWords result (option_map (λ path. path.now) path) before now
 Answers (request.Run asked) result before now = RunsOrStops result asked before now
 Answers (request.Extract asked) result before now = Unloads result before now
 Answers (request.ExtractAll asked) result before now = Unloads result before now

@@ -1,7 +1,7 @@
 -- A deck that is run over volumes.
-use Rattle.std.specs.Prelude.{◌≡◌, ◌⊎◌, ◌++◌, List, ℕ, ◌∷◌, [], replicate, Result, Ok, Err, IfErr}
+use Rattle.std.specs.Prelude.{◌≡◌, ◌⊎◌, ◌++◌, List, ℕ, ◌∷◌, [], replicate, Result, Ok, Err, IfErr, OnOk}
 use Rattle.std.specs.Result.{result_and}
-use Rattle.counted_io.specs.Streams.{Stream, Takes, TakesFront, NoneFailed, OneFailed}
+use Rattle.counted_io.specs.Streams.{Stream, Takes, TakesFront, NoneFailed, OneFailed, IsFlushed}
 use Rattle.ckd_track.specs.Geometry.{new_geometry}
 use Rattle.ckd_image.specs.Layout.{image_length}
 use Rattle.ckd_image.specs.Image.{ImageState, HoldsImage, new_image}
@@ -24,9 +24,10 @@ use Rattle.dasd_run.specs.Decks.{deck_path, ReadsDeck, IsUnread, NoTrace}
 use Rattle.dasd_run.specs.Outside.{Outside}
 use Rattle.dasd_run.specs.Saves.{paths_of, Concludes}
 
--- A text is printed; or there is a write fault, a write failed or the flush, and the first bytes may be printed.
+-- A text is printed, and none of it held back; or there is a write fault, a write failed or the flush, and the first bytes may be printed.
 abbrev pub Tells : Result Ending ProgramFault → (text : List ℕ) → (printed_before printed : Stream) → Type 0
-Tells (Ok ending) text printed_before printed = (ending ≡ Done) × Takes printed_before printed text × NoneFailed printed_before printed
+Tells (Ok ending) text printed_before printed =
+    (ending ≡ Done) × Takes printed_before printed text × NoneFailed printed_before printed × IsFlushed printed
 Tells (Err f) text printed_before printed = (f ≡ fault.Job Write) × TakesFront printed_before printed text × OneFailed printed_before printed
 
 -- The image of a volume before a run. The files at the volume's paths were opened, in their order and no other, and read whole: what was
@@ -67,6 +68,7 @@ pub record RunsVolumes (result : Result Ending ProgramFault) (asked : DeckRun) (
   pub run : Result (Unit {0}) RunFault
   pub last : ChannelState
   pub runs : RunsText run text built last before.printed now.printed
+  pub flushed : OnOk run (IsFlushed now.printed)
   pub unless_run : StaysUnlessRun run before.printed now.printed
   pub concluded : Result (Unit {0}) ProgramFault
   pub concludes : Concludes run concluded asked.volumes.items last before.written now.written

@@ -11,6 +11,7 @@ use Rattle.dasd_run.specs.declared.commands.Ending.{Ending}
 use Rattle.dasd_run.specs.declared.fault.ProgramFault.{ProgramFault}
 use Rattle.dasd_run.specs.declared.fault.ProgramFault.TheVariants as fault
 use Rattle.dasd_run.specs.Decks.{ReadsDeck, IsUnread}
+use Rattle.dasd_run.specs.Outside.{Outside}
 use Rattle.dasd_run.specs.Runs.{Tells}
 
 -- Why a text is not assembled: it is longer than a deck may be, or this is its fault, or there is no memory.
@@ -51,9 +52,11 @@ PrintsWords result deck before printed =
     ((words : List ℕ) × AreWordsOf deck words × Tells result words before printed)
     ⊎ ((f : ProgramFault) × (result ≡ Err f) × NotInWords f deck × (printed ≡ before))
 
--- A text is read, of the file at a path or of the reader, and this is done with it; or it is not read, and nothing is printed.
+-- A text is read, of the file at a path or of the reader, and this is done with it; or it is not read, and nothing is printed. No file is
+-- written.
 abbrev pub WithText : (prints : Result Ending ProgramFault → List ℕ → Stream → Stream → Type 0) → Result Ending ProgramFault
-    → (path : Option (List ℕ)) → (read_before read before printed : Stream) → Type 0
-WithText prints result path read_before read before printed =
-    ((text : List ℕ) × ReadsDeck path read_before read text × prints result text before printed)
-    ⊎ ((f : ProgramFault) × (result ≡ Err f) × IsUnread f path read_before read × (printed ≡ before))
+    → (path : Option (List ℕ)) → (before now : Outside) → Type 0
+WithText prints result path before now =
+    (now.written ≡ before.written)
+    × (((text : List ℕ) × ReadsDeck path before.read now.read text before.opened now.opened × prints result text before.printed now.printed)
+    ⊎ ((f : ProgramFault) × (result ≡ Err f) × IsUnread f path before.read now.read × (now.printed ≡ before.printed)))

@@ -1,7 +1,7 @@
 //! A deck is read and run, and its faults are told in more words.
 
-ghost use Rattle.std.specs.Prelude.{◌≡◌, IfOk, IfErr, option_map};
-ghost use Rattle.counted_io.specs.Streams.{seen_by};
+ghost use Rattle.std.specs.Prelude.{◌≡◌, IfOk, IfErr, OnOk, option_map};
+ghost use Rattle.counted_io.specs.Streams.{seen_by, IsFlushed};
 ghost use Rattle.s360_deck.specs.Runs.{StaysUnlessRun};
 ghost use Rattle.s360_deck.specs.Texts.{RunsText};
 ghost use Rattle.dasd_run.specs.Decks.{ReadsDeck, NotRead};
@@ -88,6 +88,7 @@ pub(crate) fn run_deck<W: Write, T: Write + Drop>(
     ensures runs { RunsText result text.now channel.old channel.new (seen_by W.contents writer.old) (seen_by W.contents writer.new) }
     ensures no_event { StaysUnlessRun result channel.old channel.new }
     ensures nothing_written { StaysUnlessRun result writer.old writer.new }
+    ensures flushed { OnOk result (IsFlushed (seen_by W.contents writer.new)) }
 {
     match tracer {
         Some(tracer) => run_text_watched(alloc, text, writer, channel, tracer),

@@ -103,10 +103,15 @@ pub(crate) fn assemble_text<F: ImageFiles, R: Read, W: Write>(
     writer: &mut Counted<W>,
     path: Option<&str>,
 ) -> Result<Ending, ProgramFault>
-    ensures kept { F.written files.new ≡ F.written files.old }
-    ensures prints { WithText PrintsDeck result (option_map (λ path. path.now) path.entry)
-        (seen_by R.remaining reader.old) (seen_by R.remaining reader.new)
-        (seen_by W.contents writer.old) (seen_by W.contents writer.new) }
+    ensures { WithText PrintsDeck result (option_map (λ path. path.now) path.entry)
+        (record {
+            read = seen_by R.remaining reader.old; printed = seen_by W.contents writer.old;
+            written = F.written files.old; opened = F.opened files.old
+        })
+        (record {
+            read = seen_by R.remaining reader.new; printed = seen_by W.contents writer.new;
+            written = F.written files.new; opened = F.opened files.new
+        }) }
 {
     match read_deck(alloc, files, reader, path) {
         Ok(text) => print_deck(alloc, writer, path, text.as_slice()),
@@ -127,10 +132,15 @@ pub(crate) fn disassemble_deck<F: ImageFiles, R: Read, W: Write>(
     writer: &mut Counted<W>,
     path: Option<&str>,
 ) -> Result<Ending, ProgramFault>
-    ensures kept { F.written files.new ≡ F.written files.old }
-    ensures prints { WithText PrintsWords result (option_map (λ path. path.now) path.entry)
-        (seen_by R.remaining reader.old) (seen_by R.remaining reader.new)
-        (seen_by W.contents writer.old) (seen_by W.contents writer.new) }
+    ensures { WithText PrintsWords result (option_map (λ path. path.now) path.entry)
+        (record {
+            read = seen_by R.remaining reader.old; printed = seen_by W.contents writer.old;
+            written = F.written files.old; opened = F.opened files.old
+        })
+        (record {
+            read = seen_by R.remaining reader.new; printed = seen_by W.contents writer.new;
+            written = F.written files.new; opened = F.opened files.new
+        }) }
 {
     match read_deck(alloc, files, reader, path) {
         Ok(deck) => print_words(alloc, writer, path, deck.as_slice()),

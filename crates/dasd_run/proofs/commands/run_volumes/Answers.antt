@@ -63,6 +63,7 @@ returns-clause-runs g c =
       runs =
           subst (λ (text : List ℕ). RunsText r text c.in_ok-channel.channel c.run_deck-run.new.channel (seen_by g.W.Write.contents c.args.writer.now) (seen_by g.W.Write.contents c.run_deck-run.new.writer)) c.as_slice.ensures.value
           c.run_deck-run.ensures.runs;
+      flushed = c.run_deck-run.ensures.flushed;
       unless_run = stays_seen (seen_by g.W.Write.contents) r c.args.writer.now c.run_deck-run.new.writer c.run_deck-run.ensures.nothing_written;
       concluded = c.conclude-concluded.result;
       concludes =
