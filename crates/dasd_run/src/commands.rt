@@ -201,8 +201,8 @@ fn check_volume<F: ImageFiles, W: Write, P: Progress>(
     }
 }
 
-// How a check ends that counted so many findings.
-fn ending_of(findings: u32) -> Ending
+/// How a command ends that counted so many findings.
+pub(crate) fn ending_of(findings: u32) -> Ending
     ensures { result ≡ ending_of findings }
 {
     match findings {

@@ -1,7 +1,8 @@
 //! The hash of what a volume says.
 
-ghost use Rattle.std.specs.Prelude.{◌≡◌, map, IfOk, IfErr};
-ghost use Rattle.counted_io.specs.Streams.{seen_by};
+ghost use Rattle.std.specs.Prelude.{◌≡◌, map, IfOk, IfErr, OnOk};
+ghost use Rattle.counted_io.specs.Streams.{seen_by, IsFlushed};
+ghost use Rattle.dasd_run.specs.Answers.{HashesVolume};
 ghost use Rattle.dasd_jobs.specs.Causes.{volume_fault};
 ghost use Rattle.dasd_jobs.specs.Printed.{CountsLines, PrintsFiles};
 ghost use Rattle.dasd_jobs.specs.Sources.{OfVolume};
@@ -9,7 +10,7 @@ ghost use Rattle.volume_hash.specs.Lines.{hash_text};
 ghost use Rattle.volume_hash.specs.Message.{NumberOfUnreadable};
 
 use crate::archive::quoted;
-use crate::commands::Ending;
+use crate::commands::{Ending, ending_of};
 use crate::fault::ProgramFault;
 use counted_io::Counted;
 use dasd_jobs::{ImageFiles, JobFault, open_volume};
@@ -26,7 +27,8 @@ pub(crate) fn hash_volume<F: ImageFiles, W: Write>(
     writer: &mut Counted<W>,
     asked: &PrintedVolume,
 ) -> Result<Ending, ProgramFault>
-    ensures { F.written files.new ≡ F.written files.old }
+    ensures kept { F.written files.new ≡ F.written files.old }
+    ensures hashes { HashesVolume result asked.now (F.opened files.old) (F.opened files.new) (seen_by W.contents writer.old) (seen_by W.contents writer.new) }
 {
     let paths = asked.paths.as_slice();
     let path = if asked.json {
@@ -39,8 +41,7 @@ pub(crate) fn hash_volume<F: ImageFiles, W: Write>(
         json: asked.json,
     };
     match hash_files(alloc, files, writer, paths, form) {
-        Ok(0) => Ok(Ending::Done),
-        Ok(_) => Ok(Ending::Findings),
+        Ok(unreadable) => Ok(ending_of(unreadable)),
         Err(fault) => Err(ProgramFault::Job(fault)),
     }
 }
@@ -72,6 +73,7 @@ fn hash_files<F: ImageFiles, W: Write>(
         (seen_by W.contents writer.old) (seen_by W.contents writer.new) }
     ensures writes { CountsLines result (seen_by W.contents writer.old) (seen_by W.contents writer.new) }
     ensures none { IfErr result (λ e. e ≡ JobFault.OutOfMemory → writer.new ≡ writer.old) }
+    ensures flushed { OnOk result (IsFlushed (seen_by W.contents writer.new)) }
 {
     let mut volume = open_volume(alloc, files, paths)?;
     match print_hash(alloc, &mut volume, writer, form) {

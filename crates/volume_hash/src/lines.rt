@@ -2,7 +2,7 @@
 
 ghost use Rattle.std.specs.Prelude.{◌≡◌, length, Some, IfOk, IfErr, OnOk, codes};
 ghost use Rattle.std.specs.Io.KnownBytes.{Appends};
-ghost use Rattle.counted_io.specs.Streams.{seen_by};
+ghost use Rattle.counted_io.specs.Streams.{seen_by, IsFlushed};
 ghost use Rattle.dasd_volumes.specs.Printing.{PrintsText, CountsWrites};
 ghost use Rattle.dasd_volumes.specs.Reading.{IsRead};
 ghost use Rattle.volume_hash.specs.Message.{NumberOfUnreadable};
@@ -42,6 +42,7 @@ pub fn print_hash<V: SlotReader, W: Write>(
     ensures writes { CountsWrites result (seen_by W.contents writer.old) (seen_by W.contents writer.new) }
     ensures none { IfErr result (λ e. e ≡ VolumeFault.OutOfMemory → writer.new ≡ writer.old) }
     ensures volume { IsRead result (V.volume volume.old) (V.volume volume.new) (V.failures volume.old) (V.failures volume.new) }
+    ensures flushed { OnOk result (IsFlushed (seen_by W.contents writer.new)) }
 {
     let hash = hash_volume(alloc, volume)?;
     let Ok(digits) = hex::encode(alloc, hash.digest) else {
