@@ -1,6 +1,6 @@
 //! What a line says.
 
-ghost use Rattle.std.specs.Prelude.{◌≡◌, ◌≤◌, ◌==◌, ◌&&◌, ◌||◌, length, is_some, OnOk};
+ghost use Rattle.std.specs.Prelude.{◌≡◌, ◌≤◌, ◌==◌, ◌&&◌, ◌||◌, length, position, is_some, OnOk};
 ghost use Rattle.std.specs.List.{before_first, after_first};
 ghost use Rattle.s360_assembler.specs.Statements.{mistake, count_of, is_comma, word_statement, any_word_statement, constant_statement, area_statement, origin_statement, has_storage_address, event_statement, named_statement, label_in, statement_of};
 ghost use Rattle.s360_deck.specs.Deck.{name_of, is_comment};
@@ -58,12 +58,18 @@ fn wrong(at: usize, cause: Cause) -> Result<Statement, Mistake>
     Err(Mistake { at, cause })
 }
 
+fn position_of_comma(text: &[u8]) -> Option<usize>
+    ensures { result ≡ position is_comma text.now }
+{
+    text.iter().position(|byte| *byte == b',')
+}
+
 // What stands before and behind the first comma, or all and nothing where there is none.
 fn split_at_comma(text: &[u8]) -> (&[u8], &[u8])
     ensures before { result.0.now ≡ before_first is_comma text.now }
     ensures after { result.1.now ≡ after_first is_comma text.now }
 {
-    match text.iter().position(|byte| *byte == b',') {
+    match position_of_comma(text) {
         Some(at) => (&text[..at], &text[at + 1..]),
         None => (text, &text[text.len()..]),
     }
