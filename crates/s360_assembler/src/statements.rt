@@ -53,9 +53,13 @@ pub enum Statement {
 
 // A mistake.
 fn wrong(at: usize, cause: Cause) -> Result<Statement, Mistake>
+    requires { at ≤ 4096 }
     ensures { result ≡ mistake at cause }
 {
-    Err(Mistake { at, cause })
+    Err(Mistake {
+        column: at + 1,
+        cause,
+    })
 }
 
 fn position_of_comma(text: &[u8]) -> Option<usize>
@@ -125,6 +129,7 @@ fn any_word_statement(at: usize, text: &[u8]) -> Result<Statement, Mistake>
 
 // A constant, or an address constant.
 fn constant_statement(at: usize, text: &[u8]) -> Result<Statement, Mistake>
+    requires { at ≤ 512 }
     ensures { result ≡ constant_statement at text.now }
 {
     if let [b'A', b'(', address @ .., b')'] = text {
@@ -141,6 +146,7 @@ fn constant_statement(at: usize, text: &[u8]) -> Result<Statement, Mistake>
 
 // An area of storage.
 fn area_statement(at: usize, text: &[u8]) -> Result<Statement, Mistake>
+    requires { at ≤ 512 }
     ensures { result ≡ area_statement at text.now }
 {
     match area_of(text) {
@@ -151,6 +157,7 @@ fn area_statement(at: usize, text: &[u8]) -> Result<Statement, Mistake>
 
 // Where the statements behind it stand.
 fn origin_statement(at: usize, text: &[u8]) -> Result<Statement, Mistake>
+    requires { at ≤ 512 }
     ensures { result ≡ origin_statement at text.now }
 {
     match address_of(text) {
@@ -175,6 +182,7 @@ fn is_storage_address(word: &[u8]) -> bool
 
 // An event.
 fn event_statement(name: EventName, at: usize, text: &[u8]) -> Result<Statement, Mistake>
+    requires { at ≤ 512 }
     ensures { result ≡ event_statement name at text.now }
 {
     if !has_storage_address(name) || is_storage_address(text) {
@@ -189,6 +197,7 @@ fn event_statement(name: EventName, at: usize, text: &[u8]) -> Result<Statement,
 // What an operation says of its operands.
 fn named_statement(fields: &Fields) -> Result<Statement, Mistake>
     requires place { fields.now.operands_at ≤ 512 }
+    requires operation { fields.now.operation_at ≤ 512 }
     requires short { length fields.now.operands.now ≤ 512 }
     ensures { result ≡ named_statement (name_of fields.now.operation.now) fields.now.operation.now
         fields.now.operation_at fields.now.operands_at fields.now.operands.now }
