@@ -1,22 +1,36 @@
--- The first element of a list that passes, sought one element after another.
-use Rattle.std.proofs.Common.{◌≡◌, ◌+◌, ◌<◌, ◌≤◌, ℕ, List, Bool, true, false, Option, Some, None, not, get_or, drop, length, refl, arith}
-use Rattle.std.specs.List.{position_or_len, position}
+-- The first element of a list that passes.
+use Rattle.std.proofs.Common.{◌≡◌, ◌+◌, ◌<◌, ◌≤◌, ℕ, List, [], ◌∷◌, Bool, true, false, Option, Some, None, not, cond, get_or, drop, length, refl, arith}
+use Rattle.std.specs.List.{position_or_len, position, prefix_len}
 use Rattle.std.proofs.lemmas.List.Sums.{prefix_len-drop_yes, prefix_len-drop_no, prefix_len-drop_all}
 use Rattle.std.proofs.lemmas.Bool.Decides.{nat_tests}
+
+-- the place of one that passes
+pub at_some : (p : ℕ → Bool) (xs : List ℕ) (at : ℕ) → Some at ≡ position p xs → at ≡ position_or_len p xs
+at_some p xs at is = grind (arith, nat_tests)
+
+pub inside_some : (p : ℕ → Bool) (xs : List ℕ) (at : ℕ) → Some at ≡ position p xs → at < length xs
+inside_some p xs at is = grind (arith, nat_tests)
+
+short : (p : ℕ → Bool) (xs : List ℕ) → prefix_len p xs ≤ length xs
+short p [] = omega arith
+short p (x ∷ xs) = go (p x)
+  where
+    go : (b : Bool) → cond b (1 + prefix_len p xs) 0 ≤ length (x ∷ xs)
+    go true = omega (arith, short p xs)
+    go false = omega arith
+
+-- none passes
+pub at_none : (p : ℕ → Bool) (xs : List ℕ) → None ≡ position p xs → length xs ≡ position_or_len p xs
+at_none p xs is =
+    let most : position_or_len p xs ≤ length xs = short (λ x. not (p x)) xs in
+    grind (arith, nat_tests)
 
 -- one element more does not pass
 pub passed : (p : ℕ → Bool) (xs : List ℕ) (k : ℕ) → k < length xs → p (get_or xs k 0) ≡ false
     → k + position_or_len p (drop k xs) ≡ position_or_len p xs → (k + 1) + position_or_len p (drop (k + 1) xs) ≡ position_or_len p xs
-passed p xs k inside no is = omega (arith, is, prefix_len-drop_yes (λ x. not (p x)) xs k 0 inside (rw no refl))
+passed p xs k inside fails is = omega (arith, is, prefix_len-drop_yes (λ x. not (p x)) xs k 0 inside (rw fails refl))
 
--- this element passes
-pub found : (p : ℕ → Bool) (xs : List ℕ) (k : ℕ) → k < length xs → p (get_or xs k 0) ≡ true
-    → k + position_or_len p (drop k xs) ≡ position_or_len p xs → Some k ≡ position p xs
-found p xs k inside yes is =
-    let here : position_or_len p xs ≡ k = omega (arith, is, prefix_len-drop_no (λ x. not (p x)) xs k 0 inside (rw yes refl)) in
-    rw here (grind (arith, nat_tests))
-
--- none passes
+-- none has passed
 pub missed : (p : ℕ → Bool) (xs : List ℕ) (k : ℕ) → length xs ≤ k
     → k + position_or_len p (drop k xs) ≡ position_or_len p xs → None ≡ position p xs
 missed p xs k outside is =

@@ -14,13 +14,13 @@ use Rattle.s360_assembler.specs.Statements.{statement_of}
 use Rattle.s360_assembler.specs.Symbols.{location_behind, at_byte, and_then, noted}
 use Rattle.s360_assembler.specs.Parts.{DeckState, closed, on_value, part_of, with_part}
 
--- the fault of a line: lines and columns are counted from 1
+-- the fault of a line
 abbrev pub fault_at : (line column : ℕ) → Cause → AssemblyFault
 fault_at line column cause.OutOfMemory = fault.OutOfMemory
 fault_at line column why = fault.At line column why
 
 abbrev pub told : (line : ℕ) → Mistake → AssemblyFault
-told line m = fault_at line (m.at + 1) m.cause
+told line m = fault_at line m.column m.cause
 
 -- what is made of a line goes on; or it is the fault
 abbrev pub on_line : {T U : Type 0} → (line : ℕ) → Result T Mistake → (T → Result U AssemblyFault) → Result U AssemblyFault

@@ -61,7 +61,7 @@ operation_of line =
 -- where the operands begin
 abbrev pub operands_at : List ℕ → ℕ
 operands_at line =
-    let behind = operation_at line + length (operation_of line) in
+    let behind = operation_at line + operation_length (drop (operation_at line) line) in
     behind + gap_length (drop behind line)
 
 -- how many bytes stand before the first blank that is not within apostrophes

@@ -18,7 +18,7 @@ use Rattle.s360_assembler.specs.Constants.{constant_of, unit_of, boundary_of_uni
 
 -- what is wrong at a byte of a line, the first of which is byte 0
 abbrev pub mistake : (at : ℕ) → Cause → Result Statement Mistake
-mistake at why = Err (record { at = at; cause = why })
+mistake at why = Err (record { column = at + 1; cause = why })
 
 -- what is read of an operand goes on; or it is wrong
 abbrev pub on_operand : {T : Type 0} → (at : ℕ) → Cause → Option T → (T → Result Statement Mistake) → Result Statement Mistake

@@ -90,7 +90,7 @@ Defines (Err why) before now label address = (why ≡ cause.OutOfMemory) ⊎ (de
 -- what is wrong at a byte of a line
 abbrev pub at_byte : {T : Type 0} → ℕ → Result T Cause → Result T Mistake
 at_byte at (Ok value) = Ok value
-at_byte at (Err why) = Err (record { at = at; cause = why })
+at_byte at (Err why) = Err (record { column = at + 1; cause = why })
 
 -- what is read of a line goes on, or it is wrong
 abbrev pub and_then : {T U : Type 0} → Result T Mistake → (T → Result U Mistake) → Result U Mistake

@@ -19,12 +19,11 @@ const DECK_LENGTH: usize = 1_048_576;
 
 // The fault of a line.
 fn told(number: usize, mistake: Mistake) -> AssemblyFault
-    requires { mistake.at < 9223372036854775808 }
     ensures { result ≡ told number mistake }
 {
     match mistake.cause {
         Cause::OutOfMemory => AssemblyFault::OutOfMemory,
-        cause => AssemblyFault::At(number, mistake.at + 1, cause),
+        cause => AssemblyFault::At(number, mistake.column, cause),
     }
 }
 
@@ -61,18 +60,18 @@ fn write_line(
     ensures bound { IfOk result (λ location. location ≤ 16777216) }
 {
     let statement = statement_of(line)?;
-    let at = fields_of(line).operands_at;
+    let column = fields_of(line).operands_at + 1;
     let next = match location_behind(symbols, here, &statement) {
         Ok(next) => next,
-        Err(cause) => return Err(Mistake { at, cause }),
+        Err(cause) => return Err(Mistake { column, cause }),
     };
     let part = match part_of(symbols, here, line, statement) {
         Ok(part) => part,
-        Err(cause) => return Err(Mistake { at, cause }),
+        Err(cause) => return Err(Mistake { column, cause }),
     };
     match add_part(alloc, deck, part) {
         Ok(()) => Ok(next),
-        Err(cause) => Err(Mistake { at, cause }),
+        Err(cause) => Err(Mistake { column, cause }),
     }
 }
 

@@ -1,8 +1,8 @@
 //! Constants and areas of storage, as operands spell them.
 
-ghost use Rattle.std.specs.Prelude.{◌≡◌, ◌≤◌, ◌<◌, option_map, length, IfSome};
+ghost use Rattle.std.specs.Prelude.{◌≡◌, ◌≤◌, ◌<◌, option_map, length, position, IfSome};
 ghost use Rattle.s360_deck.specs.Digits.{stored_bytes_of};
-ghost use Rattle.s360_assembler.specs.Constants.{ebcdic_of, ebcdic_text, digits_length, times_of, unit_of, decimal_bytes, bytes_of_unit, repeated, constant_of, bytes_between, boundary_of_kind, boundary_of_unit, is_kind, length_of_unit, area_of};
+ghost use Rattle.s360_assembler.specs.Constants.{ebcdic_of, ebcdic_text, is_no_digit, digits_length, times_of, unit_of, decimal_bytes, bytes_of_unit, repeated, constant_of, bytes_between, boundary_of_kind, boundary_of_unit, is_kind, length_of_unit, area_of};
 
 use arrayvec::ArrayVec;
 use byteorder::{BigEndian, ByteOrder};
@@ -70,12 +70,18 @@ fn ebcdic_text(text: &[u8]) -> Option<Bytes>
     Some(bytes)
 }
 
+fn position_of_no_digit(text: &[u8]) -> Option<usize>
+    ensures { result ≡ position is_no_digit text.now }
+{
+    text.iter().position(|byte| !byte.is_ascii_digit())
+}
+
 // How many decimal digits a text begins with.
 fn digits_length(text: &[u8]) -> usize
     ensures value { result ≡ digits_length text.now }
     ensures inside { result ≤ length text.now }
 {
-    match text.iter().position(|byte| !byte.is_ascii_digit()) {
+    match position_of_no_digit(text) {
         Some(at) => at,
         None => text.len(),
     }

@@ -49,11 +49,11 @@ pub enum Cause {
     Event,
 }
 
-/// What is wrong with a line, and at which byte of it, the first of which is byte 0.
+/// What is wrong with a line.
 #[derive(Clone, Copy, Debug, PartialEq, Eq)]
 pub struct Mistake {
-    /// The byte.
-    pub at: usize,
+    /// The column, counted from 1.
+    pub column: usize,
     /// What is wrong.
     pub cause: Cause,
 }

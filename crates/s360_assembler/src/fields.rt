@@ -1,8 +1,9 @@
 //! The fields of a line.
 
-ghost use Rattle.std.specs.Prelude.{◌≡◌, ◌≤◌, take, length, false, IfOk};
+ghost use Rattle.std.specs.Prelude.{◌≡◌, ◌≤◌, take, length, false, position, IfOk};
 ghost use Rattle.s360_assembler.specs.declared.fields.Quoting.TheVariants.{Outside};
-ghost use Rattle.s360_assembler.specs.Fields.{quoting_behind, raised_byte, raised, word_length, gap_length, label_of, operation_of, operation_at, operation_length, operands_of, operands_at, operands_length, remark_of};
+ghost use Rattle.s360_assembler.specs.Fields.{quoting_behind, raised_byte, raised, word_length, gap_length, label_of, operation_of, operation_at, operation_length, operands_of, operands_at, operands_length, remark_of, is_printing, is_apostrophe};
+ghost use Rattle.s360_deck.specs.Deck.{is_blank};
 
 use std::alloc::{AllocError, Global};
 
@@ -93,15 +94,16 @@ pub(crate) fn fields_of(line: &[u8]) -> Fields<'_>
     ensures end { result.operands_at ≤ length line.now }
     ensures remark { result.remark.now ≡ remark_of line.now }
 {
-    let label = first_word(line);
-    let operation_at = label.len() + gap_length(&line[label.len()..]);
-    let operation = first_name(&line[operation_at..]);
-    let behind = operation_at + operation.len();
+    let label = word_length(line);
+    let operation_at = label + gap_length(&line[label..]);
+    let text = &line[operation_at..];
+    let operation = operation_length(text);
+    let behind = operation_at + operation;
     let operands_at = behind + gap_length(&line[behind..]);
     let operands = first_operands(&line[operands_at..]);
     Fields {
-        label,
-        operation,
+        label: &line[..label],
+        operation: &text[..operation],
         operation_at,
         operands,
         operands_at,
@@ -109,29 +111,33 @@ pub(crate) fn fields_of(line: &[u8]) -> Fields<'_>
     }
 }
 
-// What stands before the first blank.
-fn first_word(text: &[u8]) -> &[u8]
-    ensures word { result.now ≡ take (word_length text.now) text.now }
-    ensures inside { length result.now ≤ length text.now }
-    ensures length { length result.now ≡ word_length text.now }
+fn position_of_blank(text: &[u8]) -> Option<usize>
+    ensures { result ≡ position is_blank text.now }
 {
-    match text.iter().position(|byte| *byte == b' ' || *byte == b'\t') {
-        Some(at) => &text[..at],
-        None => text,
-    }
+    text.iter().position(|byte| *byte == b' ' || *byte == b'\t')
 }
 
-// What stands before the first blank; or, where an apostrophe stands first, as far as the second one.
-fn first_name(text: &[u8]) -> &[u8]
-    ensures name { result.now ≡ take (operation_length text.now) text.now }
-    ensures inside { length result.now ≤ length text.now }
+fn position_of_printing(text: &[u8]) -> Option<usize>
+    ensures { result ≡ position is_printing text.now }
 {
-    let [b'\'', name @ ..] = text else {
-        return first_word(text);
-    };
-    match name.iter().position(|byte| *byte == b'\'') {
-        Some(at) => &text[..at + 2],
-        None => text,
+    text.iter()
+        .position(|byte| !(*byte == b' ' || *byte == b'\t'))
+}
+
+fn position_of_apostrophe(text: &[u8]) -> Option<usize>
+    ensures { result ≡ position is_apostrophe text.now }
+{
+    text.iter().position(|byte| *byte == b'\'')
+}
+
+// How many bytes stand before the first blank.
+fn word_length(text: &[u8]) -> usize
+    ensures value { result ≡ word_length text.now }
+    ensures inside { result ≤ length text.now }
+{
+    match position_of_blank(text) {
+        Some(at) => at,
+        None => text.len(),
     }
 }
 
@@ -140,11 +146,22 @@ fn gap_length(text: &[u8]) -> usize
     ensures value { result ≡ gap_length text.now }
     ensures inside { result ≤ length text.now }
 {
-    match text
-        .iter()
-        .position(|byte| !(*byte == b' ' || *byte == b'\t'))
-    {
+    match position_of_printing(text) {
         Some(at) => at,
+        None => text.len(),
+    }
+}
+
+// How many bytes stand before the first blank; or, where an apostrophe stands first, as far as the second one.
+fn operation_length(text: &[u8]) -> usize
+    ensures value { result ≡ operation_length text.now }
+    ensures inside { result ≤ length text.now }
+{
+    let [b'\'', name @ ..] = text else {
+        return word_length(text);
+    };
+    match position_of_apostrophe(name) {
+        Some(at) => at + 2,
         None => text.len(),
     }
 }

@@ -1,7 +1,7 @@
 //! Numbers, addresses and flags as operands spell them.
 
 ghost use Rattle.std.specs.Prelude.{◌≡◌, ◌≤◌, length, position, IfSome, true};
-ghost use Rattle.std.specs.List.{slice_split};
+ghost use Rattle.std.specs.List.{slice_split, list_all};
 ghost use Rattle.s360_assembler.specs.Numbers.{number_in, number_to, is_letter, is_letter_or_digit, is_symbol, padded, base_of, is_sign, displaced, address_of, counted_from, flag_of, is_plus, flags_behind, flags_of};
 
 use s360_deck::number;
@@ -67,7 +67,18 @@ pub(crate) fn is_symbol(text: &[u8]) -> bool
     let [first, ..] = text else {
         return false;
     };
-    text.len() <= 8 && is_letter(*first) && text.iter().all(|byte| is_letter_or_digit(*byte))
+    text.len() <= 8 && is_letter(*first) && are_letters_and_digits(text)
+}
+
+fn are_letters_and_digits(text: &[u8]) -> bool
+    ensures { result ≡ list_all is_letter_or_digit text.now }
+{
+    for byte in text {
+        if !is_letter_or_digit(*byte) {
+            return false;
+        }
+    }
+    true
 }
 
 /// A symbol with blanks behind it.

@@ -1,6 +1,6 @@
 //! What a line says.
 
-ghost use Rattle.std.specs.Prelude.{◌≡◌, ◌≤◌, ◌==◌, ◌&&◌, ◌||◌, length, is_some, OnOk};
+ghost use Rattle.std.specs.Prelude.{◌≡◌, ◌≤◌, ◌==◌, ◌&&◌, ◌||◌, length, position, is_some, OnOk};
 ghost use Rattle.std.specs.List.{before_first, after_first};
 ghost use Rattle.s360_assembler.specs.Statements.{mistake, count_of, is_comma, word_statement, any_word_statement, constant_statement, area_statement, origin_statement, has_storage_address, event_statement, named_statement, label_in, statement_of};
 ghost use Rattle.s360_deck.specs.Deck.{name_of, is_comment};
@@ -53,9 +53,19 @@ pub enum Statement {
 
 // A mistake.
 fn wrong(at: usize, cause: Cause) -> Result<Statement, Mistake>
+    requires { at ≤ 4096 }
     ensures { result ≡ mistake at cause }
 {
-    Err(Mistake { at, cause })
+    Err(Mistake {
+        column: at + 1,
+        cause,
+    })
+}
+
+fn position_of_comma(text: &[u8]) -> Option<usize>
+    ensures { result ≡ position is_comma text.now }
+{
+    text.iter().position(|byte| *byte == b',')
 }
 
 // What stands before and behind the first comma, or all and nothing where there is none.
@@ -63,7 +73,7 @@ fn split_at_comma(text: &[u8]) -> (&[u8], &[u8])
     ensures before { result.0.now ≡ before_first is_comma text.now }
     ensures after { result.1.now ≡ after_first is_comma text.now }
 {
-    match text.iter().position(|byte| *byte == b',') {
+    match position_of_comma(text) {
         Some(at) => (&text[..at], &text[at + 1..]),
         None => (text, &text[text.len()..]),
     }
@@ -119,6 +129,7 @@ fn any_word_statement(at: usize, text: &[u8]) -> Result<Statement, Mistake>
 
 // A constant, or an address constant.
 fn constant_statement(at: usize, text: &[u8]) -> Result<Statement, Mistake>
+    requires { at ≤ 512 }
     ensures { result ≡ constant_statement at text.now }
 {
     if let [b'A', b'(', address @ .., b')'] = text {
@@ -135,6 +146,7 @@ fn constant_statement(at: usize, text: &[u8]) -> Result<Statement, Mistake>
 
 // An area of storage.
 fn area_statement(at: usize, text: &[u8]) -> Result<Statement, Mistake>
+    requires { at ≤ 512 }
     ensures { result ≡ area_statement at text.now }
 {
     match area_of(text) {
@@ -145,6 +157,7 @@ fn area_statement(at: usize, text: &[u8]) -> Result<Statement, Mistake>
 
 // Where the statements behind it stand.
 fn origin_statement(at: usize, text: &[u8]) -> Result<Statement, Mistake>
+    requires { at ≤ 512 }
     ensures { result ≡ origin_statement at text.now }
 {
     match address_of(text) {
@@ -169,6 +182,7 @@ fn is_storage_address(word: &[u8]) -> bool
 
 // An event.
 fn event_statement(name: EventName, at: usize, text: &[u8]) -> Result<Statement, Mistake>
+    requires { at ≤ 512 }
     ensures { result ≡ event_statement name at text.now }
 {
     if !has_storage_address(name) || is_storage_address(text) {
@@ -183,6 +197,7 @@ fn event_statement(name: EventName, at: usize, text: &[u8]) -> Result<Statement,
 // What an operation says of its operands.
 fn named_statement(fields: &Fields) -> Result<Statement, Mistake>
     requires place { fields.now.operands_at ≤ 512 }
+    requires operation { fields.now.operation_at ≤ 512 }
     requires short { length fields.now.operands.now ≤ 512 }
     ensures { result ≡ named_statement (name_of fields.now.operation.now) fields.now.operation.now
         fields.now.operation_at fields.now.operands_at fields.now.operands.now }

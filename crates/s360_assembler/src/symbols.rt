@@ -179,12 +179,12 @@ pub(crate) fn note_line(symbols: &mut Vec<Symbol>, here: u32, line: &[u8]) -> Re
         Err(mistake) => return Err(mistake),
     };
     if let Err(cause) = define(symbols, label_in(line), place_of(here, &statement)) {
-        return Err(Mistake { at: 0, cause });
+        return Err(Mistake { column: 1, cause });
     }
     match location_behind(symbols.as_slice(), here, &statement) {
         Ok(next) => Ok(next),
         Err(cause) => Err(Mistake {
-            at: fields_of(line).operands_at,
+            column: fields_of(line).operands_at + 1,
             cause,
         }),
     }
