@@ -15,7 +15,7 @@ _dasd() {
     local word=${COMP_WORDS[COMP_CWORD]} before=${COMP_WORDS[COMP_CWORD - 1]} command=${COMP_WORDS[1]}
     COMPREPLY=()
     if [ "$COMP_CWORD" -eq 1 ]; then
-        _dasd_words format list check dump compare vtoc extract explain run help -h --help -V --version
+        _dasd_words format list check dump compare hash vtoc extract explain run help -h --help -V --version
         return
     fi
     case $command:$before in
@@ -54,7 +54,7 @@ _dasd() {
     esac
     case $command in
     help)
-        [ "$COMP_CWORD" -eq 2 ] && _dasd_words format list check dump compare vtoc extract explain run help
+        [ "$COMP_CWORD" -eq 2 ] && _dasd_words format list check dump compare hash vtoc extract explain run help
         ;;
     format)
         if [[ $word == -* ]]; then _dasd_words --model --cylinders --no-replace --verbose -h --help; return; fi
@@ -74,6 +74,10 @@ _dasd() {
         ;;
     compare)
         if [[ $word == -* ]]; then _dasd_words --tracks --json --verbose -h --help; return; fi
+        _dasd_files
+        ;;
+    hash)
+        if [[ $word == -* ]]; then _dasd_words --json --verbose -h --help; return; fi
         _dasd_files
         ;;
     vtoc)
