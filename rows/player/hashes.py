@@ -137,7 +137,7 @@ def in_other_files() -> list[Volume]:
     """A volume in one file, in two, and in eight."""
     volume = Volume.new("2311", 9)
     volume.write(5, 9, last_track(ONE))
-    return [volume, volume.split(3), volume.split(1, 2, 3, 4, 5, 6, 7)]
+    return [volume, volume.split(3), volume.split(2, 3, 4, 5, 6, 7, 8)]
 
 
 def in_larger_slots() -> list[Volume]:
@@ -195,7 +195,7 @@ def hostile(program: str, name: str, _: Stage) -> None:
 def path_in_a_line(program: str, _: Stage) -> None:
     """No byte of a path ends the line, and several paths are joined."""
     same("the path of the line", "a\\\\b\\nc\\rd e.ckd\n", hashed(program, pack(), ODD_NAME).name)
-    same("the paths of the line", "0-v.ckd+1-v.ckd\n", hashed(program, Volume.new("2311", 2).split(1)).name)
+    same("the paths of the line", "0-v.ckd+1-v.ckd\n", hashed(program, Volume.new("2311", 3).split(2)).name)
 
 
 def cases(program: str) -> Iterator[Case]:
