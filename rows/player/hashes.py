@@ -95,7 +95,7 @@ def record(number: int, key: bytes = b"", data: bytes = b"") -> Record:
     return Record(bytes([0, 0, 0, 9, number]), key, data)
 
 
-def track(*records: Record) -> Track:
+def last_track(*records: Record) -> Track:
     """The last track with record 0 and these."""
     fresh = new_track(0, 9)
     return Track(fresh.home, fresh.records + list(records))
@@ -125,8 +125,8 @@ def changed(volume: Volume, slot: int, at: int, held: bytes) -> Volume:
 
 def leftovers() -> list[Volume]:
     """Volumes that differ behind end marks and in reserved bytes of the header alone."""
-    volume = pack(track(ONE, TWO))
-    end = len(track(ONE, TWO).spelled())
+    volume = pack(last_track(ONE, TWO))
+    end = len(last_track(ONE, TWO).spelled())
     behind = changed(changed(volume, 9, end, b"\xe7" * 40), 9, MODEL.slot - 1, b"\1")
     header = volume.copy()
     header.headers[0] = header.headers[0][: HEADER - 1] + b"\1"
@@ -136,13 +136,13 @@ def leftovers() -> list[Volume]:
 def in_other_files() -> list[Volume]:
     """A volume in one file, in two, and in eight."""
     volume = Volume.new("2311", 9)
-    volume.write(5, 9, track(ONE))
-    return [volume, volume.split(3), volume.split(1, 2, 3, 4, 5, 6, 7)]
+    volume.write(5, 9, last_track(ONE))
+    return [volume, volume.split(3), volume.split(2, 3, 4, 5, 6, 7, 8)]
 
 
 def in_larger_slots() -> list[Volume]:
     """The same tracks in slots of two sizes."""
-    volume = pack(track(ONE))
+    volume = pack(last_track(ONE))
     larger = volume.copy()
     size = 2 * MODEL.slot
     larger.headers = [volume.headers[0][:12] + size.to_bytes(4, "little") + volume.headers[0][16:]]
@@ -152,7 +152,7 @@ def in_larger_slots() -> list[Volume]:
 
 def one_byte_differs() -> list[Volume]:
     """A volume, and it with one byte other than it was: of a home address, of each part of a count area, of a key, of data."""
-    volume = pack(track(ONE, TWO))
+    volume = pack(last_track(ONE, TWO))
     own = changed(volume, 0, 0, b"\1")
     places = [0, 2, 4, 5 + 16, 5 + 16 + 3, 5 + 16 + 4, 5 + 16 + 8, 5 + 16 + 8 + 3, 5 + 16 + 8 + 4, 5 + 16 + 8 + 4 + 79]
     return [volume, own, *[changed(volume, 9, at, bytes([volume.slots[9][at] ^ 1])) for at in places]]
@@ -161,15 +161,15 @@ def one_byte_differs() -> list[Volume]:
 def cut_otherwise() -> list[Volume]:
     """The same bytes of keys and data, cut into keys, records and tracks in other ways."""
     return [
-        pack(track(record(1, b"", b"ABCD"))),
-        pack(track(record(1, b"AB", b"CD"))),
-        pack(track(record(1, b"A", b"BCD"))),
-        pack(track(record(1, b"ABCD", b""))),
-        pack(track(record(1, b"", b"AB"), record(2, b"", b"CD"))),
-        pack(track(record(1, b"", b"CD"), record(2, b"", b"AB"))),
-        pack(track(record(1, b"", b"AB")), track(record(1, b"", b"CD"))),
-        pack(track(record(1, b"", b"AB"), record(1, b"", b"CD")), track()),
-        pack(Track(new_track(0, 9).home), track(*[record(1, b"", b"ABCD")] * 2)),
+        pack(last_track(record(1, b"", b"ABCD"))),
+        pack(last_track(record(1, b"AB", b"CD"))),
+        pack(last_track(record(1, b"A", b"BCD"))),
+        pack(last_track(record(1, b"ABCD", b""))),
+        pack(last_track(record(1, b"", b"AB"), record(2, b"", b"CD"))),
+        pack(last_track(record(1, b"", b"CD"), record(2, b"", b"AB"))),
+        pack(last_track(record(1, b"", b"AB")), last_track(record(1, b"", b"CD"))),
+        pack(last_track(record(1, b"", b"AB"), record(1, b"", b"CD")), last_track()),
+        pack(Track(new_track(0, 9).home), last_track(*[record(1, b"", b"ABCD")] * 2)),
     ]
 
 
@@ -178,9 +178,9 @@ def other_volumes() -> list[Volume]:
     return [Volume.new(name, number) for name in ("2311", "2314") for number in (1, 2)]
 
 
-def unreadable() -> list[Volume]:
+def unreadable_slots() -> list[Volume]:
     """Volumes with a slot that spells no track, each with another byte of it."""
-    volume = changed(pack(track(ONE)), 3, 10, b"\xff\xff\xff")
+    volume = changed(pack(last_track(ONE)), 3, 10, b"\xff\xff\xff")
     return [volume, changed(volume, 3, 0, b"\1"), changed(volume, 3, MODEL.slot - 1, b"\1"), changed(volume, 4, 10, b"\xff\xff\xff")]
 
 
@@ -195,7 +195,7 @@ def hostile(program: str, name: str, _: Stage) -> None:
 def path_in_a_line(program: str, _: Stage) -> None:
     """No byte of a path ends the line, and several paths are joined."""
     same("the path of the line", "a\\\\b\\nc\\rd e.ckd\n", hashed(program, pack(), ODD_NAME).name)
-    same("the paths of the line", "0-v.ckd+1-v.ckd\n", hashed(program, Volume.new("2311", 2).split(1)).name)
+    same("the paths of the line", "0-v.ckd+1-v.ckd\n", hashed(program, Volume.new("2311", 3).split(2)).name)
 
 
 def cases(program: str) -> Iterator[Case]:
@@ -210,7 +210,7 @@ def cases(program: str) -> Iterator[Case]:
         ("each byte up to the end mark says something", one_byte_differs()),
         ("how bytes are cut into areas, records and tracks says something", cut_otherwise()),
         ("model and cylinders say something", other_volumes()),
-        ("each byte of a track that can't be read says something", unreadable()),
+        ("each byte of a track that can't be read says something", unreadable_slots()),
     ):
         yield Case(name, partial(none_says_it, program, volumes))
     for name in ("bytes of a slot", "odd slots"):
