@@ -97,7 +97,7 @@ impl Named {
         match (before, word.len(), number) {
             ("word", 6, Some(last)) => self.csw.address = last.wrapping_add(8) & 0x00FF_FFFF,
             ("count", _, _) => self.csw.count = word.parse::<u16>().unwrap_or(0),
-            ("key", 1, Some(key)) => self.csw.key = key as u8,
+            ("key", 1, Some(key)) => self.csw.key = (key % 16) as u8,
             ("1", 4, Some(status)) => self.read_half(status << 16),
             (_, 8, Some(half)) if before.len() == 8 && hexadecimal(before).is_some() => {
                 self.read_half(half);
@@ -144,7 +144,7 @@ fn read_word(at: &str, rest: &str) -> Option<Pasted> {
         .rsplit_once(' ')
         .map_or("", |(_, count)| count);
     let ccw = Ccw {
-        code: number as u8,
+        code: (number % 256) as u8,
         address: hexadecimal(address)?,
         flags: CcwFlags(0),
         count: count.parse::<u16>().unwrap_or(0),
@@ -186,7 +186,7 @@ fn hexadecimal(word: &str) -> Option<u32> {
 fn unit_bit(name: &str) -> Option<u8> {
     for bit in named_bits(Field::UnitStatus) {
         if short_name(*bit) == name {
-            return Some(*bit as u8);
+            return Some((*bit % 256) as u8);
         }
     }
     None
@@ -196,7 +196,7 @@ fn unit_bit(name: &str) -> Option<u8> {
 fn channel_bit(first: &str, second: &str) -> Option<u8> {
     for bit in named_bits(Field::ChannelStatus) {
         if name_of(Field::ChannelStatus, *bit).split_once(' ') == Some((first, second)) {
-            return Some(*bit as u8);
+            return Some((*bit % 256) as u8);
         }
     }
     None

@@ -1,5 +1,7 @@
 //! What has passed in a command, under all its words.
 
+ghost use Rattle.std.specs.Prelude.{◌≤◌};
+
 use crate::met::Met;
 use ckd_sense::Command;
 
@@ -75,7 +77,9 @@ pub fn lengths_in(count: &[u8; KEPT]) -> (u8, u16) {
 }
 
 // How many bytes key and data have by their count area.
-fn body_of(count: &[u8; KEPT]) -> u32 {
+fn body_of(count: &[u8; KEPT]) -> u32
+    ensures { result ≤ 65790 }
+{
     let (key, data) = lengths_in(count);
     u32::from(key) + u32::from(data)
 }
