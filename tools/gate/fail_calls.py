@@ -6,11 +6,12 @@ A command is run once as it is, and what it printed and left is kept; then once 
 fail, once or from there on (by Debian's `strace --inject`), and once more for each, killed there. Wanted is:
 
 - With status 0 the command printed what it prints, and left what it leaves: no failure is told as success, and no byte that the file did not hold is printed.
-- With another status a fault is told on standard error (that of a read, where reads fail from there on), and behind it the host's words for what failed, with
-  the file and, of a read at a place, that place; what was printed is the beginning of what it prints, and each file is the old one or the new one, whole; no file stays behind.
+- With another status a fault is told on standard error (that of a read, where reads fail from there on), and behind it the host's words for what failed,
+  with the file and, of a read at a place, that place; what was printed is the beginning of what it prints, and each file is the old one or the new one,
+  whole; no file stays behind.
 - Where only the call fails that takes a file's first, hidden name away, all is as it was meant to be, and that name stays beside the other.
-- A program that is killed leaves each file the old one or the new one, whole. What it had begun to write may stay, under a name that begins with `.dasd-`; the next
-  command that writes a file into that folder removes it, and says so.
+- A program that is killed leaves each file the old one or the new one, whole. What it had begun to write may stay, under a name that begins with `.dasd-`;
+  the next command that writes a file into that folder removes it, and says so.
 - Where a file takes its place, it was synced before that, and its folder is synced behind it.
 
 It runs crates/dasd_cmd/out/dasd_cmd, as `rt ci` leaves it; with --built FILE that program; with words behind, the commands whose names have one of them.
