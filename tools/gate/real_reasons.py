@@ -174,25 +174,16 @@ def control_characters_of_a_name_are_not_written_to_a_terminal(s: Scratch) -> No
 
 
 @row
-def files_of_names_that_are_no_text_are_read(s: Scratch) -> None:
-    name, held = os.fsdecode(b"caf\xe9 \\.ckd"), volume(data="D5D6D7D8")
-    spelled = "caf\\xE9 \\x5C.ckd"
+def names_that_are_no_text_are_refused(s: Scratch) -> None:
+    name, held = os.fsdecode(b"caf\xe9.ckd"), volume()
     s.put(name, held)
-    s.put("plain.ckd", held)
-    same(s.dasd("check", name), (0, "0 findings\n", ""))
-    same(s.dasd("list", name), s.dasd("list", "plain.ckd"))
-    same(s.dasd("compare", name, "plain.ckd"), (0, "0 tracks differ\n", ""))
-    same(s.dasd("dump", name, "0", "0"), s.dasd("dump", "plain.ckd", "0", "0"))
-    same(json.loads(s.dasd("list", "--json", name)[1].splitlines()[0])["path"], spelled)
-    s.put(os.fsdecode(b"\xe9.deck"), b"INT\n")
-    same(s.dasd("run", "--deck", os.fsdecode(b"\xe9.deck"), "90=plain.ckd"), (0, "INT NONE\n", ""))
-    why = "a file whose name is not UTF-8 is only read"
-    same(s.dasd("run", VERBOSE, f"90={name}", deck="INT\n"), fault(f"read fault\n  {spelled}: {why}"))
-    same(s.dasd("format", VERBOSE, name), fault(f"write fault\n  {spelled}: {why}"))
-    missing = os.fsdecode(b"\xff")
-    same(s.dasd("list", VERBOSE, missing), fault("read fault\n  \\xFF: No such file or directory"))
+    told = "error: a word is not UTF-8; dasd reads such a file as /dev/stdin, behind < FILE\n"
+    for words in (["check", name], ["run", f"90={name}"], ["format", name]):
+        same(s.dasd(*words), (2, "", told), " ".join(words[:1]))
+    with open(s.path(name), "rb") as file:
+        ran = subprocess.run([s.program, "check", "/dev/stdin"], stdin=file, capture_output=True, text=True, check=False)
+    same((ran.returncode, ran.stdout, ran.stderr), (0, "0 findings\n", ""))
     is_held(s.path(name), held)
-    same(len(s.names()), 3)
 
 
 @row

@@ -6,9 +6,8 @@ use crate::drafts::{HostDraft, Old, folder_of};
 use crate::leftovers::clear_folder;
 use crate::locks::{
     Locked, find_old, is_locked, keep, list_done, mark_done, open_locked, open_trace_file,
-    try_to_replace, wrong,
+    try_to_replace,
 };
-use crate::names::{is_read_alone, open_spelled};
 use crate::reading::{HostFile, read_some};
 use crate::remarks::Remarks;
 use crate::traces::{TraceFile, TraceOutput};
@@ -33,8 +32,6 @@ pub(crate) struct HostFiles<'a> {
     cleared: Vec<String>,
     remarks: &'a Remarks<'a>,
     is_verbose: bool,
-    /// Whether paths are spelled, since a word is no text.
-    are_spelled: bool,
 }
 
 impl<'a> HostFiles<'a> {
@@ -51,30 +48,7 @@ impl<'a> HostFiles<'a> {
             cleared: Vec::new(host.alloc()),
             remarks,
             is_verbose: false,
-            are_spelled: false,
         }
-    }
-
-    /// From now on paths are spelled.
-    pub(crate) fn spell_names(&mut self) {
-        self.are_spelled = true;
-    }
-
-    // Opens a file to be read.
-    fn open_file(&self, path: &str) -> io::Result<File> {
-        if self.are_spelled {
-            open_spelled(self.host, path)
-        } else {
-            File::open(self.host, path)
-        }
-    }
-
-    // Refuses to replace or to make a file of a name that is no text.
-    fn must_be_text(&self, path: &str) -> io::Result<()> {
-        if self.are_spelled && is_read_alone(path) {
-            return Err(wrong("a file whose name is not UTF-8 is only read"));
-        }
-        Ok(())
     }
 
     /// Whether remarks are told: the words ask for them, or somebody sits at standard error.
@@ -125,7 +99,6 @@ impl<'a> HostFiles<'a> {
         ensures written { self.new.written ≡ self.old.written }
         ensures opened { self.new.opened ≡ self.old.opened }
     {
-        self.must_be_text(path)?;
         find_old(self.host, &mut self.locked, path, replaces)
     }
 
@@ -186,7 +159,7 @@ impl<'a> ImageFiles for HostFiles<'a> {
     ghost opened = { λ f. f.opened.files };
 
     fn open(&mut self, _alloc: Global, path: &str) -> Result<HostFile<'a>, FileFault> {
-        let opened = match self.open_file(path) {
+        let opened = match File::open(self.host, path) {
             Ok(file) => HostFile::open(self.host.alloc(), self.remarks, path, file),
             Err(fault) => Err(fault),
         };
@@ -200,11 +173,7 @@ impl<'a> ImageFiles for HostFiles<'a> {
     }
 
     fn lock(&mut self, alloc: Global, path: &str) -> Result<HostFile<'a>, FileFault> {
-        let found = match self.must_be_text(path) {
-            Ok(()) => open_locked(self.host, self.locked.as_slice(), path),
-            Err(fault) => Err(fault),
-        };
-        let (file, known) = match found {
+        let (file, known) = match open_locked(self.host, self.locked.as_slice(), path) {
             Ok(found) => found,
             Err(fault) => return Err(self.remarks.refuse(path, &fault)),
         };
@@ -226,7 +195,7 @@ impl<'a> ImageFiles for HostFiles<'a> {
     }
 
     fn read(&mut self, _alloc: Global, path: &str, most: usize) -> Result<Vec<u8>, FileFault> {
-        let read = match self.open_file(path) {
+        let read = match File::open(self.host, path) {
             Ok(file) => read_some(self.host.alloc(), file, most),
             Err(fault) => Err(fault),
         };
@@ -289,11 +258,7 @@ impl<'a> Traces for HostFiles<'a> {
         let output = match target {
             TraceTarget::StandardError => TraceOutput::StandardError(self.host),
             TraceTarget::File(path) => {
-                let opened = match self.must_be_text(path) {
-                    Ok(()) => open_trace_file(self.host, &mut self.locked, path, beside),
-                    Err(fault) => Err(fault),
-                };
-                match opened {
+                match open_trace_file(self.host, &mut self.locked, path, beside) {
                     Ok((file, is_regular)) => {
                         let Ok(path) = path.to_string(alloc) else {
                             return Err(FileFault::OutOfMemory);

@@ -6,7 +6,6 @@ mod faults;
 mod host;
 mod leftovers;
 mod locks;
-mod names;
 mod reading;
 mod remarks;
 mod terminal;
@@ -18,7 +17,6 @@ ghost use Rattle.dasd_cmd.specs.Ends.{ended_status};
 
 use crate::faults::{note_rule, write_fault};
 use crate::host::HostFiles;
-use crate::names::spelled_words;
 use crate::remarks::{Remarks, Shown};
 use crate::terminal::{HostInput, HostOutput, TerminalLine};
 use counted_io::Counted;
@@ -38,6 +36,10 @@ SHOW 40 8
 INT
 ";
 
+/// What is said of words that are no text.
+const NO_TEXT: &str =
+    "error: a word is not UTF-8; dasd reads such a file as /dev/stdin, behind < FILE\n";
+
 /// The status of a comparison that came to no end, as that of `cmp`.
 const NOT_COMPARED: u8 = 2;
 
@@ -47,7 +49,7 @@ const STORED_RUN: [&str; 3] = ["dasd", "run", "90=new:2311:1"];
 fn main(rt: HostRuntime) -> ExitCode {
     let remarks = Remarks::new(&rt);
     let mut files = HostFiles::new(&rt, &remarks);
-    let words = match host_words(&rt, &mut files) {
+    let words = match host_words(&rt) {
         Ok(words) => words,
         Err(fault) => return conclude(&rt, &files, false, Err(fault)),
     };
@@ -147,8 +149,8 @@ fn answer(
     ended
 }
 
-// The words that the host gave, the program's name first. Where one is no text they are spelled, and the files are told so.
-fn host_words(rt: &HostRuntime, files: &mut HostFiles) -> Result<Vec<String>, ProgramFault> {
+// The words that the host gave, the program's name first.
+fn host_words(rt: &HostRuntime) -> Result<Vec<String>, ProgramFault> {
     let mut list = Vec::new(rt.alloc());
     match env::args(rt) {
         Ok(words) => {
@@ -158,9 +160,9 @@ fn host_words(rt: &HostRuntime, files: &mut HostFiles) -> Result<Vec<String>, Pr
             Ok(list)
         }
         Err(fault) if fault.kind() == ErrorKind::OutOfMemory => Err(ProgramFault::OutOfMemory),
-        Err(_) => {
-            files.spell_names();
-            spelled_words(rt).map_err(|_| ProgramFault::OutOfMemory)
-        }
+        Err(_) => match NO_TEXT.to_string(rt.alloc()) {
+            Ok(text) => Err(ProgramFault::Words(text)),
+            Err(_) => Err(ProgramFault::OutOfMemory),
+        },
     }
 }
