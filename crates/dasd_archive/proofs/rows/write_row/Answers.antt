@@ -19,4 +19,5 @@ returns g c =
           c.put_spaced.ensures.text,
           c.put_front.ensures.text,
           c.new-line.ensures,
+          c.min-to.ensures,
         ) (line_is (c.args.letter ∷ []) (hexadecimal 6 (16 * c.args.i)) _ _ _)
