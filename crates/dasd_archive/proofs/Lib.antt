@@ -1,6 +1,7 @@
 pub mod Lined
 pub mod Listed
 pub mod Prefixes
+pub mod Printing
 pub mod Reported
-pub mod Rows
+pub mod Columns
 pub mod Sought

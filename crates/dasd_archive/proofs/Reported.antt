@@ -9,7 +9,9 @@ use Rattle.dasd_archive.specs.declared.findings.Finding.{Finding}
 use Rattle.dasd_archive.specs.declared.reports.Style.{Style}
 use Rattle.dasd_archive.specs.declared.reports.Tally.{Tally}
 use Rattle.dasd_archive.specs.Findings.{finding_line}
-use Rattle.dasd_archive.specs.Reports.{Reports, tally_of}
+use Rattle.counted_io.specs.Streams.{Stream, Takes}
+use Rattle.dasd_volumes.proofs.Fronts.{no_lines, more_lines}
+use Rattle.dasd_archive.specs.Reports.{Reports, CountsUp, finding_lines, tally_of}
 
 module _ (style : Style) (path : List ℕ) where
   pub nothing : (a : Option (List ℕ)) (t : Tally) → Reports style path a a t t []
@@ -38,3 +40,17 @@ module _ (style : Style) (path : List ℕ) where
       → Reports style path a b t u (of_each of n) → Reports style path b c u v (of n) → Reports style path a c t v (of_each of (n + 1))
   one_more_of of n a b c t u v first next =
       subst (Reports style path a c t v) (sym (of_one_more of n)) (more a b c t u v (of_each of n) (of n) first next)
+
+  -- the same of findings that are printed
+  pub none_found : (of : ℕ → List Finding) (a : Stream) (t : Tally) → Takes a a (finding_lines style path (of_each of 0)) × CountsUp t t (of_each of 0)
+  none_found of a t = (no_lines (finding_line style path) of a, λ earlier is. is ∙ ap tally_of (sym (append-nil earlier) ∙ ap (λ l. earlier ++ l) (sym (of_none of))))
+
+  pub one_more_found : (of : ℕ → List Finding) (n : ℕ) (a b c : Stream) (t u v : Tally)
+      → Takes a b (finding_lines style path (of_each of n)) × CountsUp t u (of_each of n) → Takes b c (finding_lines style path (of n)) × CountsUp u v (of n)
+      → Takes a c (finding_lines style path (of_each of (n + 1))) × CountsUp t v (of_each of (n + 1))
+  one_more_found of n a b c t u v first next = (
+    more_lines (finding_line style path) of a b c n first.0 next.0,
+    λ earlier is.
+    next.1 (earlier ++ of_each of n) (first.1 earlier is)
+    ∙ ap tally_of (append_assoc earlier (of_each of n) (of n) ∙ ap (λ l. earlier ++ l) (sym (of_one_more of n))),
+  )

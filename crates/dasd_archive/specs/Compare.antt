@@ -1,7 +1,6 @@
 -- What a comparison of two volumes of one geometry prints.
 use Rattle.std.specs.Prelude.{◌≡◌, ℕ, ◌+◌, min, Bool, true, false, ◌==◌, nat_le, nat_eq, if◌then◌else◌, List, [], ◌∷◌, ◌++◌, length, drop, slice_index_or, codes, Option, Some, Result, Ok, Err, bytes_eq}
 use Rattle.std.specs.List.{concat, common_prefix_len, flat_map}
-use Rattle.std.specs.Io.KnownBytes.{Appends}
 use Rattle.std.specs.Fmt.{decimal}
 use Rattle.ckd_track.specs.declared.geometries.Geometry.{Geometry}
 use Rattle.ckd_track.specs.declared.fault.SlotFault.{SlotFault}
@@ -10,8 +9,11 @@ use Rattle.ckd_track.specs.Geometry.{track_at}
 use Rattle.ckd_track.specs.Track.{Record, Track, track_of, record_in}
 use Rattle.ckd_track.specs.Changes.{end_offset}
 use Rattle.dasd_volumes.specs.Lines.{bytes_text, address_text, fault_text, line_feed}
+use Rattle.counted_io.specs.Streams.{Stream}
+use Rattle.dasd_volumes.specs.declared.fault.VolumeFault.{VolumeFault}
 use Rattle.dasd_volumes.specs.Reading.{KnownVolume}
 use Rattle.dasd_volumes.specs.Volumes.{of_each}
+use Rattle.dasd_archive.specs.Printed.{PrintsBytes}
 use Rattle.dasd_archive.specs.declared.reports.Style.{Style}
 use Rattle.dasd_archive.specs.declared.reports.Style.TheVariants.{Text, Json}
 use Rattle.dasd_archive.specs.declared.differences.Difference.{Difference}
@@ -121,11 +123,11 @@ compare_text style path other lists g slots other_slots =
     volume_differences style path other lists g slots other_slots
     ++ number_line style path other (length (changed_in g slots other_slots))
 
--- what was printed is this text of two volumes, if the slots of both are known
-abbrev pub PrintsBoth : (Geometry → List (List ℕ) → List (List ℕ) → List ℕ) → (one other : KnownVolume) → (before now : Option (List ℕ)) → Type 0
-PrintsBoth text one other before now =
+-- this text of two volumes was printed, and with a fault only its first bytes, if the slots of both are known
+abbrev pub PrintsBoth : {A : Type 0} → Result A VolumeFault → (text : Geometry → List (List ℕ) → List (List ℕ) → List ℕ) → (one other : KnownVolume) → (before after : Stream) → Type 0
+PrintsBoth result text one other before after =
     (slots other_slots : List (List ℕ)) → one.slots ≡ Some slots → other.slots ≡ Some other_slots
-    → Appends before now (text one.geometry slots other_slots)
+    → PrintsBytes result (text one.geometry slots other_slots) before after
 
 -- this is how many there are of these of two volumes, if the slots of both are known
 abbrev pub NumberOfBoth : (Geometry → List (List ℕ) → List (List ℕ) → List Bool) → (one other : KnownVolume) → ℕ → Type 0

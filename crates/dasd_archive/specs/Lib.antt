@@ -2,5 +2,6 @@ pub mod Compare
 pub mod Dump
 pub mod Findings
 pub mod Listing
+pub mod Printed
 pub mod Reports
 pub mod Strict

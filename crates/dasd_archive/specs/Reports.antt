@@ -1,8 +1,10 @@
 -- What findings print together, and how many there are of each severity.
-use Rattle.std.specs.Prelude.{◌≡◌, ℕ, ◌+◌, ◌-◌, ◌^◌, min, Bool, true, false, List, [], ◌∷◌, ◌++◌, flat_map, count_by, codes, Option}
+use Rattle.std.specs.Prelude.{◌≡◌, ℕ, ◌+◌, ◌-◌, ◌^◌, min, Bool, true, false, List, [], ◌∷◌, ◌++◌, flat_map, count_by, codes, Option, Result, Ok, Err}
 use Rattle.std.specs.List.{concat}
 use Rattle.std.specs.Fmt.{decimal}
 use Rattle.std.specs.Io.KnownBytes.{Appends}
+use Rattle.counted_io.specs.Streams.{Stream, Takes, TakesFront}
+use Rattle.dasd_volumes.specs.declared.fault.VolumeFault.{VolumeFault}
 use Rattle.dasd_archive.specs.declared.findings.Severity.{Severity}
 use Rattle.dasd_archive.specs.declared.findings.Severity.TheVariants.{Error, Warning, Note}
 use Rattle.dasd_archive.specs.declared.findings.Finding.{Finding}
@@ -54,7 +56,16 @@ tally_line Json path t = concat (
     codes "{\"path\":" ∷ path ∷ codes ",\"errors\":" ∷ decimal t.errors ∷ codes ",\"warnings\":" ∷ decimal t.warnings
     ∷ codes ",\"notes\":" ∷ decimal t.notes ∷ codes "}" ∷ line_feed ∷ [])
 
+-- these findings were counted, with those before them
+abbrev pub CountsUp : (tally tally_now : Tally) → List Finding → Type 0
+CountsUp tally tally_now findings = (earlier : List Finding) → tally ≡ tally_of earlier → tally_now ≡ tally_of (earlier ++ findings)
+
 -- from before to now the lines of these findings were appended, and they were counted
 pub record Reports (style : Style) (path : List ℕ) (before now : Option (List ℕ)) (tally tally_now : Tally) (findings : List Finding) : Type 0 where
   pub lines : Appends before now (finding_lines style path findings)
-  pub counts : (earlier : List Finding) → tally ≡ tally_of earlier → tally_now ≡ tally_of (earlier ++ findings)
+  pub counts : CountsUp tally tally_now findings
+
+-- these findings were printed and counted; with a fault only the first bytes of their lines were printed
+abbrev pub PrintsFindings : {A : Type 0} → Result A VolumeFault → Style → (path : List ℕ) → List Finding → (before after : Stream) → (tally tally_now : Tally) → Type 0
+PrintsFindings (Ok _) style path findings before after tally tally_now = Takes before after (finding_lines style path findings) × CountsUp tally tally_now findings
+PrintsFindings (Err _) style path findings before after tally tally_now = TakesFront before after (finding_lines style path findings)

@@ -15,10 +15,11 @@ use Rattle.dasd_archive.specs.declared.findings.Problem.TheVariants.{ReservedByt
 use Rattle.dasd_archive.specs.declared.findings.Place.{Place}
 use Rattle.dasd_archive.specs.declared.findings.Place.TheVariants as place
 use Rattle.dasd_archive.specs.declared.findings.Finding.{Finding}
-use Rattle.std.specs.Io.KnownBytes.{Appends}
+use Rattle.counted_io.specs.Streams.{Stream}
+use Rattle.dasd_volumes.specs.declared.fault.VolumeFault.{VolumeFault}
 use Rattle.dasd_archive.specs.declared.reports.Style.{Style}
 use Rattle.dasd_archive.specs.declared.reports.Tally.{Tally}
-use Rattle.dasd_archive.specs.Reports.{Reports, finding_lines, tally_line, tally_of}
+use Rattle.dasd_archive.specs.Reports.{finding_lines, tally_line, tally_of, PrintsFindings}
 use Rattle.dasd_volumes.specs.Reading.{KnownVolume}
 use Rattle.dasd_volumes.specs.Volumes.{of_each}
 
@@ -91,16 +92,15 @@ findings_on cylinder g slots =
 abbrev pub strict_findings : Geometry → (slots : List (List ℕ)) → List Finding
 strict_findings g slots = of_each (λ cylinder. findings_on cylinder g slots) g.cylinders
 
--- the lines of these findings of a volume were appended, and they were counted, if its slots are known
-abbrev pub ReportsOf : (Geometry → List (List ℕ) → List Finding) → KnownVolume → Style → (path : List ℕ) → (before now : Option (List ℕ)) → (tally tally_now : Tally) → Type 0
-ReportsOf found v style path before now tally tally_now =
-    (slots : List (List ℕ)) → v.slots ≡ Some slots → Reports style path before now tally tally_now (found v.geometry slots)
+-- what a strict check prints of a volume, behind what was found before: its findings, and how many there are of each severity in all
+abbrev pub strict_text : Style → (path : List ℕ) → (earlier : List Finding) → Geometry → (slots : List (List ℕ)) → List ℕ
+strict_text style path earlier g slots =
+    finding_lines style path (strict_findings g slots) ++ tally_line style path (tally_of (earlier ++ strict_findings g slots))
 
--- a strict check printed the lines of a volume's findings, and then this tally, if its slots are known
-abbrev pub Concludes : Style → (path : List ℕ) → KnownVolume → (before now : Option (List ℕ)) → Tally → Type 0
-Concludes style path v before now tally =
-    (slots : List (List ℕ)) → v.slots ≡ Some slots
-    → Appends before now (finding_lines style path (strict_findings v.geometry slots) ++ tally_line style path tally)
+-- these findings of a volume were printed and counted; with a fault only the first bytes of their lines, if its slots are known
+abbrev pub PrintsFindingsOf : {A : Type 0} → Result A VolumeFault → (Geometry → List (List ℕ) → List Finding) → KnownVolume → Style → (path : List ℕ) → (before after : Stream) → (tally tally_now : Tally) → Type 0
+PrintsFindingsOf result found v style path before after tally tally_now =
+    (slots : List (List ℕ)) → v.slots ≡ Some slots → PrintsFindings result style path (found v.geometry slots) before after tally tally_now
 
 -- this is the tally of earlier findings and of a volume's, if its slots are known
 abbrev pub Adds : (earlier : List Finding) → KnownVolume → Tally → Type 0

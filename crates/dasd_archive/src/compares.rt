@@ -1,18 +1,19 @@
 //! A comparison of two volumes.
 
-ghost use Rattle.std.specs.Prelude.{◌≡◌, ◌<◌, ◌≤◌, ◌+◌, [], ◌∷◌, ◌++◌, ◌==◌, IsOk, Ok, true, length, drop, min, nat_eq, bytes_eq, IfOk, OnOk, if◌then◌else◌};
-ghost use Rattle.std.specs.List.{flat_map, common_prefix_len};
+ghost use Rattle.std.specs.Prelude.{◌≡◌, ◌≢◌, ◌<◌, ◌≤◌, length, OnOk, IfOk, IfErr};
 ghost use Rattle.std.specs.Io.KnownBytes.{Appends};
-ghost use Rattle.ckd_track.specs.Track.{track_of, track_in, record_in};
-ghost use Rattle.ckd_track.specs.Changes.{end_offset};
-ghost use Rattle.dasd_volumes.specs.Reading.{IsRead};
-ghost use Rattle.dasd_volumes.specs.Volumes.{of_each};
-ghost use Rattle.dasd_archive.specs.Compare.{difference_line, where_not, same_length, record_differences, rest_differences, readable_differences, differences_of, differences_in, track_lines, changed, cylinder_differences, changed_on, volume_differences, changed_in, number_line, compare_text, PrintsBoth, NumberOfBoth};
+ghost use Rattle.counted_io.specs.Streams.{seen_by};
+ghost use Rattle.ckd_track.specs.Geometry.{tracks_of};
+ghost use Rattle.dasd_volumes.specs.Printing.{CountsWrites};
+ghost use Rattle.dasd_volumes.specs.Reading.{IsSlotOf};
+ghost use Rattle.dasd_archive.specs.Printed.{PrintsBytes};
+ghost use Rattle.dasd_archive.specs.Compare.{track_lines, changed, cylinder_differences, changed_on, volume_differences, changed_in, number_line, compare_text, PrintsBoth, NumberOfBoth};
 
-use crate::differences::Difference;
+use crate::compared::{TrackForm, compare_track};
+use crate::printed::{print_flushed, print_lines};
 use crate::reports::Style;
-use crate::tracks::{bytes_from, five, identifier, is_same};
-use ckd_track::{TrackView, end_offset_of, read_slot};
+use ckd_image::StoreFault;
+use counted_io::Counted;
 use dasd_volumes::{SlotReader, TrackAddress, VolumeFault};
 use std::alloc::Global;
 use std::io;
@@ -39,53 +40,71 @@ struct CylinderForm<'a> {
     cylinder: u16,
 }
 
-// How the lines of two tracks are written, and where both stand.
-#[derive(Clone, Copy)]
-struct TrackForm<'a> {
-    form: Comparison<'a>,
-    address: TrackAddress,
-}
-
-// A slot, and the track that it spells.
+// The slots of a track on both volumes, and the lines of what differs of them.
 #[derive(Drop)]
-struct ReadSlot<'a> {
-    slot: &'a [u8],
-    track: TrackView<'a>,
+struct Slots {
+    one: Vec<u8>,
+    other: Vec<u8>,
+    lines: Vec<u8>,
 }
 
-/// Prints what differs of two volumes of one geometry, track by track, and how many tracks differ, which it answers.
+/// Prints what differs of two volumes of one geometry, track by track, and how many tracks differ, which it answers. The lines of a
+/// track are made in memory, and written from there.
 ///
 /// # Errors
 ///
-/// Where a read or a write fails, or there is no memory for two slots, what was printed before stays.
+/// There is no memory for two slots or for the lines of a track; a read of a volume failed; or a write failed, or the last flush, and
+/// exactly then it is a write fault. What was printed are the first bytes of the text.
 pub fn compare<V: SlotReader, U: SlotReader, W: Write>(
     alloc: Global,
     one: &mut V,
     other: &mut U,
-    writer: &mut W,
+    writer: &mut Counted<W>,
     form: Comparison,
 ) -> Result<u32, VolumeFault>
     requires { (U.volume other.old).geometry ≡ (V.volume one.old).geometry }
     ensures number { IfOk result (NumberOfBoth changed_in (V.volume one.old) (U.volume other.old)) }
-    ensures lines { OnOk result (PrintsBoth (compare_text form.entry.style form.entry.path.now form.entry.other.now form.entry.lists)
-        (V.volume one.old) (U.volume other.old) (W.contents writer.old) (W.contents writer.new)) }
+    ensures lines { PrintsBoth result (compare_text form.entry.style form.entry.path.now form.entry.other.now form.entry.lists)
+        (V.volume one.old) (U.volume other.old) (seen_by W.contents writer.old) (seen_by W.contents writer.new) }
+    ensures writes { CountsWrites result (seen_by W.contents writer.old) (seen_by W.contents writer.new) }
     ensures kept { V.volume one.new ≡ V.volume one.old }
     ensures other_kept { U.volume other.new ≡ U.volume other.old }
 {
     let size = one.geometry().track_size as usize;
-    let (Ok(mut slot), Ok(mut other_slot)) = (vec![in alloc; 0u8; size], vec![in alloc; 0u8; size])
-    else {
+    let (Ok(first), Ok(second)) = (vec![in alloc; 0u8; size], vec![in alloc; 0u8; size]) else {
         return Err(VolumeFault::OutOfMemory);
     };
-    let slot = slot.as_mut_slice();
-    let other_slot = other_slot.as_mut_slice();
-    match compare_cylinders(one, other, writer, &form, slot, other_slot) {
-        Ok(differing) => match write_number(writer, &form, differing) {
-            Ok(()) => Ok(differing),
-            Err(_) => Err(VolumeFault::Write),
-        },
+    let mut slots = Slots {
+        one: first,
+        other: second,
+        lines: Vec::new(alloc),
+    };
+    let differing = match compare_cylinders(one, other, writer, &form, &mut slots) {
+        Ok(differing) => differing,
+        Err(fault) => return Err(fault),
+    };
+    match print_number(writer, &form, differing, &mut slots.lines) {
+        Ok(()) => Ok(differing),
         Err(fault) => Err(fault),
     }
+}
+
+// Prints the last line, and leaves nothing held back.
+fn print_number<W: Write>(
+    writer: &mut Counted<W>,
+    form: &Comparison,
+    differing: u32,
+    lines: &mut Vec<u8>,
+) -> Result<(), VolumeFault>
+    ensures lines { PrintsBytes result (number_line form.now.style form.now.path.now form.now.other.now differing)
+        (seen_by W.contents writer.old) (seen_by W.contents writer.new) }
+    ensures writes { CountsWrites result (seen_by W.contents writer.old) (seen_by W.contents writer.new) }
+{
+    lines.clear();
+    if write_number(lines, form, differing).is_err() {
+        return Err(VolumeFault::OutOfMemory);
+    }
+    print_flushed(writer, lines.as_slice())
 }
 
 // The last line.
@@ -96,40 +115,39 @@ fn write_number<W: Write>(writer: &mut W, form: &Comparison, differing: u32) -> 
     let path = form.path;
     let other = form.other;
     match form.style {
-        Style::Text => writeln!(writer, "{differing} tracks differ")?,
+        Style::Text => writeln!(writer, "{differing} tracks differ"),
         Style::Json => writeln!(
             writer,
             "{{\"path\":{path},\"other\":{other},\"tracks_differ\":{differing}}}"
-        )?,
+        ),
     }
-    writer.flush()
 }
 
-// The lines of all cylinders; and how many tracks differ.
+// Prints the lines of all cylinders; and answers how many tracks differ.
 fn compare_cylinders<V: SlotReader, U: SlotReader, W: Write>(
     one: &mut V,
     other: &mut U,
-    writer: &mut W,
+    writer: &mut Counted<W>,
     form: &Comparison,
-    slot: &mut [u8],
-    other_slot: &mut [u8],
+    slots: &mut Slots,
 ) -> Result<u32, VolumeFault>
     requires same { (U.volume other.old).geometry ≡ (V.volume one.old).geometry }
-    requires size { length slot.old ≡ (V.volume one.old).geometry.track_size }
-    requires other_size { length other_slot.old ≡ (V.volume one.old).geometry.track_size }
+    requires size { length slots.old.one.items ≡ (V.volume one.old).geometry.track_size }
+    requires other_size { length slots.old.other.items ≡ (V.volume one.old).geometry.track_size }
     ensures number { IfOk result (NumberOfBoth changed_in (V.volume one.old) (U.volume other.old)) }
-    ensures lines { OnOk result (PrintsBoth (volume_differences form.now.style form.now.path.now form.now.other.now form.now.lists)
-        (V.volume one.old) (U.volume other.old) (W.contents writer.old) (W.contents writer.new)) }
+    ensures lines { PrintsBoth result (volume_differences form.now.style form.now.path.now form.now.other.now form.now.lists)
+        (V.volume one.old) (U.volume other.old) (seen_by W.contents writer.old) (seen_by W.contents writer.new) }
+    ensures writes { CountsWrites result (seen_by W.contents writer.old) (seen_by W.contents writer.new) }
     ensures kept { V.volume one.new ≡ V.volume one.old }
     ensures other_kept { U.volume other.new ≡ U.volume other.old }
 {
     let mut differing: u32 = 0;
     for cylinder in 0..one.geometry().cylinders {
-        let lines = CylinderForm {
+        let on_cylinder = CylinderForm {
             form: *form,
             cylinder,
         };
-        match compare_cylinder(one, other, writer, &lines, slot, other_slot) {
+        match compare_cylinder(one, other, writer, &on_cylinder, slots) {
             Ok(found) => differing += found,
             Err(fault) => return Err(fault),
         }
@@ -137,358 +155,96 @@ fn compare_cylinders<V: SlotReader, U: SlotReader, W: Write>(
     Ok(differing)
 }
 
-// The lines of a cylinder's tracks, each of which is loaded into the slots; and how many differ.
+// Prints the lines of a cylinder's tracks, each of which is loaded into the slots; and answers how many differ.
 fn compare_cylinder<V: SlotReader, U: SlotReader, W: Write>(
     one: &mut V,
     other: &mut U,
-    writer: &mut W,
-    lines: &CylinderForm,
-    slot: &mut [u8],
-    other_slot: &mut [u8],
+    writer: &mut Counted<W>,
+    form: &CylinderForm,
+    slots: &mut Slots,
 ) -> Result<u32, VolumeFault>
     requires same { (U.volume other.old).geometry ≡ (V.volume one.old).geometry }
-    requires exists { lines.now.cylinder < (V.volume one.old).geometry.cylinders }
-    requires size { length slot.old ≡ (V.volume one.old).geometry.track_size }
-    requires other_size { length other_slot.old ≡ (V.volume one.old).geometry.track_size }
-    ensures number { IfOk result (NumberOfBoth (changed_on lines.now.cylinder) (V.volume one.old) (U.volume other.old)) }
+    requires exists { form.now.cylinder < (V.volume one.old).geometry.cylinders }
+    requires size { length slots.old.one.items ≡ (V.volume one.old).geometry.track_size }
+    requires other_size { length slots.old.other.items ≡ (V.volume one.old).geometry.track_size }
+    ensures number { IfOk result (NumberOfBoth (changed_on form.now.cylinder) (V.volume one.old) (U.volume other.old)) }
     ensures few { IfOk result (λ n. n ≤ 20) }
-    ensures lines { OnOk result
-        (PrintsBoth (cylinder_differences lines.now.form.style lines.now.form.path.now lines.now.form.other.now lines.now.form.lists lines.now.cylinder)
-        (V.volume one.old) (U.volume other.old) (W.contents writer.old) (W.contents writer.new)) }
+    ensures lines { PrintsBoth result
+        (cylinder_differences form.now.form.style form.now.form.path.now form.now.form.other.now form.now.form.lists form.now.cylinder)
+        (V.volume one.old) (U.volume other.old) (seen_by W.contents writer.old) (seen_by W.contents writer.new) }
+    ensures writes { CountsWrites result (seen_by W.contents writer.old) (seen_by W.contents writer.new) }
     ensures kept { V.volume one.new ≡ V.volume one.old }
     ensures other_kept { U.volume other.new ≡ U.volume other.old }
-    ensures size { length slot.new ≡ length slot.old }
-    ensures other_size { length other_slot.new ≡ length other_slot.old }
+    ensures size { length slots.new.one.items ≡ length slots.old.one.items }
+    ensures other_size { length slots.new.other.items ≡ length slots.old.other.items }
 {
     let geometry = one.geometry();
-    let cylinder = lines.cylinder;
+    let cylinder = form.cylinder;
     let mut differing: u32 = 0;
     for head in 0..geometry.model.heads() {
         let track = geometry.track_at(cylinder, head);
-        if one.load(track, slot).is_err() {
+        if load_both(one, other, track, slots).is_err() {
             return Err(VolumeFault::Store);
         }
-        if other.load(track, other_slot).is_err() {
-            return Err(VolumeFault::Store);
-        }
-        let track_lines = TrackForm {
-            form: lines.form,
+        let on_track = TrackForm {
+            form: form.form,
             address: TrackAddress { cylinder, head },
         };
-        match compare_track(writer, &track_lines, slot, other_slot) {
+        match print_track(writer, &on_track, slots) {
             Ok(found) => differing += found,
-            Err(_) => return Err(VolumeFault::Write),
+            Err(fault) => return Err(fault),
         }
     }
     Ok(differing)
 }
 
-// The lines of a track; and whether it differs.
-fn compare_track<W: Write>(
-    writer: &mut W,
-    lines: &TrackForm,
-    slot: &[u8],
-    other_slot: &[u8],
-) -> io::Result<u32>
-    ensures number { IfOk result (λ n. n ≡ length (changed slot.now other_slot.now)) }
+// Reads the slots of a track of both volumes.
+fn load_both<V: SlotReader, U: SlotReader>(
+    one: &mut V,
+    other: &mut U,
+    track: u32,
+    slots: &mut Slots,
+) -> Result<(), StoreFault>
+    requires same { (U.volume other.old).geometry ≡ (V.volume one.old).geometry }
+    requires exists { track < tracks_of (V.volume one.old).geometry }
+    requires size { length slots.old.one.items ≡ (V.volume one.old).geometry.track_size }
+    requires other_size { length slots.old.other.items ≡ (V.volume one.old).geometry.track_size }
+    ensures first { OnOk result (IsSlotOf (V.volume one.old) track slots.new.one.items) }
+    ensures second { OnOk result (IsSlotOf (U.volume other.old) track slots.new.other.items) }
+    ensures kept { V.volume one.new ≡ V.volume one.old }
+    ensures other_kept { U.volume other.new ≡ U.volume other.old }
+    ensures size { length slots.new.one.items ≡ length slots.old.one.items }
+    ensures other_size { length slots.new.other.items ≡ length slots.old.other.items }
+{
+    match one.load(track, slots.one.as_mut_slice()) {
+        Ok(()) => other.load(track, slots.other.as_mut_slice()),
+        Err(fault) => Err(fault),
+    }
+}
+
+// Prints the lines of a track, which are made in memory; and answers whether it differs.
+fn print_track<W: Write>(
+    writer: &mut Counted<W>,
+    form: &TrackForm,
+    slots: &mut Slots,
+) -> Result<u32, VolumeFault>
+    ensures number { IfOk result (λ n. n ≡ length (changed slots.old.one.items slots.old.other.items)) }
     ensures few { IfOk result (λ n. n ≤ 1) }
-    ensures lines { OnOk result (Appends (W.contents writer.old) (W.contents writer.new)
-        (track_lines lines.now.form.style lines.now.form.path.now lines.now.form.other.now lines.now.form.lists lines.now.address.cylinder lines.now.address.head slot.now other_slot.now)) }
+    ensures lines { PrintsBytes result
+        (track_lines form.now.form.style form.now.form.path.now form.now.form.other.now form.now.form.lists form.now.address.cylinder form.now.address.head
+        slots.old.one.items slots.old.other.items)
+        (seen_by W.contents writer.old) (seen_by W.contents writer.new) }
+    ensures writes { CountsWrites result (seen_by W.contents writer.old) (seen_by W.contents writer.new) }
+    ensures size { length slots.new.one.items ≡ length slots.old.one.items }
+    ensures other_size { length slots.new.other.items ≡ length slots.old.other.items }
 {
-    if slot == other_slot {
-        return Ok(0);
+    slots.lines.clear();
+    let (one, other) = (slots.one.as_slice(), slots.other.as_slice());
+    let Ok(differing) = compare_track(&mut slots.lines, form, one, other) else {
+        return Err(VolumeFault::OutOfMemory);
+    };
+    match print_lines(writer, slots.lines.as_slice()) {
+        Ok(()) => Ok(differing),
+        Err(fault) => Err(fault),
     }
-    write_listed(writer, lines, slot, other_slot)?;
-    Ok(1)
-}
-
-// The lines of a track that differs, where each difference has one.
-fn write_listed<W: Write>(
-    writer: &mut W,
-    lines: &TrackForm,
-    slot: &[u8],
-    other_slot: &[u8],
-) -> io::Result<()>
-    ensures { OnOk result (Appends (W.contents writer.old) (W.contents writer.new)
-        (if lines.now.form.lists then flat_map (difference_line lines.now.form.style lines.now.form.path.now lines.now.form.other.now lines.now.address.cylinder lines.now.address.head)
-        (differences_of slot.now other_slot.now (track_of slot.now) (track_of other_slot.now)) else [])) }
-{
-    if lines.form.lists {
-        write_differences(writer, lines, slot, other_slot)
-    } else {
-        Ok(())
-    }
-}
-
-// The lines of a track that differs.
-fn write_differences<W: Write>(
-    writer: &mut W,
-    lines: &TrackForm,
-    slot: &[u8],
-    other_slot: &[u8],
-) -> io::Result<()>
-    ensures { OnOk result (Appends (W.contents writer.old) (W.contents writer.new)
-        (flat_map (difference_line lines.now.form.style lines.now.form.path.now lines.now.form.other.now lines.now.address.cylinder lines.now.address.head)
-        (differences_of slot.now other_slot.now (track_of slot.now) (track_of other_slot.now)))) }
-{
-    match read_slot(slot) {
-        Ok(track) => match read_slot(other_slot) {
-            Ok(other_track) => {
-                let one = ReadSlot { slot, track };
-                let other = ReadSlot {
-                    slot: other_slot,
-                    track: other_track,
-                };
-                compare_readable(writer, lines, &one, &other)
-            }
-            Err(fault) => write_difference(writer, lines, Difference::SecondUnreadable(fault)),
-        },
-        Err(fault) => match read_slot(other_slot) {
-            Ok(_) => write_difference(writer, lines, Difference::FirstUnreadable(fault)),
-            Err(_) => {
-                let same = same_length(slot, other_slot);
-                write_difference(writer, lines, Difference::Unreadable(same))
-            }
-        },
-    }
-}
-
-// A difference as the only one.
-fn write_difference<W: Write>(
-    writer: &mut W,
-    lines: &TrackForm,
-    difference: Difference,
-) -> io::Result<()>
-    ensures { OnOk result (Appends (W.contents writer.old) (W.contents writer.new)
-        (flat_map (difference_line lines.now.form.style lines.now.form.path.now lines.now.form.other.now lines.now.address.cylinder lines.now.address.head) (difference ∷ []))) }
-{
-    write_line(writer, lines, difference)
-}
-
-// The line of a difference.
-fn write_line<W: Write>(writer: &mut W, lines: &TrackForm, difference: Difference) -> io::Result<()>
-    ensures { OnOk result (Appends (W.contents writer.old) (W.contents writer.new)
-        (difference_line lines.now.form.style lines.now.form.path.now lines.now.form.other.now lines.now.address.cylinder lines.now.address.head difference)) }
-{
-    let path = lines.form.path;
-    let other = lines.form.other;
-    let address = lines.address;
-    let TrackAddress { cylinder, head } = address;
-    match lines.form.style {
-        Style::Text => writeln!(writer, "{address} {difference}"),
-        Style::Json => writeln!(
-            writer,
-            "{{\"path\":{path},\"other\":{other},\"cylinder\":{cylinder},\"head\":{head},\"text\":\"{difference}\"}}"
-        ),
-    }
-}
-
-// The line of a difference, unless the two are the same.
-fn write_unless<W: Write>(
-    writer: &mut W,
-    lines: &TrackForm,
-    is_same: bool,
-    difference: Difference,
-) -> io::Result<()>
-    ensures { OnOk result (Appends (W.contents writer.old) (W.contents writer.new)
-        (flat_map (difference_line lines.now.form.style lines.now.form.path.now lines.now.form.other.now lines.now.address.cylinder lines.now.address.head) (where_not is_same difference))) }
-{
-    if is_same {
-        Ok(())
-    } else {
-        write_difference(writer, lines, difference)
-    }
-}
-
-// How many bytes from the first on are the same.
-fn same_length(one: &[u8], other: &[u8]) -> usize
-    ensures { result ≡ same_length one.now other.now }
-{
-    let shorter = one.len().min(other.len());
-    for i in 0..shorter {
-        if one[i] != other[i] {
-            return i;
-        }
-    }
-    shorter
-}
-
-// The lines of two tracks that can be read.
-fn compare_readable<W: Write>(
-    writer: &mut W,
-    lines: &TrackForm,
-    one: &ReadSlot,
-    other: &ReadSlot,
-) -> io::Result<()>
-    requires first { track_of one.now.slot.now ≡ Ok one.now.track }
-    requires second { track_of other.now.slot.now ≡ Ok other.now.track }
-    ensures { OnOk result (Appends (W.contents writer.old) (W.contents writer.new)
-        (flat_map (difference_line lines.now.form.style lines.now.form.path.now lines.now.form.other.now lines.now.address.cylinder lines.now.address.head)
-        (readable_differences one.now.slot.now other.now.slot.now one.now.track other.now.track))) }
-{
-    compare_home_addresses(writer, lines, &one.track, &other.track)?;
-    compare_numbers(writer, lines, &one.track, &other.track)?;
-    compare_records(writer, lines, &one.track, &other.track)?;
-    compare_rests(writer, lines, rest_of(one.slot), rest_of(other.slot))
-}
-
-// The line of two home addresses that differ.
-fn compare_home_addresses<W: Write>(
-    writer: &mut W,
-    lines: &TrackForm,
-    one: &TrackView,
-    other: &TrackView,
-) -> io::Result<()>
-    ensures { OnOk result (Appends (W.contents writer.old) (W.contents writer.new)
-        (flat_map (difference_line lines.now.form.style lines.now.form.path.now lines.now.form.other.now lines.now.address.cylinder lines.now.address.head)
-        (where_not (bytes_eq one.now.home_address other.now.home_address) (Difference.HomeAddress one.now.home_address other.now.home_address)))) }
-{
-    let first = one.ha();
-    let second = other.ha();
-    let difference = Difference::HomeAddress(five(first), five(second));
-    write_unless(writer, lines, is_equal(first, second), difference)
-}
-
-// The line of two numbers of records that differ.
-fn compare_numbers<W: Write>(
-    writer: &mut W,
-    lines: &TrackForm,
-    one: &TrackView,
-    other: &TrackView,
-) -> io::Result<()>
-    ensures { OnOk result (Appends (W.contents writer.old) (W.contents writer.new)
-        (flat_map (difference_line lines.now.form.style lines.now.form.path.now lines.now.form.other.now lines.now.address.cylinder lines.now.address.head)
-        (where_not (length one.now.records == length other.now.records) (Difference.Records (length one.now.records) (length other.now.records))))) }
-{
-    let first = one.len();
-    let second = other.len();
-    let difference = Difference::Records(first, second);
-    write_unless(writer, lines, first == second, difference)
-}
-
-// Whether bytes are the same.
-fn is_equal(one: &[u8], other: &[u8]) -> bool
-    ensures { result ≡ bytes_eq one.now other.now }
-{
-    one == other
-}
-
-// The lines of the records that both tracks have.
-fn compare_records<W: Write>(
-    writer: &mut W,
-    lines: &TrackForm,
-    one: &TrackView,
-    other: &TrackView,
-) -> io::Result<()>
-    ensures { OnOk result (Appends (W.contents writer.old) (W.contents writer.new)
-        (flat_map (difference_line lines.now.form.style lines.now.form.path.now lines.now.form.other.now lines.now.address.cylinder lines.now.address.head)
-        (of_each (λ i. record_differences i (record_in one.now i) (record_in other.now i)) (min (length one.now.records) (length other.now.records))))) }
-{
-    for i in 0..one.len().min(other.len()) {
-        compare_record(writer, lines, one, other, i)?;
-    }
-    Ok(())
-}
-
-// The lines of two records.
-fn compare_record<W: Write>(
-    writer: &mut W,
-    lines: &TrackForm,
-    one: &TrackView,
-    other: &TrackView,
-    i: usize,
-) -> io::Result<()>
-    requires first { i < length one.now.records }
-    requires second { i < length other.now.records }
-    ensures { OnOk result (Appends (W.contents writer.old) (W.contents writer.new)
-        (flat_map (difference_line lines.now.form.style lines.now.form.path.now lines.now.form.other.now lines.now.address.cylinder lines.now.address.head)
-        (record_differences i (record_in one.now i) (record_in other.now i)))) }
-{
-    compare_identifiers(writer, lines, one, other, i)?;
-    compare_keys(writer, lines, one, other, i)?;
-    compare_contents(writer, lines, one, other, i)
-}
-
-// The line of two identifiers that differ.
-fn compare_identifiers<W: Write>(
-    writer: &mut W,
-    lines: &TrackForm,
-    one: &TrackView,
-    other: &TrackView,
-    i: usize,
-) -> io::Result<()>
-    requires first { i < length one.now.records }
-    requires second { i < length other.now.records }
-    ensures { OnOk result (Appends (W.contents writer.old) (W.contents writer.new)
-        (flat_map (difference_line lines.now.form.style lines.now.form.path.now lines.now.form.other.now lines.now.address.cylinder lines.now.address.head)
-        (where_not (bytes_eq (record_in one.now i).id (record_in other.now i).id) (Difference.Identifier i (record_in one.now i).id (record_in other.now i).id)))) }
-{
-    let first = identifier(one, i);
-    let second = identifier(other, i);
-    let difference = Difference::Identifier(i, first, second);
-    write_unless(writer, lines, is_same(first, second), difference)
-}
-
-// The line of two keys that differ.
-fn compare_keys<W: Write>(
-    writer: &mut W,
-    lines: &TrackForm,
-    one: &TrackView,
-    other: &TrackView,
-    i: usize,
-) -> io::Result<()>
-    requires first { i < length one.now.records }
-    requires second { i < length other.now.records }
-    ensures { OnOk result (Appends (W.contents writer.old) (W.contents writer.new)
-        (flat_map (difference_line lines.now.form.style lines.now.form.path.now lines.now.form.other.now lines.now.address.cylinder lines.now.address.head)
-        (where_not (bytes_eq (record_in one.now i).key_area (record_in other.now i).key_area) (Difference.Key i (same_length (record_in one.now i).key_area (record_in other.now i).key_area))))) }
-{
-    let first = one.key_of(i);
-    let second = other.key_of(i);
-    let difference = Difference::Key(i, same_length(first, second));
-    write_unless(writer, lines, is_equal(first, second), difference)
-}
-
-// The line of the data of two records that differ.
-fn compare_contents<W: Write>(
-    writer: &mut W,
-    lines: &TrackForm,
-    one: &TrackView,
-    other: &TrackView,
-    i: usize,
-) -> io::Result<()>
-    requires first { i < length one.now.records }
-    requires second { i < length other.now.records }
-    ensures { OnOk result (Appends (W.contents writer.old) (W.contents writer.new)
-        (flat_map (difference_line lines.now.form.style lines.now.form.path.now lines.now.form.other.now lines.now.address.cylinder lines.now.address.head)
-        (where_not (bytes_eq (record_in one.now i).data_area (record_in other.now i).data_area) (Difference.Contents i (same_length (record_in one.now i).data_area (record_in other.now i).data_area))))) }
-{
-    let first = one.data_of(i);
-    let second = other.data_of(i);
-    let difference = Difference::Contents(i, same_length(first, second));
-    write_unless(writer, lines, is_equal(first, second), difference)
-}
-
-// What stands behind the end mark of a slot.
-fn rest_of(slot: &[u8]) -> &[u8]
-    requires { IsOk (track_of slot.now) }
-    ensures { result.now ≡ drop (end_offset (track_in slot.now) + 8) slot.now }
-{
-    bytes_from(slot, end_offset_of(slot) + 8)
-}
-
-// The line of what stands behind two end marks.
-fn compare_rests<W: Write>(
-    writer: &mut W,
-    lines: &TrackForm,
-    one: &[u8],
-    other: &[u8],
-) -> io::Result<()>
-    ensures { OnOk result (Appends (W.contents writer.old) (W.contents writer.new)
-        (flat_map (difference_line lines.now.form.style lines.now.form.path.now lines.now.form.other.now lines.now.address.cylinder lines.now.address.head) (rest_differences one.now other.now))) }
-{
-    let same = same_length(one, other);
-    let shorter = one.len().min(other.len());
-    let difference = Difference::BehindEnd(same);
-    write_unless(writer, lines, shorter <= same, difference)
 }

@@ -1,24 +1,26 @@
 //! The bytes of tracks, in hexadecimal and in EBCDIC.
 
-ghost use Rattle.std.specs.Prelude.{◌≡◌, ◌+◌, ◌-◌, ◌*◌, ◌<◌, ◌≤◌, ◌++◌, Some, length, OnOk, slice_index};
+ghost use Rattle.std.specs.Prelude.{◌≡◌, ◌≢◌, ◌+◌, ◌<◌, ◌++◌, length, OnOk, IfErr, slice_index};
 ghost use Rattle.std.specs.List.{flat_map};
 ghost use Rattle.std.specs.Io.KnownBytes.{Appends};
+ghost use Rattle.counted_io.specs.Streams.{seen_by};
 ghost use Rattle.ckd_track.specs.Track.{track_of, record_in};
-ghost use Rattle.dasd_volumes.specs.Reading.{Prints, IsRead};
-ghost use Rattle.dasd_volumes.specs.Lines.{hexadecimal, record_line};
-ghost use Rattle.dasd_archive.specs.Dump.{spaced_text, blanks_text, shown_text, row_line, rows_text, holds, place_text, areas_text, object_text, record_dump, record_text, home_address_line, unreadable_line, track_dump, cylinder_dump, dump_text, IsPartOf};
+ghost use Rattle.dasd_volumes.specs.Printing.{PrintsText, CountsWrites};
+ghost use Rattle.dasd_volumes.specs.Reading.{IsRead};
+ghost use Rattle.dasd_volumes.specs.Lines.{record_line};
+ghost use Rattle.dasd_archive.specs.Printed.{PrintsBytes};
+ghost use Rattle.dasd_archive.specs.Dump.{holds, place_text, areas_text, object_text, record_dump, record_text, home_address_line, unreadable_line, track_dump, cylinder_dump, dump_text, IsPartOf};
 
+use crate::printed::print_lines;
 use crate::reports::{Form, Style};
+use crate::rows::write_rows;
 use crate::tracks::identifier;
-use ckd_track::{Geometry, SlotFault, TrackView, read_slot};
+use ckd_track::{SlotFault, TrackView, read_slot};
+use counted_io::{Counted, WriteFault, flush_all};
 use dasd_volumes::{Hexadecimal, Reason, SlotReader, TrackAddress, VolumeFault};
 use std::alloc::Global;
+use std::io;
 use std::io::Write;
-use std::{fmt, io};
-use volume_labels::shown_character;
-
-/// The bytes of one line.
-const ROW: usize = 16;
 
 /// The numbers from a first to a last one, which is none where the last is less.
 #[derive(Clone, Copy)]
@@ -56,6 +58,14 @@ struct PartForm<'a> {
     part: Part,
 }
 
+// How the lines of a part of a cylinder are written, and which it is.
+#[derive(Clone, Copy)]
+struct CylinderForm<'a> {
+    form: Form<'a>,
+    part: Part,
+    cylinder: u16,
+}
+
 /// How the lines of a track are written, and where it stands.
 #[derive(Clone, Copy)]
 pub(crate) struct TrackForm<'a> {
@@ -64,80 +74,91 @@ pub(crate) struct TrackForm<'a> {
 }
 
 /// Prints the home addresses and the records of a part of a volume, sixteen bytes of a key or of data to a line: the offset of
-/// the first, the bytes in hexadecimal, and their characters in EBCDIC. A track that can't be read is one line, with why.
+/// the first, the bytes in hexadecimal, and their characters in EBCDIC. A track that can't be read is one line, with why. The lines of
+/// a track are made in memory, and written from there.
 ///
 /// # Errors
 ///
-/// There is no memory for a slot, before anything is printed; or a read or a write fails: what was printed before stays.
+/// There is no memory for a slot or for the lines of a track; a read of the volume failed; or a write failed, or the last flush, and
+/// exactly then it is a write fault. What was printed are the first bytes of the text.
 pub fn dump<V: SlotReader, W: Write>(
     alloc: Global,
     volume: &mut V,
-    writer: &mut W,
+    writer: &mut Counted<W>,
     form: Form,
     part: Part,
 ) -> Result<(), VolumeFault>
     requires { IsPartOf part (V.volume volume.old).geometry }
-    ensures lines { OnOk result
-        (Prints (dump_text form.entry.style form.entry.path.now part) (V.volume volume.old) (W.contents writer.old) (W.contents writer.new)) }
+    ensures lines { PrintsText result (dump_text form.entry.style form.entry.path.now part) (V.volume volume.old)
+        (seen_by W.contents writer.old) (seen_by W.contents writer.new) }
+    ensures writes { CountsWrites result (seen_by W.contents writer.old) (seen_by W.contents writer.new) }
     ensures volume { IsRead result (V.volume volume.old) (V.volume volume.new) (V.failures volume.old) (V.failures volume.new) }
 {
     let Ok(mut slot) = vec![in alloc; 0u8; volume.geometry().track_size as usize] else {
         return Err(VolumeFault::OutOfMemory);
     };
-    let lines = PartForm { form, part };
-    if let Err(fault) = dump_cylinders(volume, writer, &lines, slot.as_mut_slice()) {
+    let mut lines = Vec::new(alloc);
+    let part = PartForm { form, part };
+    let slot = slot.as_mut_slice();
+    if let Err(fault) = dump_cylinders(volume, writer, &part, slot, &mut lines) {
         return Err(fault);
     }
-    match writer.flush() {
+    match flush_all(writer) {
         Ok(()) => Ok(()),
-        Err(_) => Err(VolumeFault::Write),
+        Err(WriteFault) => Err(VolumeFault::Write),
     }
 }
 
-// The cylinders of a part, each of whose tracks is loaded into the slot.
+// Prints the cylinders of a part, each of whose tracks is loaded into the slot.
 fn dump_cylinders<V: SlotReader, W: Write>(
     volume: &mut V,
-    writer: &mut W,
-    lines: &PartForm,
+    writer: &mut Counted<W>,
+    form: &PartForm,
     slot: &mut [u8],
+    lines: &mut Vec<u8>,
 ) -> Result<(), VolumeFault>
-    requires part { IsPartOf lines.now.part (V.volume volume.old).geometry }
+    requires part { IsPartOf form.now.part (V.volume volume.old).geometry }
     requires size { length slot.old ≡ (V.volume volume.old).geometry.track_size }
-    ensures lines { OnOk result
-        (Prints (dump_text lines.now.form.style lines.now.form.path.now lines.now.part) (V.volume volume.old)
-        (W.contents writer.old) (W.contents writer.new)) }
+    ensures lines { PrintsText result (dump_text form.now.form.style form.now.form.path.now form.now.part) (V.volume volume.old)
+        (seen_by W.contents writer.old) (seen_by W.contents writer.new) }
+    ensures writes { CountsWrites result (seen_by W.contents writer.old) (seen_by W.contents writer.new) }
     ensures volume { IsRead result (V.volume volume.old) (V.volume volume.new) (V.failures volume.old) (V.failures volume.new) }
 {
-    let part = lines.part;
+    let part = form.part;
     let cylinders = volume.geometry().cylinders;
     prove!(part.cylinders.last < cylinders);
     for i in 0..part.cylinders.last + 1 - part.cylinders.first {
-        let cylinder = part.cylinders.first + i;
-        if let Err(fault) = dump_cylinder(volume, writer, lines, cylinder, slot) {
+        let on_cylinder = CylinderForm {
+            form: form.form,
+            part,
+            cylinder: part.cylinders.first + i,
+        };
+        if let Err(fault) = dump_cylinder(volume, writer, &on_cylinder, slot, lines) {
             return Err(fault);
         }
     }
     Ok(())
 }
 
-// The tracks of a part on one cylinder, each of which is loaded into the slot.
+// Prints the tracks of a part on one cylinder, each of which is loaded into the slot.
 fn dump_cylinder<V: SlotReader, W: Write>(
     volume: &mut V,
-    writer: &mut W,
-    lines: &PartForm,
-    cylinder: u16,
+    writer: &mut Counted<W>,
+    form: &CylinderForm,
     slot: &mut [u8],
+    lines: &mut Vec<u8>,
 ) -> Result<(), VolumeFault>
-    requires part { IsPartOf lines.now.part (V.volume volume.old).geometry }
-    requires exists { cylinder < (V.volume volume.old).geometry.cylinders }
+    requires part { IsPartOf form.now.part (V.volume volume.old).geometry }
+    requires exists { form.now.cylinder < (V.volume volume.old).geometry.cylinders }
     requires size { length slot.old ≡ (V.volume volume.old).geometry.track_size }
-    ensures lines { OnOk result
-        (Prints (cylinder_dump lines.now.form.style lines.now.form.path.now lines.now.part cylinder)
-        (V.volume volume.old) (W.contents writer.old) (W.contents writer.new)) }
+    ensures lines { PrintsText result (cylinder_dump form.now.form.style form.now.form.path.now form.now.part form.now.cylinder)
+        (V.volume volume.old) (seen_by W.contents writer.old) (seen_by W.contents writer.new) }
+    ensures writes { CountsWrites result (seen_by W.contents writer.old) (seen_by W.contents writer.new) }
     ensures volume { IsRead result (V.volume volume.old) (V.volume volume.new) (V.failures volume.old) (V.failures volume.new) }
     ensures size { length slot.new ≡ length slot.old }
 {
-    let part = lines.part;
+    let part = form.part;
+    let cylinder = form.cylinder;
     let geometry = volume.geometry();
     for i in 0..part.heads.last + 1 - part.heads.first {
         let head = part.heads.first + i;
@@ -147,15 +168,36 @@ fn dump_cylinder<V: SlotReader, W: Write>(
         {
             return Err(VolumeFault::Store);
         }
-        let track_lines = TrackForm {
-            form: lines.form,
+        let track = TrackForm {
+            form: form.form,
             address: TrackAddress { cylinder, head },
         };
-        if dump_track(writer, &track_lines, part.numbers, slot).is_err() {
-            return Err(VolumeFault::Write);
+        if let Err(fault) = print_track(writer, &track, part.numbers, slot, lines) {
+            return Err(fault);
         }
     }
     Ok(())
+}
+
+// Prints the lines of one track, which are made in memory.
+fn print_track<W: Write>(
+    writer: &mut Counted<W>,
+    form: &TrackForm,
+    numbers: Range,
+    slot: &[u8],
+    lines: &mut Vec<u8>,
+) -> Result<(), VolumeFault>
+    ensures lines { PrintsBytes result
+        (track_dump form.now.form.style form.now.form.path.now form.now.address.cylinder form.now.address.head numbers (track_of slot.now))
+        (seen_by W.contents writer.old) (seen_by W.contents writer.new) }
+    ensures writes { CountsWrites result (seen_by W.contents writer.old) (seen_by W.contents writer.new) }
+    ensures fault { IfErr result (λ e. e ≢ VolumeFault.Store) }
+{
+    lines.clear();
+    if dump_track(lines, form, numbers, slot).is_err() {
+        return Err(VolumeFault::OutOfMemory);
+    }
+    print_lines(writer, lines.as_slice())
 }
 
 // The lines of one track.
@@ -284,8 +326,8 @@ fn dump_record<W: Write>(
     match lines.form.style {
         Style::Text => {
             dump_count(writer, track, i)?;
-            dump_rows(writer, "K", track.key_of(i))?;
-            dump_rows(writer, "D", track.data_of(i))
+            write_rows(writer, b'K', track.key_of(i))?;
+            write_rows(writer, b'D', track.data_of(i))
         }
         Style::Json => dump_object(writer, lines, track, i),
     }
@@ -374,92 +416,4 @@ pub(crate) fn dump_count<W: Write>(writer: &mut W, track: &TrackView, i: usize) 
     let key_length = track.key_of(i).len();
     let data_length = track.data_of(i).len();
     writeln!(writer, "  {identifier} KL {key_length} DL {data_length}")
-}
-
-// Bytes, sixteen to a line.
-fn dump_rows<W: Write>(writer: &mut W, letter: &str, bytes: &[u8]) -> io::Result<()>
-    requires { length bytes.now < 65536 }
-    ensures { OnOk result (Appends (W.contents writer.old) (W.contents writer.new) (rows_text letter.now bytes.now)) }
-{
-    for i in 0..(bytes.len() + 15) / ROW {
-        dump_row(writer, letter, bytes, i)?;
-    }
-    Ok(())
-}
-
-// A line of at most sixteen bytes.
-fn dump_row<W: Write>(writer: &mut W, letter: &str, bytes: &[u8], i: usize) -> io::Result<()>
-    requires { 16 * i < length bytes.now }
-    ensures { OnOk result (Appends (W.contents writer.old) (W.contents writer.new) (row_line letter.now bytes.now i)) }
-{
-    let from = ROW * i;
-    let to = (from + ROW).min(bytes.len());
-    let row = &bytes[from..to];
-    let spaced = Spaced(row);
-    let blanks = Blanks(ROW - row.len());
-    let shown = Shown(row);
-    writeln!(
-        writer,
-        "    {letter} {}  {spaced}{blanks} {shown}",
-        Offset(from)
-    )
-}
-
-// An offset in six hexadecimal digits.
-#[derive(Clone, Copy)]
-struct Offset(usize);
-
-impl fmt::Display for Offset {
-    ghost output = { λ o. Some (hexadecimal 6 o.0) };
-
-    fn fmt<W: fmt::Write>(&self, f: &mut fmt::Formatter<W>) -> fmt::Result {
-        let offset = self.0;
-        write!(f, "{offset:06X}")
-    }
-}
-
-// Bytes in hexadecimal digits, each with a blank behind it.
-#[derive(Clone, Copy)]
-struct Spaced<'a>(&'a [u8]);
-
-impl fmt::Display for Spaced<'_> {
-    ghost output = { λ s. Some (spaced_text s.0.now) };
-
-    fn fmt<W: fmt::Write>(&self, f: &mut fmt::Formatter<W>) -> fmt::Result {
-        for byte in self.0 {
-            let byte = *byte;
-            write!(f, "{byte:02X} ")?;
-        }
-        Ok(())
-    }
-}
-
-// The place of so many bytes that are not there.
-#[derive(Clone, Copy)]
-struct Blanks(usize);
-
-impl fmt::Display for Blanks {
-    ghost output = { λ b. Some (blanks_text b.0) };
-
-    fn fmt<W: fmt::Write>(&self, f: &mut fmt::Formatter<W>) -> fmt::Result {
-        for i in 0..self.0 {
-            f.write_str("   ")?;
-        }
-        Ok(())
-    }
-}
-
-// Bytes as characters of EBCDIC.
-#[derive(Clone, Copy)]
-struct Shown<'a>(&'a [u8]);
-
-impl fmt::Display for Shown<'_> {
-    ghost output = { λ s. Some (shown_text s.0.now) };
-
-    fn fmt<W: fmt::Write>(&self, f: &mut fmt::Formatter<W>) -> fmt::Result {
-        for byte in self.0 {
-            f.write_char(char::from(shown_character(*byte)))?;
-        }
-        Ok(())
-    }
 }

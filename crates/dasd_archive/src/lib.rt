@@ -1,12 +1,15 @@
 //! What an archive asks of a volume, above one image: what a reader of the drive would trip over.
 #![tactic(auto)]
 
+mod compared;
 mod compares;
 mod differences;
 mod dumps;
 mod findings;
 mod lists;
+mod printed;
 mod reports;
+mod rows;
 mod strict;
 mod tracks;
 
@@ -16,4 +19,4 @@ pub use crate::dumps::{Part, Range, dump};
 pub use crate::findings::{Finding, Place, Problem, Severity};
 pub use crate::lists::{Listing, list_part};
 pub use crate::reports::{Form, Style, Tally};
-pub use crate::strict::{check_headers, check_strict};
+pub use crate::strict::{FileHeader, check_headers, check_strict};

@@ -1,17 +1,33 @@
 //! A strict check of a volume.
 
-ghost use Rattle.std.specs.Prelude.{◌≡◌, ◌<◌, ◌++◌, List, length, IfOk, OnOk};
-ghost use Rattle.dasd_volumes.specs.Reading.{IsRead};
+ghost use Rattle.std.specs.Prelude.{◌≡◌, ◌≢◌, ◌<◌, ◌≤◌, List, length, IfOk, IfErr, OnOk};
+ghost use Rattle.counted_io.specs.Streams.{seen_by};
+ghost use Rattle.ckd_track.specs.Geometry.{tracks_of};
+ghost use Rattle.ckd_image.specs.Store.{Counts};
+ghost use Rattle.dasd_volumes.specs.Printing.{PrintsText, CountsWrites};
+ghost use Rattle.dasd_volumes.specs.Reading.{IsRead, IsSlotOf};
 ghost use Rattle.dasd_archive.specs.declared.findings.Finding.{Finding};
-ghost use Rattle.std.specs.Io.KnownBytes.{Appends};
-ghost use Rattle.dasd_archive.specs.Reports.{Reports, tally_line, tally_of};
-ghost use Rattle.dasd_archive.specs.Strict.{findings_on, strict_findings, findings_in_header, ReportsOf, Concludes, Adds};
+ghost use Rattle.dasd_archive.specs.Printed.{PrintsBytes};
+ghost use Rattle.dasd_archive.specs.Reports.{tally_line, tally_of, PrintsFindings};
+ghost use Rattle.dasd_archive.specs.Strict.{findings_on, findings_in_slot, strict_findings, strict_text, findings_in_header, PrintsFindingsOf, Adds};
 
+use crate::printed::{print_flushed, print_lines};
 use crate::reports::{Form, Tally, write_tally};
 use crate::tracks::{CheckedTrack, TrackPlace, check_header, check_track};
+use ckd_image::StoreFault;
+use counted_io::Counted;
 use dasd_volumes::{SlotReader, VolumeFault};
 use std::alloc::Global;
 use std::io::Write;
+
+/// The header of a file of an image.
+#[derive(Clone, Copy)]
+pub struct FileHeader<'a> {
+    /// Which file it is of; the first is number 1.
+    pub file: u8,
+    /// Its bytes.
+    pub bytes: &'a [u8; 512],
+}
 
 // How what is found of a cylinder is written, and which it is.
 #[derive(Clone, Copy)]
@@ -20,92 +36,117 @@ struct CylinderForm<'a> {
     cylinder: u16,
 }
 
-/// Prints what is found of the header of a file of an image, and counts it. The first file is number 1.
+// The slot of a track, a table of its records, and the lines of what is found of it.
+#[derive(Drop)]
+struct Room {
+    slot: Vec<u8>,
+    table: Vec<u32>,
+    lines: Vec<u8>,
+}
+
+/// Prints what is found of the header of a file of an image, and counts it. The line is made in memory, and written from there.
 ///
 /// # Errors
 ///
-/// A write fails; what was printed before stays.
+/// There is no memory for the line; or a write failed, and exactly then it is a write fault. What was printed are the first bytes of
+/// the line.
 pub fn check_headers<W: Write>(
-    writer: &mut W,
+    alloc: Global,
+    writer: &mut Counted<W>,
     tally: &mut Tally,
     form: Form,
-    file: u8,
-    header: &[u8],
+    header: FileHeader,
 ) -> Result<(), VolumeFault>
-    requires { length header.now ≡ 512 }
-    ensures { OnOk result (Reports form.entry.style form.entry.path.now (W.contents writer.old) (W.contents writer.new)
-        tally.old tally.new (findings_in_header file header.now)) }
+    ensures found { PrintsFindings result form.entry.style form.entry.path.now (findings_in_header header.entry.file header.entry.bytes.now)
+        (seen_by W.contents writer.old) (seen_by W.contents writer.new) tally.old tally.new }
+    ensures writes { CountsWrites result (seen_by W.contents writer.old) (seen_by W.contents writer.new) }
+    ensures fault { IfErr result (λ e. e ≢ VolumeFault.Store) }
 {
-    match check_header(writer, tally, form, file, header) {
-        Ok(()) => Ok(()),
-        Err(_) => Err(VolumeFault::Write),
+    let mut lines = Vec::new(alloc);
+    let FileHeader { file, bytes } = header;
+    if check_header(&mut lines, tally, form, file, bytes).is_err() {
+        return Err(VolumeFault::OutOfMemory);
     }
+    print_lines(writer, lines.as_slice())
 }
 
 /// Prints what a reader of the drive would trip over on a volume, and what is unusual or worth to know: each finding with its
-/// severity and its place, and then how many there are of each severity, with those that were found before, which it answers.
+/// severity and its place, and then how many there are of each severity, with those that were found before, which it answers. What is
+/// found of a track is made lines in memory, and written from there.
 ///
 /// # Errors
 ///
-/// Where a read or a write fails, or there is no memory for a slot, what was printed before stays.
+/// There is no memory for a slot, for a table of its records or for the lines of a track; a read of the volume failed; or a write
+/// failed, or the last flush, and exactly then it is a write fault. What was printed are the first bytes of the text.
 pub fn check_strict<V: SlotReader, W: Write>(
     alloc: Global,
     volume: &mut V,
-    writer: &mut W,
+    writer: &mut Counted<W>,
     form: Form,
     tally: Tally,
 ) -> Result<Tally, VolumeFault>
     ensures counts { (earlier : List Finding) → tally ≡ tally_of earlier
         → IfOk result (λ t. Adds earlier (V.volume volume.old) t) }
-    ensures lines { IfOk result
-        (λ t. Concludes form.entry.style form.entry.path.now (V.volume volume.old) (W.contents writer.old) (W.contents writer.new) t) }
+    ensures lines { (earlier : List Finding) → tally ≡ tally_of earlier
+        → PrintsText result (strict_text form.entry.style form.entry.path.now earlier) (V.volume volume.old)
+        (seen_by W.contents writer.old) (seen_by W.contents writer.new) }
+    ensures writes { CountsWrites result (seen_by W.contents writer.old) (seen_by W.contents writer.new) }
     ensures volume { IsRead result (V.volume volume.old) (V.volume volume.new) (V.failures volume.old) (V.failures volume.new) }
 {
     let mut tally = tally;
     let size = volume.geometry().track_size as usize;
-    let (Ok(mut slot), Ok(mut table)) = (vec![in alloc; 0u8; size], vec![in alloc; 0u32; size])
-    else {
+    let (Ok(slot), Ok(table)) = (vec![in alloc; 0u8; size], vec![in alloc; 0u32; size]) else {
         return Err(VolumeFault::OutOfMemory);
     };
-    let slot = slot.as_mut_slice();
-    let table = table.as_mut_slice();
-    if let Err(fault) = check_cylinders(volume, writer, &mut tally, form, slot, table) {
+    let lines = Vec::new(alloc);
+    let mut room = Room { slot, table, lines };
+    if let Err(fault) = check_cylinders(volume, writer, &mut tally, form, &mut room) {
         return Err(fault);
     }
-    match finish(writer, form, tally) {
+    match print_tally(writer, form, tally, &mut room.lines) {
         Ok(()) => Ok(tally),
-        Err(_) => Err(VolumeFault::Write),
+        Err(fault) => Err(fault),
     }
 }
 
-// The last line.
-fn finish<W: Write>(writer: &mut W, form: Form, tally: Tally) -> std::io::Result<()>
-    ensures { OnOk result (Appends (W.contents writer.old) (W.contents writer.new)
-        (tally_line form.entry.style form.entry.path.now tally)) }
+// Prints the last line, and leaves nothing held back.
+fn print_tally<W: Write>(
+    writer: &mut Counted<W>,
+    form: Form,
+    tally: Tally,
+    lines: &mut Vec<u8>,
+) -> Result<(), VolumeFault>
+    ensures lines { PrintsBytes result (tally_line form.entry.style form.entry.path.now tally)
+        (seen_by W.contents writer.old) (seen_by W.contents writer.new) }
+    ensures writes { CountsWrites result (seen_by W.contents writer.old) (seen_by W.contents writer.new) }
+    ensures fault { IfErr result (λ e. e ≢ VolumeFault.Store) }
 {
-    write_tally(writer, form, tally)?;
-    writer.flush()
+    lines.clear();
+    if write_tally(lines, form, tally).is_err() {
+        return Err(VolumeFault::OutOfMemory);
+    }
+    print_flushed(writer, lines.as_slice())
 }
 
-// Checks the tracks of all cylinders, each of which is loaded into the slot.
+// Checks the tracks of all cylinders.
 fn check_cylinders<V: SlotReader, W: Write>(
     volume: &mut V,
-    writer: &mut W,
+    writer: &mut Counted<W>,
     tally: &mut Tally,
     form: Form,
-    slot: &mut [u8],
-    table: &mut [u32],
+    room: &mut Room,
 ) -> Result<(), VolumeFault>
-    requires size { length slot.old ≡ (V.volume volume.old).geometry.track_size }
-    requires room { length table.old ≡ (V.volume volume.old).geometry.track_size }
-    ensures found { OnOk result (ReportsOf strict_findings (V.volume volume.old) form.entry.style form.entry.path.now
-        (W.contents writer.old) (W.contents writer.new) tally.old tally.new) }
+    requires size { length room.old.slot.items ≡ (V.volume volume.old).geometry.track_size }
+    requires table { length room.old.table.items ≡ (V.volume volume.old).geometry.track_size }
+    ensures found { PrintsFindingsOf result strict_findings (V.volume volume.old) form.entry.style form.entry.path.now
+        (seen_by W.contents writer.old) (seen_by W.contents writer.new) tally.old tally.new }
+    ensures writes { CountsWrites result (seen_by W.contents writer.old) (seen_by W.contents writer.new) }
     ensures volume { IsRead result (V.volume volume.old) (V.volume volume.new) (V.failures volume.old) (V.failures volume.new) }
 {
     let geometry = volume.geometry();
     for cylinder in 0..geometry.cylinders {
-        let lines = CylinderForm { form, cylinder };
-        if let Err(fault) = check_cylinder(volume, writer, tally, &lines, slot, table) {
+        let on_cylinder = CylinderForm { form, cylinder };
+        if let Err(fault) = check_cylinder(volume, writer, tally, &on_cylinder, room) {
             return Err(fault);
         }
     }
@@ -115,41 +156,77 @@ fn check_cylinders<V: SlotReader, W: Write>(
 // Checks the tracks of a cylinder, each of which is loaded into the slot.
 fn check_cylinder<V: SlotReader, W: Write>(
     volume: &mut V,
-    writer: &mut W,
+    writer: &mut Counted<W>,
     tally: &mut Tally,
-    lines: &CylinderForm,
-    slot: &mut [u8],
-    table: &mut [u32],
+    form: &CylinderForm,
+    room: &mut Room,
 ) -> Result<(), VolumeFault>
-    requires exists { lines.now.cylinder < (V.volume volume.old).geometry.cylinders }
-    requires size { length slot.old ≡ (V.volume volume.old).geometry.track_size }
-    requires room { length table.old ≡ (V.volume volume.old).geometry.track_size }
-    ensures found { OnOk result (ReportsOf (findings_on lines.now.cylinder) (V.volume volume.old) lines.now.form.style
-        lines.now.form.path.now (W.contents writer.old) (W.contents writer.new) tally.old tally.new) }
+    requires exists { form.now.cylinder < (V.volume volume.old).geometry.cylinders }
+    requires size { length room.old.slot.items ≡ (V.volume volume.old).geometry.track_size }
+    requires table { length room.old.table.items ≡ (V.volume volume.old).geometry.track_size }
+    ensures found { PrintsFindingsOf result (findings_on form.now.cylinder) (V.volume volume.old) form.now.form.style
+        form.now.form.path.now (seen_by W.contents writer.old) (seen_by W.contents writer.new) tally.old tally.new }
+    ensures writes { CountsWrites result (seen_by W.contents writer.old) (seen_by W.contents writer.new) }
     ensures volume { IsRead result (V.volume volume.old) (V.volume volume.new) (V.failures volume.old) (V.failures volume.new) }
-    ensures size { length slot.new ≡ length slot.old }
-    ensures room { length table.new ≡ length table.old }
+    ensures size { length room.new.slot.items ≡ length room.old.slot.items }
+    ensures table { length room.new.table.items ≡ length room.old.table.items }
 {
     let geometry = volume.geometry();
-    let cylinder = lines.cylinder;
+    let cylinder = form.cylinder;
     for head in 0..geometry.model.heads() {
-        if volume
-            .load(geometry.track_at(cylinder, head), slot)
-            .is_err()
-        {
+        if load(volume, geometry.track_at(cylinder, head), room).is_err() {
             return Err(VolumeFault::Store);
         }
         let track = CheckedTrack {
-            form: lines.form,
+            form: form.form,
             place: TrackPlace {
                 geometry,
                 cylinder,
                 head,
             },
         };
-        if check_track(writer, tally, &track, slot, table).is_err() {
-            return Err(VolumeFault::Write);
+        if let Err(fault) = print_track(writer, tally, &track, room) {
+            return Err(fault);
         }
     }
     Ok(())
+}
+
+// Reads the slot of a track.
+fn load<V: SlotReader>(volume: &mut V, track: u32, room: &mut Room) -> Result<(), StoreFault>
+    requires exists { track < tracks_of (V.volume volume.old).geometry }
+    requires size { length room.old.slot.items ≡ (V.volume volume.old).geometry.track_size }
+    ensures slot { OnOk result (IsSlotOf (V.volume volume.old) track room.new.slot.items) }
+    ensures kept { V.volume volume.new ≡ V.volume volume.old }
+    ensures counted { Counts (V.failures volume.old) (V.failures volume.new) result }
+    ensures size { length room.new.slot.items ≡ length room.old.slot.items }
+    ensures table { length room.new.table.items ≡ length room.old.table.items }
+{
+    volume.load(track, room.slot.as_mut_slice())
+}
+
+// Checks the track in the slot, and prints what is found of it.
+fn print_track<W: Write>(
+    writer: &mut Counted<W>,
+    tally: &mut Tally,
+    track: &CheckedTrack,
+    room: &mut Room,
+) -> Result<(), VolumeFault>
+    requires size { length room.old.slot.items ≤ 65536 }
+    requires table { length room.old.table.items ≡ length room.old.slot.items }
+    ensures found { PrintsFindings result track.now.form.style track.now.form.path.now
+        (findings_in_slot track.now.place.geometry track.now.place.cylinder track.now.place.head room.old.slot.items)
+        (seen_by W.contents writer.old) (seen_by W.contents writer.new) tally.old tally.new }
+    ensures writes { CountsWrites result (seen_by W.contents writer.old) (seen_by W.contents writer.new) }
+    ensures fault { IfErr result (λ e. e ≢ VolumeFault.Store) }
+    ensures size { length room.new.slot.items ≡ length room.old.slot.items }
+    ensures table { length room.new.table.items ≡ length room.old.table.items }
+{
+    room.lines.clear();
+    let slot = room.slot.as_slice();
+    let table = room.table.as_mut_slice();
+    if check_track(&mut room.lines, tally, track, slot, table).is_err() {
+        return Err(VolumeFault::OutOfMemory);
+    }
+    print_lines(writer, room.lines.as_slice())
 }

@@ -16,12 +16,15 @@ until_one_more of n = rw add-one refl
 pub begun : (of : ℕ → Written) (a : Option (List ℕ)) → Writes (until_stop of 0) a a None
 begun of a = rw (until_none of) (record { bytes = Appends-nil a; stop = refl })
 
+-- what has not ended is followed
+pub and_then_none : (w next : Written) → w.stop ≡ None → and_then w next ≡ behind None w.bytes next
+and_then_none w next is = ap (λ s. behind s w.bytes next) is
+
 -- one, and then the next
 pub next_written : (w next : Written) (a b c : Option (List ℕ)) (stop : Option Stop) → Writes w a b None → Writes next b c stop
     → Writes (and_then w next) a c stop
 next_written w next a b c stop first second =
-    let e : behind w.stop w.bytes next ≡ behind None w.bytes next = ap (λ s. behind s w.bytes next) (sym first.stop) in
-    rw e (record { bytes = Appends-trans a b c _ _ first.bytes second.bytes; stop = second.stop })
+    rw (and_then_none w next (sym first.stop)) (record { bytes = Appends-trans a b c _ _ first.bytes second.bytes; stop = second.stop })
 
 -- one more of them
 pub one_more : (of : ℕ → Written) (n : ℕ) (a b c : Option (List ℕ)) (stop : Option Stop) → Writes (until_stop of n) a b None → Writes (of n) b c stop
@@ -32,11 +35,11 @@ one_more of n a b c stop first second = rw (until_one_more of n) (next_written (
 with_stop : List ℕ → Option Stop → Written
 with_stop bytes stop = record { bytes = bytes; stop = stop }
 
-ended_stays : (w next : Written) (s : Stop) → w.stop ≡ Some s → and_then w next ≡ w
+pub ended_stays : (w next : Written) (s : Stop) → w.stop ≡ Some s → and_then w next ≡ w
 unfolding with_stop
 ended_stays w next s is = ap (λ o. behind o w.bytes next) is ∙ ap (with_stop w.bytes) (sym is)
 
-stays_for : (of : ℕ → Written) (n k : ℕ) (s : Stop) → (until_stop of n).stop ≡ Some s → until_stop of (n + k) ≡ until_stop of n
+pub stays_for : (of : ℕ → Written) (n k : ℕ) (s : Stop) → (until_stop of n).stop ≡ Some s → until_stop of (n + k) ≡ until_stop of n
 stays_for of n zero s is = let e : n + 0 ≡ n = omega arith in ap (until_stop of) e
 stays_for of n (suc k) s is =
     let before = stays_for of n k s is in

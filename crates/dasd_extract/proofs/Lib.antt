@@ -2,3 +2,5 @@ pub mod Endings
 pub mod Lines
 pub mod Numbers
 pub mod Characters
+pub mod Printings
+pub mod Spelled

@@ -10,13 +10,15 @@ use Rattle.volume_labels.specs.declared.fields.RelativeAddress.{RelativeAddress}
 use Rattle.data_sets.specs.declared.addresses.TrackPlace.{TrackPlace}
 use Rattle.data_sets.specs.declared.addresses.TrackPlace.TheVariants as place
 use Rattle.data_sets.specs.Addresses as addresses
+use Rattle.counted_io.specs.Streams.{Stream}
+use Rattle.dasd_volumes.specs.declared.fault.VolumeFault.{VolumeFault}
 use Rattle.dasd_volumes.specs.Reading.{KnownVolume}
 use Rattle.dasd_extract.specs.declared.stops.Cause.{Cause}
 use Rattle.dasd_extract.specs.declared.stops.Cause.TheVariants.{PastExtents, Outside, BadExtent, NoTrack, Unreadable, NoBlock, TooManyTracks}
 use Rattle.dasd_extract.specs.declared.stops.Stop.{Stop}
 use Rattle.dasd_extract.specs.declared.blocks.Form.{Form}
 use Rattle.dasd_extract.specs.declared.tracks.Part.{Part}
-use Rattle.dasd_extract.specs.Written.{Written, stopped, and_then, until_stop, Writes}
+use Rattle.dasd_extract.specs.Written.{Written, stopped, and_then, until_stop, Writes, PrintsWritten}
 use Rattle.dasd_extract.specs.Blocks.{number_of, block_written}
 
 -- the block of a number; number 0 is what stands before the first block, which is behind record 0
@@ -75,13 +77,21 @@ abbrev pub Extracts : Wanted → KnownVolume → (before now : Option (List ℕ)
 Extracts s v before now stop =
     (slots : List (List ℕ)) → v.slots ≡ Some slots → Writes (source_written s v.geometry slots) before now (Some stop)
 
+-- The blocks of a source were printed, and this is where they end; with a fault only their first bytes were, if the slots of the volume
+-- are known.
+abbrev pub PrintsSource : Wanted → KnownVolume → Result Stop VolumeFault → (before after : Stream) → Type 0
+PrintsSource s v (Ok stop) before after =
+    (slots : List (List ℕ)) → v.slots ≡ Some slots → PrintsWritten (source_written s v.geometry slots) (Ok (Some stop)) before after
+PrintsSource s v (Err fault) before after =
+    (slots : List (List ℕ)) → v.slots ≡ Some slots → PrintsWritten (source_written s v.geometry slots) (Err fault) before after
+
 -- the same of one track
-abbrev pub ExtractsTrack : Wanted → (i : ℕ) → KnownVolume → (before now : Option (List ℕ)) → Option Stop → Type 0
-ExtractsTrack s i v before now stop =
-    (slots : List (List ℕ)) → v.slots ≡ Some slots → Writes (track_written s v.geometry slots i) before now stop
+abbrev pub PrintsTrack : Wanted → (i : ℕ) → KnownVolume → Result (Option Stop) VolumeFault → (before after : Stream) → Type 0
+PrintsTrack s i v result before after =
+    (slots : List (List ℕ)) → v.slots ≡ Some slots → PrintsWritten (track_written s v.geometry slots i) result before after
 
 -- the same of the slot of a track on the volume
-abbrev pub ExtractsSlot : Part → (found : ℕ) → KnownVolume → (before now : Option (List ℕ)) → Option Stop → Type 0
-ExtractsSlot p found v before now stop =
+abbrev pub PrintsSlot : Part → (found : ℕ) → KnownVolume → Result (Option Stop) VolumeFault → (before after : Stream) → Type 0
+PrintsSlot p found v result before after =
     (slots : List (List ℕ)) → v.slots ≡ Some slots
-    → Writes (slot_written p.form p.track p.number (track_of (slice_index_or slots found []))) before now stop
+    → PrintsWritten (slot_written p.form p.track p.number (track_of (slice_index_or slots found []))) result before after

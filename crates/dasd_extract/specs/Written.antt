@@ -1,6 +1,8 @@
 -- What is written of blocks one after another, and where it ends.
-use Rattle.std.specs.Prelude.{◌≡◌, ℕ, zero, suc, List, [], ◌++◌, Option, Some, None}
+use Rattle.std.specs.Prelude.{◌≡◌, ℕ, zero, suc, List, [], ◌++◌, Option, Some, None, Result, Ok, Err}
 use Rattle.std.specs.Io.KnownBytes.{Appends}
+use Rattle.counted_io.specs.Streams.{Stream, Takes, TakesFront}
+use Rattle.dasd_volumes.specs.declared.fault.VolumeFault.{VolumeFault}
 use Rattle.dasd_extract.specs.declared.stops.Cause.{Cause}
 use Rattle.dasd_extract.specs.declared.stops.Stop.{Stop}
 
@@ -36,3 +38,8 @@ until_stop of (suc n) = and_then (until_stop of n) (of n)
 pub record Writes (w : Written) (before now : Option (List ℕ)) (ended : Option Stop) : Type 0 where
   pub bytes : Appends before now w.bytes
   pub stop : ended ≡ w.stop
+
+-- this was printed, and it ended so; with a fault only the first bytes of it were printed
+abbrev pub PrintsWritten : Written → Result (Option Stop) VolumeFault → (before after : Stream) → Type 0
+PrintsWritten w (Ok ended) before after = Takes before after w.bytes × (ended ≡ w.stop)
+PrintsWritten w (Err _) before after = TakesFront before after w.bytes

@@ -1,23 +1,20 @@
 //! What is written of a block.
 
-ghost use Rattle.std.specs.Prelude.{◌≡◌, ◌<◌, ◌≤◌, Some, length, slice_range, IfOk, OnOk};
+ghost use Rattle.std.specs.Prelude.{◌≡◌, ◌<◌, ◌≤◌, length, slice_range, IfOk, OnOk};
 ghost use Rattle.std.specs.Io.KnownBytes.{Appends};
 ghost use Rattle.ckd_track.specs.Track.{record_in};
 ghost use Rattle.dasd_extract.specs.Written.{Writes, these_bytes};
-ghost use Rattle.dasd_extract.specs.Blocks.{text_character, text_of, line_of, piece_text, lines_written, directory_written, form_written, block_written, number_of};
+ghost use Rattle.dasd_extract.specs.Blocks.{line_of, piece_text, lines_written, directory_written, form_written, block_written, number_of};
 
 use crate::stops::{Cause, Stop};
+use crate::texts::write_text;
 use ckd_track::TrackView;
 use data_sets::{DIRECTORY_BLOCK, Piece, RecordForm, Segment, next_record, without_blanks};
+use std::io;
 use std::io::Write;
-use std::{fmt, io};
-use volume_labels::character;
 
 /// The length of a directory block's key, in bytes.
 const DIRECTORY_KEY: usize = 8;
-
-/// What stands for a character that is no text.
-const REPLACEMENT: char = '\u{FFFD}';
 
 /// How blocks are written.
 #[derive(Clone, Copy)]
@@ -31,47 +28,12 @@ pub enum Form {
     Directory,
 }
 
-// A byte of EBCDIC as text.
-fn text_character(byte: u8) -> char
-    ensures { result ≡ text_character byte }
-{
-    let character = character(byte);
-    if character < 32 || (character >= 127 && character < 160) {
-        REPLACEMENT
-    } else {
-        char::from(character)
-    }
-}
-
-// Bytes of EBCDIC as text.
-#[derive(Clone, Copy)]
-struct Characters<'a>(&'a [u8]);
-
-impl fmt::Display for Characters<'_> {
-    ghost output = { λ c. Some (text_of c.0.now) };
-
-    fn fmt<W: fmt::Write>(&self, f: &mut fmt::Formatter<W>) -> fmt::Result {
-        for byte in self.0 {
-            f.write_char(text_character(*byte))?;
-        }
-        Ok(())
-    }
-}
-
 // Writes a line without the blanks at its end.
 fn write_line<W: Write>(writer: &mut W, bytes: &[u8]) -> io::Result<()>
     ensures { OnOk result (Appends (W.contents writer.old) (W.contents writer.new) (line_of bytes.now)) }
 {
-    let characters = Characters(without_blanks(bytes));
-    writeln!(writer, "{characters}")
-}
-
-// Writes a part of a line.
-fn write_part<W: Write>(writer: &mut W, bytes: &[u8]) -> io::Result<()>
-    ensures { OnOk result (Appends (W.contents writer.old) (W.contents writer.new) (text_of bytes.now)) }
-{
-    let characters = Characters(bytes);
-    write!(writer, "{characters}")
+    write_text(writer, without_blanks(bytes))?;
+    writer.write_all(b"\n")
 }
 
 // Writes a record of a block, or a segment of one.
@@ -83,7 +45,7 @@ fn write_piece<W: Write>(writer: &mut W, block: &[u8], piece: Piece) -> io::Resu
     let bytes = &block[piece.start..piece.end];
     match piece.segment {
         Segment::Whole | Segment::Last => write_line(writer, bytes),
-        Segment::First | Segment::Middle => write_part(writer, bytes),
+        Segment::First | Segment::Middle => write_text(writer, bytes),
     }
 }
 

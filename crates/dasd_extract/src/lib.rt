@@ -6,6 +6,7 @@ mod blocks;
 mod members;
 mod names;
 mod stops;
+mod texts;
 mod tracks;
 mod walks;
 

@@ -7,6 +7,7 @@ ghost use Rattle.dasd_extract.specs.Members.{MembersOf};
 use crate::blocks::Form;
 use crate::stops::Stop;
 use crate::walks::{Source, extract};
+use counted_io::Counted;
 use dasd_volumes::{SlotReader, VolumeFault};
 use data_sets::{Directory, DirectoryEntry, DirectoryFault, read_directory};
 use std::alloc::Global;
@@ -73,12 +74,13 @@ pub fn read_members<V: SlotReader>(
     ensures members { IfOk result (MembersOf extents.now (V.volume volume.old)) }
     ensures volume { IsRead result (V.volume volume.old) (V.volume volume.new) (V.failures volume.old) (V.failures volume.new) }
 {
-    let mut blocks = Vec::new(alloc);
+    let mut blocks = Counted::new(Vec::new(alloc));
     let stop = match extract(alloc, volume, &mut blocks, directory_of(extents)) {
         Ok(stop) => stop,
         Err(VolumeFault::Store) => return Err(VolumeFault::Store),
         Err(_) => return Err(VolumeFault::OutOfMemory),
     };
+    let blocks = blocks.into_inner();
     match read_directory(alloc, blocks.as_slice()) {
         Ok(Directory { entries, fault }) => Ok(Members {
             entries,

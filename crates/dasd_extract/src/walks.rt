@@ -1,13 +1,20 @@
 //! The blocks of a data set, over extents and tracks.
 
-ghost use Rattle.std.specs.Prelude.{◌≡◌, ◌+◌, ◌<◌, ◌≢◌, Some, length, IfOk, IfErr};
+ghost use Rattle.std.specs.Prelude.{◌≡◌, ◌<◌, ◌≢◌, length, OnOk, IfErr};
+ghost use Rattle.counted_io.specs.Streams.{seen_by};
 ghost use Rattle.ckd_track.specs.Geometry.{tracks_of};
-ghost use Rattle.dasd_volumes.specs.Reading.{IsRead};
-ghost use Rattle.dasd_extract.specs.Walk.{past_end, number_on, wanted, Extracts, ExtractsTrack, ExtractsSlot};
+ghost use Rattle.ckd_track.specs.Track as tracks;
+ghost use Rattle.ckd_image.specs.Store.{Counts};
+ghost use Rattle.dasd_volumes.specs.Printing.{CountsWrites};
+ghost use Rattle.dasd_volumes.specs.Reading.{IsRead, IsSlotOf};
+ghost use Rattle.dasd_extract.specs.Written.{PrintsWritten};
+ghost use Rattle.dasd_extract.specs.Walk.{past_end, number_on, slot_written, wanted, PrintsSource, PrintsTrack, PrintsSlot};
 
 use crate::blocks::Form;
 use crate::stops::{Cause, Stop};
 use crate::tracks::{Part, write_slot};
+use ckd_image::StoreFault;
+use counted_io::{Counted, WriteFault, write_whole};
 use dasd_volumes::{SlotReader, VolumeFault};
 use data_sets::{TrackPlace, track_of};
 use std::alloc::Global;
@@ -45,43 +52,82 @@ fn number_on(start: RelativeAddress, i: u16) -> u8
     if i == 0 { start.number } else { 0 }
 }
 
-// Writes the blocks of a track of the volume, which is loaded into the slot.
+// The slot of a track, and what is written of it.
+#[derive(Drop)]
+struct Room {
+    slot: Vec<u8>,
+    written: Vec<u8>,
+}
+
+// Prints the blocks of a track of the volume, which is loaded into the slot.
 fn extract_found<V: SlotReader, W: Write>(
     volume: &mut V,
-    writer: &mut W,
+    writer: &mut Counted<W>,
     part: Part,
     found: u32,
-    slot: &mut [u8],
+    room: &mut Room,
 ) -> Result<Option<Stop>, VolumeFault>
     requires exists { found < tracks_of (V.volume volume.old).geometry }
-    requires size { length slot.old ≡ (V.volume volume.old).geometry.track_size }
-    ensures written { IfOk result (ExtractsSlot part found (V.volume volume.old) (W.contents writer.old) (W.contents writer.new)) }
-    ensures memory { IfErr result (λ e. e ≢ VolumeFault.OutOfMemory) }
+    requires size { length room.old.slot.items ≡ (V.volume volume.old).geometry.track_size }
+    ensures written { PrintsSlot part found (V.volume volume.old) result (seen_by W.contents writer.old) (seen_by W.contents writer.new) }
+    ensures writes { CountsWrites result (seen_by W.contents writer.old) (seen_by W.contents writer.new) }
     ensures volume { IsRead result (V.volume volume.old) (V.volume volume.new) (V.failures volume.old) (V.failures volume.new) }
-    ensures size { length slot.new ≡ length slot.old }
+    ensures size { length room.new.slot.items ≡ length room.old.slot.items }
 {
-    if volume.load(found, slot).is_err() {
+    if load(volume, found, room).is_err() {
         return Err(VolumeFault::Store);
     }
-    match write_slot(writer, part, slot) {
-        Ok(stop) => Ok(stop),
-        Err(_) => Err(VolumeFault::Write),
+    print_slot(writer, part, room.slot.as_slice(), &mut room.written)
+}
+
+// Reads the slot of a track.
+fn load<V: SlotReader>(volume: &mut V, track: u32, room: &mut Room) -> Result<(), StoreFault>
+    requires exists { track < tracks_of (V.volume volume.old).geometry }
+    requires size { length room.old.slot.items ≡ (V.volume volume.old).geometry.track_size }
+    ensures slot { OnOk result (IsSlotOf (V.volume volume.old) track room.new.slot.items) }
+    ensures kept { V.volume volume.new ≡ V.volume volume.old }
+    ensures counted { Counts (V.failures volume.old) (V.failures volume.new) result }
+    ensures size { length room.new.slot.items ≡ length room.old.slot.items }
+{
+    volume.load(track, room.slot.as_mut_slice())
+}
+
+// Prints the blocks of the track in a slot, which are made in memory.
+fn print_slot<W: Write>(
+    writer: &mut Counted<W>,
+    part: Part,
+    slot: &[u8],
+    written: &mut Vec<u8>,
+) -> Result<Option<Stop>, VolumeFault>
+    ensures written { PrintsWritten (slot_written part.form part.track part.number (tracks.track_of slot.now)) result
+        (seen_by W.contents writer.old) (seen_by W.contents writer.new) }
+    ensures writes { CountsWrites result (seen_by W.contents writer.old) (seen_by W.contents writer.new) }
+    ensures fault { IfErr result (λ e. e ≢ VolumeFault.Store) }
+{
+    written.clear();
+    let Ok(stop) = write_slot(written, part, slot) else {
+        return Err(VolumeFault::OutOfMemory);
+    };
+    match write_whole(writer, written.as_slice()) {
+        Ok(()) => Ok(stop),
+        Err(WriteFault) => Err(VolumeFault::Write),
     }
 }
 
-// Writes the blocks of the track that is so many behind the first, which is loaded into the slot.
+// Prints the blocks of the track that is so many behind the first, which is loaded into the slot.
 fn extract_track<V: SlotReader, W: Write>(
     volume: &mut V,
-    writer: &mut W,
+    writer: &mut Counted<W>,
     source: Source,
     i: u16,
-    slot: &mut [u8],
+    room: &mut Room,
 ) -> Result<Option<Stop>, VolumeFault>
-    requires size { length slot.old ≡ (V.volume volume.old).geometry.track_size }
-    ensures written { IfOk result (ExtractsTrack (wanted source.entry.form source.entry.extents.now source.entry.start source.entry.tracks) i (V.volume volume.old) (W.contents writer.old) (W.contents writer.new)) }
-    ensures memory { IfErr result (λ e. e ≢ VolumeFault.OutOfMemory) }
+    requires size { length room.old.slot.items ≡ (V.volume volume.old).geometry.track_size }
+    ensures written { PrintsTrack (wanted source.entry.form source.entry.extents.now source.entry.start source.entry.tracks) i (V.volume volume.old) result
+        (seen_by W.contents writer.old) (seen_by W.contents writer.new) }
+    ensures writes { CountsWrites result (seen_by W.contents writer.old) (seen_by W.contents writer.new) }
     ensures volume { IsRead result (V.volume volume.old) (V.volume volume.new) (V.failures volume.old) (V.failures volume.new) }
-    ensures size { length slot.new ≡ length slot.old }
+    ensures size { length room.new.slot.items ≡ length room.old.slot.items }
 {
     let geometry = volume.geometry();
     let track = source.start.track as u32 + i as u32;
@@ -92,7 +138,7 @@ fn extract_track<V: SlotReader, W: Write>(
                 track,
                 number: number_on(source.start, i),
             };
-            return extract_found(volume, writer, part, found, slot);
+            return extract_found(volume, writer, part, found, room);
         }
         TrackPlace::Track(_) => Cause::NoTrack,
         TrackPlace::PastEnd => past_end(i),
@@ -103,39 +149,47 @@ fn extract_track<V: SlotReader, W: Write>(
 
 /// Writes the blocks of a data set or of a member of one, from its start on: block after block, track after track over its
 /// extents, up to the first end-of-file record (IBM System/360 Operating System, Data Management Services, 'Direct Access Volumes').
-/// It says where they end, and why. Of the volume one slot is in memory at a time.
+/// It says where they end, and why. Of the volume one slot is in memory at a time, with what is written of its track, which goes out
+/// as a whole.
 ///
 /// # Errors
 ///
-/// There is no memory for a slot, before anything is written; or a read or a write fails: what was written before stays.
+/// There is no memory for a slot, or for what is written of a track; a read of the volume failed; or a write failed, and exactly then
+/// it is a write fault. What was written are the first bytes of the blocks.
 pub fn extract<V: SlotReader, W: Write>(
     alloc: Global,
     volume: &mut V,
-    writer: &mut W,
+    writer: &mut Counted<W>,
     source: Source,
 ) -> Result<Stop, VolumeFault>
-    ensures written { IfOk result (Extracts (wanted source.entry.form source.entry.extents.now source.entry.start source.entry.tracks) (V.volume volume.old) (W.contents writer.old) (W.contents writer.new)) }
+    ensures written { PrintsSource (wanted source.entry.form source.entry.extents.now source.entry.start source.entry.tracks) (V.volume volume.old) result
+        (seen_by W.contents writer.old) (seen_by W.contents writer.new) }
+    ensures writes { CountsWrites result (seen_by W.contents writer.old) (seen_by W.contents writer.new) }
     ensures volume { IsRead result (V.volume volume.old) (V.volume volume.new) (V.failures volume.old) (V.failures volume.new) }
 {
-    let Ok(mut slot) = vec![in alloc; 0u8; volume.geometry().track_size as usize] else {
+    let Ok(slot) = vec![in alloc; 0u8; volume.geometry().track_size as usize] else {
         return Err(VolumeFault::OutOfMemory);
     };
-    extract_tracks(volume, writer, source, slot.as_mut_slice())
+    let written = Vec::new(alloc);
+    let mut room = Room { slot, written };
+    extract_tracks(volume, writer, source, &mut room)
 }
 
-// Writes the blocks of the tracks, each of which is loaded into the slot.
+// Prints the blocks of the tracks, each of which is loaded into the slot.
 fn extract_tracks<V: SlotReader, W: Write>(
     volume: &mut V,
-    writer: &mut W,
+    writer: &mut Counted<W>,
     source: Source,
-    slot: &mut [u8],
+    room: &mut Room,
 ) -> Result<Stop, VolumeFault>
-    requires size { length slot.old ≡ (V.volume volume.old).geometry.track_size }
-    ensures written { IfOk result (Extracts (wanted source.entry.form source.entry.extents.now source.entry.start source.entry.tracks) (V.volume volume.old) (W.contents writer.old) (W.contents writer.new)) }
+    requires size { length room.old.slot.items ≡ (V.volume volume.old).geometry.track_size }
+    ensures written { PrintsSource (wanted source.entry.form source.entry.extents.now source.entry.start source.entry.tracks) (V.volume volume.old) result
+        (seen_by W.contents writer.old) (seen_by W.contents writer.new) }
+    ensures writes { CountsWrites result (seen_by W.contents writer.old) (seen_by W.contents writer.new) }
     ensures volume { IsRead result (V.volume volume.old) (V.volume volume.new) (V.failures volume.old) (V.failures volume.new) }
 {
     for i in 0..source.tracks {
-        match extract_track(volume, writer, source, i, slot) {
+        match extract_track(volume, writer, source, i, room) {
             Ok(Some(stop)) => return Ok(stop),
             Ok(None) => {}
             Err(fault) => return Err(fault),

@@ -6,8 +6,10 @@ ghost use Rattle.dasd_archive.specs.Dump.{IsPartOf};
 use crate::commands::Ending;
 use crate::fault::ProgramFault;
 use ckd_track::{DriveModel, Geometry};
+use counted_io::Counted;
 use dasd_archive::{
-    Comparison, Form, Part, Range, Style, Tally, check_headers, check_strict, compare, dump,
+    Comparison, FileHeader, Form, Part, Range, Style, Tally, check_headers, check_strict, compare,
+    dump,
 };
 use dasd_jobs::{ImageFiles, JobFault, OpenedFile, SlotReader, open_volume};
 use dasd_words::{ComparedVolumes, DumpedPart, Numbers, PrintedVolume};
@@ -40,7 +42,7 @@ pub(crate) fn quoted(alloc: Global, paths: &[&str]) -> Result<String, ProgramFau
 pub(crate) fn check_strictly<F: ImageFiles, W: Write>(
     alloc: Global,
     files: &mut F,
-    writer: &mut W,
+    writer: &mut Counted<W>,
     asked: &PrintedVolume,
 ) -> Result<Ending, ProgramFault>
     ensures { F.written files.new ≡ F.written files.old }
@@ -65,7 +67,7 @@ pub(crate) fn check_strictly<F: ImageFiles, W: Write>(
 fn check_each_header<F: ImageFiles, W: Write>(
     alloc: Global,
     files: &mut F,
-    writer: &mut W,
+    writer: &mut Counted<W>,
     paths: &[&str],
     form: Form,
 ) -> Result<Tally, ProgramFault>
@@ -76,7 +78,11 @@ fn check_each_header<F: ImageFiles, W: Write>(
     for (i, path) in paths.iter().enumerate() {
         read_header(alloc, files, path, &mut header)?;
         let number = u8::try_from(i).unwrap_or(u8::MAX).saturating_add(1);
-        check_headers(writer, &mut tally, form, number, &header)?;
+        let head = FileHeader {
+            file: number,
+            bytes: &header,
+        };
+        check_headers(alloc, writer, &mut tally, form, head)?;
     }
     Ok(tally)
 }
@@ -103,7 +109,7 @@ fn read_header<F: ImageFiles>(
 pub(crate) fn dump_part<F: ImageFiles, W: Write>(
     alloc: Global,
     files: &mut F,
-    writer: &mut W,
+    writer: &mut Counted<W>,
     asked: &PrintedVolume,
     part: DumpedPart,
 ) -> Result<Ending, ProgramFault>
@@ -156,7 +162,7 @@ fn part_of(geometry: Geometry, part: DumpedPart) -> Option<Part>
 pub(crate) fn compare_both<F: ImageFiles, W: Write>(
     alloc: Global,
     files: &mut F,
-    writer: &mut W,
+    writer: &mut Counted<W>,
     asked: &ComparedVolumes,
 ) -> Result<Ending, ProgramFault>
     ensures { F.written files.new ≡ F.written files.old }

@@ -6,6 +6,7 @@ ghost use Rattle.dasd_run.specs.Faults.{keeps_files};
 use crate::archive::quoted;
 use crate::commands::Ending;
 use crate::fault::ProgramFault;
+use counted_io::Counted;
 use dasd_jobs::{ImageFiles, open_volume};
 use dasd_unload::{WantedSet, WantedVolume, unload_set, unload_volume};
 use dasd_words::{ExtractedSet, ExtractedVolume};
@@ -16,7 +17,7 @@ use std::io::Write;
 pub(crate) fn extract_set<F: ImageFiles, W: Write>(
     alloc: Global,
     files: &mut F,
-    writer: &mut W,
+    writer: &mut Counted<W>,
     asked: &ExtractedSet,
 ) -> Result<Ending, ProgramFault>
     ensures { IfErr result (λ e. keeps_files e ≡ true → F.written files.new ≡ F.written files.old) }

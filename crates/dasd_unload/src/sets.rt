@@ -8,6 +8,7 @@ ghost use Rattle.dasd_unload.specs.Asked.{asked, form_of, is_partitioned, SetOf,
 ghost use Rattle.dasd_unload.specs.Causes.{WhyNoStart, WhyNot, UnloadsOrTells};
 
 use crate::fault::{NO_MEMORY, UnloadFault, of_volume};
+use counted_io::{Counted, WriteFault, flush_all};
 use dasd_contents::{DataSet, find, read_contents};
 use dasd_extract::{
     Cause, Form, Source, Stop, data_set_name, extract, find_member, member_name, read_members,
@@ -15,7 +16,7 @@ use dasd_extract::{
 use dasd_jobs::{ImageFiles, JobFault, SlotReader, begin_file, put_file};
 use data_sets::{DirectoryEntry, record_form};
 use std::alloc::Global;
-use std::io::{BufWriter, Write};
+use std::io::Write;
 use volume_labels::{DataSetBlock, Extent, RelativeAddress};
 
 /// The bit of a data set's organisation that says that it is partitioned (IBM System/360 Operating System, System Control Blocks,
@@ -59,11 +60,11 @@ pub fn unload_set<F: ImageFiles, V: SlotReader, W: Write>(
     alloc: Global,
     files: &mut F,
     volume: &mut V,
-    writer: &mut W,
+    writer: &mut Counted<W>,
     set: WantedSet,
 ) -> Result<(), UnloadFault>
     ensures unloaded { UnloadsOrTells result (asked set.entry.name.now (option_copied set.entry.member) set.entry.is_text (option_copied set.entry.target))
-        (V.volume volume.old) (F.written files.old) (F.written files.new) (W.contents writer.old) (W.contents writer.new) }
+        (V.volume volume.old) (F.written files.old) (F.written files.new) (W.contents writer.old.inner) (W.contents writer.new.inner) }
     ensures kept { IfErr result (λ e. leaves_a_file e ≡ false → F.written files.new ≡ F.written files.old) }
 {
     let stop = unload_from(alloc, files, volume, writer, set)?;
@@ -78,11 +79,11 @@ fn unload_from<F: ImageFiles, V: SlotReader, W: Write>(
     alloc: Global,
     files: &mut F,
     volume: &mut V,
-    writer: &mut W,
+    writer: &mut Counted<W>,
     set: WantedSet,
 ) -> Result<Stop, UnloadFault>
     ensures done { IfOk result (UnloadsSet (asked set.entry.name.now (option_copied set.entry.member) set.entry.is_text (option_copied set.entry.target))
-        (V.volume volume.old) (F.written files.old) (F.written files.new) (W.contents writer.old) (W.contents writer.new)) }
+        (V.volume volume.old) (F.written files.old) (F.written files.new) (W.contents writer.old.inner) (W.contents writer.new.inner)) }
     ensures why { IfErr result (λ e. WhyNot e (asked set.entry.name.now (option_copied set.entry.member) set.entry.is_text (option_copied set.entry.target)) (V.volume volume.old)) }
     ensures kept { OnErr result (F.written files.new ≡ F.written files.old) }
 {
@@ -205,20 +206,20 @@ fn find_entry<V: SlotReader>(
 fn print<V: SlotReader, W: Write>(
     alloc: Global,
     volume: &mut V,
-    writer: &mut W,
+    writer: &mut Counted<W>,
     source: Source,
 ) -> Result<Stop, UnloadFault>
     ensures blocks { IfOk result (Extracts (wanted source.entry.form source.entry.extents.now source.entry.start source.entry.tracks)
-        (V.volume volume.old) (W.contents writer.old) (W.contents writer.new)) }
+        (V.volume volume.old) (W.contents writer.old.inner) (W.contents writer.new.inner)) }
     ensures fault { IfErr result (λ e. is_of_job e ≡ true) }
 {
     let stop = match extract(alloc, volume, writer, source) {
         Ok(stop) => stop,
         Err(fault) => return Err(of_volume(fault)),
     };
-    match writer.flush() {
+    match flush_all(writer) {
         Ok(()) => Ok(stop),
-        Err(_) => Err(UnloadFault::Job(JobFault::Write)),
+        Err(WriteFault) => Err(UnloadFault::Job(JobFault::Write)),
     }
 }
 
@@ -242,18 +243,14 @@ pub(crate) fn unload_to<F: ImageFiles, V: SlotReader>(
         Ok(new) => new,
         Err(fault) => return Err(UnloadFault::Job(fault)),
     };
-    let Ok(mut writer) = BufWriter::new(alloc, new) else {
-        return Err(NO_MEMORY);
-    };
+    let mut writer = Counted::new(new);
     let stop = match extract(alloc, volume, &mut writer, source) {
         Ok(stop) => stop,
         Err(fault) => return Err(of_volume(fault)),
     };
-    let Ok(new) = writer.into_inner() else {
-        return Err(UnloadFault::Job(JobFault::Write));
-    };
-    let bytes = new.len();
-    match put_file(files, path, new) {
+    let written = writer.into_inner();
+    let bytes = written.len();
+    match put_file(files, path, written) {
         Ok(()) => Ok(Unloaded { bytes, stop }),
         Err(fault) => Err(UnloadFault::Job(fault)),
     }

@@ -1,10 +1,10 @@
 use Rattle.std.proofs.Common.{◌≡◌, ◌≤◌, ◌*◌, List, ℕ, Some, length}
-use Rattle.std.specs.Io.KnownBytes.{Appends}
+use Rattle.counted_io.specs.Streams.{seen_by, Takes, NoneFailed}
 use Rattle.dasd_volumes.specs.Volumes.{of_each}
 use Rattle.dasd_archive.specs.Compare.{cylinder_differences, changed_on}
 use Rattle.dasd_archive.proofs.compares.compare_cylinders.Given as goal
 
--- the differences so far are written, and the tracks counted; the volumes stay, and the slots keep their lengths
+-- the differences so far are printed, and the tracks counted, and no call failed; the volumes stay, and the slots keep their lengths
 abbrev pub invariant-loop-cylinder : goal.invariant-loop-cylinder
 invariant-loop-cylinder g l =
     let before = g.V.SlotReader.volume l.fn.one in
@@ -14,10 +14,11 @@ invariant-loop-cylinder g l =
           → l.differing ≡ length (of_each (λ cylinder. changed_on cylinder i slots other_slots) l.cylinder);
       few : l.differing ≤ 20 * l.cylinder;
       lines : (slots other_slots : List (List ℕ)) → before.slots ≡ Some slots → beside.slots ≡ Some other_slots
-          → Appends (g.W.Write.contents l.fn.writer) (g.W.Write.contents l.writer)
+          → Takes (seen_by g.W.Write.contents l.fn.writer) (seen_by g.W.Write.contents l.writer)
           (of_each (λ cylinder. cylinder_differences l.form.style l.form.path.now l.form.other.now l.form.lists cylinder i slots other_slots) l.cylinder);
+      sound : NoneFailed (seen_by g.W.Write.contents l.fn.writer) (seen_by g.W.Write.contents l.writer);
       one : g.V.SlotReader.volume l.one ≡ before;
       other : g.U.SlotReader.volume l.other ≡ beside;
-      size : length l.slot ≡ i.track_size;
-      other_size : length l.other_slot ≡ i.track_size;
+      size : length l.slots.one.items ≡ i.track_size;
+      other_size : length l.slots.other.items ≡ i.track_size;
     }

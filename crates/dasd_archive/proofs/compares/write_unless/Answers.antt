@@ -1,4 +1,0 @@
-use Rattle.dasd_archive.proofs.compares.write_unless.Goals as goal
-
-pub returns-else-is_same : goal.returns-else-is_same
-returns-else-is_same g c = rw c.if-is_same.false c.write_difference.ensures

@@ -1,8 +1,0 @@
-use Rattle.std.proofs.Common.{rules}
-use Rattle.std.proofs.Output.{has_written_append, has_written_of_eq}
-use Rattle.dasd_archive.proofs.Rows.{one_more_spaced}
-use Rattle.dasd_archive.proofs.dumps.SpacedDisplay.fmt.Goals as goal
-
-pub loop-byte-preserved : goal.loop-byte-preserved
-loop-byte-preserved g c p =
-    has_written_of_eq _ _ _ _ _ (one_more_spaced c.args.self.now.0.now c.loop-byte.byte-index c.loop-byte-test.true) (has_written_append _ _ _ _ _ _ (c.loop-byte.invariant p) (search rules))

@@ -1,0 +1,88 @@
+//! Bytes of EBCDIC are written as text.
+
+ghost use Rattle.std.specs.Prelude.{◌≡◌, ◌+◌, ◌*◌, ◌≤◌, ◌++◌, length, encode_utf8, OnOk};
+ghost use Rattle.std.specs.Io.KnownBytes.{Appends};
+ghost use Rattle.arrayvec.specs.ArrayVec.{array_vec_len};
+ghost use Rattle.dasd_extract.specs.Blocks.{is_control, text_character, text_of};
+
+use arrayvec::ArrayVec;
+use std::io;
+use std::io::Write;
+use volume_labels::character;
+
+/// How many characters are made before they are written.
+const CHUNK: usize = 32;
+
+/// The bytes that they have room for: each is at most three in UTF-8.
+const ROOM: usize = 96;
+
+/// Writes bytes of EBCDIC as text.
+pub(crate) fn write_text<W: Write>(writer: &mut W, bytes: &[u8]) -> io::Result<()>
+    ensures { OnOk result (Appends (W.contents writer.old) (W.contents writer.new) (text_of bytes.now)) }
+{
+    let mut rest = bytes;
+    while !rest.is_empty() {
+        let (chunk, behind) = rest.split_at(rest.len().min(CHUNK));
+        write_chunk(writer, chunk)?;
+        rest = behind;
+    }
+    Ok(())
+}
+
+// Writes a few bytes as text.
+fn write_chunk<W: Write>(writer: &mut W, bytes: &[u8]) -> io::Result<()>
+    requires { length bytes.now ≤ 32 }
+    ensures { OnOk result (Appends (W.contents writer.old) (W.contents writer.new) (text_of bytes.now)) }
+{
+    let mut text: ArrayVec<u8, ROOM> = ArrayVec::new();
+    for byte in bytes {
+        put_character(&mut text, *byte);
+    }
+    writer.write_all(text.as_slice())
+}
+
+// A byte as a character of text.
+fn put_character(text: &mut ArrayVec<u8, ROOM>, byte: u8)
+    requires { array_vec_len text.old + 3 ≤ 96 }
+    ensures text { text.new.items ≡ text.old.items ++ encode_utf8 (text_character byte) }
+    ensures size { array_vec_len text.new ≤ array_vec_len text.old + 3 }
+{
+    let character = character(byte);
+    if is_control(character) {
+        put_replacement(text);
+    } else {
+        put_latin(text, character);
+    }
+}
+
+// Whether a character controls a terminal or a file.
+fn is_control(character: u8) -> bool
+    ensures { result ≡ is_control character }
+{
+    character < 32 || (character >= 127 && character < 160)
+}
+
+// What stands for a character that is no text.
+fn put_replacement(text: &mut ArrayVec<u8, ROOM>)
+    requires { array_vec_len text.old + 3 ≤ 96 }
+    ensures text { text.new.items ≡ text.old.items ++ encode_utf8 0xFFFD }
+    ensures size { array_vec_len text.new ≤ array_vec_len text.old + 3 }
+{
+    text.push(0xEF);
+    text.push(0xBF);
+    text.push(0xBD);
+}
+
+// A character of the first 256.
+fn put_latin(text: &mut ArrayVec<u8, ROOM>, character: u8)
+    requires { array_vec_len text.old + 3 ≤ 96 }
+    ensures text { text.new.items ≡ text.old.items ++ encode_utf8 character }
+    ensures size { array_vec_len text.new ≤ array_vec_len text.old + 3 }
+{
+    if character < 128 {
+        text.push(character);
+        return;
+    }
+    text.push(0xC0 + character / 64);
+    text.push(0x80 + character % 64);
+}
