@@ -104,7 +104,7 @@ impl<'a> HostDraft<'a> {
         Some((old.known.dev(), old.known.ino()))
     }
 
-    /// Takes the place of the old file, if that is still there, or of none.
+    /// Takes the place of the old file, if that is still there, which is then on the disk; or of none, which its folder's sync has there.
     pub(crate) fn put(self, path: &str) -> io::Result<()> {
         let mut draft = self;
         draft.move_to(path)?;
@@ -124,7 +124,7 @@ impl<'a> HostDraft<'a> {
                 if there.dev() != old.known.dev() || there.ino() != old.known.ino() {
                     return Err(wrong("another program has replaced it"));
                 }
-                rename(self.host, self.beside.as_str(), old.path.as_str())
+                replace(self.host, self.beside.as_str(), old.path.as_str())
             }
             None => name_new(self.host, self.beside.as_str(), path),
         }
@@ -187,8 +187,8 @@ fn create_beside(host: &HostRuntime, path: Path<'_>, mode: u32) -> io::Result<(F
     Err(Error::from(ErrorKind::AlreadyExists))
 }
 
-// The folder of a path.
-fn folder_of(path: Path<'_>) -> Path<'_> {
+/// The folder of a path.
+pub(crate) fn folder_of(path: Path<'_>) -> Path<'_> {
     match path.parent() {
         Some(folder) if !folder.as_str().is_empty() => folder,
         _ => Path::new("."),
@@ -204,30 +204,29 @@ fn keep_owner(file: &File, old: &Metadata) -> io::Result<()> {
     file.set_permissions(Permissions::from_mode(old.mode() & MODE))
 }
 
-// Gives a file another name, and has that on the disk.
-fn rename(host: &HostRuntime, from: &str, to: &str) -> io::Result<()> {
+// Gives a file the name of another, whose place it takes, and has that on the disk.
+fn replace(host: &HostRuntime, from: &str, to: &str) -> io::Result<()> {
     fs::rename(host, from, to)?;
-    sync_folder(host, Path::new(to));
+    sync_folder(host, folder_of(Path::new(to)).as_str());
     Ok(())
 }
 
 // Gives a file a name that no file has: one that has come there since stays. Where a file system has no second names, the file is
-// renamed.
+// renamed. That is on the disk once the folder is synced.
 fn name_new(host: &HostRuntime, from: &str, to: &str) -> io::Result<()> {
     match fs::hard_link(host, from, to) {
         Ok(()) => {
             let _ = fs::remove_file(host, from);
-            sync_folder(host, Path::new(to));
             Ok(())
         }
         Err(fault) if fault.kind() == ErrorKind::AlreadyExists => Err(fault),
-        Err(_) => rename(host, from, to),
+        Err(_) => fs::rename(host, from, to),
     }
 }
 
-// Has a folder's names written to the disk, as far as the host does that.
-fn sync_folder(host: &HostRuntime, path: Path<'_>) {
-    if let Ok(folder) = File::open(host, folder_of(path).as_str()) {
+/// Has a folder's names written to the disk, as far as the host does that.
+pub(crate) fn sync_folder(host: &HostRuntime, folder: &str) {
+    if let Ok(folder) = File::open(host, folder) {
         let _ = folder.sync_all();
     }
 }

@@ -2,7 +2,7 @@
 
 ghost use Rattle.std.specs.Prelude.{◌≡◌, ◌+◌, [], length};
 
-use crate::drafts::{HostDraft, Old};
+use crate::drafts::{HostDraft, Old, folder_of, sync_folder};
 use crate::reading::{HostFile, read_some};
 use crate::traces::{TraceFile, TraceOutput};
 use dasd_jobs::{FileFault, ImageFiles, Sources, Written};
@@ -12,6 +12,7 @@ use std::alloc::Global;
 use std::fs::{File, Metadata, OpenOptions, TryLockError};
 use std::io::{BufWriter, Error, ErrorKind};
 use std::os::unix::fs::MetadataExt;
+use std::path::Path;
 use std::{fmt, fs, io};
 
 /// How often a file is opened again that was replaced before it was locked.
@@ -25,6 +26,8 @@ pub(crate) struct HostFiles<'a> {
     opened: Sources,
     /// The files that are locked until the end.
     locked: Vec<Locked>,
+    /// The folders of new files, until they are synced.
+    unsettled: Vec<String>,
     remarks: String,
     is_verbose: bool,
 }
@@ -54,6 +57,7 @@ impl<'a> HostFiles<'a> {
             written: Written::new(),
             opened: Sources::new(),
             locked: Vec::new(host.alloc()),
+            unsettled: Vec::new(host.alloc()),
             remarks: String::new(host.alloc()),
             is_verbose: false,
         }
@@ -83,6 +87,29 @@ impl<'a> HostFiles<'a> {
         }
         told
     }
+}
+
+// Notes the folder of a new file, which is synced later; where there is no memory for that, it is synced now.
+fn note_folder(host: &HostRuntime, unsettled: &mut Vec<String>, path: &str) {
+    let folder = folder_of(Path::new(path)).as_str();
+    if unsettled.iter().any(|noted| noted.as_str() == folder) {
+        return;
+    }
+    let noted = match folder.to_string(host.alloc()) {
+        Ok(folder) => unsettled.push(folder).is_ok(),
+        Err(_) => false,
+    };
+    if !noted {
+        sync_folder(host, folder);
+    }
+}
+
+// Syncs the folders that were noted.
+fn sync_folders(host: &HostRuntime, unsettled: &mut Vec<String>) {
+    for folder in unsettled.iter() {
+        sync_folder(host, folder.as_str());
+    }
+    unsettled.clear();
 }
 
 // The files that were replaced, if there is one and there is memory to say so.
@@ -361,10 +388,17 @@ impl<'a> ImageFiles for HostFiles<'a> {
             Ok(()) => {
                 self.written = written;
                 mark_done(self.locked.as_mut_slice(), node);
+                if node.is_none() {
+                    note_folder(self.host, &mut self.unsettled, path);
+                }
                 Ok(())
             }
             Err(fault) => Err(self.not_written(path, &fault)),
         }
+    }
+
+    fn settle(&mut self) {
+        sync_folders(self.host, &mut self.unsettled);
     }
 
     fn remark<T: fmt::Display>(&mut self, text: &T) {
