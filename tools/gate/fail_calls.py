@@ -12,7 +12,8 @@ fail, once or from there on (by Debian's `strace --inject`), and once more for e
 - Where only the call fails that takes a file's first, hidden name away, all is as it was meant to be, and that name stays beside the other.
 - A program that is killed leaves each file the old one or the new one, whole. What it had begun to write may stay, under a name that begins with `.dasd-`;
   the next command that writes a file into that folder removes it, and says so.
-- Where a file takes its place, it was synced before that, and its folder is synced behind it.
+- Where a file takes its place, it was synced before that. Its folder is synced right behind it where it replaces a file, before anything is written or gets another
+  name; and once behind all where files are new.
 
 It runs crates/dasd_cmd/out/dasd_cmd, as `rt ci` leaves it; with --built FILE that program; with words behind, the commands whose names have one of them.
 The last line is 'N failures of N calls, M came out wrong', and the status 1 where M is not 0.
@@ -27,7 +28,7 @@ import subprocess
 import sys
 import tempfile
 from concurrent.futures import ThreadPoolExecutor
-from dataclasses import dataclass
+from dataclasses import dataclass, field
 from pathlib import Path
 from typing import NamedTuple
 
@@ -235,26 +236,55 @@ def judge(failure: Failure, came: Came, good: Came, old: dict[str, bytes]) -> st
     return is_old_or_new(came, old, good.files, killed)
 
 
+@dataclass
+class Syncs:
+    """Which files and folders were synced, and which folders have names that are not."""
+
+    synced: set[str] = field(default_factory=set)
+    owed: dict[str, str] = field(default_factory=dict)  # the folder of each file that took its place
+    replaced: str = ""  # the file that replaced another one, until its folder is synced
+    wrong: list[str] = field(default_factory=list)
+
+    def sync(self, path: str) -> None:
+        """A file or a folder is synced."""
+        self.synced.add(path)
+        self.owed = {file: folder for file, folder in self.owed.items() if folder != path}
+        if self.replaced not in self.owed:
+            self.replaced = ""
+
+    def go_on(self) -> None:
+        """Something is written or named behind what was done."""
+        if self.replaced:
+            self.wrong.append(f"the folder of {self.replaced} is not synced right behind it")
+            self.replaced = ""
+
+    def place(self, hidden: str, path: str, replaces: bool) -> None:
+        """A file that was written under a hidden name takes its place."""
+        folder = os.path.normpath(os.path.dirname(path) or ".")
+        if os.path.normpath(hidden) not in self.synced:
+            self.wrong.append(f"{path} took its place before it was synced")
+        if not replaces and folder in self.synced:
+            self.wrong.append(f"{folder} was synced before {path} came to it")
+        self.owed[path] = folder
+        self.replaced = path if replaces else ""
+
+
 def unsynced(lines: list[str]) -> list[str]:
-    """Which files took a place without being synced before, or without their folder being synced behind."""
+    """Which files took a place without being synced before, or without their folder being synced when it must be."""
     opened: dict[str, str] = {}
-    synced: set[str] = set()
-    owed: dict[str, str] = {}
-    wrong = []
+    seen = Syncs()
     for call in filter(None, map(CALL.match, lines)):
         name, words = call["name"], call["words"]
         paths = PATH.findall(words)
         if name == "openat" and paths and int(call["answer"]) >= 0:
             opened[call["answer"]] = os.path.normpath(paths[0])
         elif name in ("fsync", "fdatasync"):
-            path = opened.get(words.split(",")[0], "")
-            synced.add(path)
-            owed = {file: folder for file, folder in owed.items() if folder != path}
-        elif name in ("rename", "link") and call["answer"] == "0":
-            if os.path.normpath(paths[0]) not in synced:
-                wrong.append(f"{paths[1]} took its place before it was synced")
-            owed[paths[1]] = os.path.normpath(os.path.dirname(paths[1]) or ".")
-    return wrong + [f"the folder of {file} is not synced behind it" for file in owed]
+            seen.sync(opened.get(words.split(",")[0], ""))
+        elif name in ("rename", "link", "write"):
+            seen.go_on()
+            if name != "write" and call["answer"] == "0":
+                seen.place(paths[0], paths[1], name == "rename")
+    return seen.wrong + [f"the folder of {file} is not synced behind it" for file in seen.owed]
 
 
 def try_command(dasd: Path, command: Command, pool: ThreadPoolExecutor) -> tuple[int, list[str]]:

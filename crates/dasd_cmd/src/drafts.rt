@@ -112,7 +112,7 @@ impl<'a> HostDraft<'a> {
         Some((old.known.dev(), old.known.ino()))
     }
 
-    /// Takes the place of the old file, if that is still there, or of none.
+    /// Takes the place of the old file, if that is still there, which is then on the disk; or of none, which its folder's sync has there.
     pub(crate) fn put(self, path: &str) -> io::Result<()> {
         let mut draft = self;
         draft.move_to(path)?;
@@ -132,7 +132,7 @@ impl<'a> HostDraft<'a> {
                 if there.dev() != old.known.dev() || there.ino() != old.known.ino() {
                     return Err(wrong("another program has replaced it"));
                 }
-                rename(self.host, self.beside.as_str(), old.path.as_str())
+                replace(self.host, self.beside.as_str(), old.path.as_str())
             }
             None => name_new(self.host, self.beside.as_str(), path),
         }
@@ -247,30 +247,52 @@ fn keep_owner(file: &File, old: &Metadata) -> io::Result<()> {
     file.set_permissions(Permissions::from_mode(old.mode() & MODE))
 }
 
-// Gives a file another name, and has that on the disk.
-fn rename(host: &HostRuntime, from: &str, to: &str) -> io::Result<()> {
+// Gives a file the name of another, whose place it takes, and has that on the disk.
+fn replace(host: &HostRuntime, from: &str, to: &str) -> io::Result<()> {
     fs::rename(host, from, to)?;
-    sync_folder(host, Path::new(to));
+    sync_folder(host, folder_of(Path::new(to)).as_str());
     Ok(())
 }
 
 // Gives a file a name that no file has: one that has come there since stays. Where a file system has no second names, the file is
-// renamed.
+// renamed. That is on the disk once the folder is synced.
 fn name_new(host: &HostRuntime, from: &str, to: &str) -> io::Result<()> {
     match fs::hard_link(host, from, to) {
         Ok(()) => {
             let _ = fs::remove_file(host, from);
-            sync_folder(host, Path::new(to));
             Ok(())
         }
         Err(fault) if fault.kind() == ErrorKind::AlreadyExists => Err(fault),
-        Err(_) => rename(host, from, to),
+        Err(_) => fs::rename(host, from, to),
     }
 }
 
-// Has a folder's names written to the disk, as far as the host does that.
-fn sync_folder(host: &HostRuntime, path: Path<'_>) {
-    if let Ok(folder) = File::open(host, folder_of(path).as_str()) {
+/// Notes the folder of a new file, which is synced later; where there is no memory for that, it is synced now.
+pub(crate) fn note_folder(host: &HostRuntime, unsettled: &mut Vec<String>, path: &str) {
+    let folder = folder_of(Path::new(path)).as_str();
+    if unsettled.iter().any(|noted| noted.as_str() == folder) {
+        return;
+    }
+    let noted = match folder.to_string(host.alloc()) {
+        Ok(folder) => unsettled.push(folder).is_ok(),
+        Err(_) => false,
+    };
+    if !noted {
+        sync_folder(host, folder);
+    }
+}
+
+/// Syncs the folders that were noted.
+pub(crate) fn sync_folders(host: &HostRuntime, unsettled: &mut Vec<String>) {
+    for folder in unsettled.iter() {
+        sync_folder(host, folder.as_str());
+    }
+    unsettled.clear();
+}
+
+/// Has a folder's names written to the disk, as far as the host does that.
+fn sync_folder(host: &HostRuntime, folder: &str) {
+    if let Ok(folder) = File::open(host, folder) {
         let _ = folder.sync_all();
     }
 }

@@ -2,7 +2,7 @@
 
 ghost use Rattle.std.specs.Prelude.{◌≡◌, [], IfOk};
 
-use crate::drafts::{HostDraft, Old, folder_of};
+use crate::drafts::{HostDraft, Old, folder_of, note_folder, sync_folders};
 use crate::leftovers::clear_folder;
 use crate::locks::{
     Locked, find_old, is_locked, keep, list_done, mark_done, open_locked, open_trace_file,
@@ -30,6 +30,8 @@ pub(crate) struct HostFiles<'a> {
     locked: Vec<Locked>,
     /// The folders that were cleared of what killed programs left.
     cleared: Vec<String>,
+    /// The folders of new files, until they are synced.
+    unsettled: Vec<String>,
     remarks: &'a Remarks<'a>,
     is_verbose: bool,
 }
@@ -46,6 +48,7 @@ impl<'a> HostFiles<'a> {
             opened: Sources::new(),
             locked: Vec::new(host.alloc()),
             cleared: Vec::new(host.alloc()),
+            unsettled: Vec::new(host.alloc()),
             remarks,
             is_verbose: false,
         }
@@ -231,10 +234,17 @@ impl<'a> ImageFiles for HostFiles<'a> {
             Ok(()) => {
                 self.written = written;
                 mark_done(self.locked.as_mut_slice(), node);
+                if node.is_none() {
+                    note_folder(self.host, &mut self.unsettled, path);
+                }
                 Ok(())
             }
             Err(fault) => Err(self.not_written(path, &fault)),
         }
+    }
+
+    fn settle(&mut self) {
+        sync_folders(self.host, &mut self.unsettled);
     }
 
     fn remark<T: fmt::Display>(&mut self, text: &T) {
