@@ -69,8 +69,8 @@ fn hash_files<F: ImageFiles, W: Write>(
 ) -> Result<u32, JobFault>
     ensures kept { F.written files.new ≡ F.written files.old }
     ensures number { IfOk result (λ n. OfVolume (map (λ path. path.now) paths.now) (F.opened files.old) (F.opened files.new) (λ v. NumberOfUnreadable v n)) }
-    ensures lines { PrintsFiles result (hash_text form.entry.path.now form.entry.json) (map (λ path. path.now) paths.now) (F.opened files.old) (F.opened files.new)
-        (seen_by W.contents writer.old) (seen_by W.contents writer.new) }
+    ensures lines { PrintsFiles result (hash_text form.entry.path.now form.entry.json) (map (λ path. path.now) paths.now)
+        (F.opened files.old) (F.opened files.new) (seen_by W.contents writer.old) (seen_by W.contents writer.new) }
     ensures writes { CountsLines result (seen_by W.contents writer.old) (seen_by W.contents writer.new) }
     ensures none { IfErr result (λ e. e ≡ JobFault.OutOfMemory → writer.new ≡ writer.old) }
     ensures flushed { OnOk result (IsFlushed (seen_by W.contents writer.new)) }

@@ -1,5 +1,5 @@
 -- Messages are the same exactly where what is said is.
-use Rattle.std.proofs.Common.{◌≡◌, ◌∙◌, ap, sym, refl, inl, inr, ℕ, zero, suc, ◌+◌, ◌<◌, ◌≤◌, ◌⊎◌, ◌↔◌, ◌^◌, List, [], ◌∷◌, ◌++◌, length, take, drop, slice_index, slice_index_or, append_assoc, Result, Ok, Err, All, codes, arith}
+use Rattle.std.proofs.Common.{◌≡◌, ◌∙◌, ap, sym, refl, inl, inr, ℕ, zero, suc, ◌<◌, ◌≤◌, ◌⊎◌, ◌^◌, List, [], ◌++◌, length, take, drop, slice_index, slice_index_or, append_assoc, Result, Ok, Err, All, arith}
 use Rattle.std.proofs.lemmas.List.{take_at, drop_at, append_cancel_left}
 use Rattle.std.proofs.lemmas.Nat.{from_be_bytes-to_be_bytes_2, from_be_bytes-to_be_bytes_4}
 use Rattle.std.proofs.lemmas.Bool.{cases_lt}
@@ -8,13 +8,12 @@ use Rattle.ckd_track.specs.declared.fault.SlotFault.{SlotFault}
 use Rattle.ckd_track.specs.declared.model.DriveModel.{DriveModel}
 use Rattle.ckd_track.specs.declared.model.DriveModel.TheVariants.{D2311, D2314}
 use Rattle.ckd_track.specs.declared.geometries.Geometry.{Geometry}
-use Rattle.ckd_track.specs.Model.{heads_of}
 use Rattle.ckd_track.specs.Geometry.{tracks_of}
-use Rattle.ckd_track.specs.Track.{Track, IsRecord, Spells, spelling, track_of}
+use Rattle.ckd_track.specs.Track.{Track, IsRecord, spelling, track_of}
 use Rattle.ckd_track.proofs.Laws.{spelled_is_read, read_is_spelled}
 use Rattle.dasd_volumes.specs.Lines.{model_number_of}
 use Rattle.dasd_volumes.specs.Volumes.{of_each}
-use Rattle.volume_hash.specs.Message.{said_by, says, track_message, slot_message, volume_head, tracks_message, volume_message}
+use Rattle.volume_hash.specs.Message.{said_by, says, track_message, volume_head, tracks_message, volume_message}
 use Rattle.volume_hash.specs.Apart.{IsSlot, IsVolume, SaySame, MessageIsWhatTheySay}
 
 -- bytes that begin with as many
@@ -37,7 +36,8 @@ can_say slot is = by (track_of slot) refl
     by (Err fault) e = is.size
 
 -- a track's message ends by itself
-track_apart : (x y : Result Track (List ℕ)) (a b : List ℕ) → CanSay x → CanSay y → track_message x ++ a ≡ track_message y ++ b → (x ≡ y) × (a ≡ b)
+track_apart : (x y : Result Track (List ℕ)) (a b : List ℕ) → CanSay x → CanSay y → track_message x ++ a ≡ track_message y ++ b
+    → (x ≡ y) × (a ≡ b)
 track_apart (Ok t) (Ok u) a b can could same =
     let cut : spelling t ++ a ≡ spelling u ++ b = ap (drop 1) same in
     let s = spelling t ++ a in
@@ -52,7 +52,8 @@ track_apart (Err slot) (Err other) a b can could same =
     let m = to_be_bytes w32 (length other) in
     let cut : n ++ (slot ++ a) ≡ m ++ (other ++ b) = sym (append_assoc n slot a) ∙ ap (drop 1) same ∙ append_assoc m other b in
     let parts = alike n m (slot ++ a) (other ++ b) refl cut in
-    let long : length slot ≡ length other = sym (from_be_bytes-to_be_bytes_4 (length slot) can) ∙ ap (from_be_bytes w32) parts.0 ∙ from_be_bytes-to_be_bytes_4 (length other) could in
+    let long : length slot ≡ length other =
+    sym (from_be_bytes-to_be_bytes_4 (length slot) can) ∙ ap (from_be_bytes w32) parts.0 ∙ from_be_bytes-to_be_bytes_4 (length other) could in
     let rest = alike slot other a b long parts.1 in
     (ap Err rest.0, rest.1)
 
@@ -71,13 +72,15 @@ module _ (f h : ℕ → Result Track (List ℕ)) where
       by (inl less) = before i less
       by (inr le) = let e : i ≡ n = omega (arith, lt, le) in ap f e ∙ last ∙ sym (ap h e)
 
-  apart : (n : ℕ) (a b : List ℕ) → ((i : ℕ) → i < n → CanSay (f i)) → ((i : ℕ) → i < n → CanSay (h i)) → messages f n ++ a ≡ messages h n ++ b → AreSame n × (a ≡ b)
+  apart : (n : ℕ) (a b : List ℕ) → ((i : ℕ) → i < n → CanSay (f i)) → ((i : ℕ) → i < n → CanSay (h i))
+      → messages f n ++ a ≡ messages h n ++ b → AreSame n × (a ≡ b)
   unfolding of_each
   apart zero a b can could same = (λ i lt. absurd (omega (arith, lt)), same)
   apart (suc n) a b can could same =
       let x = track_message (f n) in
       let y = track_message (h n) in
-      let cut : messages f n ++ (x ++ a) ≡ messages h n ++ (y ++ b) = sym (append_assoc (messages f n) x a) ∙ same ∙ append_assoc (messages h n) y b in
+      let cut : messages f n ++ (x ++ a) ≡ messages h n ++ (y ++ b) =
+      sym (append_assoc (messages f n) x a) ∙ same ∙ append_assoc (messages h n) y b in
       let before = apart n (x ++ a) (y ++ b) (λ i lt. can i (omega (arith, lt))) (λ i lt. could i (omega (arith, lt))) cut in
       let last = track_apart (f n) (h n) a b (can n (omega arith)) (could n (omega arith)) before.1 in
       (one_more n before.0 last.0, last.1)
@@ -86,7 +89,8 @@ module _ (f h : ℕ → Result Track (List ℕ)) where
   unfolding of_each
   together zero same = refl
   together (suc n) same =
-      ap (λ l. l ++ track_message (f n)) (together n (λ i lt. same i (omega (arith, lt)))) ∙ ap (λ x. messages h n ++ track_message x) (same n (omega arith))
+      ap (λ l. l ++ track_message (f n)) (together n (λ i lt. same i (omega (arith, lt))))
+      ∙ ap (λ x. messages h n ++ track_message x) (same n (omega arith))
 
 -- what stands before the tracks
 one_model : (a b : DriveModel) → model_number_of a ≡ model_number_of b → a ≡ b
@@ -100,9 +104,11 @@ few D2311 = omega arith
 few D2314 = omega arith
 
 one_number : (n m : ℕ) → n < 2 ^ 16 → m < 2 ^ 16 → to_be_bytes w16 n ≡ to_be_bytes w16 m → n ≡ m
-one_number n m small less same = sym (from_be_bytes-to_be_bytes_2 n small) ∙ ap (from_be_bytes w16) same ∙ from_be_bytes-to_be_bytes_2 m less
+one_number n m small less same =
+    sym (from_be_bytes-to_be_bytes_2 n small) ∙ ap (from_be_bytes w16) same ∙ from_be_bytes-to_be_bytes_2 m less
 
-heads_apart : (g h : Geometry) → g.cylinders < 2 ^ 16 → h.cylinders < 2 ^ 16 → volume_head g ≡ volume_head h → (g.model ≡ h.model) × (g.cylinders ≡ h.cylinders)
+heads_apart : (g h : Geometry) → g.cylinders < 2 ^ 16 → h.cylinders < 2 ^ 16 → volume_head g ≡ volume_head h
+    → (g.model ≡ h.model) × (g.cylinders ≡ h.cylinders)
 heads_apart g h small less same =
     let of = λ (k : Geometry). to_be_bytes w16 k.cylinders in
     let cut = ap (drop 6) same in
@@ -125,7 +131,8 @@ module _ (g h : Geometry) (slots others : List (List ℕ)) where
       let parts = alike (volume_head g) (volume_head h) (tracks_message g slots) (tracks_message h others) refl same in
       let first = heads_apart g h is.cylinders are.cylinders parts.0 in
       let many : tracks_of h ≡ tracks_of g = sym (as_many g h first.0 first.1) in
-      let tracks : messages of_one (tracks_of g) ++ [] ≡ messages of_other (tracks_of g) ++ [] = ap (λ l. l ++ []) (parts.1 ∙ ap (messages of_other) many) in
+      let tracks : messages of_one (tracks_of g) ++ [] ≡ messages of_other (tracks_of g) ++ [] =
+      ap (λ l. l ++ []) (parts.1 ∙ ap (messages of_other) many) in
       let able = λ (i : ℕ) (lt : i < tracks_of g). can_say (slice_index_or others i []) (are.tracks i (omega (arith, lt, many))) in
       record {
         model = first.0;

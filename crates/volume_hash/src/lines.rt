@@ -38,7 +38,8 @@ pub fn print_hash<V: SlotReader, W: Write>(
     form: Form,
 ) -> Result<u32, VolumeFault>
     ensures number { IfOk result (NumberOfUnreadable (V.volume volume.old)) }
-    ensures lines { PrintsText result (hash_text form.entry.path.now form.entry.json) (V.volume volume.old) (seen_by W.contents writer.old) (seen_by W.contents writer.new) }
+    ensures lines { PrintsText result (hash_text form.entry.path.now form.entry.json) (V.volume volume.old)
+        (seen_by W.contents writer.old) (seen_by W.contents writer.new) }
     ensures writes { CountsWrites result (seen_by W.contents writer.old) (seen_by W.contents writer.new) }
     ensures none { IfErr result (λ e. e ≡ VolumeFault.OutOfMemory → writer.new ≡ writer.old) }
     ensures volume { IsRead result (V.volume volume.old) (V.volume volume.new) (V.failures volume.old) (V.failures volume.new) }

@@ -7,8 +7,10 @@ use Rattle.volume_hash.proofs.volumes.add_tracks.Given as goal
 abbrev pub invariant-loop-track : goal.invariant-loop-track
 invariant-loop-track g l =
     let before = g.V.SlotReader.volume l.fn.volume in record {
-      message : (slots : List (List ℕ)) → before.slots ≡ Some slots → l.message ≡ l.fn.message ++ of_each (λ n. slot_message (slice_index_or slots n [])) l.track;
-      number : (slots : List (List ℕ)) → before.slots ≡ Some slots → l.unreadable ≡ length (of_each (λ n. unreadable_at (slice_index_or slots n [])) l.track);
+      message : (slots : List (List ℕ)) → before.slots ≡ Some slots
+          → l.message ≡ l.fn.message ++ of_each (λ n. slot_message (slice_index_or slots n [])) l.track;
+      number : (slots : List (List ℕ)) → before.slots ≡ Some slots
+          → l.unreadable ≡ length (of_each (λ n. unreadable_at (slice_index_or slots n [])) l.track);
       few : l.unreadable ≤ l.track;
       volume : g.V.SlotReader.volume l.volume ≡ before;
       failures : g.V.SlotReader.failures l.volume ≡ g.V.SlotReader.failures l.fn.volume;
