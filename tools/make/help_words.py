@@ -86,7 +86,8 @@ def sections(text: str) -> dict[str, list[str]]:
 
 
 def argument(line: str) -> Word:
-    """A line of the arguments; one that may be left out stands in brackets. One that names several words, as PATH.. NAME, comes as often as it is wanted at least."""
+    """A line of the arguments; one that may be left out stands in brackets. One that names several words, as PATH.. NAME, comes as often as it
+    is wanted at least."""
     found = ARGUMENT.fullmatch(line)
     if not found:
         raise ValueError(f"no argument: {line}")

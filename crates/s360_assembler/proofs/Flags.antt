@@ -27,11 +27,12 @@ no_flag flags at rest all place is_none is = rw (split_first rest at place, ← 
 -- the last name
 unsplit : (text : List ℕ) → length text ≡ position_or_len is_plus text → slice_split is_plus text ≡ text ∷ []
 unsplit [] whole = refl
-unsplit (byte ∷ text) whole = go (is_plus byte) refl
+unsplit (byte ∷ text) whole = go (is_plus byte) refl (unsplit text)
   where
-    go : (b : Bool) → is_plus byte ≡ b → slice_split is_plus (byte ∷ text) ≡ (byte ∷ text) ∷ []
-    go true is = absurd (omega (arith, rw is at whole))
-    go false is = rw (is, unsplit text (omega (arith, rw is at whole))) refl
+    go : (b : Bool) → is_plus byte ≡ b → (length text ≡ position_or_len is_plus text → slice_split is_plus text ≡ text ∷ [])
+        → slice_split is_plus (byte ∷ text) ≡ (byte ∷ text) ∷ []
+    go true is others = absurd (omega (arith, rw is at whole))
+    go false is others = rw (is, others (omega (arith, rw is at whole))) refl
 
 pub no_last_flag : (flags : ℕ) (rest : List ℕ) (all : Option ℕ) → None ≡ position is_plus rest → None ≡ flag_of rest
     → flags_behind flags (slice_split is_plus rest) ≡ all → None ≡ all

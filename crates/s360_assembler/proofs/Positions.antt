@@ -13,11 +13,11 @@ inside_some p xs at is = grind (arith, nat_tests)
 
 short : (p : ℕ → Bool) (xs : List ℕ) → prefix_len p xs ≤ length xs
 short p [] = omega arith
-short p (x ∷ xs) = go (p x)
+short p (x ∷ xs) = go (p x) (short p xs)
   where
-    go : (b : Bool) → cond b (1 + prefix_len p xs) 0 ≤ length (x ∷ xs)
-    go true = omega (arith, short p xs)
-    go false = omega arith
+    go : (b : Bool) → prefix_len p xs ≤ length xs → cond b (1 + prefix_len p xs) 0 ≤ length (x ∷ xs)
+    go true most = omega (arith, most)
+    go false most = omega arith
 
 -- none passes
 pub at_none : (p : ℕ → Bool) (xs : List ℕ) → None ≡ position p xs → length xs ≡ position_or_len p xs

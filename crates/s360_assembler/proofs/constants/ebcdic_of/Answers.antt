@@ -5,6 +5,7 @@ use Rattle.s360_assembler.proofs.Positions.{passed, missed}
 use Rattle.s360_assembler.proofs.constants.ebcdic_of.Goals as goal
 
 size : length code_page_037 ≡ 256
+unfolding code_page_037
 size = refl
 
 pub loop-byte-preserved : goal.loop-byte-preserved

@@ -1,4 +1,4 @@
-use Rattle.std.proofs.Common.{◌≡◌, ℕ, List, [], ◌∷◌, Bool, true, false, Option, Some, None, find, cond, ap, refl}
+use Rattle.std.proofs.Common.{◌≡◌, ℕ, List, [], ◌∷◌, Bool, true, false, Option, Some, None, find, cond, ap, subst, refl}
 use Rattle.std.proofs.lemmas.Bool.Decides.{Decides-or}
 use Rattle.std.proofs.lemmas.Slice.Eq.{bytes_eq-Decides}
 use Rattle.s360_assembler.specs.Mnemonics.{word_of, quoted_name_of, names, worded_codes}
@@ -11,7 +11,7 @@ value None = 0
 first_names : (word : List ℕ) (code k : ℕ) (ks : List ℕ) (b : Bool) → names k word ≡ b
     → (find (λ k. names k word) ks ≡ Some code → names code word ≡ true)
     → cond b (Some k) (find (λ k. names k word) ks) ≡ Some code → names code word ≡ true
-first_names word code k ks true is others found = rw (← ap value found) is
+first_names word code k ks true is others found = subst (λ n. names n word ≡ true) (ap value found) is
 first_names word code k ks false is others found = others found
 
 -- the code that is found has the word
