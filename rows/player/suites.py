@@ -6,7 +6,7 @@ from functools import partial
 from typing import Callable, Iterator, NamedTuple
 
 from . import (channels, cut_programs, dasd, drives, extracts, hashes, hostile_decks, hostile_slots, images, lines, lists, memory, programs, serial,
-               sweeps, traces, words)
+               sweeps, traces)
 from .stage import Stage
 from .text import Block, Case, Disk, disk_of, read_blocks
 
@@ -86,7 +86,6 @@ SUITES = {
     "hostile_checks": Suite(dasd_cases=hostile_slots.dasd_cases),
     "dasd": Suite(dasd_cases=dasd.cases, wants_libraries=True),
     "extracts": Suite(dasd_cases=extracts.cases),
-    "words": Suite(dasd_cases=words.cases, wants_libraries=True),
     "hashes": Suite(dasd_cases=hashes.cases),
 }
 

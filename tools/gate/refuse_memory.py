@@ -32,13 +32,7 @@ SIO 190
 STEP 100
 INT
 """
-TEXT = """         ORG   X'48'
-         DC    A(START)
-START    SEEK  *+16,CC,6
-         TIC   START
-         SHOW  START 8
-"""
-COMMANDS = ["format", "list", "check", "dump", "compare", "hash", "vtoc", "extract", "explain", "assemble", "disassemble", "run", "help"]
+COMMANDS = ["format", "list", "check", "dump", "compare", "hash", "vtoc", "extract", "explain", "run", "help"]
 WRONG = "fomrat"
 TRACE = "trace"
 # Of all data sets those that were whole before it stay.
@@ -70,8 +64,6 @@ JOBS = {
     "a deck that writes a record": Job(["run", "90=old.ckd", "91=new:2314:1"], DECK),
     "a deck that is traced": Job(["run", "--trace-to", TRACE, "90=old.ckd"], DECK),
     "a number in words": Job(["explain", "csw", "000004080C400014"]),
-    "a deck of a text in words": Job(["assemble"], TEXT),
-    "a deck in words": Job(["disassemble"], DECK),
     "the hash of a volume": Job(["hash", "old.ckd"]),
     "the same in an object": Job(["hash", "--json", "old.ckd"]),
     "the data sets of a volume": Job(["vtoc", "old.ckd"]),

@@ -1,5 +1,5 @@
 -- What is done of each request.
-use Rattle.std.specs.Prelude.{◌≡◌, ◌⊎◌, ◌==◌, ℕ, List, map, option_map, true, if◌then◌else◌, Result, Ok, Err, IfOk, IfErr, OnOk}
+use Rattle.std.specs.Prelude.{◌≡◌, ◌⊎◌, ◌==◌, ℕ, List, map, true, if◌then◌else◌, Result, Ok, Err, IfOk, IfErr, OnOk}
 use Rattle.counted_io.specs.Streams.{Stream, IsFlushed}
 use Rattle.dasd_volumes.specs.Volumes.{volume_text, check_text, NumberIn}
 use Rattle.dasd_words.specs.declared.requests.NewImage.{NewImage}
@@ -19,7 +19,6 @@ use Rattle.dasd_run.specs.declared.fault.ProgramFault.TheVariants as fault
 use Rattle.dasd_run.specs.Faults.{keeps_files}
 use Rattle.dasd_run.specs.Outside.{Outside}
 use Rattle.dasd_run.specs.Runs.{RunsOrStops}
-use Rattle.dasd_run.specs.Words.{PrintsDeck, PrintsWords, WithText}
 
 -- how the program ends with a job over files: so, where the job is done; and else its fault is the program's
 abbrev pub ended : {A : Type 0} → (A → Ending) → Result A JobFault → Result Ending ProgramFault
@@ -79,8 +78,6 @@ Answers (request.Check paths) result before now =
     ChecksVolume result (map (λ path. path.now) paths.items) before.opened now.opened before.printed now.printed × Looks before now
 Answers (request.Hash asked) result before now =
     HashesVolume result asked before.opened now.opened before.printed now.printed × Looks before now
-Answers (request.Assemble path) result before now = WithText PrintsDeck result (option_map (λ path. path.now) path) before now
-Answers (request.Disassemble path) result before now = WithText PrintsWords result (option_map (λ path. path.now) path) before now
 Answers (request.Run asked) result before now = RunsOrStops result asked before now
 Answers (request.Extract asked) result before now = Unloads result before now
 Answers (request.ExtractAll asked) result before now = Unloads result before now

@@ -4,5 +4,4 @@ pub mod Decks
 pub mod Outside
 pub mod Runs
 pub mod Saves
-pub mod Words
 pub mod Answers

@@ -17,7 +17,6 @@ use crate::runs::{Disks, build, finish};
 use crate::traces::{Traces, begin_trace, end_trace};
 use crate::unload::{extract_set, extract_volume};
 use crate::vtoc::list_contents;
-use crate::words::{assemble_text, disassemble_deck};
 use counted_io::{Counted, WriteFault, write_flushed};
 use dasd_jobs::{ImageFiles, JobFault, NewVolume, Progress, check_files, format_file, list_files};
 use dasd_words::{DeckRun, NewImage, Request, Volume, WordFault, read_words};
@@ -103,8 +102,6 @@ pub fn answer<F: Traces, R: Read, W: Write, P: Progress>(
         Request::Extract(asked) => extract_set(alloc, files, writer, &asked),
         Request::ExtractAll(asked) => extract_volume(alloc, files, writer, &asked),
         Request::Explain(noted) => explain(writer, noted),
-        Request::Assemble(path) => assemble_text(alloc, files, reader, writer, path),
-        Request::Disassemble(path) => disassemble_deck(alloc, files, reader, writer, path),
         Request::Run(asked) => run_volumes(alloc, files, reader, writer, asked),
     }
 }

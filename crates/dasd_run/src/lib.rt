@@ -15,7 +15,6 @@ mod saves;
 mod traces;
 mod unload;
 mod vtoc;
-mod words;
 
 pub use crate::commands::{Ending, answer, obey};
 pub use crate::fault::ProgramFault;

@@ -2,7 +2,7 @@
 
 use crate::options::{CommandRow, VERBOSE, command, with_arg};
 use crate::requests::{Asked, Request, WordFault};
-use crate::{archive, assembler, explain, extract, format, hash, list, run, vtoc};
+use crate::{archive, explain, extract, format, hash, list, run, vtoc};
 use clap::error::ErrorKind;
 use clap::{ArgMatches, Command, Error};
 use std::alloc::{AllocError, Global};
@@ -10,7 +10,7 @@ use std::alloc::{AllocError, Global};
 pub(crate) const NO_PATH: &str = "error: no path\n";
 
 /// The commands, in the order of the help.
-static COMMANDS: [CommandRow; 12] = [
+static COMMANDS: [CommandRow; 10] = [
     format::COMMAND,
     list::COMMAND,
     archive::CHECK,
@@ -20,8 +20,6 @@ static COMMANDS: [CommandRow; 12] = [
     vtoc::COMMAND,
     extract::COMMAND,
     explain::COMMAND,
-    assembler::ASSEMBLE,
-    assembler::DISASSEMBLE,
     run::COMMAND,
 ];
 
@@ -98,8 +96,6 @@ fn read_request<'a>(
         "vtoc" => vtoc::read(alloc, options),
         "extract" => extract::read(alloc, options),
         "explain" => explain::read(alloc, options),
-        "assemble" => Ok(assembler::read_assemble(options)),
-        "disassemble" => Ok(assembler::read_disassemble(options)),
         "run" => run::read(alloc, options),
         _ => Err(wrong(alloc, NO_COMMAND)),
     }

@@ -2,7 +2,6 @@
 #![tactic(auto)]
 
 mod archive;
-mod assembler;
 mod commands;
 mod decks;
 mod explain;

@@ -35,7 +35,7 @@ pub(crate) enum ArgKind {
     Flag,
     /// An option with a value behind it.
     Valued(Value),
-    /// Words: what each has to be, and how many there are at least and at most.
+    /// Words that must be there: what each has to be, and how many there are at least and at most.
     Words(ValueParser<'static>, usize, usize),
 }
 
@@ -62,9 +62,6 @@ pub(crate) const FILE: Value = Value {
 
 /// One word, which is any text.
 pub(crate) const WORD: ArgKind = ArgKind::Words(ValueParser::String, 1, 1);
-
-/// One word or none, which is any text.
-pub(crate) const OPTIONAL_WORD: ArgKind = ArgKind::Words(ValueParser::String, 0, 1);
 
 /// Words, one at least, each of which is any text.
 pub(crate) const WORDS: ArgKind = ArgKind::Words(ValueParser::String, 1, usize::MAX);
@@ -122,15 +119,15 @@ fn valued<'a>(arg: Arg<'a>, value: &Value) -> Result<Arg<'a>, AllocError> {
         .conflicts_with_all(value.conflicts)
 }
 
-// Words, which must be there but where none is enough.
+// Words that must be there.
 fn words<'a>(arg: Arg<'a>, parser: ValueParser<'a>, least: usize, most: usize) -> Arg<'a> {
     let action = if most == 1 {
         ArgAction::Set
     } else {
         ArgAction::Append
     };
-    arg.required(least > 0)
+    arg.required(true)
         .action(action)
-        .num_args(least.max(1)..=most)
+        .num_args(least..=most)
         .value_parser(parser)
 }

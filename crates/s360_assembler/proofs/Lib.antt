@@ -1,4 +1,0 @@
-mod Flags
-mod Passes
-mod Positions
-mod Rows
