@@ -104,7 +104,11 @@ fn unload_from<F: ImageFiles, V: SlotReader, W: Write>(
         form,
     };
     match set.target {
-        Some(path) => Ok(unload_to(alloc, files, volume, path, source)?.stop),
+        Some(path) => {
+            let unloaded = unload_to(alloc, files, volume, path, source)?;
+            files.settle();
+            Ok(unloaded.stop)
+        }
         None => Ok(print(alloc, volume, writer, source)?),
     }
 }

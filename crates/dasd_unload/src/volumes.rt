@@ -84,7 +84,9 @@ pub fn unload_volume<F: ImageFiles, W: Write>(
         is_text: volume.is_text,
     };
     let blocks = contents.found.blocks.as_slice();
-    unload_sets(target, files, &mut opened, &mut report, blocks)?;
+    let unloaded = unload_sets(target, files, &mut opened, &mut report, blocks);
+    files.settle();
+    unloaded?;
     report.end()
 }
 
