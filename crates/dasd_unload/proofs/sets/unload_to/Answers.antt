@@ -9,7 +9,7 @@ returns-in-Ok-put_file-clause-file g c =
     let bytes = g.F.Draft.ImageStore.content c.into_inner-written.result.draft in
     record {
       bytes = bytes;
-      put = c.in-Ok-put_file.ensures ∙ ap (λ l. with_file l c.args.path.now bytes) c.begin_file.ensures.kept;
+      put = c.in-Ok-put_file.ensures.file ∙ ap (λ l. with_file l c.args.path.now bytes) c.begin_file.ensures.kept;
       blocks =
           through (wanted c.args.source.form c.args.source.extents.now c.args.source.start c.args.source.tracks) (g.V.SlotReader.volume c.args.volume.now) _ _ _ bytes
           (ap (λ n. g.F.Draft.ImageStore.content n.draft) c.new-writer.ensures.inner ∙ c.in-Ok.ensures.empty)
