@@ -29,13 +29,13 @@ two_behind wide middle width n first next some small =
 -- an offset of two bytes
 offset_is : (n : ℕ) → n < 65536 → codes "00" ++ (hexadecimal 2 (n / 256) ++ hexadecimal 2 (n % 256)) ≡ hexadecimal 6 n
 offset_is n small = sym (
-  two_behind 6 5 4 n refl refl (omega arith) (omega (arith, small))
-  ∙ ap (λ l. l ++ hexadecimal 2 (n % 256)) (
+    two_behind 6 5 4 n refl refl (omega arith) (omega (arith, small))
+    ∙ ap (λ l. l ++ hexadecimal 2 (n % 256)) (
     two_behind 4 3 2 (n / 256) refl refl (omega arith) (omega (arith, small))
     ∙ ap (λ m. hexadecimal 2 m ++ hexadecimal 2 (n / 256 % 256)) {x = n / 256 / 256} {y = 0} (omega (arith, small))
     ∙ ap (λ m. hexadecimal 2 0 ++ hexadecimal 2 m) {x = n / 256 % 256} {y = n / 256} (omega (arith, small))
     ∙ ap (λ l. l ++ hexadecimal 2 (n / 256)) (two_digits 0 (omega arith))
-  ))
+    ))
 
 -- how a line begins, piece by piece
 pub front_is : (before : List ℕ) (letter n : ℕ) → n < 65536

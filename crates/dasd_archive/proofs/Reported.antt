@@ -51,6 +51,6 @@ module _ (style : Style) (path : List ℕ) where
   one_more_found of n a b c t u v first next = (
     more_lines (finding_line style path) of a b c n first.0 next.0,
     λ earlier is.
-    next.1 (earlier ++ of_each of n) (first.1 earlier is)
-    ∙ ap tally_of (append_assoc earlier (of_each of n) (of n) ∙ ap (λ l. earlier ++ l) (sym (of_one_more of n))),
+        next.1 (earlier ++ of_each of n) (first.1 earlier is)
+        ∙ ap tally_of (append_assoc earlier (of_each of n) (of n) ∙ ap (λ l. earlier ++ l) (sym (of_one_more of n))),
   )

@@ -81,12 +81,16 @@ pub fn answer<F: Traces, R: Read, W: Write, P: Progress>(
     ensures keeps { IfErr result (λ e. keeps_files e ≡ true → F.written files.new ≡ F.written files.old) }
     ensures answers { Answers request.entry result
         (record {
-            read = seen_by R.remaining reader.old; printed = seen_by W.contents writer.old;
-            written = F.written files.old; opened = F.opened files.old
+          read = seen_by R.remaining reader.old;
+          printed = seen_by W.contents writer.old;
+          written = F.written files.old;
+          opened = F.opened files.old;
         })
         (record {
-            read = seen_by R.remaining reader.new; printed = seen_by W.contents writer.new;
-            written = F.written files.new; opened = F.opened files.new
+          read = seen_by R.remaining reader.new;
+          printed = seen_by W.contents writer.new;
+          written = F.written files.new;
+          opened = F.opened files.new;
         }) }
 {
     match request {
@@ -158,12 +162,16 @@ fn run_volumes<F: Traces, R: Read, W: Write>(
     ensures keeps { IfErr result (λ e. keeps_files e ≡ true → F.written files.new ≡ F.written files.old) }
     ensures runs { RunsOrStops result asked.entry
         (record {
-            read = seen_by R.remaining reader.old; printed = seen_by W.contents writer.old;
-            written = F.written files.old; opened = F.opened files.old
+          read = seen_by R.remaining reader.old;
+          printed = seen_by W.contents writer.old;
+          written = F.written files.old;
+          opened = F.opened files.old;
         })
         (record {
-            read = seen_by R.remaining reader.new; printed = seen_by W.contents writer.new;
-            written = F.written files.new; opened = F.opened files.new
+          read = seen_by R.remaining reader.new;
+          printed = seen_by W.contents writer.new;
+          written = F.written files.new;
+          opened = F.opened files.new;
         }) }
 {
     let volumes = asked.volumes.as_slice();

@@ -14,8 +14,8 @@ loop-i-preserved g c =
     let one = c.in_ok-attach.ensures.drive in
     let more = ap (λ c. c.drives) one.2 in
     let next =
-        opens_next volumes c.loop-i.channel.drives c.attach.new.channel.drives i c.index-volumes-i.result one.0 before between now
-        c.loop-i-test.true c.index-volumes-i.is more c.loop-i.invariant.drives one.1 in
+    opens_next volumes c.loop-i.channel.drives c.attach.new.channel.drives i c.index-volumes-i.result one.0 before between now
+    c.loop-i-test.true c.index-volumes-i.is more c.loop-i.invariant.drives one.1 in
     record {
       kept = c.attach.ensures.kept ∙ c.loop-i.invariant.kept;
       is_new =
