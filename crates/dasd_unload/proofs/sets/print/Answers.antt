@@ -3,4 +3,5 @@ use Rattle.dasd_unload.proofs.sets.print.Goals as goal
 
 pub returns-in-Ok-flush_all-clause-blocks : goal.returns-in-Ok-flush_all-clause-blocks
 returns-in-Ok-flush_all-clause-blocks g c =
-    flushed _ _ _ _ _ _ (extracted _ _ _ _ _ c.in-Ok.ensures.written) c.in-Ok-flush_all.ensures.0.known
+    let v = g.V.SlotReader.volume c.args.volume.now in
+    flushed _ v _ _ _ _ (extracted _ v _ _ _ c.in-Ok.ensures.written) c.in-Ok-flush_all.ensures.written.0.known

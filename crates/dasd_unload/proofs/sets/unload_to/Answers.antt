@@ -14,6 +14,6 @@ returns-in-Ok-put_file-clause-file g c =
           through (wanted c.args.source.form c.args.source.extents.now c.args.source.start c.args.source.tracks) (g.V.SlotReader.volume c.args.volume.now) _ _ _ bytes
           (ap (λ n. g.F.Draft.ImageStore.content n.draft) c.new-writer.ensures.inner ∙ c.in-Ok.ensures.empty)
           (ap (λ n. g.F.Draft.ImageStore.content n.draft) c.into_inner-written.ensures)
-          (extracted _ _ _ _ _ c.in-Ok-extract.ensures.written);
+          (extracted _ (g.V.SlotReader.volume c.args.volume.now) _ _ _ c.in-Ok-extract.ensures.written);
       count = c.len-bytes.ensures;
     }
