@@ -1,17 +1,14 @@
 -- What is done of each request.
-use Rattle.std.specs.Prelude.{◌≡◌, ◌⊎◌, ◌==◌, ℕ, List, map, true, if◌then◌else◌, Result, Ok, Err, IfOk, IfErr, OnOk}
+use Rattle.std.specs.Prelude.{◌≡◌, ◌==◌, ℕ, List, map, true, if◌then◌else◌, Result, Ok, Err, IfOk, IfErr, OnOk}
 use Rattle.counted_io.specs.Streams.{Stream, IsFlushed}
 use Rattle.dasd_volumes.specs.Volumes.{volume_text, check_text, NumberIn}
 use Rattle.dasd_words.specs.declared.requests.NewImage.{NewImage}
-use Rattle.dasd_words.specs.declared.requests.PrintedVolume.{PrintedVolume}
 use Rattle.dasd_words.specs.declared.requests.Request.{Request}
 use Rattle.dasd_words.specs.declared.requests.Request.TheVariants as request
 use Rattle.dasd_jobs.specs.Printed.{CountsLines, PrintsFiles}
 use Rattle.dasd_jobs.specs.Sources.{SourceFile, OfVolume}
 use Rattle.dasd_jobs.specs.Written.{Replaced, Formats}
 use Rattle.dasd_jobs.specs.declared.faults.JobFault.{JobFault}
-use Rattle.volume_hash.specs.Lines.{hash_text}
-use Rattle.volume_hash.specs.Message.{NumberOfUnreadable}
 use Rattle.dasd_run.specs.declared.commands.Ending.{Ending}
 use Rattle.dasd_run.specs.declared.commands.Ending.TheVariants.{Done, Findings}
 use Rattle.dasd_run.specs.declared.fault.ProgramFault.{ProgramFault}
@@ -50,16 +47,6 @@ ChecksVolume result paths opened_before opened printed_before printed =
     × PrintsFiles job check_text paths opened_before opened printed_before printed × CountsLines job printed_before printed
     × OnOk job (IsFlushed printed)
 
--- The hash of the volume of the files at the paths that are asked for is printed behind a text of these, and none of it held back; it has
--- findings where tracks can't be read. Or there is no memory for that text, and nothing is opened and nothing printed.
-abbrev pub HashesVolume : Result Ending ProgramFault → PrintedVolume → (opened_before opened : List SourceFile) → (printed_before printed : Stream) → Type 0
-HashesVolume result asked opened_before opened printed_before printed =
-    ((result ≡ Err fault.OutOfMemory) × (opened ≡ opened_before) × (printed ≡ printed_before))
-    ⊎ ((path : List ℕ) × (job : Result ℕ JobFault) × (result ≡ ended ending_of job)
-    × IfOk job (λ n. OfVolume (map (λ path. path.now) asked.paths.items) opened_before opened (λ v. NumberOfUnreadable v n))
-    × PrintsFiles job (hash_text path asked.json) (map (λ path. path.now) asked.paths.items) opened_before opened printed_before printed
-    × CountsLines job printed_before printed × OnOk job (IsFlushed printed))
-
 -- no file is written, and nothing is read of the reader
 abbrev pub Looks : (before now : Outside) → Type 0
 Looks before now = (now.written ≡ before.written) × (now.read ≡ before.read)
@@ -76,8 +63,6 @@ Answers (request.List paths) result before now =
     ListsVolume result (map (λ path. path.now) paths.items) before.opened now.opened before.printed now.printed × Looks before now
 Answers (request.Check paths) result before now =
     ChecksVolume result (map (λ path. path.now) paths.items) before.opened now.opened before.printed now.printed × Looks before now
-Answers (request.Hash asked) result before now =
-    HashesVolume result asked before.opened now.opened before.printed now.printed × Looks before now
 Answers (request.Run asked) result before now = RunsOrStops result asked before now
 Answers (request.Extract asked) result before now = Unloads result before now
 Answers (request.ExtractAll asked) result before now = Unloads result before now

