@@ -1,10 +1,13 @@
-/* system.c - the program's words, its environment, and errno, for the compiled program.
+/* system.c - the program's words, its environment, folders, and errno, for the compiled program.
  *
  * The compiled `main` takes no words. So the program is linked with --wrap=main: the system's start calls `__wrap_main`, which keeps the
  * words, and `__real_main` is the compiled one. */
+#define _POSIX_C_SOURCE 200809L
+
 #include "system.h"
 
 #include <errno.h>
+#include <fcntl.h>
 #include <stdlib.h>
 
 extern char **environ;
@@ -41,6 +44,8 @@ int64_t rattle_env_at(size_t index, char *into, size_t room) {
     while (*entry && index--) entry++;
     return copy(*entry, into, room);
 }
+
+int32_t rattle_open_dir_at(int32_t folder, const char *name) { return openat(folder, name, O_RDONLY | O_DIRECTORY | O_NOFOLLOW | O_CLOEXEC); }
 
 int32_t rattle_errno(void) { return errno; }
 

@@ -12,6 +12,10 @@ int64_t rattle_arg(size_t index, char *into, size_t room);     /* the program's 
 int64_t rattle_env(const char *name, char *into, size_t room); /* the value of a name of the environment */
 int64_t rattle_env_at(size_t index, char *into, size_t room);  /* the environment's entry of this number, as NAME=VALUE */
 
+/* Opens the folder that `name` reaches from an open one, or from the working one where that is AT_FDCWD: a descriptor; or -1, also where
+ * `name` ends in a link, and errno says why. */
+int32_t rattle_open_dir_at(int32_t folder, const char *name);
+
 int32_t rattle_errno(void);
 void rattle_set_errno(int32_t number);
 

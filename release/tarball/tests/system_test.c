@@ -3,10 +3,14 @@
  *     DASD_TEST=value system_test first '' third
  *
  * Prints what differs; status 1 where something does. */
+#define _POSIX_C_SOURCE 200809L
+
 #include <errno.h>
+#include <fcntl.h>
 #include <stdint.h>
 #include <stdio.h>
 #include <string.h>
+#include <unistd.h>
 
 #include "../c/system.h"
 
@@ -62,11 +66,21 @@ static void check_errno(void) {
     CHECK(rattle_errno() == EINTR);
 }
 
+static void check_folders(void) {
+    int32_t opened = rattle_open_dir_at(AT_FDCWD, ".");
+    CHECK(opened >= 0);
+    int32_t below = rattle_open_dir_at(opened, "..");
+    CHECK(below >= 0 && close(below) == 0 && close(opened) == 0);
+    CHECK(rattle_open_dir_at(AT_FDCWD, "no such folder") == -1 && errno == ENOENT);
+    CHECK(rattle_open_dir_at(AT_FDCWD, "/dev/null") == -1 && errno == ENOTDIR);
+}
+
 int main(void) {
     check_words();
     check_room();
     check_environment();
     check_errno();
+    check_folders();
     printf("system_test: %d wrong\n", wrong);
     return wrong != 0;
 }
