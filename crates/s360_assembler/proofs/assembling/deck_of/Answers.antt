@@ -5,14 +5,14 @@ use Rattle.s360_assembler.proofs.assembling.deck_of.Goals as goal
 pub returns-in-Err : goal.returns-in-Err
 returns-in-Err c =
     let some : 0 < length c.loop-rest.rest.now = search (rules, tests) in
-    faulty_written _ _ _ _ _ _ c.loop-rest.rest.now c.split_at_line_feed.result.0.now _ _ (c.split_at_line_feed.ensures.lines some) c.told.ensures
+    faulty_written _ _ _ _ _ _ c.loop-rest.rest.now c.split_at_line_feed.result.0.now c.split_at_line_feed.result.1.now _ (c.split_at_line_feed.ensures.lines some) c.told.ensures
     (rw c.without_carriage_return.ensures at c.in-Err.ensures.writes) c.loop-rest.invariant.written
 
 pub loop-rest-preserved : goal.loop-rest-preserved
 loop-rest-preserved c =
     let some : 0 < length c.loop-rest.rest.now = search (rules, tests) in
     record {
-      written = next_written _ _ _ _ _ _ c.loop-rest.rest.now c.split_at_line_feed.result.0.now _ _ (c.split_at_line_feed.ensures.lines some)
+      written = next_written _ _ _ _ _ _ c.loop-rest.rest.now c.split_at_line_feed.result.0.now c.split_at_line_feed.result.1.now _ (c.split_at_line_feed.ensures.lines some)
           (rw c.without_carriage_return.ensures at c.in-Ok.ensures.writes) c.loop-rest.invariant.written;
       small = omega (arith, c.split_at_line_feed.ensures.shorter some, c.loop-rest.invariant.small);
       inside = c.in-Ok.ensures.bound;

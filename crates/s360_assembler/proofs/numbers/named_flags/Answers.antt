@@ -11,4 +11,4 @@ loop-at-preserved c = next_flag _ _ _ c.loop-at.rest.now _ c.in-Some.ensures c.i
 
 pub returns-in_err-flag_of : goal.returns-in_err-flag_of
 returns-in_err-flag_of c =
-    grind (arith, c.from_residual-in_err-flag_of.ensures, no_last_flag _ c.loop-at.rest.now _ c.in-None.ensures c.in_err-flag_of.ensures c.loop-at.invariant)
+    grind (arith, c.from_residual-in_err-flag_of.ensures, no_last_flag _ c.loop-at.rest.now _ c.in_default.ensures c.in_err-flag_of.ensures c.loop-at.invariant)
