@@ -1,5 +1,4 @@
 pub mod Lined
-pub mod Listed
 pub mod Prefixes
 pub mod Printing
 pub mod Reported

@@ -1,3 +1,4 @@
 mod Built
+pub mod Paths
 pub mod Saving
 mod Told

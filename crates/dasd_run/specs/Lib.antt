@@ -3,3 +3,7 @@ pub mod Built
 pub mod Decks
 pub mod Runs
 pub mod Saves
+pub mod Printed
+pub mod Compared
+pub mod Strict
+pub mod Held

@@ -6,12 +6,13 @@ ghost use Rattle.dasd_run.specs.Faults.{keeps_files};
 ghost use Rattle.dasd_run.specs.Runs.{RunsOrStops, Tells};
 ghost use Rattle.dasd_run.specs.Saves.{Concludes};
 
-use crate::archive::{check_strictly, compare_both, dump_part};
+use crate::archive::{compare_both, dump_part};
 use crate::decks::{read_deck, run_deck, tell_fault};
 use crate::explain::explain;
 use crate::fault::ProgramFault;
 use crate::list::list_part;
 use crate::runs::{Disks, build, finish};
+use crate::strict::check_strictly;
 use crate::traces::{Traces, begin_trace, end_trace};
 use crate::unload::{extract_set, extract_volume};
 use crate::vtoc::list_contents;

@@ -11,6 +11,7 @@ mod list;
 mod remarks;
 mod runs;
 mod saves;
+mod strict;
 mod traces;
 mod unload;
 mod vtoc;
