@@ -1,3 +1,4 @@
 pub mod Folder
 mod Found
+mod Steps
 mod Through

@@ -1,3 +1,4 @@
 pub mod Unloads
 pub mod Asked
 pub mod Causes
+pub mod Volumes

@@ -4,7 +4,7 @@ ghost use Rattle.std.specs.Prelude.{◌≡◌, true, false, IfOk, IfErr, OnErr};
 ghost use Rattle.std.specs.Option.{option_copied};
 ghost use Rattle.dasd_extract.specs.Walk.{Extracts, wanted};
 ghost use Rattle.dasd_unload.specs.Unloads.{UnloadsTo, is_of_job, leaves_a_file};
-ghost use Rattle.dasd_unload.specs.Asked.{asked, form_of, is_partitioned, SetOf, MemberOf, StartsAt, UnloadsSet};
+ghost use Rattle.dasd_unload.specs.Asked.{asked, beginning, form_of, is_partitioned, SetOf, MemberOf, StartsAt, UnloadsSet};
 ghost use Rattle.dasd_unload.specs.Causes.{WhyNoStart, WhyNot, UnloadsOrTells};
 
 use crate::fault::{NO_MEMORY, UnloadFault, of_volume};
@@ -64,6 +64,7 @@ pub fn unload_set<F: ImageFiles, V: SlotReader, W: Write>(
 ) -> Result<(), UnloadFault>
     ensures unloaded { UnloadsOrTells result (asked set.entry.name.now (option_copied set.entry.member) set.entry.is_text (option_copied set.entry.target))
         (V.volume volume.old) (F.written files.old) (F.written files.new) (W.contents writer.old) (W.contents writer.new) }
+    ensures same { F.opened files.new ≡ F.opened files.old }
     ensures kept { IfErr result (λ e. leaves_a_file e ≡ false → F.written files.new ≡ F.written files.old) }
 {
     let stop = unload_from(alloc, files, volume, writer, set)?;
@@ -84,6 +85,7 @@ fn unload_from<F: ImageFiles, V: SlotReader, W: Write>(
     ensures done { IfOk result (UnloadsSet (asked set.entry.name.now (option_copied set.entry.member) set.entry.is_text (option_copied set.entry.target))
         (V.volume volume.old) (F.written files.old) (F.written files.new) (W.contents writer.old) (W.contents writer.new)) }
     ensures why { IfErr result (λ e. WhyNot e (asked set.entry.name.now (option_copied set.entry.member) set.entry.is_text (option_copied set.entry.target)) (V.volume volume.old)) }
+    ensures same { F.opened files.new ≡ F.opened files.old }
     ensures kept { OnErr result (F.written files.new ≡ F.written files.old) }
 {
     let Some(found) = find_set(alloc, volume, set.name)? else {
@@ -103,7 +105,11 @@ fn unload_from<F: ImageFiles, V: SlotReader, W: Write>(
         form,
     };
     match set.target {
-        Some(path) => Ok(unload_to(alloc, files, volume, path, source)?.stop),
+        Some(path) => {
+            let unloaded = unload_to(alloc, files, volume, path, source)?;
+            files.settle();
+            Ok(unloaded.stop)
+        }
         None => Ok(print(alloc, volume, writer, source)?),
     }
 }
@@ -149,7 +155,12 @@ pub(crate) fn is_partitioned(block: &DataSetBlock) -> bool
 }
 
 /// All blocks of a data set with these extents.
-pub(crate) fn whole<'a>(extents: &'a [Extent], form: Form) -> Source<'a> {
+pub(crate) fn whole<'a>(extents: &'a [Extent], form: Form) -> Source<'a>
+    ensures extents { result.extents.now ≡ extents.now }
+    ensures start { result.start ≡ beginning }
+    ensures tracks { result.tracks ≡ 65535 }
+    ensures form { result.form ≡ form }
+{
     Source {
         extents,
         start: FIRST,
@@ -236,6 +247,8 @@ pub(crate) fn unload_to<F: ImageFiles, V: SlotReader>(
 ) -> Result<Unloaded, UnloadFault>
     ensures file { UnloadsTo result path.now (wanted source.entry.form source.entry.extents.now source.entry.start source.entry.tracks)
         (V.volume volume.old) (F.written files.old) (F.written files.new) }
+    ensures same { F.opened files.new ≡ F.opened files.old }
+    ensures kept { V.volume volume.new ≡ V.volume volume.old }
     ensures fault { IfErr result (λ e. is_of_job e ≡ true) }
 {
     let new = match begin_file(alloc, files, path) {

@@ -1,8 +1,12 @@
 //! All data sets of a volume, each unloaded to a file.
 
-ghost use Rattle.std.specs.Prelude.{◌≡◌, ◌++◌, None, Some, codes, IfOk, IfErr, OnOk, true};
+ghost use Rattle.std.specs.Prelude.{◌≡◌, ◌++◌, ◌∷◌, [], None, Some, codes, map, IfOk, IfErr, OnOk, true};
+ghost use Rattle.std.specs.List.{flat_map};
 ghost use Rattle.std.specs.String.{string_bytes};
+ghost use Rattle.dasd_contents.specs.Sets.{is_data_set};
+ghost use Rattle.dasd_extract.specs.Walk.{wanted};
 ghost use Rattle.dasd_unload.specs.Unloads.{AddsIn, IsFileName, file_name, is_of_job};
+ghost use Rattle.dasd_unload.specs.Volumes.{Unload, item_of, path_in, block_steps, partitioned_steps, set_steps, DoesOfVolume, UnloadsVolume};
 
 use crate::fault::{NO_MEMORY, UnloadFault, of_volume};
 use crate::report::Report;
@@ -50,13 +54,14 @@ struct Item<'a> {
     source: Source<'a>,
 }
 
-/// Unloads all data sets and members from the volume of these files, each to a new file of a folder, under a name that can't lead out of
-/// it. It prints a line for each of them, for each that is not whole or not unloaded, with why, and for how many there are of both; and
-/// answers how many things were wrong. A file that is there already stays, and is one of these.
+/// Unloads all data sets and members from the volume of these files, each once to a new file of a folder, under a name that can't lead
+/// out of it, in the order of the table of contents and of the directories. It prints a line for each of them, for each that is not
+/// whole or not unloaded, with why, and for how many there are of both; and answers how many things were wrong. A file that is there
+/// already stays, and is one of these.
 ///
 /// # Errors
 ///
-/// A fault stopped it: the files that were written until then stay.
+/// A fault stopped it: the files that were written until then stay, and no other is there.
 pub fn unload_volume<F: ImageFiles, W: Write>(
     alloc: Global,
     files: &mut F,
@@ -64,6 +69,8 @@ pub fn unload_volume<F: ImageFiles, W: Write>(
     paths: &[&str],
     volume: WantedVolume,
 ) -> Result<usize, UnloadFault>
+    ensures volume { UnloadsVolume result (map (λ path. path.now) paths.now) volume.entry.folder.now volume.entry.is_text
+        (F.opened files.old) (F.opened files.new) (F.written files.old) (F.written files.new) }
     ensures files { AddsIn volume.entry.folder.now (F.written files.old) (F.written files.new) }
     ensures fault { IfErr result (λ e. is_of_job e ≡ true) }
 {
@@ -84,8 +91,17 @@ pub fn unload_volume<F: ImageFiles, W: Write>(
         is_text: volume.is_text,
     };
     let blocks = contents.found.blocks.as_slice();
-    unload_sets(target, files, &mut opened, &mut report, blocks)?;
+    let unloaded = unload_sets(target, files, &mut opened, &mut report, blocks);
+    files.settle();
+    unloaded?;
     report.end()
+}
+
+// Whether a control block is one of format 1.
+fn is_data_set(block: &Block) -> bool
+    ensures { result ≡ is_data_set block.now.kind }
+{
+    block.kind == BlockKind::DataSet
 }
 
 // Unloads the data sets of these control blocks.
@@ -97,10 +113,14 @@ fn unload_sets<F: ImageFiles, V: SlotReader, W: Write>(
     blocks: &[Block],
 ) -> Result<(), UnloadFault>
     ensures files { AddsIn target.entry.folder.now (F.written files.old) (F.written files.new) }
+    ensures steps { DoesOfVolume result (V.volume volume.old) target.entry.folder.now target.entry.is_text
+        (λ u. flat_map (block_steps u blocks.now) blocks.now)
+        (F.written files.old) (F.written files.new) report.old.findings report.new.findings }
+    ensures same { F.opened files.new ≡ F.opened files.old }
     ensures fault { IfErr result (λ e. is_of_job e ≡ true) }
 {
     for block in blocks {
-        if block.kind == BlockKind::DataSet {
+        if is_data_set(block) {
             let Ok(set) = data_set_of(target.alloc, blocks, block) else {
                 return Err(NO_MEMORY);
             };
@@ -119,12 +139,15 @@ fn unload_one<F: ImageFiles, V: SlotReader, W: Write>(
     set: &DataSet,
 ) -> Result<(), UnloadFault>
     ensures files { AddsIn target.entry.folder.now (F.written files.old) (F.written files.new) }
+    ensures steps { DoesOfVolume result (V.volume volume.old) target.entry.folder.now target.entry.is_text
+        (λ u. set_steps u set.now.block set.now.extents.items set.now.fault)
+        (F.written files.old) (F.written files.new) report.old.findings report.new.findings }
+    ensures same { F.opened files.new ≡ F.opened files.old }
+    ensures kept { V.volume volume.new ≡ V.volume volume.old }
     ensures fault { IfErr result (λ e. is_of_job e ≡ true) }
 {
     let name = name_of_set(target.alloc, set)?;
-    if let Some(fault) = set.fault {
-        report.finding(name.as_str(), &fault)?;
-    }
+    report.fault(name.as_str(), set.fault)?;
     let Some(form) = form_of(&set.block, target.is_text) else {
         return report.finding(name.as_str(), &"its format is of no records");
     };
@@ -188,6 +211,11 @@ fn unload_members<F: ImageFiles, V: SlotReader, W: Write>(
     opened: Opened,
 ) -> Result<(), UnloadFault>
     ensures files { AddsIn target.entry.folder.now (F.written files.old) (F.written files.new) }
+    ensures steps { DoesOfVolume result (V.volume volume.old) target.entry.folder.now target.entry.is_text
+        (λ u. partitioned_steps u opened.entry.set.now.block.name opened.entry.set.now.extents.items opened.entry.form)
+        (F.written files.old) (F.written files.new) report.old.findings report.new.findings }
+    ensures same { F.opened files.new ≡ F.opened files.old }
+    ensures kept { V.volume volume.new ≡ V.volume volume.old }
     ensures fault { IfErr result (λ e. is_of_job e ≡ true) }
 {
     let Opened { set, form } = opened;
@@ -198,7 +226,8 @@ fn unload_members<F: ImageFiles, V: SlotReader, W: Write>(
     };
     let name = name_of_set(target.alloc, set)?;
     report.directory(name.as_str(), &members)?;
-    for entry in members.entries.as_slice() {
+    let entries = members.entries.as_slice();
+    for entry in entries {
         let name = name_of_member(target.alloc, set, entry)?;
         let item = Item {
             name: name.as_str(),
@@ -211,7 +240,7 @@ fn unload_members<F: ImageFiles, V: SlotReader, W: Write>(
 
 // The path of a file in a folder.
 fn path_in(alloc: Global, folder: &str, name: &str) -> Result<String, UnloadFault>
-    ensures path { IfOk result (λ path. string_bytes path ≡ folder.now ++ codes "/" ++ name.now) }
+    ensures path { IfOk result (λ path. string_bytes path ≡ path_in folder.now name.now) }
     ensures fault { IfErr result (λ e. is_of_job e ≡ true) }
 {
     let Ok(mut path) = folder.to_string(alloc) else {
@@ -232,6 +261,12 @@ fn unload_item<F: ImageFiles, V: SlotReader, W: Write>(
 ) -> Result<(), UnloadFault>
     requires name { IsFileName item.name.now }
     ensures files { AddsIn target.entry.folder.now (F.written files.old) (F.written files.new) }
+    ensures steps { DoesOfVolume result (V.volume volume.old) target.entry.folder.now target.entry.is_text
+        (λ u. Unload (item_of item.entry.name.now
+            (wanted item.entry.source.form item.entry.source.extents.now item.entry.source.start item.entry.source.tracks)) ∷ [])
+        (F.written files.old) (F.written files.new) report.old.findings report.new.findings }
+    ensures same { F.opened files.new ≡ F.opened files.old }
+    ensures kept { V.volume volume.new ≡ V.volume volume.old }
     ensures fault { IfErr result (λ e. is_of_job e ≡ true) }
 {
     let path = path_in(target.alloc, target.folder, item.name)?;

@@ -1,4 +1,4 @@
-use Rattle.std.proofs.Common.{refl, sym, arith}
+use Rattle.std.proofs.Common.{◌∙◌, refl, sym, arith}
 use Rattle.std.proofs.KnownBytes.{Keeps-refl}
 use Rattle.std.specs.Option.{option_copied}
 use Rattle.dasd_extract.specs.Walk.{wanted}
@@ -8,7 +8,7 @@ use Rattle.dasd_unload.proofs.sets.unload_from.Goals as goal
 
 pub returns-in-Some-target-clause-done : goal.returns-in-Some-target-clause-done
 returns-in-Some-target-clause-done g c =
-    let file = c.in_ok-unload_to-in-Some-target.ensures.file in
+    let file = c.in_ok-unloaded-in-Some-target.ensures.file in
     rw c.in-Some-target.is (record {
       source = wanted c.in-Some-form_of.form c.as_slice.result.now c.in-Ok.start 65535;
       asks = record {
@@ -19,7 +19,7 @@ returns-in-Some-target-clause-done g c =
         start = rw c.find_set.ensures.kept at c.in-Ok.ensures.start;
         tracks = refl;
       };
-      written = (record { bytes = file.bytes; put = file.put; blocks = rw (c.find_start.ensures.kept, c.find_set.ensures.kept) at file.blocks }, Keeps-refl _);
+      written = (record { bytes = file.bytes; put = c.settle.ensures.kept ∙ file.put; blocks = rw (c.find_start.ensures.kept, c.find_set.ensures.kept) at file.blocks }, Keeps-refl _);
     })
 
 pub returns-clause-done : goal.returns-clause-done

@@ -14,7 +14,7 @@ returns-in-Ok-put_file-clause-file g c =
     ∙ c.in-Ok-new.ensures.empty in
     record {
       bytes = bytes;
-      put = c.in-Ok-put_file.ensures ∙ ap (λ l. with_file l c.args.path.now bytes) c.begin_file.ensures.kept;
+      put = c.in-Ok-put_file.ensures.file ∙ ap (λ l. with_file l c.args.path.now bytes) c.begin_file.ensures.kept;
       blocks = through (wanted c.args.source.form c.args.source.extents.now c.args.source.start c.args.source.tracks) (g.V.SlotReader.volume c.args.volume.now) _ _ _ _ empty c.in-Ok-into_inner.ensures.ok c.in-Ok-extract.ensures.written;
       count = c.len-bytes.ensures;
     }
