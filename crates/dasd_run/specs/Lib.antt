@@ -3,3 +3,4 @@ pub mod Built
 pub mod Decks
 pub mod Runs
 pub mod Saves
+pub mod Unloads

@@ -2,6 +2,7 @@
 
 ghost use Rattle.std.specs.Prelude.{◌≡◌, true, IfErr};
 ghost use Rattle.dasd_run.specs.Faults.{keeps_files};
+ghost use Rattle.dasd_run.specs.Unloads.{ExtractsSet, ExtractsVolume};
 
 use crate::archive::quoted;
 use crate::commands::Ending;
@@ -19,7 +20,9 @@ pub(crate) fn extract_set<F: ImageFiles, W: Write>(
     writer: &mut W,
     asked: &ExtractedSet,
 ) -> Result<Ending, ProgramFault>
-    ensures { IfErr result (λ e. keeps_files e ≡ true → F.written files.new ≡ F.written files.old) }
+    ensures keeps { IfErr result (λ e. keeps_files e ≡ true → F.written files.new ≡ F.written files.old) }
+    ensures extracts { ExtractsSet result asked.now (F.opened files.old) (F.opened files.new) (F.written files.old) (F.written files.new)
+        (W.contents writer.old) (W.contents writer.new) }
 {
     let set = WantedSet {
         name: asked.name.data_set,
@@ -27,7 +30,10 @@ pub(crate) fn extract_set<F: ImageFiles, W: Write>(
         target: asked.target,
         is_text: asked.is_text,
     };
-    let mut volume = open_volume(alloc, files, asked.paths.as_slice())?;
+    let mut volume = match open_volume(alloc, files, asked.paths.as_slice()) {
+        Ok(volume) => volume,
+        Err(fault) => return Err(ProgramFault::Job(fault)),
+    };
     match unload_set(alloc, files, &mut volume, writer, set) {
         Ok(()) => Ok(Ending::Done),
         Err(fault) => Err(ProgramFault::Unload(fault)),
@@ -41,7 +47,8 @@ pub(crate) fn extract_volume<F: ImageFiles, W: Write>(
     writer: &mut W,
     asked: &ExtractedVolume,
 ) -> Result<Ending, ProgramFault>
-    ensures { IfErr result (λ e. keeps_files e ≡ true → F.written files.new ≡ F.written files.old) }
+    ensures keeps { IfErr result (λ e. keeps_files e ≡ true → F.written files.new ≡ F.written files.old) }
+    ensures extracts { ExtractsVolume result asked.now (F.opened files.old) (F.opened files.new) (F.written files.old) (F.written files.new) }
 {
     let paths = asked.paths.as_slice();
     let path = quoted(alloc, paths)?;
