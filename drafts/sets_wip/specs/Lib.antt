@@ -1,0 +1,5 @@
+pub mod Message
+pub mod Blocks
+pub mod Sets
+pub mod Lines
+pub mod Apart
