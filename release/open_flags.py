@@ -6,6 +6,7 @@
 The flags of `open` are numbers of x86-64 Linux in the module, and O_DIRECT, O_DIRECTORY, O_NOFOLLOW and O_LARGEFILE have others on
 AArch64: a program that used one of them would open files otherwise there, without a word. So each command of `dasd` is run under
 both, over files of its own. Each call must come out with the same flags by name, and with none but these, whose numbers are equal.
+Folders are left out: they are opened by tarball/c/system.c, with the numbers that the target's own C compiler has.
 The images that are left must be equal too. X86_64 and AARCH64 are the two programs; SYSROOT is where qemu finds the loader, if not
 /usr/aarch64-linux-gnu.
 
@@ -74,7 +75,7 @@ def calls_of(traced: str, folder: Path) -> list[str]:
     found = []
     for path, flags in CALL.findall(traced):
         name = path.removeprefix(f"{folder}/")
-        if not name.startswith("/"):
+        if not name.startswith("/") and "O_DIRECTORY" not in flags.split("|"):
             found.append(f"{re.sub(r'-[0-9]+-', '-N-', name)} {'|'.join(sorted(flags.split('|')))}")
     return found
 

@@ -272,7 +272,7 @@ class DasdRow:
             out, told = self.run(words, {"FAIL_READ": str(at)})
             told = SHOWN.sub(b"", told)
             is_told = UNREAD.fullmatch(told.decode("ascii"))
-            same("read %d of %d fails" % (at, number), (1, True), (self.status, bool(is_told) and is_told["path"] in words))
+            same("read %d of %d fails" % (at, number), (1, True), (self.status, is_told is not None and is_told["path"] in words))
             same("read %d of %d fails: a front is printed" % (at, number), True, whole.startswith(out) and (not out or out.endswith("\n")))
         log.unlink()
 

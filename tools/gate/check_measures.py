@@ -170,7 +170,7 @@ def of_functions() -> dict[str, list[Found]]:
     }
 
 
-def found() -> dict[str, list[Found]]:
+def places() -> dict[str, list[Found]]:
     """All places, by their measure."""
     machine = [it for pattern in ("s360_*", "ckd_*") for it in all_of(f"{pattern}/specs/**/*.antt", unsaid)]
     return of_functions() | {
@@ -193,9 +193,9 @@ MEASURES = (
 )
 
 
-def told(measure: Measure, places: Iterable[Found]) -> bool:
+def told(measure: Measure, known: Iterable[Found]) -> bool:
     """Prints the row of a measure, and answers whether its number is the one that stands here."""
-    over = [it for it in places if it.amount > measure.limit]
+    over = [it for it in known if it.amount > measure.limit]
     worst = max(over, key=lambda it: it.amount, default=None)
     at = f"{worst.amount}: {worst.where}" if worst else "-"
     print(f"| {measure.name} | {measure.limit} | {len(over)} | {at} |")
@@ -206,8 +206,8 @@ def told(measure: Measure, places: Iterable[Found]) -> bool:
 
 def main() -> int:
     print("| Measure | Limit | Over it | The worst |", "|---|---|---|---|", sep="\n")
-    places = found()
-    wrong = [it for it in MEASURES if not told(it, places[it.name])]
+    known = places()
+    wrong = [it for it in MEASURES if not told(it, known[it.name])]
     print(f"check_measures: {len(MEASURES)} measures, {len(wrong)} wrong")
     return 1 if wrong else 0
 

@@ -12,8 +12,8 @@ fail, once or from there on (by Debian's `strace --inject`), and once more for e
 - Where only the call fails that takes a file's first, hidden name away, all is as it was meant to be, and that name stays beside the other.
 - A program that is killed leaves each file the old one or the new one, whole. What it had begun to write may stay, under a name that begins with `.dasd-`;
   the next command that writes a file into that folder removes it, and says so.
-- Where a file takes its place, it was synced before that. Its folder is synced right behind it where it replaces a file, before anything is written or gets another
-  name; and once behind all where files are new.
+- Where a file takes its place, it was synced before that. Its folder is synced right behind it where it replaces a file, before anything is
+  written or gets another name; and once behind all where files are new.
 
 It runs crates/dasd_cmd/out/dasd_cmd, as `rt ci` leaves it; with --built FILE that program; with words behind, the commands whose names have one of them.
 The last line is 'N failures of N calls, M came out wrong', and the status 1 where M is not 0.

@@ -90,9 +90,9 @@ def what_a_killed_program_left_is_removed_by_the_next_and_told(s: Scratch) -> No
         if left or run.poll() is not None:
             break
         time.sleep(0.002)
-    run.send_signal(signal.SIGINT)
+    run.send_signal(signal.SIGTERM)
     run.communicate(timeout=60)
-    same((len(left), run.returncode), (1, -signal.SIGINT), "a program that was interrupted")
+    same((len(left), run.returncode), (1, -signal.SIGTERM), "a program that was interrupted")
     same(s.dasd("check", VERBOSE, "vol.ckd"), (0, "0 findings\n", ""))
     same(s.names(), sorted([*left, "vol.ckd"]))
     status, _, told = s.write(VERBOSE, "90=vol.ckd")

@@ -90,7 +90,7 @@ class ToWasm(unittest.TestCase):
 
     def test_the_list_of_imports(self) -> None:
         listed = imports_of(Path(__file__).resolve().parent.parent / "imports.txt")
-        self.assertEqual(len(listed), 25)
+        self.assertEqual(len(listed), 27)
         self.assertIn("pread", listed)
 
 
