@@ -35,6 +35,9 @@ INT
 COMMANDS = ["format", "list", "check", "dump", "compare", "hash", "vtoc", "extract", "explain", "run", "help"]
 WRONG = "fomrat"
 TRACE = "trace"
+# The folder of a new file is noted, to be synced behind the last one: its name, and the list that it is put on. Without memory for one of
+# these the folder is synced at once, and all is as it was meant to be.
+NOTED = 2
 # Of all data sets those that were whole before it stay.
 ALL = "all data sets to files"
 
@@ -49,7 +52,7 @@ def growths(length: int) -> int:
 
 @dataclass(frozen=True)
 class Job:
-    """A job of `dasd`: its words, a deck, and how many refusals are asked for again."""
+    """A job of `dasd`: its words, a deck, and how many refusals are asked for again, or are done without."""
 
     words: list[str]
     deck: str = ""
@@ -58,7 +61,7 @@ class Job:
 
 JOBS = {
     "the stored deck": Job([]),
-    "format": Job(["format", "new.ckd", "--model", "2311", "--cylinders", "2"]),
+    "format": Job(["format", "new.ckd", "--model", "2311", "--cylinders", "2"], "", NOTED),
     "list": Job(["list", "old.ckd"]),
     "check": Job(["check", "old.ckd"]),
     "a deck that writes a record": Job(["run", "90=old.ckd", "91=new:2314:1"], DECK),
@@ -69,8 +72,8 @@ JOBS = {
     "the data sets of a volume": Job(["vtoc", "old.ckd"]),
     "the same in objects": Job(["vtoc", "--json", "old.ckd"]),
     "a data set": Job(["extract", "old.ckd", "PAY.CARDS", "--text"]),
-    "a member to a file": Job(["extract", "old.ckd", "SYS1.MACLIB(BETA)", "--to", "beta"]),
-    ALL: Job(["extract", "--all", ".", "old.ckd"]),
+    "a member to a file": Job(["extract", "old.ckd", "SYS1.MACLIB(BETA)", "--to", "beta"], "", NOTED),
+    ALL: Job(["extract", "--all", ".", "old.ckd"], "", NOTED),
     "a word that is wrong": Job([WRONG], "", sum(growths(len(WRONG)) + growths(len(it)) for it in COMMANDS)),
 }
 
