@@ -182,7 +182,7 @@ def given(native: Native, image: str, events: list[str], unit: int) -> dict[str,
     shown = [f"SHOW {at:X} 16" for at in [0x40, 0x400, 0x500, 0x5F0]]
     answers = native.answers("\n".join([*deck, *shown]) + "\n", "90=step.ckd")
     (native.folder / "step.ckd").write_bytes((native.folder / image).read_bytes())
-    trace = native.run("run", "--trace", "90=step.ckd", deck="\n".join(deck) + "\n").stderr.decode().splitlines()
+    trace = native.run("run", "--trace", "--trace-whole", "90=step.ckd", deck="\n".join(deck) + "\n").stderr.decode().splitlines()
     return {
         "bytes": [it.split(" ")[2] for it in answers[-4:]],
         "answer": "" if unit or not events else answers[len(events) - 1],
