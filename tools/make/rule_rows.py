@@ -70,7 +70,7 @@ class Row:
 
     def title(self) -> str:
         """What it is called where something is wrong with it."""
-        return self.name or " ".join(self.says.split()[:6])
+        return self.name or " ".join(self.says.split()[:8])
 
 
 class Tree:
@@ -98,14 +98,12 @@ class Tree:
 
     def _functions_of(self, crate: str, file: str) -> list[str]:
         """The functions of a file, those of a type with its name before them."""
-        found, of = [], ""
+        found, of = list[str](), ""
         for line in self.text("crates", crate, "src", file).splitlines():
-            if line.startswith("}"):
-                of = ""
-            elif owner := IMPL.match(line):
-                of = f"{owner[1]}::"
-            elif function := FUNCTION.match(line):
-                found.append(of + function[1])
+            owner, names = IMPL.match(line), FUNCTION.findall(line)
+            if owner or line.startswith("}"):
+                of = f"{owner[1]}::" if owner else ""
+            found += [of + name for name in names]
         return found
 
     def functions_named(self, place: Place) -> list[str]:

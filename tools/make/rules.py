@@ -15,7 +15,7 @@ from collections.abc import Iterator
 from pathlib import Path
 
 from tools import TOP
-from tools.make.rule_page import page_of
+from tools.make.rule_page import link_to, page_of
 from tools.make.rule_rows import CODE, LAWS, Index, Row
 
 HEADINGS = re.compile(r"`([a-z0-9_]+) ([A-Z]\w*)`|`([A-Z]\w*)`")
@@ -95,12 +95,21 @@ def wrong_laws(index: Index) -> Iterator[str]:
                 yield f"docs/DEFINITIONS.md: nothing of the law {name} of {crate}"
 
 
+def wrong_headings(text: str) -> Iterator[str]:
+    """Headings of the page to which no link leads, since an earlier one has the same place."""
+    places = [link_to(heading) for heading in re.findall(r"^#+ (.*)$", text, re.M)]
+    for place in dict.fromkeys(places):
+        if places.count(place) > 1:
+            yield f"docs/RULES.md: several headings at {place}"
+
+
 def look_at(top: Path) -> tuple[int, list[str], str]:
     """How many rows there are, what is wrong with them, and the page's text."""
     index = Index(top)
     wrong = [*index.wrong, *(line for row in index.rows for line in wrong_places(index, row))]
     wrong += [*wrong_rules(index), *wrong_definitions(index), *wrong_laws(index)]
-    return len(index.rows), wrong, page_of(index)
+    text = page_of(index)
+    return len(index.rows), [*wrong, *wrong_headings(text)], text
 
 
 def is_stale(top: Path, text: str) -> bool:
