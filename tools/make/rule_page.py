@@ -13,7 +13,7 @@ Each rule of the [conformance suite](CONFORMANCE.md) and each of [the definition
   GA26-5988 and GA26-3599; *profile* is a choice of this project, listed in [FORMAT.md](../conformance/FORMAT.md);
 - the definition that says it: crate, module and name. A comment above each definition says what it is;
 - the function that does it. Its contract says what it promises, and names the definition. Of a law it is also the function that states it;
-- the vectors that pin it, three at most, first those that name the fewest rules. [The last section](#the-vectors-of-each-rule) names all.
+- the vectors that pin it, with their files, three at most. [The last section](#the-vectors-of-each-rule) names all.
   *Worked* names a file of vectors over the definitions alone, which were worked out by hand.
 
 To find a rule, look for a word in the list from A to Z, or go to the subject. `tools/make/rules.py` writes this page.
@@ -79,7 +79,7 @@ class Page:
         """Some vectors of a rule of the suite, or those that show a sentence or a law."""
         parts = []
         if row.is_of_suite:
-            pinned = self.index.vectors.get(row.name, [])
+            pinned = sorted(self.index.vectors.get(row.name, []), key=lambda it: it[1] not in row.vectors)
             shown = ", ".join(f"{name} ({file})" for file, name in pinned[:SHOWN])
             parts.append(f"{len(pinned)}: {shown}" + (f", .. [all]({link_to(ALL)})" if len(pinned) > SHOWN else ""))
         else:

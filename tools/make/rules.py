@@ -40,10 +40,11 @@ def wrong_places(index: Index, row: Row) -> Iterator[str]:
     for name in row.rules:
         if name not in index.sources:
             yield f"{row.title()}: no rule {name} in rules.txt"
-    vectors = {name for rule in row.rules for _, name in index.vectors.get(rule, [])}
+    rules = [row.name] if row.is_of_suite else row.rules
+    vectors = {name for rule in rules for _, name in index.vectors.get(rule, [])}
     for name in row.vectors:
         if name not in vectors:
-            yield f"{row.title()}: no vector {name} of {', '.join(row.rules) or 'no rule'}"
+            yield f"{row.title()}: no vector {name} of {', '.join(rules) or 'no rule'}"
     if not (row.defined and row.done):
         yield f"{row.title()}: no {'function' if row.defined else 'definition'}"
 
