@@ -208,18 +208,19 @@ class RuleIndex(unittest.TestCase):
             lines = self.page(folder, {}).read_text(encoding="utf-8").splitlines()
         word, new = "[`low Word.word`](../crates/low/specs/Word.antt)", "[`low::Word::new`](../crates/low/src/lib.rt)"
         read, worked = "[`low::read`](../crates/low/src/lib.rt)", "[`low::worked`](../crates/low/src/worked.rt)"
-        law = "[`s360_runs Laws.AllEnd`](../crates/s360_runs/specs/Laws.antt) | [`s360_runs::laws::all_end`](../crates/s360_runs/src/laws.rt)"
-        manuals = "2841 and 2314, Seek; PoO, Busy"
-        for line in (
-            f"| **seek**: Seek takes a word | {manuals} | {word} | {new} | 2: seek-outside (seeks), seek-by-units (seeks); worked: {worked} |",
-            f"| **units**: Units are counted | *profile*, `units` | {word} | {new}, {read} | 1: seek-by-units (seeks) |",
-            f"| A word is a number (`word`), and it has a sign. | {manuals} | {word} | {read} | seek-outside (seeks); of [seek](#seeks) |",
-            f"| **`all_end`**: Each word ends. | none | {law} | none |",
-            "- **B**: Busy [seek](#seeks), [all_end](#laws)",
-            "- **C**: cylinder [seek](#seeks)",
-            "- **seek**, 2: [seeks](../conformance/vectors/seeks.vectors): seek-outside, seek-by-units",
+        law = ("[`s360_runs Laws.AllEnd`](../crates/s360_runs/specs/Laws.antt)", "[`s360_runs::laws::all_end`](../crates/s360_runs/src/laws.rt)")
+        two = "seek-outside (seeks), seek-by-units (seeks)"
+        manuals, first = "  - Topic: 2841 and 2314, Seek; PoO, Busy", f"  - Definition: {word}"
+        for entry in (
+            ["- **seek**: Seek takes a word", manuals, first, f"  - Function: {new}", f"  - Vectors: 2: {two}; by hand: {worked}"],
+            ["- **units**: Units are counted", "  - Topic: *profile*, `units`", first, f"  - Function: {new}, {read}", "  - Vectors: 1: seek-by-units (seeks)"],
+            [f"- {SENTENCE} has a sign.", manuals, first, f"  - Function: {read}", "  - Vectors: seek-outside (seeks); of [seek](#seeks)"],
+            ["- **`all_end`**: Each word ends.", "  - Topic: none", f"  - Definition: {law[0]}", f"  - Function: {law[1]}", "  - Vectors: none"],
+            ["- **B**: Busy [seek](#seeks), [all_end](#laws)", "- **C**: cylinder [seek](#seeks)"],
+            ["- **seek**, 2: [seeks](../conformance/vectors/seeks.vectors): seek-outside, seek-by-units"],
         ):
-            self.assertIn(line, lines)
+            place = lines.index(entry[0])
+            self.assertEqual(lines[place : place + len(entry)], entry)
 
     def test_sound_index(self) -> None:
         self.finds({})

@@ -14,14 +14,13 @@ Each rule of the [conformance suite](CONFORMANCE.md) and each of [the definition
 - the definition that says it: crate, module and name. A comment above each definition says what it is;
 - the function that does it. Its contract says what it promises, and names the definition. Of a law it is also the function that states it;
 - the vectors that pin it, with their files, three at most. [The last section](#the-vectors-of-each-rule) names all.
-  *Worked* names a file of vectors over the definitions alone, which were worked out by hand.
+  *By hand* names a file of vectors that were worked out by hand and are computed over the definitions alone.
 
 To find a rule, look for a word in the list from A to Z, or go to the subject. `tools/make/rules.py` writes this page.
 
 ## Subjects
 
 """
-COLUMNS = "| Rule | Topic | Definition | Function | Vectors |\n|---|---|---|---|---|\n"
 SUITE, DEFINITIONS, ALL = "The rules of the suite", "The rules of the definitions", "The vectors of each rule"
 MANUALS = ("Principles of Operation", "2841 and 2314")
 # How many vectors a row shows.
@@ -79,7 +78,8 @@ class Page:
         """Some vectors of a rule of the suite, or those that show a sentence or a law."""
         parts = []
         if row.is_of_suite:
-            pinned = sorted(self.index.vectors.get(row.name, []), key=lambda it: it[1] not in row.vectors)
+            order = {name: place for place, name in enumerate(row.vectors)}
+            pinned = sorted(self.index.vectors.get(row.name, []), key=lambda it: order.get(it[1], len(order)))
             shown = ", ".join(f"{name} ({file})" for file, name in pinned[:SHOWN])
             parts.append(f"{len(pinned)}: {shown}" + (f", .. [all]({link_to(ALL)})" if len(pinned) > SHOWN else ""))
         else:
@@ -89,22 +89,22 @@ class Page:
             parts += ["of " + ", ".join(f"[{rule}]({link_to(self.sections.get(rule, ''))})" for rule in row.rules)] if row.rules else []
         if row.worked:
             links = ", ".join(f"[`{crate}::{file.removesuffix('.rt')}`](../crates/{crate}/src/{file})" for crate, file in row.worked)
-            parts.append(f"worked: {links}")
+            parts.append(f"by hand: {links}")
         return "; ".join(parts) or "none"
 
-    def line(self, row: Row) -> str:
-        """A row of a table."""
+    def entry(self, row: Row) -> str:
+        """A rule with its places, a line each."""
         names = [f"**{row.name}**"] if row.is_of_suite else [f"**`{name}`**" for name in row.names]
         says = (", ".join(names) + ": " if names else "") + row.says
-        cells = (says, self.topics(row), self.definitions(row.defined), self.functions(row.done), self.vectors(row))
-        return "| " + " | ".join(cell.replace("|", "\\|") for cell in cells) + " |\n"
+        places = {"Topic": self.topics(row), "Definition": self.definitions(row.defined), "Function": self.functions(row.done), "Vectors": self.vectors(row)}
+        return f"- {says}\n" + "".join(f"  - {kind}: {place}\n" for kind, place in places.items())
 
-    def tables(self, is_of_suite: bool) -> str:
-        """The tables of all subjects of the suite's rules, or of the others."""
+    def entries(self, is_of_suite: bool) -> str:
+        """All subjects of the suite's rules, or of the others, with their rules."""
         rows = [row for row in self.index.rows if row.is_of_suite == is_of_suite]
         parts = []
         for section, found in groupby(rows, lambda row: row.section):
-            parts.append(f"### {section}\n\n{COLUMNS}{''.join(map(self.line, found))}")
+            parts.append(f"### {section}\n\n{''.join(map(self.entry, found))}")
         return "\n".join(parts)
 
     def subjects(self) -> str:
@@ -147,9 +147,9 @@ def page_of(index: Index) -> str:
     suite = sum(row.is_of_suite for row in index.rows)
     vectors = {vector for pinned in index.vectors.values() for vector in pinned}
     parts = [HEAD, page.subjects(), "\n## From A to Z\n\n", page.words()]
-    parts += [f"\n## {SUITE}\n\n", page.tables(True), f"\n## {DEFINITIONS}\n\n"]
+    parts += [f"\n## {SUITE}\n\n", page.entries(True), f"\n## {DEFINITIONS}\n\n"]
     parts += ["The words are those of [DEFINITIONS.md](DEFINITIONS.md), which also says of each law what it gives you and what it does not say. ",
-              "The topics and the vectors are those of the suite's rules that the rule is about.\n\n", page.tables(False)]
+              "The topics and the vectors are those of the suite's rules that the rule is about.\n\n", page.entries(False)]
     parts += [f"\n## {ALL}\n\n", page.all_vectors()]
     parts.append(f"\n{suite} rules of the suite, {len(index.rows) - suite} of the definitions, {len(vectors)} vectors.\n")
     return "".join(parts)
