@@ -94,8 +94,7 @@ class Page:
 
     def entry(self, row: Row) -> str:
         """A rule with its places, a line each."""
-        names = [f"**{row.name}**"] if row.is_of_suite else [f"**`{name}`**" for name in row.names]
-        says = (", ".join(names) + ": " if names else "") + row.says
+        says = f"**{row.name}**: {row.says}" if row.is_of_suite else ", ".join(f"**`{name}`**" for name in row.names) + row.says
         places = {"Topic": self.topics(row), "Definition": self.definitions(row.defined), "Function": self.functions(row.done), "Vectors": self.vectors(row)}
         return f"- {says}\n" + "".join(f"  - {kind}: {place}\n" for kind, place in places.items())
 

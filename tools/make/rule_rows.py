@@ -17,6 +17,7 @@ DEFINITION = re.compile(r"^(?:(?:abbrev|pub|record|data|unfoldable) )*([A-Za-z_]
 IMPL = re.compile(r"^impl\b(?:<[^{]*?>)? (?:.* for )?(\w+)")
 FUNCTION = re.compile(r"^ *(?:pub(?:\(crate\))? )?(?:unsafe )?(?:extern \"C\" )?fn (\w+)")
 ENSURED = r"fn {}\(\)\s+ensures {{ (\w+) }}"
+MODULE = re.compile(r"\(`\w+\.antt`\): ")
 BOLD = re.compile(r"\*\*(`.*?)\*\* ?(.*)")
 SENTENCE = re.compile(r"(?<=[.!?]) (?=[A-Z*`])")
 
@@ -121,6 +122,15 @@ class Tree:
         return [Place(crate, it.stem, ensured[1]) for it in modules if ensured[1] in self.definitions_of(crate, it.stem)][:1]
 
 
+def law_words(names: str, rest: str) -> str:
+    """What a paragraph says of the names before it, with what stands between them on the page."""
+    words = re.split(r" ?\*(?:For you|Not):\*", rest)[0]
+    module = MODULE.match(words)
+    if module or names.endswith("."):
+        return ": " + words[module.end() if module else 0 :]
+    return f" {words}"
+
+
 def sections_of(page: str) -> list[Section]:
     """The sections of docs/DEFINITIONS.md that have definitions and laws."""
     found = []
@@ -131,7 +141,7 @@ def sections_of(page: str) -> list[Section]:
             text = re.sub(r"^\d+\. ", "", " ".join(block.split()))
             law = BOLD.match(text)
             names = CODE.findall(re.sub(r"`(\w+) [^`]*`", r"`\1`", law[1])) if law else []
-            words = re.split(r" ?\*(?:For you|Not):\*", law[2])[0] if law else text.replace("**", "")
+            words = law_words(law[1], law[2]) if law else text.replace("**", "")
             if text:
                 paragraphs.append(Paragraph(text, names, words))
         found.append(Section(heading.strip(), paragraphs))
