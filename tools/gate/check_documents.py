@@ -6,6 +6,8 @@
 - Each file of Rattle or antt that a document names is there: `crates/NAME/src/x.rt`, `NAME/specs/X.antt`; a name without a folder, as `Geometry.antt`,
   is looked for in the folder that was named last in its paragraph.
 - Each name that the last column of a table in a crate's README has in code, as `Drive::new` or `Follows`, stands in the crate's own files.
+- docs/RULES.md is what tools/make/rules.py writes of this tree: each definition, function and vector that it names is there, and no rule of the
+  conformance suite and none of docs/DEFINITIONS.md is without a row.
 
 Prints what is wrong; the last line is 'N things looked at in the documents, M wrong', and the status 1 where M is not 0.
 """
@@ -16,6 +18,7 @@ from collections.abc import Iterator
 from pathlib import Path
 
 from tools import TOP
+from tools.make import rules
 
 MOST_BYTES = 7168
 
@@ -115,11 +118,23 @@ def check_names(findings: Findings, page: Path, text: str) -> None:
                     findings.expect(name.group(1) in words, f"{page.relative_to(TOP)}: {code} is no name of the crate")
 
 
+def check_rules(findings: Findings) -> None:
+    """The index of rules is whole, and the page is what its files say."""
+    if not (TOP / "tools/make/rule_places.txt").is_file():
+        return
+    rows, wrong, text = rules.look_at(TOP)
+    findings.looked += rows
+    for line in wrong:
+        findings.expect(False, line)
+    findings.expect(not rules.is_stale(TOP, text), "docs/RULES.md is not what tools/make/rules.py writes")
+
+
 def main() -> int:
     """Looks at all of it."""
     findings = Findings()
     check_crates(findings)
     check_edits(findings)
+    check_rules(findings)
     for page in documents():
         text = page.read_text(encoding="utf-8")
         check_links(findings, page, text)

@@ -10,6 +10,7 @@ from types import ModuleType
 from unittest import mock
 
 from tools.gate import check_documents, check_version
+from tools.make import rules
 from tools.measure import sharpness
 
 PAGES = {
@@ -23,6 +24,55 @@ PAGES = {
     "crates/low/specs/Word.antt": "",
     "crates/low/specs/Other.antt": "",
 }
+# An index of two rules of a suite, a sentence and a law.
+RULES = {
+    "conformance/rules.txt": "rule seek\n  says    Seek takes a word\n  manual  2841 and 2314, Seek; Principles of Operation, Busy\n"
+    "rule units\n  says    Units are counted\n  profile  units\n",
+    "conformance/vectors/seeks.vectors": "vector seek-by-units\n  rule  seek\n  rule  units\nvector seek-outside\n  rule  seek\n",
+    "conformance/FORMAT.md": "",
+    "docs/CONFORMANCE.md": "",
+    "docs/DEFINITIONS.md": """# Definitions
+
+## Words (`low Word`)
+
+1. A word is a number (`word`), and it has
+   a sign. More is not said.
+
+## Laws (`crates/s360_runs/src/laws.rt`)
+
+**`all_end`.** Each word ends. *For you:* read it.
+
+## What no law says
+
+## What pins a rule that no law says
+
+| words | `low/src/worked.rt` |
+""",
+    "crates/low/specs/Word.antt": "abbrev pub word : Word\nword = 1\n",
+    "crates/low/src/lib.rt": "pub fn read() {}\n\nimpl Word {\n    pub fn new() {}\n}\n",
+    "crates/low/src/worked.rt": "",
+    "crates/s360_runs/specs/Laws.antt": "abbrev pub AllEnd : Type 0\n",
+    "crates/s360_runs/src/laws.rt": "pub fn all_end()\n    ensures { AllEnd }\n{}\n",
+    "tools/make/rule_places.txt": """# places
+subject Seeks
+rule seek
+  words   cylinder
+  defined low Word word
+  done    low lib.rt new
+  worked  low worked.rt
+rule units
+  defined low Word word
+  done    low lib.rt Word::new read
+says A word is
+  defined low Word word
+  done    low lib.rt read
+  rules   seek
+  vectors seek-outside
+law all_end
+  words   busy
+""",
+}
+SENTENCE = "A word is a number (`word`), and it"
 COPIES = {"README.md": check_version.COPIES["README.md"], "CHANGELOG.md": check_version.COPIES["CHANGELOG.md"]}
 # A crate with wrong bodies of two functions, one of which reads as the other does, and three that can't stand beside a right one.
 BODIES = {
@@ -126,6 +176,108 @@ class Checks(unittest.TestCase):
             self.finds(check_version, {})
             self.finds(check_version, {"README.md": "Version 2.3.3.\n"}, "README.md: 2.3.3, and VERSION has 2.3.4")
             self.finds(check_version, {"README.md": "\n"}, "README.md: no version, and VERSION has 2.3.4")
+
+
+class RuleIndex(unittest.TestCase):
+    """What `check_documents.py` says of the index of rules."""
+
+    def page(self, folder: str, changed: Mapping[str, str]) -> Path:
+        """The page of a repository that is made in a folder."""
+        write(folder, {**PAGES, **RULES, **changed})
+        page = Path(folder, "docs", "RULES.md")
+        page.write_text(rules.look_at(Path(folder))[2], encoding="utf-8")
+        return page
+
+    def finds(self, changed: Mapping[str, str], *lines: str, stale: str = "") -> None:
+        """It prints these lines of a repository in which files are others, with something behind the page."""
+        printed = io.StringIO()
+        with tempfile.TemporaryDirectory() as folder:
+            with self.page(folder, changed).open("a", encoding="utf-8") as page:
+                page.write(stale)
+            with mock.patch.object(check_documents, "TOP", Path(folder)), contextlib.redirect_stdout(printed):
+                self.assertEqual(check_documents.main(), 1 if lines else 0)
+        self.assertEqual(printed.getvalue().splitlines()[:-1], list(lines))
+
+    def finds_in(self, file: str, old: str, new: str, *lines: str) -> None:
+        """It prints these lines where a file has other words."""
+        self.assertEqual(RULES[file].count(old), 1)
+        self.finds({file: RULES[file].replace(old, new)}, *lines)
+
+    def test_page(self) -> None:
+        with tempfile.TemporaryDirectory() as folder:
+            lines = self.page(folder, {}).read_text(encoding="utf-8").splitlines()
+        word, new = "[`low Word.word`](../crates/low/specs/Word.antt)", "[`low::Word::new`](../crates/low/src/lib.rt)"
+        read, worked = "[`low::read`](../crates/low/src/lib.rt)", "[`low::worked`](../crates/low/src/worked.rt)"
+        law = ("[`s360_runs Laws.AllEnd`](../crates/s360_runs/specs/Laws.antt)", "[`s360_runs::laws::all_end`](../crates/s360_runs/src/laws.rt)")
+        two = "seek-outside (seeks), seek-by-units (seeks)"
+        manuals, first = "  - Topic: 2841 and 2314, Seek; PoO, Busy", f"  - Definition: {word}"
+        for entry in (
+            ["- **seek**: Seek takes a word", manuals, first, f"  - Function: {new}", f"  - Vectors: 2: {two}; by hand: {worked}"],
+            ["- **units**: Units are counted", "  - Topic: *profile*, `units`", first, f"  - Function: {new}, {read}", "  - Vectors: 1: seek-by-units (seeks)"],
+            [f"- {SENTENCE} has a sign.", manuals, first, f"  - Function: {read}", "  - Vectors: seek-outside (seeks); of [seek](#seeks)"],
+            ["- **`all_end`**: Each word ends.", "  - Topic: none", f"  - Definition: {law[0]}", f"  - Function: {law[1]}", "  - Vectors: none"],
+            ["- **B**: Busy [seek](#seeks), [all_end](#laws)", "- **C**: cylinder [seek](#seeks)"],
+            ["- **seek**, 2: [seeks](../conformance/vectors/seeks.vectors): seek-outside, seek-by-units"],
+        ):
+            place = lines.index(entry[0])
+            self.assertEqual(lines[place : place + len(entry)], entry)
+
+    def test_sound_index(self) -> None:
+        self.finds({})
+
+    def test_stale_page(self) -> None:
+        self.finds({}, "docs/RULES.md is not what tools/make/rules.py writes", stale="\n")
+
+    def test_definition_that_is_not_there(self) -> None:
+        lines = [f"{row}: no definition low Word.word" for row in ("seek", "units", SENTENCE)]
+        self.finds({"crates/low/specs/Word.antt": "abbrev pub number : Word\n"}, *lines)
+
+    def test_functions(self) -> None:
+        places = "tools/make/rule_places.txt"
+        self.finds_in(places, "Word::new read", "Word::old", "units: no function Word::old in crates/low/src/lib.rt")
+        twice = RULES["crates/low/src/lib.rt"] + "\nimpl Other {\n    fn new() {}\n}\n"
+        line = "seek: several functions new in crates/low/src/lib.rt: Word::new, Other::new"
+        self.finds({"crates/low/src/lib.rt": twice}, line)
+
+    def test_vectors(self) -> None:
+        self.finds_in("tools/make/rule_places.txt", "seek-outside", "seek-inside", f"{SENTENCE}: no vector seek-inside of seek")
+        self.finds_in("conformance/vectors/seeks.vectors", "  rule  units\n", "", "units: no vector pins it")
+        self.finds_in("conformance/vectors/seeks.vectors", "  rule  units\n", "  rule  units\n  rule  halt\n", "no rule halt in rules.txt, which vectors name")
+
+    def test_rules_without_a_row(self) -> None:
+        more = RULES["conformance/rules.txt"] + "rule halt\n  says    Halt ends it\n  manual  Principles of Operation, Halt I/O\n"
+        self.finds({"conformance/rules.txt": more}, "the rule halt has no rows", "halt: no vector pins it")
+
+    def test_rows_that_lack_something(self) -> None:
+        places = "tools/make/rule_places.txt"
+        self.finds_in(places, "  done    low lib.rt read\n", "", f"{SENTENCE}: no function")
+        self.finds_in(places, "  words   busy\n", "  other   busy\n", "rule_places.txt: no such word: other")
+        self.finds_in(places, "  worked  low worked.rt\n", "", "docs/DEFINITIONS.md: no row has low/src/worked.rt")
+
+    def test_definitions_without_a_row(self) -> None:
+        page = "docs/DEFINITIONS.md"
+        other = {page: RULES[page].replace("More is", "Or (`other`) more is")}
+        self.finds(other)
+        other["crates/low/specs/Other.antt"] = "abbrev pub other : Word\n"
+        self.finds(other, "docs/DEFINITIONS.md: no row has other")
+        line = "docs/DEFINITIONS.md: no row of the paragraph that begins with A byte is no word."
+        self.finds_in(page, "## Laws", "A byte is no word.\n\n## Laws", line)
+        self.finds_in(page, "(`low Word`)", "(`low Word`, `Other`)", "docs/DEFINITIONS.md: no row has a definition of low Other")
+
+    def test_sentences_and_laws_that_are_not_there(self) -> None:
+        page = "docs/DEFINITIONS.md"
+        self.finds_in(
+            page,
+            "A word is",
+            "Words are",
+            "rule_places.txt: no sentence of docs/DEFINITIONS.md begins with A word is",
+            "docs/DEFINITIONS.md: no row of the paragraph that begins with Words are a number (`word`), and it has",
+        )
+        law = "crates/s360_runs/src/laws.rt"
+        self.finds({law: RULES[law] + RULES[law].replace("all_end", "none_ends")}, "docs/DEFINITIONS.md: nothing of the law none_ends of s360_runs")
+
+    def test_headings_that_are_one(self) -> None:
+        self.finds_in("tools/make/rule_places.txt", "subject Seeks", "subject Words", "docs/RULES.md: several headings at #words")
 
 
 class WrongBodies(unittest.TestCase):

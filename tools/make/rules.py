@@ -1,137 +1,138 @@
-"""Writes docs/RULES.md, the index of rules: of each rule its manual, the definition that says it, the function that does it, and the vectors that pin it.
+"""Writes docs/RULES.md, the index of rules: of each rule the topic of the manual, the definition that says it, the function that does it, and the
+vectors that pin it.
 
     tools/run make/rules           writes the page
-    tools/run make/rules --check   looks whether the page is what would be written; status 1 where it is not
+    tools/run make/rules --check   looks whether the page is what would be written
 
-The rules stand in conformance/rules.txt, and where each is in tools/make/rule_places.txt. A definition, a function or a file that is not there is told, with
-status 1, and so is a rule that one of the two files lacks or that no vector pins.
+The suite's rules stand in conformance/rules.txt, those of the definitions in docs/DEFINITIONS.md, and where each is in tools/make/rule_places.txt.
+What is wrong is told, with status 1: a definition, a function or a file that is not there, a rule without a place, a rule of the suite that no vector
+pins, a paragraph, a name, a module or a file of worked vectors of docs/DEFINITIONS.md that no row has, and a law without a paragraph there.
 """
 
 import re
 import sys
-from collections import Counter
-from dataclasses import dataclass, field
+from collections.abc import Iterator
+from pathlib import Path
 
 from tools import TOP
+from tools.make.rule_page import link_to, page_of
+from tools.make.rule_rows import CODE, LAWS, Index, Row
 
-SUITE = TOP / "conformance"
-PAGE = TOP / "docs" / "RULES.md"
-HEAD = """# The rules, and where each stands
-
-For each rule of the [conformance suite](CONFORMANCE.md): its source, which is a topic of a manual or a choice of this project (*profile*,
-listed in [FORMAT.md](../conformance/FORMAT.md)), the definition that says it, the function that does it, and how many vectors pin it, with the
-first of them. `PoO` is *IBM System/360 Principles of Operation*, GA22-6821; `2841 and 2314` are the component descriptions GA26-5988 and
-GA26-3599. A comment above each definition says what it is; a function's contract says what it promises, and names the definition.
-
-`tools/make/rules.py` writes this page.
-
-| Rule | Source | Defined | Done | Vectors |
-|---|---|---|---|---|
-"""
+HEADINGS = re.compile(r"`([a-z0-9_]+) ([A-Z]\w*)`|`([A-Z]\w*)`")
+WORKED = re.compile(r"`(?:(\w+)/src/)?(\w+\.rt)`")
 
 
-@dataclass
-class Rule:
-    """A rule, and where it stands: for each crate and file the names there."""
-
-    name: str
-    says: str = ""
-    source: list[str] = field(default_factory=list)
-    defined: list[list[str]] = field(default_factory=list)
-    done: list[list[str]] = field(default_factory=list)
-
-
-def read_rules() -> tuple[dict[str, Rule], list[str]]:
-    """The rules, and what is wrong with their two files."""
-    rules: dict[str, Rule] = {}
-    now: Rule | None = None
-    for line in (SUITE / "rules.txt").read_text(encoding="utf-8").splitlines():
-        word, _, rest = line.strip().partition(" ")
-        if word == "rule":
-            now = rules[rest.strip()] = Rule(rest.strip())
-        elif now and word == "says":
-            now.says = rest.strip()
-        elif now and word in ("manual", "profile"):
-            now.source.append(f"*profile* `{rest.strip()}`" if word == "profile" else rest.strip())
-    wrong, placed = [], set()
-    for line in (TOP / "tools" / "make" / "rule_places.txt").read_text(encoding="utf-8").splitlines():
-        kind, *words = line.split() or [""]
-        if kind == "rule":
-            now = rules.get(words[0])
-            placed.add(words[0])
-            if now is None:
-                wrong.append(f"rule_places.txt: no rule {words[0]} in rules.txt")
-        elif now and kind in ("defined", "done"):
-            (now.defined if kind == "defined" else now.done).append(words)
-    wrong += [f"rule_places.txt: the rule {name} has no place" for name in rules if name not in placed]
-    return rules, wrong
+def wrong_places(index: Index, row: Row) -> Iterator[str]:
+    """What of a row's places is not there."""
+    tree = index.tree
+    for place in row.defined:
+        if place.name not in tree.definitions_of(place.crate, place.file):
+            yield f"{row.title()}: no definition {place.crate} {place.file}.{place.name}"
+    for place in row.done:
+        found = tree.functions_named(place)
+        if not found:
+            yield f"{row.title()}: no function {place.name} in crates/{place.crate}/src/{place.file}"
+        elif len(found) > 1:
+            yield f"{row.title()}: several functions {place.name} in crates/{place.crate}/src/{place.file}: {', '.join(found)}"
+    for crate, file in row.worked:
+        if not (tree.top / "crates" / crate / "src" / file).is_file():
+            yield f"{row.title()}: no file crates/{crate}/src/{file}"
+    for name in row.rules:
+        if name not in index.sources:
+            yield f"{row.title()}: no rule {name} in rules.txt"
+    rules = [row.name] if row.is_of_suite else row.rules
+    vectors = {name for rule in rules for _, name in index.vectors.get(rule, [])}
+    for name in row.vectors:
+        if name not in vectors:
+            yield f"{row.title()}: no vector {name} of {', '.join(rules) or 'no rule'}"
+    if not (row.defined and row.done):
+        yield f"{row.title()}: no {'function' if row.defined else 'definition'}"
 
 
-def is_there(kind: str, words: list[str]) -> str | None:
-    """What is not there of a place, if anything is not."""
-    crate, place, *names = words
-    path = TOP / "crates" / crate / (f"specs/{place}.antt" if kind == "defined" else f"src/{place}")
-    if not path.is_file():
-        return f"no file {path.relative_to(TOP)}"
-    text = path.read_text(encoding="utf-8")
-    pattern = r"^(?:(?:abbrev|pub|record|data|unfoldable) )*{}\b" if kind == "defined" else r"\bfn {}\b"
-    missing = [name for name in names if not re.search(pattern.format(name), text, re.M)]
-    return f"{path.relative_to(TOP)}: no {missing[0]}" if missing else None
+def wrong_rules(index: Index) -> Iterator[str]:
+    """Rules of the suite that lack something."""
+    placed = [row.name for row in index.rows if row.is_of_suite]
+    for name in index.sources:
+        if placed.count(name) != 1:
+            yield f"the rule {name} has {placed.count(name) or 'no'} rows"
+        if name not in index.vectors:
+            yield f"{name}: no vector pins it"
+    for name in index.vectors:
+        if name not in index.sources:
+            yield f"no rule {name} in rules.txt, which vectors name"
 
 
-def vectors_of() -> dict[str, list[str]]:
-    """The names of the vectors of each rule, in their order."""
-    found: dict[str, list[str]] = {}
-    for path in sorted((SUITE / "vectors").glob("*.vectors")):
-        name = ""
-        for line in path.read_text(encoding="utf-8").splitlines():
-            if line.startswith("vector "):
-                name = line.split(" ", 1)[1].strip()
-            elif line.startswith("  rule "):
-                found.setdefault(line.split(" ", 3)[-1].strip(), []).append(f"{path.stem}: {name}")
-    return found
+def wrong_definitions(index: Index) -> Iterator[str]:
+    """What of docs/DEFINITIONS.md no row has."""
+    rows = [row for row in index.rows if not row.is_of_suite]
+    named = {place.name for row in rows for place in row.defined + row.done}
+    modules = {(place.crate, place.file) for row in index.rows for place in row.defined}
+    for section in index.sections:
+        crate = ""
+        for first, second, alone in HEADINGS.findall(section.heading):
+            crate = first or crate
+            if (crate, second or alone) not in modules:
+                yield f"docs/DEFINITIONS.md: no row has a definition of {crate} {second or alone}"
+        for paragraph in section.paragraphs:
+            if not any(row.paragraph == paragraph.text for row in rows):
+                yield f"docs/DEFINITIONS.md: no row of the paragraph that begins with {' '.join(paragraph.text.split()[:8])}"
+            for name in dict.fromkeys(CODE.findall(paragraph.text)):
+                if name not in named and (name in paragraph.names or index.tree.is_definition(name)):
+                    yield f"docs/DEFINITIONS.md: no row has {name}"
+    worked = {place for row in index.rows for place in row.worked}
+    crate = ""
+    for first, file in WORKED.findall(index.pins):
+        crate = first or crate
+        if (crate, file) not in worked:
+            yield f"docs/DEFINITIONS.md: no row has {crate}/src/{file}"
 
 
-def cell(kind: str, places: list[list[str]]) -> str:
-    """The places of a rule as a cell of the table."""
-    parts = []
-    for crate, place, *names in places:
-        path = f"../crates/{crate}/" + (f"specs/{place}.antt" if kind == "defined" else f"src/{place}")
-        parts.append(f"[`{crate}` {place}]({path}) " + ", ".join(f"`{name}`" for name in names))
-    return "; ".join(parts)
+def wrong_laws(index: Index) -> Iterator[str]:
+    """Laws of which docs/DEFINITIONS.md does not speak."""
+    spoken = {name for section in index.sections for paragraph in section.paragraphs for name in paragraph.names}
+    for crate in LAWS:
+        for name in index.tree.functions_of(crate, "laws.rt"):
+            if name not in spoken:
+                yield f"docs/DEFINITIONS.md: nothing of the law {name} of {crate}"
 
 
-def page(rules: dict[str, Rule], vectors: dict[str, list[str]]) -> str:
-    """The page's text."""
-    lines = []
-    for rule in rules.values():
-        pinned = vectors.get(rule.name, [])
-        source = "; ".join(rule.source).replace("Principles of Operation", "PoO")
-        shown = f"{len(pinned)}, as {pinned[0]}" if pinned else "none"
-        lines.append(f"| **{rule.name}**: {rule.says} | {source} | {cell('defined', rule.defined)} | {cell('done', rule.done)} | {shown} |\n")
-    files = Counter(name.split(":")[0] for names in vectors.values() for name in names)
-    return HEAD + "".join(lines) + f"\n{len(lines)} rules, in {len(files)} files of vectors.\n"
+def wrong_headings(text: str) -> Iterator[str]:
+    """Headings of the page to which no link leads, since an earlier one has the same place."""
+    places = [link_to(heading) for heading in re.findall(r"^#+ (.*)$", text, re.M)]
+    for place in dict.fromkeys(places):
+        if places.count(place) > 1:
+            yield f"docs/RULES.md: several headings at {place}"
 
 
-def main() -> None:
+def look_at(top: Path) -> tuple[int, list[str], str]:
+    """How many rows there are, what is wrong with them, and the page's text."""
+    index = Index(top)
+    wrong = [*index.wrong, *(line for row in index.rows for line in wrong_places(index, row))]
+    wrong += [*wrong_rules(index), *wrong_definitions(index), *wrong_laws(index)]
+    text = page_of(index)
+    return len(index.rows), [*wrong, *wrong_headings(text)], text
+
+
+def is_stale(top: Path, text: str) -> bool:
+    """Whether the page is not this text."""
+    page = top / "docs" / "RULES.md"
+    return not page.is_file() or page.read_text(encoding="utf-8") != text
+
+
+def main() -> int:
     """Writes the page, or looks at it."""
     if sys.argv[1:] not in ([], ["--check"]):
         sys.exit(__doc__)
-    rules, wrong = read_rules()
-    vectors = vectors_of()
-    places = [(rule, kind, place) for rule in rules.values() for kind in ("defined", "done") for place in getattr(rule, kind)]
-    wrong += [f"{rule.name}: {missing}" for rule, kind, place in places if (missing := is_there(kind, place))]
-    wrong += [f"{name}: no vector pins it" for name in rules if name not in vectors]
-    text = page(rules, vectors)
-    if sys.argv[1:] and (not PAGE.is_file() or PAGE.read_text(encoding="utf-8") != text):
+    rows, wrong, text = look_at(TOP)
+    if not sys.argv[1:]:
+        (TOP / "docs" / "RULES.md").write_text(text, encoding="utf-8")
+    elif is_stale(TOP, text):
         wrong.append("docs/RULES.md is not what tools/make/rules.py writes")
-    elif not sys.argv[1:]:
-        PAGE.write_text(text, encoding="utf-8")
     for line in wrong:
         print(line)
-    print(f"{len(places)} places of {len(rules)} rules looked at, {len(wrong)} wrong")
-    sys.exit(1 if wrong else 0)
+    print(f"{rows} rows looked at, {len(wrong)} wrong")
+    return 1 if wrong else 0
 
 
 if __name__ == "__main__":
-    main()
+    sys.exit(main())
