@@ -80,6 +80,14 @@ class Lines:
                 self.wrong += 1
                 print(f"dasd {command}: {why}: {line}")
 
+    def look_at_fault(self, command: str, output: str, told: str) -> None:
+        """Looks whether a fault that was told on standard error, as `dasd: ..`, is the last object too, and no other line is one."""
+        of_faults = ['"fault":' in it for it in output.splitlines()]
+        wanted = any(it.startswith("dasd: ") for it in told.splitlines())
+        if any(of_faults[:-1]) or wanted != any(of_faults[-1:]):
+            self.wrong += 1
+            print(f"dasd {command}: its last object, and no other, is to have the fault that it told: {told.strip()}")
+
     def fault(self, command: str, line: str) -> str:
         """What is wrong with a line, or an empty text."""
         try:
@@ -190,6 +198,7 @@ def play(dasd: Path, folder: Path, lines: Lines) -> None:
         ):
             done = subprocess.run([dasd, *words], cwd=folder, stdin=subprocess.DEVNULL, capture_output=True, text=True, check=False)
             lines.look(words[0], done.stdout)
+            lines.look_at_fault(words[0], done.stdout, done.stderr)
 
 
 def play_suites(dasd: Path, folder: Path, lines: Lines) -> None:

@@ -27,6 +27,7 @@ RIGHT: list[tuple[str, dict[str, Any]]] = [
     ("hash", {"path": "a", "hash": "0123456789abcdef" * 4, "unreadable": 0}),
     ("vtoc", {"path": "a", "serial": "ABC123", "owner": ""}),
     ("vtoc", {"path": "a", "fault": "wrong length", "remarks": ["a: its length is 41471 bytes"]}),
+    ("hash", {"path": "a", "fault": "wrong length", "remarks": []}),
 ]
 # A line, and what of it is another: None takes a member away.
 PLANTED: list[tuple[int, dict[str, Any]]] = [
@@ -85,6 +86,18 @@ class Json(unittest.TestCase):
             command, held = RIGHT[number]
             planted = {name: value for name, value in {**held, **changes}.items() if value is not None}
             self.assertNotEqual(lines.fault(command, json.dumps(planted)), "", (command, planted))
+
+    def test_a_fault_that_was_told_is_the_last_object(self) -> None:
+        lines = check_json.Lines()
+        hashed, fault = '{"path":"a","hash":"","unreadable":0}', '{"path":"a","fault":"wrong length","remarks":[]}'
+        right = [("", ""), (hashed, ""), (fault, "dasd: wrong length\n"), (f"{hashed}\n{fault}\n", "dasd: wrong length\n")]
+        wrong = [("", "dasd: wrong length\n"), (fault, ""), (f"{fault}\n{hashed}\n", "dasd: wrong length\n"), (hashed, "dasd: x\n")]
+        for output, told in right:
+            lines.look_at_fault("hash", output, told)
+        self.assertEqual(lines.wrong, 0)
+        for number, (output, told) in enumerate(wrong, 1):
+            lines.look_at_fault("hash", output, told)
+            self.assertEqual(lines.wrong, number, output)
 
     def test_no_json_and_another_command(self) -> None:
         lines = check_json.Lines()
