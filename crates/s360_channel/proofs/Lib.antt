@@ -17,3 +17,4 @@ pub mod Removing
 pub mod Images
 pub mod Fronts
 pub mod Slots
+pub mod Selecting

@@ -1,16 +1,18 @@
 //! Arms that arrive, and interruptions.
 
-ghost use Rattle.std.specs.Prelude.{◌≡◌, ◌+◌, ◌*◌, map, filter};
+ghost use Rattle.std.specs.Prelude.{◌≡◌, ◌+◌, ◌*◌, length, map, filter};
 ghost use Rattle.s360_words.specs.Storage.{Storage as StorageState, changed, csw_stored};
 ghost use Rattle.s360_laws.specs.Events as machine;
 ghost use Rattle.s360_laws.specs.Machine.{Machine, interrupt_device, lowest, has_arrived};
-ghost use Rattle.s360_channel.specs.declared.subchannel.Subchannel.{Subchannel as SubchannelState};
 ghost use Rattle.s360_channel.specs.declared.subchannel.Subchannel.TheVariants.{Idle};
-ghost use Rattle.s360_channel.specs.Channel.{StandsFor, IsChannel};
-ghost use Rattle.s360_channel.specs.Calls.{DoesQuietly};
-ghost use Rattle.s360_channel.specs.Nexts.{DoesOn, TakesProgram, of_parts};
+ghost use Rattle.s360_program.specs.Advances.{KeepsStorage};
+ghost use Rattle.s360_channel.specs.Channel.{StandsFor};
+ghost use Rattle.s360_channel.specs.Calls.{DoesQuietly, CallsNoStore};
+ghost use Rattle.s360_channel.specs.Nexts.{DoesOn, TakesProgram};
+ghost use Rattle.s360_channel.specs.Selector.{KeepsSelector, over};
 
 use crate::drives::Drives;
+use crate::selector::Selector;
 use crate::subchannel::Subchannel;
 use crate::testing::csw_of_unit;
 use ckd_image::ImageStore;
@@ -19,54 +21,53 @@ use s360_program::laws::{stands_after_change, stands_after_interruption};
 use s360_program::program::Running;
 use s360_words::{Csw, Storage, UnitStatus};
 
-/// The arm of the drive at an input/output address arrives, if it moves.
-pub(crate) fn arrive<S: ImageStore>(address: u16, number: u8, drives: &mut Drives<S>) -> bool
-    ensures does { (s : StorageState) (sub : SubchannelState) (m : Machine)
-        → StandsFor (of_parts number s sub drives.old) m
-        → DoesQuietly (machine.Arrive address) m (machine.HasArrived result) (of_parts number s sub drives.new) }
-    ensures images { map (λ u. u.drive.image) drives.new ≡ map (λ u. u.drive.image) drives.old }
-{
-    if address / 256 != number as u16 {
-        return false;
-    }
-    let Some(place) = drives.place_of((address % 256) as u8) else {
-        return false;
-    };
-    match drives.arm(place) {
-        Arm::InMotion => {
-            drives.set_arm(place, Arm::Arrived);
-            true
+impl<S: ImageStore> Selector<S> {
+    /// The arm of the drive at an input/output address arrives, if it moves, as `Channel::arrive`.
+    pub fn arrive(&mut self, address: u16) -> bool
+        ensures does { (s : StorageState) (m : Machine) → StandsFor (over self.old s) m
+            → DoesQuietly (machine.Arrive address) m (machine.HasArrived result) (over self.new s) }
+        ensures calls { (s : StorageState) → CallsNoStore (over self.old s) (over self.new s) }
+        ensures same { KeepsSelector self.old self.new }
+    {
+        if address / 256 != self.number as u16 {
+            return false;
         }
-        Arm::AtRest => false,
-        Arm::Arrived => false,
+        let Some(place) = self.drives.place_of((address % 256) as u8) else {
+            return false;
+        };
+        match self.drives.arm(place) {
+            Arm::InMotion => {
+                self.drives.set_arm(place, Arm::Arrived);
+                true
+            }
+            Arm::AtRest => false,
+            Arm::Arrived => false,
+        }
     }
-}
 
-/// The processor takes an interruption, over the parts of the channel with this number.
-pub(crate) fn interrupt<S: ImageStore>(
-    number: u8,
-    storage: &mut Storage,
-    subchannel: &mut Subchannel,
-    drives: &mut Drives<S>,
-) -> Option<(u16, Csw)>
-    requires { IsChannel (of_parts number storage.old subchannel.old drives.old) }
-    ensures does { (m : Machine) → StandsFor (of_parts number storage.old subchannel.old drives.old) m
-        → DoesQuietly machine.Interrupt m (machine.Interrupted result)
-        (of_parts number storage.new subchannel.new drives.new) }
-    ensures images { map (λ u. u.drive.image) drives.new ≡ map (λ u. u.drive.image) drives.old }
-{
-    stands_after_interruption();
-    stands_after_change();
-    match subchannel {
-        Subchannel::Idle => interrupt_device(number, storage, drives),
-        Subchannel::Working(place, running) => {
-            let device = drives.device(*place);
-            interrupt_program(number, device, storage, running)
-        }
-        Subchannel::Pending(device, csw) => {
-            let (device, csw) = (*device, *csw);
-            *subchannel = Subchannel::Idle;
-            Some(interrupted(number, device, csw, storage))
+    /// The processor takes an interruption, over this storage, as `Channel::interrupt`.
+    pub fn interrupt(&mut self, storage: &mut Storage) -> Option<(u16, Csw)>
+        requires size { length storage.old.bytes ≡ self.old.size }
+        ensures does { (m : Machine) → StandsFor (over self.old storage.old) m
+            → DoesQuietly machine.Interrupt m (machine.Interrupted result) (over self.new storage.new) }
+        ensures calls { CallsNoStore (over self.old storage.old) (over self.new storage.new) }
+        ensures same { KeepsSelector self.old self.new }
+        ensures keeps { KeepsStorage storage.old storage.new }
+    {
+        self.is_over(storage);
+        stands_after_interruption();
+        stands_after_change();
+        match &mut self.subchannel {
+            Subchannel::Idle => interrupt_device(self.number, storage, &mut self.drives),
+            Subchannel::Working(place, running) => {
+                let device = self.drives.device(*place);
+                interrupt_program(self.number, device, storage, running)
+            }
+            Subchannel::Pending(device, csw) => {
+                let (device, csw) = (*device, *csw);
+                self.subchannel = Subchannel::Idle;
+                Some(interrupted(self.number, device, csw, storage))
+            }
         }
     }
 }
@@ -80,6 +81,7 @@ fn interrupt_device<S: ImageStore>(
     ensures does { DoesOn number (λ m. interrupt_device m (lowest (filter has_arrived m.devices)))
         (machine.Interrupted result) storage.old drives.old storage.new Idle drives.new }
     ensures images { map (λ u. u.drive.image) drives.new ≡ map (λ u. u.drive.image) drives.old }
+    ensures keeps { KeepsStorage storage.old storage.new }
 {
     let device = drives.lowest_arrived()?;
     let place = drives.place_of(device)?;
@@ -95,7 +97,8 @@ fn interrupt_program(
     storage: &mut Storage,
     running: &mut Running,
 ) -> Option<(u16, Csw)>
-    ensures { TakesProgram number device result running.old running.new storage.old storage.new }
+    ensures takes { TakesProgram number device result running.old running.new storage.old storage.new }
+    ensures keeps { KeepsStorage storage.old storage.new }
 {
     let csw = running.take_pci()?;
     Some(interrupted(number, device, csw, storage))
@@ -105,6 +108,7 @@ fn interrupt_program(
 fn interrupted(number: u8, device: u8, csw: Csw, storage: &mut Storage) -> (u16, Csw)
     ensures told { result ≡ (256 * number + device, csw) }
     ensures storage { storage.new ≡ changed (csw_stored csw) storage.old }
+    ensures keeps { KeepsStorage storage.old storage.new }
 {
     storage.put_csw(csw);
     (256 * number as u16 + device as u16, csw)

@@ -1,6 +1,6 @@
 //! Start I/O: the first unit of a program, and what it leaves.
 
-ghost use Rattle.std.specs.Prelude.{◌≡◌, map, Some, if◌then◌else◌};
+ghost use Rattle.std.specs.Prelude.{◌≡◌, length, map, Some, if◌then◌else◌};
 ghost use Rattle.s360_words.specs.Storage.{changed, status_stored};
 ghost use Rattle.ckd_command.specs.Drive.{drive_of};
 ghost use Rattle.s360_runs.specs.Starts.{first};
@@ -11,14 +11,16 @@ ghost use Rattle.s360_laws.specs.declared.arm.Arm.TheVariants.{InMotion, AtRest}
 ghost use Rattle.s360_events.specs.Seen.{condition_seen, status_seen, answer_seen};
 ghost use Rattle.s360_events.specs.declared.answers.Answer.TheVariants as answer;
 ghost use Rattle.s360_events.specs.declared.conditions.Condition.TheVariants.{Stored};
-ghost use Rattle.s360_program.specs.Advances.{Rests};
-ghost use Rattle.s360_channel.specs.Channel.{StandsFor, IsChannel, device_of};
-ghost use Rattle.s360_channel.specs.Calls.{DoesQuietly};
-ghost use Rattle.s360_channel.specs.Nexts.{DoesAt, of_parts};
+ghost use Rattle.s360_program.specs.Advances.{Rests, KeepsStorage};
+ghost use Rattle.s360_channel.specs.Channel.{StandsFor, device_of};
+ghost use Rattle.s360_channel.specs.Calls.{DoesQuietly, CallsNoStore};
+ghost use Rattle.s360_channel.specs.Nexts.{DoesAt};
+ghost use Rattle.s360_channel.specs.Selector.{KeepsSelector, over};
 ghost use Rattle.s360_channel.specs.DriveCalls.{DriveIs};
 ghost use Rattle.s360_channel.specs.declared.subchannel.Subchannel.TheVariants.{Idle};
 
 use crate::drives::Drives;
+use crate::selector::Selector;
 use crate::subchannel::Subchannel;
 use ckd_image::ImageStore;
 use s360_events::{Condition, Status};
@@ -27,31 +29,29 @@ use s360_program::laws::accepted_stands;
 use s360_program::program::Start;
 use s360_words::{ChannelStatus, Storage, UnitStatus};
 
-/// Start I/O at an input/output address, over the parts of the channel with this number.
-pub(crate) fn start_io<S: ImageStore>(
-    address: u16,
-    number: u8,
-    storage: &mut Storage,
-    subchannel: &mut Subchannel,
-    drives: &mut Drives<S>,
-) -> Condition<Status>
-    requires { IsChannel (of_parts number storage.old subchannel.old drives.old) }
-    ensures does { (m : Machine) → StandsFor (of_parts number storage.old subchannel.old drives.old) m
-        → DoesQuietly (machine.Sio address) m (answer_seen (answer.Sio address result))
-        (of_parts number storage.new subchannel.new drives.new) }
-    ensures images { map (λ u. u.drive.image) drives.new ≡ map (λ u. u.drive.image) drives.old }
-{
-    if address / 256 != number as u16 {
-        return Condition::Three;
+impl<S: ImageStore> Selector<S> {
+    /// Start I/O at an input/output address, over this storage, as `Channel::sio`.
+    pub fn sio(&mut self, storage: &mut Storage, address: u16) -> Condition<Status>
+        requires size { length storage.old.bytes ≡ self.old.size }
+        ensures does { (m : Machine) → StandsFor (over self.old storage.old) m
+            → DoesQuietly (machine.Sio address) m (answer_seen (answer.Sio address result)) (over self.new storage.new) }
+        ensures calls { CallsNoStore (over self.old storage.old) (over self.new storage.new) }
+        ensures same { KeepsSelector self.old self.new }
+        ensures keeps { KeepsStorage storage.old storage.new }
+    {
+        self.is_over(storage);
+        if address / 256 != self.number as u16 {
+            return Condition::Three;
+        }
+        let Subchannel::Idle = self.subchannel else {
+            return Condition::Two;
+        };
+        let device = (address % 256) as u8;
+        let Some(place) = self.drives.place_of(device) else {
+            return Condition::Three;
+        };
+        start_device(place, storage, &mut self.subchannel, &mut self.drives)
     }
-    let Subchannel::Idle = subchannel else {
-        return Condition::Two;
-    };
-    let device = (address % 256) as u8;
-    let Some(place) = drives.place_of(device) else {
-        return Condition::Three;
-    };
-    start_device(place, storage, subchannel, drives)
 }
 
 // The drive at a place is started, or its arm keeps it busy.
@@ -66,6 +66,7 @@ fn start_device<S: ImageStore>(
     ensures does { DoesAt place (λ u m. start_device u.device m (Some (device_of u)))
         (condition_seen status_seen result) storage.old drives.old storage.new subchannel.new drives.new }
     ensures images { map (λ u. u.drive.image) drives.new ≡ map (λ u. u.drive.image) drives.old }
+    ensures keeps { KeepsStorage storage.old storage.new }
 {
     match drives.arm(place) {
         Arm::InMotion => status_stored(UnitStatus::BUSY, ChannelStatus(0), storage),
@@ -90,6 +91,7 @@ fn start_program<S: ImageStore>(
     ensures does { DoesAt place (λ u m. started u.device m (first (start_of m (drive_of u.drive.state))))
         (condition_seen status_seen result) storage.old drives.old storage.new subchannel.new drives.new }
     ensures images { map (λ u. u.drive.image) drives.new ≡ map (λ u. u.drive.image) drives.old }
+    ensures keeps { KeepsStorage storage.old storage.new }
 {
     accepted_stands();
     let caw = storage.caw_word();
@@ -115,6 +117,7 @@ fn status_stored(
 ) -> Condition<Status>
     ensures answer { result ≡ Stored (record { unit = unit; channel = channel }) }
     ensures storage { storage.new ≡ changed (status_stored unit.0 channel.0) storage.old }
+    ensures keeps { KeepsStorage storage.old storage.new }
 {
     storage.put_status(unit, channel);
     Condition::Stored(Status { unit, channel })

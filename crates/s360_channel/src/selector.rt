@@ -1,0 +1,95 @@
+//! A channel without a storage of its own.
+
+ghost use Rattle.std.specs.Prelude.{◌≡◌, ◌<◌, ◌↔◌, [], length, IsOk, IfOk};
+ghost use Rattle.s360_words.specs.Storage.{Storage as StorageState};
+ghost use Rattle.s360_laws.specs.Machine.{Machine};
+ghost use Rattle.s360_channel.specs.declared.subchannel.Subchannel.TheVariants.{Idle};
+ghost use Rattle.s360_channel.specs.Channel.{StandsFor};
+ghost use Rattle.s360_channel.specs.Finishes.{Finishes};
+ghost use Rattle.s360_channel.specs.Selector.{IsOver, over};
+
+use crate::channel::Reset;
+use crate::drives::Drives;
+use crate::faults::NewFault;
+use crate::subchannel::Subchannel;
+use ckd_image::{Image, ImageStore};
+use s360_words::Storage;
+use std::marker::Model;
+
+/// A selector channel with its drives, to which storage is lent for each call that needs it. It asks of its caller that the
+/// storage has the selector's size, and nothing else: what others store there between two calls is as if the processor had
+/// stored it, also while a program runs.
+#[derive(Drop)]
+pub struct Selector<S: ImageStore> {
+    pub(crate) number: u8,
+    pub(crate) size: u32,
+    pub(crate) subchannel: Subchannel,
+    pub(crate) drives: Drives<S>,
+}
+
+impl<S: ImageStore> Model for Selector<S> {
+    ghost use Rattle.s360_channel.specs.Selector.{SelectorState, IsSelector};
+
+    ghost Value = { SelectorState };
+
+    ghost view = { λ c. record { number = c.number; size = c.size; subchannel = c.subchannel; drives = c.drives } };
+
+    ghost invariant = { λ c. IsSelector (record { number = c.number; size = c.size; subchannel = c.subchannel; drives = c.drives }) };
+}
+
+impl<S: ImageStore> Selector<S> {
+    /// A selector with this number, 0 to 6, for storage of this size, with no drives.
+    ///
+    /// # Errors
+    ///
+    /// `BadNumber`.
+    pub fn new(number: u8, size: u32) -> Result<Selector<S>, NewFault>
+        ensures variant { IsOk result ↔ (number < 7) }
+        ensures ok { IfOk result (λ c. c ≡ record { number = number; size = size; subchannel = Idle; drives = [] }) }
+    {
+        if number > 6 {
+            return Err(NewFault::BadNumber);
+        }
+        let drives = Drives::new();
+        Ok(Selector {
+            number,
+            size,
+            subchannel: Subchannel::Idle,
+            drives,
+        })
+    }
+
+    /// The size of the storage that it is lent.
+    pub fn size(&self) -> u32
+        ensures { result ≡ self.now.size }
+    {
+        self.size
+    }
+
+    // What is known of it over a storage of its size; it is known of both as soon as they are read.
+    pub(crate) fn is_over(&self, storage: &Storage)
+        requires { length storage.now.bytes ≡ self.now.size }
+        ensures { IsOver self.now storage.now }
+    {
+        let _number = self.number;
+        let _size = storage.size();
+    }
+
+    /// Resets the selector, and gives back the image of each drive with the low byte of its address, in the order of
+    /// attachment, and what the reset answered. It makes at most one call of a store, which saves a track that was written.
+    pub fn finish(mut self) -> ([Option<(u8, Image<S>)>; 8], Reset)
+        ensures { (s : StorageState) (m : Machine) → StandsFor (over self s) m
+            → Finishes m (over self s) s result.0 result.1.unsaved }
+    {
+        // what is known of a selector before its reset
+        let _number = self.number;
+        let reset = self.reset();
+        let Selector {
+            number: _,
+            size: _,
+            subchannel: _,
+            drives,
+        } = self;
+        (drives.into_images(), reset)
+    }
+}
