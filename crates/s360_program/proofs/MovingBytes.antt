@@ -16,7 +16,6 @@ use Rattle.s360_runs.specs.Laws.{MayMove}
 use Rattle.s360_runs.specs.Status.{no_channel_status, is_clear}
 use Rattle.s360_runs.specs.Transfers.{Transfer, Moves, transfer_unit, check_of, after_bytes, next_bytes}
 use Rattle.ckd_drive.specs.Work.{DriveState, Work, Idle, Over, Looking, Passing, takes_now, gives_now, given_now, passed_of, left_of, moved_on}
-use Rattle.s360_program.specs.Advances.{KeepsStorage}
 use Rattle.s360_program.specs.Steps.{MovesBy, MovesBytesBy, transfer_by, status_of, refused}
 use Rattle.s360_program.specs.declared.moving.Segment.{Segment}
 
@@ -229,11 +228,6 @@ module _ (d : DriveState) (w : Work) (f : MovesBy d.state w) (g : gives_now w �
   -- and of those the first ones again
   pub lends_first : (most n : ℕ) → most ≤ left_of w → n ≤ most → take n (take most next) ≡ slice_range (given_now d w) (length (passed_of w)) (length (passed_of w) + n)
   lends_first most n le few = take-take n most next few ∙ first_lent n (omega arith) ∙ sym (ranged (given_now d w) (length (passed_of w)) n)
-
--- What is put into storage leaves its size and its keys.
-
-pub keeps_put : (s s2 : Storage) (a : ℕ) (new : List ℕ) → s2 ≡ stored s a new → KeepsStorage s s2
-keeps_put s s2 a new e = subst (KeepsStorage s) (sym e) (record { size = length-overwritten s.bytes a new; keys = refl })
 
 -- where no byte may be stored, storage stays
 pub stores_none : (s s2 : Storage) (at n : ℕ) (bytes : List ℕ) → n ≡ 0 → s2 ≡ stored s at (take n bytes) → s2 ≡ s

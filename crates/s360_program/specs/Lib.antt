@@ -6,3 +6,4 @@ pub mod Starting
 pub mod Laws
 pub mod Steps
 pub mod Seen
+pub mod Lent

@@ -4,6 +4,8 @@
 mod conditions;
 mod endings;
 pub mod laws;
+pub mod lent;
+pub mod main_storage;
 mod moving;
 mod place;
 pub mod program;

@@ -9,10 +9,11 @@ ghost use Rattle.s360_program.specs.Advances.{KeepsStorage};
 ghost use Rattle.s360_program.specs.Steps.{Flows, HasFound, LiesWithin, MovesBytes, refused};
 
 use crate::conditions::ChannelCondition;
+use crate::main_storage::MainStorage;
 use ckd_drive::{Drive, Look, Phase};
 use ckd_image::ImageStore;
 use ckd_track::COUNT_LENGTH;
-use s360_words::{Ccw, Storage};
+use s360_words::Ccw;
 
 /// Whether a drive gives the bytes of a command, or takes them, and how many are left.
 #[derive(Clone, Copy)]
@@ -75,16 +76,17 @@ pub(crate) fn gives<S: ImageStore>(drive: &Drive<S>) -> bool
 
 /// Moves as many bytes of a segment as may move at once, and at least one, or says why the first may not move.
 #[inline(always)]
-pub(crate) fn move_bytes<S: ImageStore>(
+pub(crate) fn move_bytes<S: ImageStore, M: MainStorage>(
     gives: bool,
     segment: &Segment,
-    storage: &mut Storage,
+    storage: &mut M,
     drive: &mut Drive<S>,
 ) -> Result<u16, ChannelCondition>
     requires gives { gives ≡ gives_now drive.old.work }
     requires lies { LiesWithin segment.now drive.old }
-    ensures moves { MovesBytes segment.now storage.old drive.old result storage.new drive.new }
-    ensures storage { KeepsStorage storage.old storage.new }
+    ensures moves { MovesBytes segment.now (M.holds storage.old) drive.old result (M.holds storage.new) drive.new }
+    ensures storage { KeepsStorage (M.holds storage.old) (M.holds storage.new) }
+    ensures place { M.place storage.new ≡ M.place storage.old }
     ensures image { drive.new.image ≡ drive.old.image }
 {
     if gives {
@@ -96,14 +98,14 @@ pub(crate) fn move_bytes<S: ImageStore>(
 
 // The drive takes bytes of storage, as they stand there.
 #[inline(always)]
-fn write<S: ImageStore>(
+fn write<S: ImageStore, M: MainStorage>(
     segment: &Segment,
-    storage: &Storage,
+    storage: &M,
     drive: &mut Drive<S>,
 ) -> Result<u16, ChannelCondition>
     requires takes { takes_now drive.old.work ≡ true }
     requires lies { LiesWithin segment.now drive.old }
-    ensures moves { MovesBytes segment.now storage.now drive.old result storage.now drive.new }
+    ensures moves { MovesBytes segment.now (M.holds storage.now) drive.old result (M.holds storage.now) drive.new }
     ensures image { drive.new.image ≡ drive.old.image }
 {
     let bytes = storage.bytes_from(segment.address, usize::from(segment.count));
@@ -116,15 +118,16 @@ fn write<S: ImageStore>(
 
 // The drive gives bytes, which go into storage, unless they are skipped.
 #[inline(always)]
-fn read<S: ImageStore>(
+fn read<S: ImageStore, M: MainStorage>(
     segment: &Segment,
-    storage: &mut Storage,
+    storage: &mut M,
     drive: &mut Drive<S>,
 ) -> Result<u16, ChannelCondition>
     requires gives { gives_now drive.old.work ≡ true }
     requires lies { LiesWithin segment.now drive.old }
-    ensures moves { MovesBytes segment.now storage.old drive.old result storage.new drive.new }
-    ensures storage { KeepsStorage storage.old storage.new }
+    ensures moves { MovesBytes segment.now (M.holds storage.old) drive.old result (M.holds storage.new) drive.new }
+    ensures storage { KeepsStorage (M.holds storage.old) (M.holds storage.new) }
+    ensures place { M.place storage.new ≡ M.place storage.old }
     ensures image { drive.new.image ≡ drive.old.image }
 {
     if segment.ccw.skips() {
@@ -143,10 +146,10 @@ fn read<S: ImageStore>(
 /// Whether so many bytes may be stored with this key from an address on.
 // Key 0 by itself, which may store into every block: then no block's key is asked.
 #[inline(always)]
-pub(crate) fn admits_all(storage: &Storage, address: u32, count: u16, key: u8) -> bool
+pub(crate) fn admits_all<M: MainStorage>(storage: &M, address: u32, count: u16, key: u8) -> bool
     requires { key < 16 }
-    ensures all { result ≡ true → (i : ℕ) → i < count → IsTrue (may_store storage.now key (address + i)) }
-    ensures stops { result ≡ false → 0 < count → (i : ℕ) × (i < count) × (may_store storage.now key (address + i) ≡ false) }
+    ensures all { result ≡ true → (i : ℕ) → i < count → IsTrue (may_store (M.holds storage.now) key (address + i)) }
+    ensures stops { result ≡ false → 0 < count → (i : ℕ) × (i < count) × (may_store (M.holds storage.now) key (address + i) ≡ false) }
 {
     if key == 0 {
         return address as usize + usize::from(count) <= storage.size() as usize;
@@ -155,8 +158,8 @@ pub(crate) fn admits_all(storage: &Storage, address: u32, count: u16, key: u8) -
 }
 
 // Why no byte may be stored at an address: it is outside storage, or its block is protected.
-fn refusal(storage: &Storage, address: u32) -> ChannelCondition
-    ensures { result ≡ refused (nat_lt address (length storage.now.bytes)) }
+fn refusal<M: MainStorage>(storage: &M, address: u32) -> ChannelCondition
+    ensures { result ≡ refused (nat_lt address (length (M.holds storage.now).bytes)) }
 {
     if address >= storage.size() {
         ChannelCondition::ProgramCheck

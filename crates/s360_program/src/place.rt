@@ -6,8 +6,9 @@ ghost use Rattle.s360_runs.specs.Places.{fetch, past_ccw, past_transfer, past_no
 ghost use Rattle.s360_runs.specs.Runs.{first_place};
 ghost use Rattle.s360_program.specs.Place.{place_of, fetched_of, FetchedWithin, modified_place};
 
+use crate::main_storage::MainStorage;
 use bitflags::Flags;
-use s360_words::{Ccw, Storage, UnitStatus};
+use s360_words::{Ccw, UnitStatus};
 
 /// The channel's place in a program.
 #[derive(Clone, Copy)]
@@ -57,8 +58,8 @@ impl Place {
     }
 
     /// Fetches the next word, which begins a command or chains data.
-    pub(crate) fn fetch(&self, storage: &Storage, begins: bool) -> Fetched
-        ensures fetched { fetched_of result ≡ fetch storage.now (place_of self.now) begins }
+    pub(crate) fn fetch<M: MainStorage>(&self, storage: &M, begins: bool) -> Fetched
+        ensures fetched { fetched_of result ≡ fetch (M.holds storage.now) (place_of self.now) begins }
         ensures within { FetchedWithin (place_of self.now) (fetched_of result) }
     {
         let next = self.next;

@@ -13,6 +13,7 @@ ghost use Rattle.s360_program.specs.Seen.{seen_in};
 ghost use Rattle.s360_program.specs.Starting.{IsFirst, StartsQuietly};
 
 use crate::conditions::csw_at;
+use crate::main_storage::MainStorage;
 use crate::place::{Fetched, Place};
 use crate::run::Run;
 use crate::starting::{First, first_command};
@@ -20,7 +21,7 @@ use crate::view::ProgramView;
 use ckd_command::DriveEnding;
 use ckd_drive::Drive;
 use ckd_image::ImageStore;
-use s360_words::{Caw, ChannelStatus, Csw, Storage, UnitStatus};
+use s360_words::{Caw, ChannelStatus, Csw, UnitStatus};
 use std::marker::Model;
 
 /// A channel program that was accepted and has not ended. Bytes, drive and storage are not kept in it.
@@ -78,9 +79,13 @@ impl Running {
     ///
     /// It makes no call of the store. After every answer but `Accepted` no command is open in the drive, and nothing waits
     /// to be saved (Principles of Operation, 'Start I/O').
-    pub fn start<S: ImageStore>(caw: u32, storage: &Storage, drive: &mut Drive<S>) -> Start
+    pub fn start<S: ImageStore, M: MainStorage>(
+        caw: u32,
+        storage: &M,
+        drive: &mut Drive<S>,
+    ) -> Start
         requires { Rests drive.old }
-        ensures first { IsFirst (record { caw = caw; storage = storage.now; drive = drive_of drive.old.state }) result
+        ensures first { IsFirst (record { caw = caw; storage = M.holds storage.now; drive = drive_of drive.old.state }) result
             drive.old drive.new }
         ensures quiet { StartsQuietly drive.old drive.new }
     {
@@ -107,19 +112,20 @@ impl Running {
     /// fails the program is over in that unit, with unit check, and the drive's sense has equipment check. After an ending
     /// nothing may be asked of the program any more: no command is open in the drive, and the track under its arm is saved, or
     /// was not written.
-    pub fn advance<S: ImageStore>(
+    pub fn advance<S: ImageStore, M: MainStorage>(
         &mut self,
         units: u16,
-        storage: &mut Storage,
+        storage: &mut M,
         drive: &mut Drive<S>,
     ) -> Advance
         requires { Stands self.old drive.old }
-        ensures advances { Advances self.old.key (phase_in self.old storage.old drive.old) units result self.new
-            storage.new drive.old drive.new }
-        ensures storage { KeepsStorage storage.old storage.new }
+        ensures advances { Advances self.old.key (phase_in self.old (M.holds storage.old) drive.old) units result self.new
+            (M.holds storage.new) drive.old drive.new }
+        ensures storage { KeepsStorage (M.holds storage.old) (M.holds storage.new) }
+        ensures place { M.place storage.new ≡ M.place storage.old }
         ensures calls { CallsAtMost (2 * result.done) drive.old drive.new }
         ensures tells { TellsOf result.ending drive.old drive.new }
-        ensures quiet { NeedNoStore self.old.key (phase_in self.old storage.old drive.old) result.done
+        ensures quiet { NeedNoStore self.old.key (phase_in self.old (M.holds storage.old) drive.old) result.done
             → drive.new.image ≡ drive.old.image }
     {
         let ran = self.run_on(u32::from(units), storage, drive);
@@ -132,20 +138,21 @@ impl Running {
     /// The same of more units than 16 bits count.
     // In line, so that a caller has no copy of what it comes to.
     #[inline(always)]
-    pub fn run_on<S: ImageStore>(
+    pub fn run_on<S: ImageStore, M: MainStorage>(
         &mut self,
         units: u32,
-        storage: &mut Storage,
+        storage: &mut M,
         drive: &mut Drive<S>,
     ) -> Ran
         requires { Stands self.old drive.old }
-        ensures runs { RunsOn self.old.key (phase_in self.old storage.old drive.old) units result self.new storage.new
+        ensures runs { RunsOn self.old.key (phase_in self.old (M.holds storage.old) drive.old) units result self.new (M.holds storage.new)
             drive.old drive.new }
         ensures most { result.done ≤ units }
-        ensures storage { KeepsStorage storage.old storage.new }
+        ensures storage { KeepsStorage (M.holds storage.old) (M.holds storage.new) }
+        ensures place { M.place storage.new ≡ M.place storage.old }
         ensures calls { CallsAtMost (2 * result.done) drive.old drive.new }
         ensures tells { TellsOf result.ending drive.old drive.new }
-        ensures quiet { NeedNoStore self.old.key (phase_in self.old storage.old drive.old) result.done
+        ensures quiet { NeedNoStore self.old.key (phase_in self.old (M.holds storage.old) drive.old) result.done
             → drive.new.image ≡ drive.old.image }
     {
         let mut run = self.run;

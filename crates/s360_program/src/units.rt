@@ -15,6 +15,7 @@ ghost use Rattle.s360_program.specs.Steps.{run_of, in_bytes, count_of, Fits, IsQ
 
 use crate::conditions::{ChannelCondition, chains};
 use crate::endings::{end_program, told};
+use crate::main_storage::MainStorage;
 use crate::moving::{COUNT_AREA, Segment, admits_all, flow_of, gives, move_bytes};
 use crate::place::Fetched;
 use crate::program::Ran;
@@ -22,25 +23,26 @@ use crate::run::{Comes, Run, Step};
 use ckd_command::DriveEnding;
 use ckd_drive::{Begun, Drive, Look, Phase, WholeRead};
 use ckd_image::ImageStore;
-use s360_words::{Ccw, Csw, Storage};
+use s360_words::{Ccw, Csw};
 
 impl Run {
     /// Does so many units, unless the program ends before.
-    pub(crate) fn advance<S: ImageStore>(
+    pub(crate) fn advance<S: ImageStore, M: MainStorage>(
         &mut self,
         units: u32,
-        storage: &mut Storage,
+        storage: &mut M,
         drive: &mut Drive<S>,
     ) -> Ran
         requires { Fits self.old drive.old }
-        ensures advances { RunsOn self.old.key (phase_in (run_of self.old) storage.old drive.old) units result
-            (run_of self.new) storage.new drive.old drive.new }
+        ensures advances { RunsOn self.old.key (phase_in (run_of self.old) (M.holds storage.old) drive.old) units result
+            (run_of self.new) (M.holds storage.new) drive.old drive.new }
         ensures most { result.done ≤ units }
         ensures within { goes_on result ≡ true → Within (run_of self.new) }
-        ensures storage { KeepsStorage storage.old storage.new }
+        ensures storage { KeepsStorage (M.holds storage.old) (M.holds storage.new) }
+        ensures place { M.place storage.new ≡ M.place storage.old }
         ensures calls { CallsAtMost (2 * result.done) drive.old drive.new }
         ensures tells { TellsOf result.ending drive.old drive.new }
-        ensures quiet { NeedNoStore self.old.key (phase_in (run_of self.old) storage.old drive.old) result.done
+        ensures quiet { NeedNoStore self.old.key (phase_in (run_of self.old) (M.holds storage.old) drive.old) result.done
             → drive.new.image ≡ drive.old.image }
     {
         let mut left = units;
@@ -81,15 +83,16 @@ impl Run {
     }
 
     /// Does one unit, or more where bytes move together, and at most as many as are asked for.
-    pub(crate) fn step<S: ImageStore>(
+    pub(crate) fn step<S: ImageStore, M: MainStorage>(
         &mut self,
         most: u32,
-        storage: &mut Storage,
+        storage: &mut M,
         drive: &mut Drive<S>,
     ) -> Step
         requires some { 0 < most }
         requires fits { Fits self.old drive.old }
-        ensures step { IsStep self.old storage.old drive.old most result self.new storage.new drive.new }
+        ensures step { IsStep self.old (M.holds storage.old) drive.old most result self.new (M.holds storage.new) drive.new }
+        ensures place { M.place storage.new ≡ M.place storage.old }
         ensures calls { CallsAtMost 2 drive.old drive.new }
     {
         match self.comes {
@@ -105,12 +108,16 @@ impl Run {
     }
 
     // The fetch of a word that begins a command.
-    fn next_command<S: ImageStore>(&mut self, storage: &Storage, drive: &mut Drive<S>) -> Step
+    fn next_command<S: ImageStore, M: MainStorage>(
+        &mut self,
+        storage: &M,
+        drive: &mut Drive<S>,
+    ) -> Step
         requires fits { Fits self.old drive.old }
         requires idle { is_idle drive.old.work ≡ true }
         requires stage { self.old.comes ≡ Comes.NextCommand }
         ensures comes { ComesBy self.old.key (λ f. unit f self.old.key
-            (Between (point_at storage.now self.old drive.old))) result self.new storage.now drive.old drive.new }
+            (Between (point_at (M.holds storage.now) self.old drive.old))) result self.new (M.holds storage.now) drive.old drive.new }
         ensures calls { CallsAtMost 2 drive.old drive.new }
         ensures quiet { IsQuiet drive.old → drive.new.image ≡ drive.old.image }
     {
@@ -193,17 +200,18 @@ impl Run {
     }
 
     // A look for the area of a command, and the step that it comes to; none where the area is found and its bytes come next.
-    fn look<S: ImageStore>(
+    fn look<S: ImageStore, M: MainStorage>(
         &mut self,
         most: u32,
-        storage: &mut Storage,
+        storage: &mut M,
         drive: &mut Drive<S>,
     ) -> Option<Step>
         requires some { 0 < most }
         requires fits { Fits self.old drive.old }
         requires stage { self.old.comes ≡ Comes.Look }
-        ensures step { IfSome result (λ a. IsStep self.old storage.old drive.old most a self.new storage.new drive.new) }
-        ensures found { IfNone result (FindsArea self.old storage.old drive.old self.new storage.new drive.new) }
+        ensures step { IfSome result (λ a. IsStep self.old (M.holds storage.old) drive.old most a self.new (M.holds storage.new) drive.new) }
+        ensures found { IfNone result (FindsArea self.old (M.holds storage.old) drive.old self.new (M.holds storage.new) drive.new) }
+        ensures place { M.place storage.new ≡ M.place storage.old }
         ensures calls { CallsAtMost 2 drive.old drive.new }
     {
         if let Some((bytes, read)) = self.whole_read(most, storage, drive) {
@@ -234,14 +242,14 @@ impl Run {
     // All bytes of the command that looks for its area, and how it ends, where it is a read that passes whole: the drive has
     // just as many as its word counts, all of them may be stored, and so many units are asked for.
     #[inline(always)]
-    fn whole_read<'a, S: ImageStore>(
+    fn whole_read<'a, S: ImageStore, M: MainStorage>(
         &self,
         most: u32,
-        storage: &Storage,
+        storage: &M,
         drive: &'a Drive<S>,
     ) -> Option<(&'a [u8], WholeRead)>
         requires { self.now.key < 16 }
-        ensures { IfSome result (λ x. PassesWhole self.now most storage.now drive.now x.0.now x.1) }
+        ensures { IfSome result (λ x. PassesWhole self.now most (M.holds storage.now) drive.now x.0.now x.1) }
     {
         let (ccw, count) = (self.ccw, self.place.residual);
         // asked first, since writes, searches and controls, whose codes are odd, would ask the rest for nothing
@@ -284,19 +292,24 @@ impl Run {
 
     // All bytes of a command whose area was just found, and its end, of which nothing half done is kept where all of them pass.
     #[inline(always)]
-    fn complete<S: ImageStore>(&mut self, storage: &mut Storage, drive: &mut Drive<S>) -> Step
+    fn complete<S: ImageStore, M: MainStorage>(
+        &mut self,
+        storage: &mut M,
+        drive: &mut Drive<S>,
+    ) -> Step
         requires fits { Fits (in_bytes self.old) drive.old }
         requires some { 0 < self.old.place.residual }
         requires left { left_of drive.old.work ≡ self.old.place.residual }
         requires first { passed_of drive.old.work ≡ [] }
         requires unchained { chains_data self.old.ccw ≡ false }
         ensures steps { (most : ℕ) → self.old.place.residual < most
-            → Steps self.old.key (phase_in (run_of (in_bytes self.old)) storage.old drive.old) most result self.new
-            storage.new drive.old drive.new }
-        ensures storage { KeepsStorage storage.old storage.new }
+            → Steps self.old.key (phase_in (run_of (in_bytes self.old)) (M.holds storage.old) drive.old) most result self.new
+            (M.holds storage.new) drive.old drive.new }
+        ensures storage { KeepsStorage (M.holds storage.old) (M.holds storage.new) }
+        ensures place { M.place storage.new ≡ M.place storage.old }
         ensures loads { drive.new.image.loads ≡ drive.old.image.loads }
         ensures calls { CallsAtMost 1 drive.old drive.new }
-        ensures quiet { NeedNoStore self.old.key (phase_in (run_of (in_bytes self.old)) storage.old drive.old)
+        ensures quiet { NeedNoStore self.old.key (phase_in (run_of (in_bytes self.old)) (M.holds storage.old) drive.old)
             (count_of result) → drive.new.image ≡ drive.old.image }
     {
         let gives = gives(drive);
@@ -325,16 +338,17 @@ impl Run {
 
     // Bytes of a command whose area is found: as many as may pass; or the next word has a further area; or the command ends.
     #[inline(always)]
-    fn transfer<S: ImageStore>(
+    fn transfer<S: ImageStore, M: MainStorage>(
         &mut self,
         most: u32,
-        storage: &mut Storage,
+        storage: &mut M,
         drive: &mut Drive<S>,
     ) -> Step
         requires some { 0 < most }
         requires fits { Fits self.old drive.old }
         requires stage { self.old.comes ≡ Comes.Bytes }
-        ensures step { IsStep self.old storage.old drive.old most result self.new storage.new drive.new }
+        ensures step { IsStep self.old (M.holds storage.old) drive.old most result self.new (M.holds storage.new) drive.new }
+        ensures place { M.place storage.new ≡ M.place storage.old }
         ensures loads { drive.new.image.loads ≡ drive.old.image.loads }
         ensures calls { CallsAtMost 1 drive.old drive.new }
     {
@@ -365,12 +379,16 @@ impl Run {
 
     // The fetch of a word that has a further area of the command that works.
     #[inline(always)]
-    fn next_area<S: ImageStore>(&mut self, storage: &Storage, drive: &mut Drive<S>) -> Step
+    fn next_area<S: ImageStore, M: MainStorage>(
+        &mut self,
+        storage: &M,
+        drive: &mut Drive<S>,
+    ) -> Step
         requires fits { Fits self.old drive.old }
         requires stage { self.old.comes ≡ Comes.Bytes }
         requires needs { needs_area (run_of self.old) ≡ true }
         ensures comes { ComesBy self.old.key (λ f. unit f self.old.key
-            (phase_in (run_of self.old) storage.now drive.old)) result self.new storage.now drive.old drive.new }
+            (phase_in (run_of self.old) (M.holds storage.now) drive.old)) result self.new (M.holds storage.now) drive.old drive.new }
         ensures loads { drive.new.image.loads ≡ drive.old.image.loads }
         ensures calls { CallsAtMost 1 drive.old drive.new }
         ensures quiet { IsQuiet drive.old → drive.new.image ≡ drive.old.image }

@@ -4,7 +4,6 @@ use Rattle.s360_words.specs.Storage.{Storage, may_store, stored}
 use Rattle.s360_program.specs.Stands.{phase_in}
 use Rattle.s360_program.specs.Steps.{run_of, Looked}
 use Rattle.s360_program.specs.declared.run.Step.TheVariants as step
-use Rattle.s360_program.proofs.MovingBytes.{keeps_put}
 use Rattle.s360_program.proofs.Wholes.{stores_all, takes_all}
 use Rattle.s360_program.proofs.Looking.{look_fails, look_passes, look_fits, ready_left, ready_first, looking_within}
 use Rattle.s360_program.proofs.Quiet.{fails_quiet, looks_quiet}
@@ -18,28 +17,31 @@ all_stored s s2 a n bytes all is = is ∙ ap (stored s a) (takes_all bytes n all
 
 pub returns-in-Some : goal.returns-in-Some
 returns-in-Some g c =
+    let holds = g.M.MainStorage.holds in
     let a = c.args in
     let x = c.in-Some in
     let p = x.ensures in
     let n = c.store in
     let t = c.finish in
-    let may : (i : ℕ) → i < length x.bytes.now → IsTrue (may_store a.storage.now a.self.now.key (a.self.now.ccw.address + i)) = λ i h. p.may i (omega (arith, h, p.counts)) in
-    let all : n.result ≡ length x.bytes.now = stores_all a.storage.now a.self.now.key a.self.now.ccw.address n.result (length x.bytes.now) n.ensures.bound may n.ensures.next in
-    let is = all_stored a.storage.now n.new.self a.self.now.ccw.address n.result x.bytes.now all n.ensures.change in
+    let may : (i : ℕ) → i < length x.bytes.now → IsTrue (may_store (holds a.storage.now) a.self.now.key (a.self.now.ccw.address + i)) = λ i h. p.may i (omega (arith, h, p.counts)) in
+    let all : n.result ≡ length x.bytes.now = stores_all (holds a.storage.now) a.self.now.key a.self.now.ccw.address n.result (length x.bytes.now) n.ensures.bound may n.ensures.next in
+    let is = all_stored (holds a.storage.now) (holds n.new.self) a.self.now.ccw.address n.result x.bytes.now all n.ensures.change in
     record {
       step = record {
-        steps = rw is (t.ensures.steps a.most a.storage.now x.bytes.now p);
-        storage = keeps_put a.storage.now n.new.self a.self.now.ccw.address x.bytes.now is;
-        quiet = t.ensures.quiet a.storage.now;
+        steps = rw is (t.ensures.steps a.most (holds a.storage.now) x.bytes.now p);
+        storage = n.ensures.keeps;
+        quiet = t.ensures.quiet (holds a.storage.now);
       };
       found = tt;
+      place = search rules;
       calls = search rules;
     }
 
 pub returns-in-Failed : goal.returns-in-Failed
 returns-in-Failed g c =
+    let holds = g.M.MainStorage.holds in
     let r = c.args.self.now in
-    let s = c.args.storage.now in
+    let s = holds c.args.storage.now in
     let d = c.args.drive.now in
     let l = c.in-Failed.ensures in
     let p = c.end_program in
@@ -49,13 +51,15 @@ returns-in-Failed g c =
           (over_once r.key (phase_in (run_of r) s d) c.args.most _ s d p.new.drive c.requires.some
           (look_fails r s d c.look.new.self k _ p.new.drive l.answer p.ensures));
       found = tt;
+      place = search rules;
       calls = search rules;
     }
 
 pub returns-in-Passed : goal.returns-in-Passed
 returns-in-Passed g c =
+    let holds = g.M.MainStorage.holds in
     let r = c.args.self.now in
-    let s = c.args.storage.now in
+    let s = holds c.args.storage.now in
     let d = c.args.drive.now in
     let l = c.in-Passed.ensures in
     let k : Looked r d c.look.new.self = record { fits = c.requires.fits; at = c.requires.stage; state = l.state; calls = l.calls; reports = l.reported } in
@@ -63,13 +67,15 @@ returns-in-Passed g c =
       step = quietly r r s s d c.look.new.self c.args.most (step.Units 1) k.fits (kept s) (looks_quiet r d c.look.new.self k)
           (look_passes r s d c.look.new.self k c.args.most c.requires.some l.answer);
       found = tt;
+      place = search rules;
       calls = search rules;
     }
 
 pub complete-requires : goal.complete-requires
 complete-requires g c =
+    let holds = g.M.MainStorage.holds in
     let r = c.args.self.now in
-    let s = c.args.storage.now in
+    let s = holds c.args.storage.now in
     let d = c.args.drive.now in
     let l = c.in-Ready.ensures in
     let k : Looked r d c.look.new.self = record { fits = c.requires.fits; at = c.requires.stage; state = l.state; calls = l.calls; reports = l.reported } in
@@ -83,14 +89,16 @@ complete-requires g c =
 
 pub returns-then-not-chains_data : goal.returns-then-not-chains_data
 returns-then-not-chains_data g c =
+    let holds = g.M.MainStorage.holds in
     let r = c.args.self.now in
     let l = c.in-Ready.ensures in
     let t = c.complete in
     record {
-      step = finds r t.new.self c.args.storage.now t.new.storage c.in-Ready.left c.args.most c.args.drive.now c.look.new.self t.new.drive
+      step = finds r t.new.self (holds c.args.storage.now) (holds t.new.storage) c.in-Ready.left c.args.most c.args.drive.now c.look.new.self t.new.drive
           (record { fits = c.requires.fits; at = c.requires.stage; state = l.state; calls = l.calls; reports = l.reported }) l.answer t.ensures.loads
           (record { steps = t.ensures.steps c.args.most (omega arith); storage = t.ensures.storage; quiet = t.ensures.quiet });
       found = tt;
+      place = search rules;
       calls = search rules;
     }
 

@@ -11,8 +11,9 @@ use Rattle.s360_program.proofs.run.Run.step.Goals.{in-Look+in_default, in-Bytes}
 
 pub returns-in-NextCommand-clause-step : goal.returns-in-NextCommand-clause-step
 returns-in-NextCommand-clause-step g c =
+    let holds = g.M.MainStorage.holds in
     let r = c.args.self.now in
-    let s = c.args.storage.now in
+    let s = holds c.args.storage.now in
     let d = c.args.drive.now in
     let n = c.next_command in
     one_unit r n.new.self s s d n.new.drive c.args.most n.result c.requires.fits c.requires.some (kept s) n.ensures.quiet
@@ -20,20 +21,26 @@ returns-in-NextCommand-clause-step g c =
     (sym (ap (λ k. phase_by (stage_by k r.ccw r.address) (place_of r.place) s d.state d.work) c.in-NextCommand.is)) n.ensures.comes)
 
 pub transfer-requires-clause-fits : goal.transfer-requires-clause-fits
-transfer-requires-clause-fits g c = elim c.match-self.branch [
-  | in-Look+in_default w ↦
-      let k = w.in_default.ensures.found in
-      rw (w.self-is, w.drive-is, k.run) (look_fits c.args.self.now c.args.storage.now c.args.drive.now w.look.new.drive k.looked k.left k.answer)
-  | in-Bytes w ↦ rw (w.self-is, w.drive-is) c.requires.fits
-]
+transfer-requires-clause-fits g c =
+    let holds = g.M.MainStorage.holds in
+    elim c.match-self.branch [
+      | in-Look+in_default w ↦
+          let k = w.in_default.ensures.found in
+          rw (w.self-is, w.drive-is, k.run)
+          (look_fits c.args.self.now (holds c.args.storage.now) c.args.drive.now w.look.new.drive k.looked k.left k.answer)
+      | in-Bytes w ↦ rw (w.self-is, w.drive-is) c.requires.fits
+    ]
 
 pub returns-clause-step : goal.returns-clause-step
-returns-clause-step g c = elim c.match-self.branch [
-  | in-Look+in_default w ↦
-      let a = c.args in
-      let t = c.transfer in
-      let k = w.in_default.ensures.found in
-      finds a.self.now t.new.self a.storage.now t.new.storage k.left a.most a.drive.now w.look.new.drive t.new.drive k.looked k.answer
-      (rw w.drive-is at t.ensures.loads) (rw (w.self-is, w.storage-is, w.drive-is, k.run, k.storage) at t.ensures.step)
-  | in-Bytes w ↦ rw (w.self-is, w.storage-is, w.drive-is) at c.transfer.ensures.step
-]
+returns-clause-step g c =
+    let holds = g.M.MainStorage.holds in
+    elim c.match-self.branch [
+      | in-Look+in_default w ↦
+          let a = c.args in
+          let t = c.transfer in
+          let k = w.in_default.ensures.found in
+          finds a.self.now t.new.self (holds a.storage.now) (holds t.new.storage) k.left a.most a.drive.now w.look.new.drive t.new.drive
+          k.looked k.answer
+          (rw w.drive-is at t.ensures.loads) (rw (w.self-is, w.storage-is, w.drive-is, k.run, k.storage) at t.ensures.step)
+      | in-Bytes w ↦ rw (w.self-is, w.storage-is, w.drive-is) at c.transfer.ensures.step
+    ]
