@@ -19,19 +19,21 @@ use crate::subchannel::Subchannel;
 use ckd_image::ImageStore;
 use s360_events::{Condition, Status};
 use s360_laws::arm::Arm;
-use s360_words::{ChannelStatus, Csw, Storage, UnitStatus};
+use s360_program::main_storage::MainStorage;
+use s360_words::{ChannelStatus, Csw, UnitStatus};
 use std::mem;
 
 impl<S: ImageStore> Selector<S> {
     /// Halt I/O at an input/output address, over this storage, as `Channel::hio`.
-    pub fn hio(&mut self, storage: &mut Storage, address: u16) -> Condition<Status>
-        requires size { length storage.old.bytes ≡ self.old.size }
-        ensures does { (m : Machine) → StandsFor (over self.old storage.old) m
-            → Does (machine.Hio address) m (answer_seen (answer.Hio address result)) (over self.old storage.old)
-            (over self.new storage.new) }
-        ensures calls { CallsAtMost 1 (over self.old storage.old) (over self.new storage.new) }
+    pub fn hio<M: MainStorage>(&mut self, storage: &mut M, address: u16) -> Condition<Status>
+        requires size { length (M.holds storage.old).bytes ≡ self.old.size }
+        ensures does { (m : Machine) → StandsFor (over self.old (M.holds storage.old)) m
+            → Does (machine.Hio address) m (answer_seen (answer.Hio address result)) (over self.old (M.holds storage.old))
+            (over self.new (M.holds storage.new)) }
+        ensures calls { CallsAtMost 1 (over self.old (M.holds storage.old)) (over self.new (M.holds storage.new)) }
         ensures same { KeepsSelector self.old self.new }
-        ensures keeps { KeepsStorage storage.old storage.new }
+        ensures keeps { KeepsStorage (M.holds storage.old) (M.holds storage.new) }
+        ensures place { M.place storage.new ≡ M.place storage.old }
     {
         self.is_over(storage);
         if address / 256 != self.number as u16 {
@@ -92,14 +94,15 @@ fn cut_program<S: ImageStore>(subchannel: &mut Subchannel, drives: &mut Drives<S
 }
 
 // Halt I/O at a device while the channel is available.
-fn halt_device<S: ImageStore>(
+fn halt_device<S: ImageStore, M: MainStorage>(
     device: u8,
-    storage: &mut Storage,
+    storage: &mut M,
     drives: &Drives<S>,
 ) -> Condition<Status>
     ensures answer { result ≡ halted_idle (is_some (position (is_at device) drives.now)) }
-    ensures storage { storage.new ≡ storage_halted (is_some (position (is_at device) drives.now)) storage.old }
-    ensures keeps { KeepsStorage storage.old storage.new }
+    ensures storage { M.holds storage.new ≡ storage_halted (is_some (position (is_at device) drives.now)) (M.holds storage.old) }
+    ensures keeps { KeepsStorage (M.holds storage.old) (M.holds storage.new) }
+    ensures place { M.place storage.new ≡ M.place storage.old }
 {
     if drives.place_of(device).is_none() {
         return Condition::Three;

@@ -18,8 +18,9 @@ use crate::testing::csw_of_unit;
 use ckd_image::ImageStore;
 use s360_laws::arm::Arm;
 use s360_program::laws::{stands_after_change, stands_after_interruption};
+use s360_program::main_storage::MainStorage;
 use s360_program::program::Running;
-use s360_words::{Csw, Storage, UnitStatus};
+use s360_words::{Csw, UnitStatus};
 
 impl<S: ImageStore> Selector<S> {
     /// The arm of the drive at an input/output address arrives, if it moves, as `Channel::arrive`.
@@ -46,13 +47,14 @@ impl<S: ImageStore> Selector<S> {
     }
 
     /// The processor takes an interruption, over this storage, as `Channel::interrupt`.
-    pub fn interrupt(&mut self, storage: &mut Storage) -> Option<(u16, Csw)>
-        requires size { length storage.old.bytes ≡ self.old.size }
-        ensures does { (m : Machine) → StandsFor (over self.old storage.old) m
-            → DoesQuietly machine.Interrupt m (machine.Interrupted result) (over self.new storage.new) }
-        ensures calls { CallsNoStore (over self.old storage.old) (over self.new storage.new) }
+    pub fn interrupt<M: MainStorage>(&mut self, storage: &mut M) -> Option<(u16, Csw)>
+        requires size { length (M.holds storage.old).bytes ≡ self.old.size }
+        ensures does { (m : Machine) → StandsFor (over self.old (M.holds storage.old)) m
+            → DoesQuietly machine.Interrupt m (machine.Interrupted result) (over self.new (M.holds storage.new)) }
+        ensures calls { CallsNoStore (over self.old (M.holds storage.old)) (over self.new (M.holds storage.new)) }
         ensures same { KeepsSelector self.old self.new }
-        ensures keeps { KeepsStorage storage.old storage.new }
+        ensures keeps { KeepsStorage (M.holds storage.old) (M.holds storage.new) }
+        ensures place { M.place storage.new ≡ M.place storage.old }
     {
         self.is_over(storage);
         stands_after_interruption();
@@ -73,15 +75,16 @@ impl<S: ImageStore> Selector<S> {
 }
 
 // The device end of the lowest address whose arm has arrived.
-fn interrupt_device<S: ImageStore>(
+fn interrupt_device<S: ImageStore, M: MainStorage>(
     number: u8,
-    storage: &mut Storage,
+    storage: &mut M,
     drives: &mut Drives<S>,
 ) -> Option<(u16, Csw)>
     ensures does { DoesOn number (λ m. interrupt_device m (lowest (filter has_arrived m.devices)))
-        (machine.Interrupted result) storage.old drives.old storage.new Idle drives.new }
+        (machine.Interrupted result) (M.holds storage.old) drives.old (M.holds storage.new) Idle drives.new }
     ensures images { map (λ u. u.drive.image) drives.new ≡ map (λ u. u.drive.image) drives.old }
-    ensures keeps { KeepsStorage storage.old storage.new }
+    ensures keeps { KeepsStorage (M.holds storage.old) (M.holds storage.new) }
+    ensures place { M.place storage.new ≡ M.place storage.old }
 {
     let device = drives.lowest_arrived()?;
     let place = drives.place_of(device)?;
@@ -91,24 +94,26 @@ fn interrupt_device<S: ImageStore>(
 }
 
 // The interruption that a word of the running program asked for.
-fn interrupt_program(
+fn interrupt_program<M: MainStorage>(
     number: u8,
     device: u8,
-    storage: &mut Storage,
+    storage: &mut M,
     running: &mut Running,
 ) -> Option<(u16, Csw)>
-    ensures takes { TakesProgram number device result running.old running.new storage.old storage.new }
-    ensures keeps { KeepsStorage storage.old storage.new }
+    ensures takes { TakesProgram number device result running.old running.new (M.holds storage.old) (M.holds storage.new) }
+    ensures keeps { KeepsStorage (M.holds storage.old) (M.holds storage.new) }
+    ensures place { M.place storage.new ≡ M.place storage.old }
 {
     let csw = running.take_pci()?;
     Some(interrupted(number, device, csw, storage))
 }
 
 // The channel status word is stored, and reported with the address.
-fn interrupted(number: u8, device: u8, csw: Csw, storage: &mut Storage) -> (u16, Csw)
+fn interrupted<M: MainStorage>(number: u8, device: u8, csw: Csw, storage: &mut M) -> (u16, Csw)
     ensures told { result ≡ (256 * number + device, csw) }
-    ensures storage { storage.new ≡ changed (csw_stored csw) storage.old }
-    ensures keeps { KeepsStorage storage.old storage.new }
+    ensures storage { M.holds storage.new ≡ changed (csw_stored csw) (M.holds storage.old) }
+    ensures keeps { KeepsStorage (M.holds storage.old) (M.holds storage.new) }
+    ensures place { M.place storage.new ≡ M.place storage.old }
 {
     storage.put_csw(csw);
     (256 * number as u16 + device as u16, csw)

@@ -10,7 +10,7 @@ use crate::drives::Drives;
 use crate::faults::NewFault;
 use crate::subchannel::Subchannel;
 use ckd_image::{Image, ImageStore};
-use s360_words::Storage;
+use s360_program::main_storage::MainStorage;
 use std::marker::Model;
 
 /// A selector channel with its drives, to which storage is lent for each call that needs it. It asks of its caller that the
@@ -64,9 +64,9 @@ impl<S: ImageStore> Selector<S> {
     }
 
     // What is known of it over a storage of its size; it is known of both as soon as they are read.
-    pub(crate) fn is_over(&self, storage: &Storage)
-        requires { length storage.now.bytes ≡ self.now.size }
-        ensures { IsOver self.now storage.now }
+    pub(crate) fn is_over<M: MainStorage>(&self, storage: &M)
+        requires { length (M.holds storage.now).bytes ≡ self.now.size }
+        ensures { IsOver self.now (M.holds storage.now) }
     {
         let _number = self.number;
         let _size = storage.size();

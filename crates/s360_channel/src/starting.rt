@@ -26,18 +26,20 @@ use ckd_image::ImageStore;
 use s360_events::{Condition, Status};
 use s360_laws::arm::Arm;
 use s360_program::laws::accepted_stands;
+use s360_program::main_storage::MainStorage;
 use s360_program::program::Start;
-use s360_words::{ChannelStatus, Storage, UnitStatus};
+use s360_words::{ChannelStatus, UnitStatus};
 
 impl<S: ImageStore> Selector<S> {
     /// Start I/O at an input/output address, over this storage, as `Channel::sio`.
-    pub fn sio(&mut self, storage: &mut Storage, address: u16) -> Condition<Status>
-        requires size { length storage.old.bytes ≡ self.old.size }
-        ensures does { (m : Machine) → StandsFor (over self.old storage.old) m
-            → DoesQuietly (machine.Sio address) m (answer_seen (answer.Sio address result)) (over self.new storage.new) }
-        ensures calls { CallsNoStore (over self.old storage.old) (over self.new storage.new) }
+    pub fn sio<M: MainStorage>(&mut self, storage: &mut M, address: u16) -> Condition<Status>
+        requires size { length (M.holds storage.old).bytes ≡ self.old.size }
+        ensures does { (m : Machine) → StandsFor (over self.old (M.holds storage.old)) m
+            → DoesQuietly (machine.Sio address) m (answer_seen (answer.Sio address result)) (over self.new (M.holds storage.new)) }
+        ensures calls { CallsNoStore (over self.old (M.holds storage.old)) (over self.new (M.holds storage.new)) }
         ensures same { KeepsSelector self.old self.new }
-        ensures keeps { KeepsStorage storage.old storage.new }
+        ensures keeps { KeepsStorage (M.holds storage.old) (M.holds storage.new) }
+        ensures place { M.place storage.new ≡ M.place storage.old }
     {
         self.is_over(storage);
         if address / 256 != self.number as u16 {
@@ -55,18 +57,19 @@ impl<S: ImageStore> Selector<S> {
 }
 
 // The drive at a place is started, or its arm keeps it busy.
-fn start_device<S: ImageStore>(
+fn start_device<S: ImageStore, M: MainStorage>(
     place: usize,
-    storage: &mut Storage,
+    storage: &mut M,
     subchannel: &mut Subchannel,
     drives: &mut Drives<S>,
 ) -> Condition<Status>
     requires idle { subchannel.old ≡ Idle }
     requires rests { DriveIs place Rests drives.old }
     ensures does { DoesAt place (λ u m. start_device u.device m (Some (device_of u)))
-        (condition_seen status_seen result) storage.old drives.old storage.new subchannel.new drives.new }
+        (condition_seen status_seen result) (M.holds storage.old) drives.old (M.holds storage.new) subchannel.new drives.new }
     ensures images { map (λ u. u.drive.image) drives.new ≡ map (λ u. u.drive.image) drives.old }
-    ensures keeps { KeepsStorage storage.old storage.new }
+    ensures keeps { KeepsStorage (M.holds storage.old) (M.holds storage.new) }
+    ensures place { M.place storage.new ≡ M.place storage.old }
 {
     match drives.arm(place) {
         Arm::InMotion => status_stored(UnitStatus::BUSY, ChannelStatus(0), storage),
@@ -80,18 +83,19 @@ fn start_device<S: ImageStore>(
 
 // The drive at a place does the first unit of the program that the channel address word leads to.
 #[tactic(auto, using(crate::proofs::Started::started_images))]
-fn start_program<S: ImageStore>(
+fn start_program<S: ImageStore, M: MainStorage>(
     place: usize,
-    storage: &mut Storage,
+    storage: &mut M,
     subchannel: &mut Subchannel,
     drives: &mut Drives<S>,
 ) -> Condition<Status>
     requires idle { subchannel.old ≡ Idle }
     requires rests { DriveIs place Rests drives.old }
     ensures does { DoesAt place (λ u m. started u.device m (first (start_of m (drive_of u.drive.state))))
-        (condition_seen status_seen result) storage.old drives.old storage.new subchannel.new drives.new }
+        (condition_seen status_seen result) (M.holds storage.old) drives.old (M.holds storage.new) subchannel.new drives.new }
     ensures images { map (λ u. u.drive.image) drives.new ≡ map (λ u. u.drive.image) drives.old }
-    ensures keeps { KeepsStorage storage.old storage.new }
+    ensures keeps { KeepsStorage (M.holds storage.old) (M.holds storage.new) }
+    ensures place { M.place storage.new ≡ M.place storage.old }
 {
     accepted_stands();
     let caw = storage.caw_word();
@@ -110,14 +114,15 @@ fn start_program<S: ImageStore>(
 }
 
 // Unit status and channel status are stored, and reported with code 1.
-fn status_stored(
+fn status_stored<M: MainStorage>(
     unit: UnitStatus,
     channel: ChannelStatus,
-    storage: &mut Storage,
+    storage: &mut M,
 ) -> Condition<Status>
     ensures answer { result ≡ Stored (record { unit = unit; channel = channel }) }
-    ensures storage { storage.new ≡ changed (status_stored unit.0 channel.0) storage.old }
-    ensures keeps { KeepsStorage storage.old storage.new }
+    ensures storage { M.holds storage.new ≡ changed (status_stored unit.0 channel.0) (M.holds storage.old) }
+    ensures keeps { KeepsStorage (M.holds storage.old) (M.holds storage.new) }
+    ensures place { M.place storage.new ≡ M.place storage.old }
 {
     storage.put_status(unit, channel);
     Condition::Stored(Status { unit, channel })

@@ -20,17 +20,19 @@ use crate::subchannel::Subchannel;
 use ckd_image::ImageStore;
 use s360_events::Condition;
 use s360_laws::arm::Arm;
-use s360_words::{ChannelStatus, Csw, Storage, UnitStatus};
+use s360_program::main_storage::MainStorage;
+use s360_words::{ChannelStatus, Csw, UnitStatus};
 
 impl<S: ImageStore> Selector<S> {
     /// Test I/O at an input/output address, over this storage, as `Channel::tio`.
-    pub fn tio(&mut self, storage: &mut Storage, address: u16) -> Condition<Csw>
-        requires size { length storage.old.bytes ≡ self.old.size }
-        ensures does { (m : Machine) → StandsFor (over self.old storage.old) m
-            → DoesQuietly (machine.Tio address) m (answer_seen (answer.Tio address result)) (over self.new storage.new) }
-        ensures calls { CallsNoStore (over self.old storage.old) (over self.new storage.new) }
+    pub fn tio<M: MainStorage>(&mut self, storage: &mut M, address: u16) -> Condition<Csw>
+        requires size { length (M.holds storage.old).bytes ≡ self.old.size }
+        ensures does { (m : Machine) → StandsFor (over self.old (M.holds storage.old)) m
+            → DoesQuietly (machine.Tio address) m (answer_seen (answer.Tio address result)) (over self.new (M.holds storage.new)) }
+        ensures calls { CallsNoStore (over self.old (M.holds storage.old)) (over self.new (M.holds storage.new)) }
         ensures same { KeepsSelector self.old self.new }
-        ensures keeps { KeepsStorage storage.old storage.new }
+        ensures keeps { KeepsStorage (M.holds storage.old) (M.holds storage.new) }
+        ensures place { M.place storage.new ≡ M.place storage.old }
     {
         self.is_over(storage);
         if address / 256 != self.number as u16 {
@@ -53,15 +55,16 @@ impl<S: ImageStore> Selector<S> {
 }
 
 // Test I/O at a device while the channel is available.
-fn test_device<S: ImageStore>(
+fn test_device<S: ImageStore, M: MainStorage>(
     device: u8,
-    storage: &mut Storage,
+    storage: &mut M,
     drives: &mut Drives<S>,
 ) -> Condition<Csw>
     ensures does { DoesIdle (λ m. test_device device m (device_at m device)) (condition_seen csw_seen result)
-        storage.old drives.old storage.new Idle drives.new }
+        (M.holds storage.old) drives.old (M.holds storage.new) Idle drives.new }
     ensures images { map (λ u. u.drive.image) drives.new ≡ map (λ u. u.drive.image) drives.old }
-    ensures keeps { KeepsStorage storage.old storage.new }
+    ensures keeps { KeepsStorage (M.holds storage.old) (M.holds storage.new) }
+    ensures place { M.place storage.new ≡ M.place storage.old }
 {
     let Some(place) = drives.place_of(device) else {
         return Condition::Three;
@@ -77,10 +80,11 @@ fn test_device<S: ImageStore>(
 }
 
 // A channel status word is stored, and reported with code 1.
-fn csw_stored(csw: Csw, storage: &mut Storage) -> Condition<Csw>
+fn csw_stored<M: MainStorage>(csw: Csw, storage: &mut M) -> Condition<Csw>
     ensures answer { result ≡ Stored csw }
-    ensures storage { storage.new ≡ changed (csw_stored csw) storage.old }
-    ensures keeps { KeepsStorage storage.old storage.new }
+    ensures storage { M.holds storage.new ≡ changed (csw_stored csw) (M.holds storage.old) }
+    ensures keeps { KeepsStorage (M.holds storage.old) (M.holds storage.new) }
+    ensures place { M.place storage.new ≡ M.place storage.old }
 {
     storage.put_csw(csw);
     Condition::Stored(csw)
