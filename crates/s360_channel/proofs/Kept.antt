@@ -4,6 +4,7 @@ use Rattle.std.proofs.lemmas.Bool.{eqb-true, lt-ltb}
 use Rattle.std.proofs.lemmas.List.{length-set}
 use Rattle.std.specs.Prelude.{nat_lt, nat_le, slice_set, ◌||◌}
 use Rattle.s360_words.specs.Storage.{Storage, Change, Bytes, KeyOf, changed, is_within, is_size, overwritten}
+use Rattle.s360_words.proofs.Overwriting.{length-overwritten}
 use Rattle.s360_runs.proofs.Sizes.{keeps_size}
 use Rattle.s360_runs.proofs.Standing.{goes_by}
 use Rattle.s360_runs.specs.Scripts.{Outside}
@@ -94,6 +95,12 @@ module _ (e : Event) (x : Change) (is_keep : (m : Machine) → react e None m �
 
   pub channel_kept : IsChannel c → IsChannel (with_storage c new)
   channel_kept h = record { machine = (react e None h.machine).1; stands = (does_kept h.machine h.stands).stands }
+
+-- and the size that it leaves
+pub kept_size : (x : Change) (s new : Storage) (kept : Bool) → new ≡ cond kept (changed x s) s → length new.bytes ≡ length s.bytes
+kept_size (Bytes at bytes) s new true e = ap (λ (s : Storage). length s.bytes) e ∙ length-overwritten s.bytes at bytes
+kept_size (KeyOf at key) s new true e = ap (λ (s : Storage). length s.bytes) e
+kept_size x s new false e = ap (λ (s : Storage). length s.bytes) e
 
 -- A channel that finds another storage.
 

@@ -12,8 +12,8 @@ pub mod Quiet
 pub mod OneMore
 pub mod AllAnswered
 pub mod PartLengths
-pub mod Finishing
 pub mod Removing
 pub mod Images
 pub mod Fronts
 pub mod Slots
+pub mod Selecting

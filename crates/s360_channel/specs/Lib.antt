@@ -11,3 +11,4 @@ pub mod Attaches
 pub mod Ends
 pub mod Nexts
 pub mod Watched
+pub mod Selector

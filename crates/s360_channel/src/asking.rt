@@ -9,7 +9,6 @@ ghost use Rattle.s360_channel.specs.Views.{ShowsDrive, ShowsVolume, drive_seen, 
 
 use crate::channel::Channel;
 use crate::faults::OtherSize;
-use crate::subchannel::Subchannel;
 use crate::view::DriveView;
 use ckd_image::{Image, ImageStore};
 use s360_words::Storage;
@@ -22,10 +21,7 @@ impl<S: ImageStore> Channel<S> {
         ensures drive { result ≡ option_map (λ u. drive_seen (device_of u)) (attached_with device self.now.drives) }
         ensures shows { (m : Machine) → StandsFor self.now m → ShowsDrive device m result }
     {
-        let Some(place) = self.drives.place_of(device) else {
-            return None;
-        };
-        Some(self.drives.seen(place))
+        self.selector.drive(device)
     }
 
     /// The image of the drive with this low byte of an address, lent. While its program does not run it holds the drive's volume;
@@ -35,10 +31,7 @@ impl<S: ImageStore> Channel<S> {
             ≡ option_map (λ u. u.drive.image) (attached_with device self.now.drives) }
         ensures shows { (m : Machine) → StandsFor self.now m → ShowsVolume device m (option_map (λ i. i.now) result) }
     {
-        let Some(place) = self.drives.place_of(device) else {
-            return None;
-        };
-        Some(self.drives.drive(place).image())
+        self.selector.image(device)
     }
 
     /// Storage as it is now, also while a program runs, lent.
@@ -69,11 +62,7 @@ impl<S: ImageStore> Channel<S> {
     pub fn is_pending(&self) -> bool
         ensures { (m : Machine) → StandsFor self.now m → result ≡ interrupts m }
     {
-        match &self.subchannel {
-            Subchannel::Idle => self.drives.lowest_arrived().is_some(),
-            Subchannel::Working(_, running) => running.interruption_asked(),
-            Subchannel::Pending(_, _) => true,
-        }
+        self.selector.is_pending()
     }
 
     /// Takes another storage of the same size in the place of this one, and gives this one back, bytes and keys, also while a

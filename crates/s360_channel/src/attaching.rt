@@ -35,15 +35,6 @@ impl<S: ImageStore> Channel<S> {
         ensures stays { OnErr result (self.new ≡ self.old) }
         ensures handed_back { IfErr result (λ e. e.1 ≡ image) }
     {
-        if self.drives.place_of(device).is_some() {
-            return Err((AttachFault::UnitTaken, image));
-        }
-        if self.drives.len() == 8 {
-            return Err((AttachFault::Full, image));
-        }
-        let Err((fault, image)) = self.drives.attach(alloc, device, image) else {
-            return Ok(());
-        };
-        Err((AttachFault::OutOfMemory(fault), image))
+        self.selector.attach(alloc, device, image)
     }
 }

@@ -6,34 +6,33 @@ ghost use Rattle.s360_channel.specs.declared.subchannel.Subchannel.TheVariants.{
 ghost use Rattle.s360_channel.specs.Channel.{StandsFor};
 ghost use Rattle.s360_channel.specs.Finishes.{Finishes};
 
-use crate::drives::Drives;
 use crate::faults::NewFault;
-use crate::subchannel::Subchannel;
+use crate::selector::Selector;
 use ckd_image::{Image, ImageStore};
 use s360_words::Storage;
 use std::marker::Model;
 
-/// A selector channel with its storage and its drives.
+/// A selector channel with its storage and its drives: a `Selector`, and the storage that each of its calls is lent.
 ///
 /// It stands for a machine of the definitions: each call answers what the machine's event answers, and the channel stands
 /// for the next machine afterwards. No call but `attach` takes memory. Only `set_key` asks something of its caller: that the key
 /// is below 16.
 #[derive(Drop)]
 pub struct Channel<S: ImageStore> {
-    pub(crate) number: u8,
+    pub(crate) selector: Selector<S>,
     pub(crate) storage: Storage,
-    pub(crate) subchannel: Subchannel,
-    pub(crate) drives: Drives<S>,
 }
 
 impl<S: ImageStore> Model for Channel<S> {
-    ghost use Rattle.s360_channel.specs.Channel.{ChannelState, IsChannel};
+    ghost use Rattle.std.specs.Prelude.{◌≡◌, length};
+    ghost use Rattle.s360_channel.specs.Channel.{ChannelState};
+    ghost use Rattle.s360_channel.specs.Selector.{over};
 
     ghost Value = { ChannelState };
 
-    ghost view = { λ c. record { number = c.number; storage = c.storage; subchannel = c.subchannel; drives = c.drives } };
+    ghost view = { λ c. over c.selector c.storage };
 
-    ghost invariant = { λ c. IsChannel (record { number = c.number; storage = c.storage; subchannel = c.subchannel; drives = c.drives }) };
+    ghost invariant = { λ c. length c.storage.bytes ≡ c.selector.size };
 }
 
 /// What a reset answers.
@@ -70,35 +69,25 @@ impl<S: ImageStore> Channel<S> {
         }) }
         ensures err { IfErr result (λ e. e.1 ≡ storage) }
     {
-        if number > 6 {
-            return Err((NewFault::BadNumber, storage));
+        match Selector::new(number, storage.size()) {
+            Ok(selector) => Ok(Channel { selector, storage }),
+            Err(fault) => Err((fault, storage)),
         }
-        let drives = Drives::new();
-        Ok(Channel {
-            number,
-            storage,
-            subchannel: Subchannel::Idle,
-            drives,
-        })
     }
 
     /// Resets the channel, and gives back what it was made of. It makes at most one call of a store, which saves a track
     /// that was written.
-    pub fn finish(mut self) -> Finished<S>
+    pub fn finish(self) -> Finished<S>
         ensures { (m : Machine) → StandsFor self m → Finishes m self result.storage result.images result.reset.unsaved }
     {
-        // what is known of a channel before its reset
-        let _number = self.number;
-        let reset = self.reset();
         let Channel {
-            number: _,
+            mut selector,
             storage,
-            subchannel: _,
-            drives,
         } = self;
+        let reset = selector.reset();
         Finished {
             storage,
-            images: drives.into_images(),
+            images: selector.into_images(),
             reset,
         }
     }

@@ -20,8 +20,9 @@ use ckd_drive::Drive;
 use ckd_image::{Image, ImageStore};
 use ckd_track::{DriveModel, Geometry};
 use s360_laws::arm::Arm;
+use s360_program::main_storage::MainStorage;
 use s360_program::program::{Ran, Running, Start};
-use s360_words::{Csw, Storage};
+use s360_words::Csw;
 use std::alloc::{AllocError, Global};
 use std::marker::Model;
 
@@ -212,9 +213,9 @@ impl<S: ImageStore> Drives<S> {
     }
 
     /// The drive at a place does the first unit of a program.
-    pub(crate) fn start(&mut self, place: usize, caw: u32, storage: &Storage) -> Start
+    pub(crate) fn start<M: MainStorage>(&mut self, place: usize, caw: u32, storage: &M) -> Start
         requires { DriveIs place Rests self.old }
-        ensures { DriveChanges place (Starts caw storage.now result) self.old self.new }
+        ensures { DriveChanges place (Starts caw (M.holds storage.now) result) self.old self.new }
     {
         match &mut self.list.as_mut_slice()[place] {
             Some(attached) => start(attached, caw, storage),
@@ -223,16 +224,17 @@ impl<S: ImageStore> Drives<S> {
     }
 
     /// The program that runs at a place does so many units, unless it ends before.
-    pub(crate) fn advance(
+    pub(crate) fn advance<M: MainStorage>(
         &mut self,
         place: usize,
         running: &mut Running,
         units: u32,
-        storage: &mut Storage,
+        storage: &mut M,
     ) -> Ran
         requires { DriveIs place (Stands running.old) self.old }
-        ensures { DriveChanges place (AdvancesAt running.old storage.old units result running.new storage.new) self.old
+        ensures advances { DriveChanges place (AdvancesAt running.old (M.holds storage.old) units result running.new (M.holds storage.new)) self.old
             self.new }
+        ensures place { M.place storage.new ≡ M.place storage.old }
     {
         match &mut self.list.as_mut_slice()[place] {
             Some(attached) => advance(attached, running, units, storage),
@@ -384,23 +386,28 @@ fn place_of<S: ImageStore>(drives: &[Option<AttachedDrive<S>>], device: u8) -> O
 }
 
 // A drive does the first unit of a program.
-fn start<S: ImageStore>(attached: &mut AttachedDrive<S>, caw: u32, storage: &Storage) -> Start
+fn start<S: ImageStore, M: MainStorage>(
+    attached: &mut AttachedDrive<S>,
+    caw: u32,
+    storage: &M,
+) -> Start
     requires { Rests attached.old.drive }
-    ensures { OnlyDrive (Starts caw storage.now result) attached.old attached.new }
+    ensures { OnlyDrive (Starts caw (M.holds storage.now) result) attached.old attached.new }
 {
     Running::start(caw, storage, &mut *attached.drive)
 }
 
 // The program that runs at a drive does so many units, unless it ends before.
-fn advance<S: ImageStore>(
+fn advance<S: ImageStore, M: MainStorage>(
     attached: &mut AttachedDrive<S>,
     running: &mut Running,
     units: u32,
-    storage: &mut Storage,
+    storage: &mut M,
 ) -> Ran
     requires { Stands running.old attached.old.drive }
-    ensures { OnlyDrive (AdvancesAt running.old storage.old units result running.new storage.new) attached.old
+    ensures advances { OnlyDrive (AdvancesAt running.old (M.holds storage.old) units result running.new (M.holds storage.new)) attached.old
         attached.new }
+    ensures place { M.place storage.new ≡ M.place storage.old }
 {
     running.run_on(units, storage, &mut *attached.drive)
 }

@@ -9,10 +9,6 @@ ghost use Rattle.s360_channel.specs.Channel.{StandsFor};
 ghost use Rattle.s360_channel.specs.Calls.{DoesQuietly, Does, CallsNoStore, CallsAtMost};
 
 use crate::channel::Channel;
-use crate::ending::{cut_program, halt_device};
-use crate::starting::start_io;
-use crate::subchannel::Subchannel;
-use crate::testing::test_io;
 use ckd_image::ImageStore;
 use s360_events::{Condition, Status};
 use s360_words::Csw;
@@ -26,13 +22,7 @@ impl<S: ImageStore> Channel<S> {
             → DoesQuietly (machine.Sio address) m (answer_seen (answer.Sio address result)) self.new }
         ensures calls { CallsNoStore self.old self.new }
     {
-        start_io(
-            address,
-            self.number,
-            &mut self.storage,
-            &mut self.subchannel,
-            &mut self.drives,
-        )
+        self.selector.sio(&mut self.storage, address)
     }
 
     /// Test I/O at an input/output address: 0, the device is available; 1, this channel status word was stored; 2, the channel is
@@ -42,13 +32,7 @@ impl<S: ImageStore> Channel<S> {
             → DoesQuietly (machine.Tio address) m (answer_seen (answer.Tio address result)) self.new }
         ensures calls { CallsNoStore self.old self.new }
     {
-        test_io(
-            address,
-            self.number,
-            &mut self.storage,
-            &mut self.subchannel,
-            &mut self.drives,
-        )
+        self.selector.tio(&mut self.storage, address)
     }
 
     /// Halt I/O at an input/output address: 0, a channel status word pends, and stays; 1, nothing ran, and a status of zeros
@@ -59,17 +43,7 @@ impl<S: ImageStore> Channel<S> {
             → Does (machine.Hio address) m (answer_seen (answer.Hio address result)) self.old self.new }
         ensures calls { CallsAtMost 1 self.old self.new }
     {
-        if address / 256 != self.number as u16 {
-            return Condition::Three;
-        }
-        match self.subchannel {
-            Subchannel::Idle => halt_device((address % 256) as u8, &mut self.storage, &self.drives),
-            Subchannel::Working(_, _) => {
-                cut_program(&mut self.subchannel, &mut self.drives);
-                Condition::Two
-            }
-            Subchannel::Pending(_, _) => Condition::Zero,
-        }
+        self.selector.hio(&mut self.storage, address)
     }
 
     /// Test Channel: 0, it is available; 1, a channel status word pends; 2, a program runs ('Test Channel').
@@ -77,10 +51,6 @@ impl<S: ImageStore> Channel<S> {
         ensures { (m : Machine) → StandsFor self.now m
             → DoesQuietly machine.Tch m (answer_seen (answer.Tch result)) self.now }
     {
-        match self.subchannel {
-            Subchannel::Idle => Condition::Zero,
-            Subchannel::Working(_, _) => Condition::Two,
-            Subchannel::Pending(_, _) => Condition::Stored(()),
-        }
+        self.selector.tch()
     }
 }

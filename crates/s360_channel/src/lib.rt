@@ -1,10 +1,11 @@
-//! The channel: one subchannel, up to eight drives, and a storage of its own. It answers the processor's input/output
-//! instructions and lets the program that was accepted run, unit by unit.
+//! The channel: one subchannel, up to eight drives, and a storage, which it owns (`Channel`) or is lent for each call (`Selector`).
+//! It answers the processor's input/output instructions and lets the program that was accepted run, unit by unit.
 #![tactic(auto)]
 
 mod asking;
 mod attached_drive;
 mod attaching;
+mod changes;
 mod channel;
 mod drives;
 mod driving;
@@ -15,10 +16,13 @@ mod instructions;
 mod interrupting;
 mod packs;
 mod processor;
+mod selector;
+mod showing;
 mod starting;
 mod subchannel;
 mod testing;
 mod turns;
+mod units;
 mod view;
 mod watching;
 
@@ -28,4 +32,5 @@ pub use crate::driving::drive;
 pub use crate::faults::{
     AttachFault, DetachFault, ExchangeFault, NewFault, OtherSize, OutsideStorage,
 };
+pub use crate::selector::Selector;
 pub use crate::view::{DriveView, RunOn, SubchannelView, View, Watched};

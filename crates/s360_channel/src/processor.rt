@@ -5,12 +5,11 @@ ghost use Rattle.s360_laws.specs.Events as machine;
 ghost use Rattle.s360_laws.specs.Machine.{Machine, part_of, storage_of};
 ghost use Rattle.s360_channel.specs.Channel.{StandsFor};
 ghost use Rattle.s360_channel.specs.Calls.{DoesQuietly, CallsNoStore};
-ghost use Rattle.s360_channel.specs.Views.{view_of, subchannel_seen};
+ghost use Rattle.s360_channel.specs.Views.{view_of};
 
 use crate::channel::Channel;
 use crate::faults::OutsideStorage;
-use crate::subchannel::Subchannel;
-use crate::view::{SubchannelView, View};
+use crate::view::View;
 use ckd_image::ImageStore;
 
 impl<S: ImageStore> Channel<S> {
@@ -62,21 +61,6 @@ impl<S: ImageStore> Channel<S> {
     pub fn state(&self) -> View
         ensures { (m : Machine) → StandsFor self.now m → result ≡ view_of m }
     {
-        View {
-            subchannel: self.subchannel_shown(),
-            drives: self.drives.shown(),
-        }
-    }
-
-    pub(crate) fn subchannel_shown(&self) -> SubchannelView
-        ensures { (m : Machine) → StandsFor self.now m → result ≡ subchannel_seen m m.subchannel }
-    {
-        match &self.subchannel {
-            Subchannel::Idle => SubchannelView::Idle,
-            Subchannel::Working(place, running) => {
-                SubchannelView::Working(self.drives.device(*place), running.interruption_asked())
-            }
-            Subchannel::Pending(device, csw) => SubchannelView::Pending(*device, *csw),
-        }
+        self.selector.state()
     }
 }

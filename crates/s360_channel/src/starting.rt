@@ -1,6 +1,6 @@
 //! Start I/O: the first unit of a program, and what it leaves.
 
-ghost use Rattle.std.specs.Prelude.{◌≡◌, map, Some, if◌then◌else◌};
+ghost use Rattle.std.specs.Prelude.{◌≡◌, length, map, Some, if◌then◌else◌};
 ghost use Rattle.s360_words.specs.Storage.{changed, status_stored};
 ghost use Rattle.ckd_command.specs.Drive.{drive_of};
 ghost use Rattle.s360_runs.specs.Starts.{first};
@@ -11,61 +11,65 @@ ghost use Rattle.s360_laws.specs.declared.arm.Arm.TheVariants.{InMotion, AtRest}
 ghost use Rattle.s360_events.specs.Seen.{condition_seen, status_seen, answer_seen};
 ghost use Rattle.s360_events.specs.declared.answers.Answer.TheVariants as answer;
 ghost use Rattle.s360_events.specs.declared.conditions.Condition.TheVariants.{Stored};
-ghost use Rattle.s360_program.specs.Advances.{Rests};
-ghost use Rattle.s360_channel.specs.Channel.{StandsFor, IsChannel, device_of};
-ghost use Rattle.s360_channel.specs.Calls.{DoesQuietly};
-ghost use Rattle.s360_channel.specs.Nexts.{DoesAt, of_parts};
+ghost use Rattle.s360_program.specs.Advances.{Rests, KeepsStorage};
+ghost use Rattle.s360_channel.specs.Channel.{StandsFor, device_of};
+ghost use Rattle.s360_channel.specs.Calls.{DoesQuietly, CallsNoStore};
+ghost use Rattle.s360_channel.specs.Nexts.{DoesAt};
+ghost use Rattle.s360_channel.specs.Selector.{KeepsSelector, over};
 ghost use Rattle.s360_channel.specs.DriveCalls.{DriveIs};
 ghost use Rattle.s360_channel.specs.declared.subchannel.Subchannel.TheVariants.{Idle};
 
 use crate::drives::Drives;
+use crate::selector::Selector;
 use crate::subchannel::Subchannel;
 use ckd_image::ImageStore;
 use s360_events::{Condition, Status};
 use s360_laws::arm::Arm;
 use s360_program::laws::accepted_stands;
+use s360_program::main_storage::MainStorage;
 use s360_program::program::Start;
-use s360_words::{ChannelStatus, Storage, UnitStatus};
+use s360_words::{ChannelStatus, UnitStatus};
 
-/// Start I/O at an input/output address, over the parts of the channel with this number.
-pub(crate) fn start_io<S: ImageStore>(
-    address: u16,
-    number: u8,
-    storage: &mut Storage,
-    subchannel: &mut Subchannel,
-    drives: &mut Drives<S>,
-) -> Condition<Status>
-    requires { IsChannel (of_parts number storage.old subchannel.old drives.old) }
-    ensures does { (m : Machine) → StandsFor (of_parts number storage.old subchannel.old drives.old) m
-        → DoesQuietly (machine.Sio address) m (answer_seen (answer.Sio address result))
-        (of_parts number storage.new subchannel.new drives.new) }
-    ensures images { map (λ u. u.drive.image) drives.new ≡ map (λ u. u.drive.image) drives.old }
-{
-    if address / 256 != number as u16 {
-        return Condition::Three;
+impl<S: ImageStore> Selector<S> {
+    /// Start I/O at an input/output address, over this storage, as `Channel::sio`.
+    pub fn sio<M: MainStorage>(&mut self, storage: &mut M, address: u16) -> Condition<Status>
+        requires size { length (M.holds storage.old).bytes ≡ self.old.size }
+        ensures does { (m : Machine) → StandsFor (over self.old (M.holds storage.old)) m
+            → DoesQuietly (machine.Sio address) m (answer_seen (answer.Sio address result)) (over self.new (M.holds storage.new)) }
+        ensures calls { CallsNoStore (over self.old (M.holds storage.old)) (over self.new (M.holds storage.new)) }
+        ensures same { KeepsSelector self.old self.new }
+        ensures keeps { KeepsStorage (M.holds storage.old) (M.holds storage.new) }
+        ensures place { M.place storage.new ≡ M.place storage.old }
+    {
+        self.is_over(storage);
+        if address / 256 != self.number as u16 {
+            return Condition::Three;
+        }
+        let Subchannel::Idle = self.subchannel else {
+            return Condition::Two;
+        };
+        let device = (address % 256) as u8;
+        let Some(place) = self.drives.place_of(device) else {
+            return Condition::Three;
+        };
+        start_device(place, storage, &mut self.subchannel, &mut self.drives)
     }
-    let Subchannel::Idle = subchannel else {
-        return Condition::Two;
-    };
-    let device = (address % 256) as u8;
-    let Some(place) = drives.place_of(device) else {
-        return Condition::Three;
-    };
-    start_device(place, storage, subchannel, drives)
 }
 
 // The drive at a place is started, or its arm keeps it busy.
-fn start_device<S: ImageStore>(
+fn start_device<S: ImageStore, M: MainStorage>(
     place: usize,
-    storage: &mut Storage,
+    storage: &mut M,
     subchannel: &mut Subchannel,
     drives: &mut Drives<S>,
 ) -> Condition<Status>
     requires idle { subchannel.old ≡ Idle }
     requires rests { DriveIs place Rests drives.old }
     ensures does { DoesAt place (λ u m. start_device u.device m (Some (device_of u)))
-        (condition_seen status_seen result) storage.old drives.old storage.new subchannel.new drives.new }
+        (condition_seen status_seen result) (M.holds storage.old) drives.old (M.holds storage.new) subchannel.new drives.new }
     ensures images { map (λ u. u.drive.image) drives.new ≡ map (λ u. u.drive.image) drives.old }
+    ensures keeps { KeepsStorage (M.holds storage.old) (M.holds storage.new) }
+    ensures place { M.place storage.new ≡ M.place storage.old }
 {
     match drives.arm(place) {
         Arm::InMotion => status_stored(UnitStatus::BUSY, ChannelStatus(0), storage),
@@ -79,17 +83,19 @@ fn start_device<S: ImageStore>(
 
 // The drive at a place does the first unit of the program that the channel address word leads to.
 #[tactic(auto, using(crate::proofs::Started::started_images))]
-fn start_program<S: ImageStore>(
+fn start_program<S: ImageStore, M: MainStorage>(
     place: usize,
-    storage: &mut Storage,
+    storage: &mut M,
     subchannel: &mut Subchannel,
     drives: &mut Drives<S>,
 ) -> Condition<Status>
     requires idle { subchannel.old ≡ Idle }
     requires rests { DriveIs place Rests drives.old }
     ensures does { DoesAt place (λ u m. started u.device m (first (start_of m (drive_of u.drive.state))))
-        (condition_seen status_seen result) storage.old drives.old storage.new subchannel.new drives.new }
+        (condition_seen status_seen result) (M.holds storage.old) drives.old (M.holds storage.new) subchannel.new drives.new }
     ensures images { map (λ u. u.drive.image) drives.new ≡ map (λ u. u.drive.image) drives.old }
+    ensures keeps { KeepsStorage (M.holds storage.old) (M.holds storage.new) }
+    ensures place { M.place storage.new ≡ M.place storage.old }
 {
     accepted_stands();
     let caw = storage.caw_word();
@@ -108,13 +114,15 @@ fn start_program<S: ImageStore>(
 }
 
 // Unit status and channel status are stored, and reported with code 1.
-fn status_stored(
+fn status_stored<M: MainStorage>(
     unit: UnitStatus,
     channel: ChannelStatus,
-    storage: &mut Storage,
+    storage: &mut M,
 ) -> Condition<Status>
     ensures answer { result ≡ Stored (record { unit = unit; channel = channel }) }
-    ensures storage { storage.new ≡ changed (status_stored unit.0 channel.0) storage.old }
+    ensures storage { M.holds storage.new ≡ changed (status_stored unit.0 channel.0) (M.holds storage.old) }
+    ensures keeps { KeepsStorage (M.holds storage.old) (M.holds storage.new) }
+    ensures place { M.place storage.new ≡ M.place storage.old }
 {
     storage.put_status(unit, channel);
     Condition::Stored(Status { unit, channel })

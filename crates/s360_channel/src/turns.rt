@@ -8,9 +8,6 @@ ghost use Rattle.s360_channel.specs.Views.{subchannel_seen};
 ghost use Rattle.s360_channel.specs.Calls.{DoesQuietly, Does, CallsNoStore, CallsAtMost};
 
 use crate::channel::{Channel, Reset};
-use crate::ending::{end_program, lose_program};
-use crate::interrupting::{arrive, interrupt};
-use crate::subchannel::Subchannel;
 use crate::view::RunOn;
 use ckd_image::ImageStore;
 use s360_words::Csw;
@@ -25,7 +22,7 @@ impl<S: ImageStore> Channel<S> {
         ensures most { result ≤ units }
         ensures calls { CallsAtMost (2 * result) self.old self.new }
     {
-        self.advance(u32::from(units)) as u16
+        self.selector.step(&mut self.storage, units)
     }
 
     /// Lets the program that runs do units until it ends, so many at most, as one step of this number does; and says what the
@@ -37,31 +34,7 @@ impl<S: ImageStore> Channel<S> {
         ensures most { result.units ≤ units }
         ensures calls { CallsAtMost (2 * result.units) self.old self.new }
     {
-        let units = self.advance(units);
-        RunOn {
-            units,
-            subchannel: self.subchannel_shown(),
-        }
-    }
-
-    // A step of so many units.
-    fn advance(&mut self, units: u32) -> u32
-        ensures does { (m : Machine) → StandsFor self.old m
-            → Does (machine.StepBy units) m (machine.Stepped result) self.old self.new }
-        ensures most { result ≤ units }
-        ensures calls { CallsAtMost (2 * result) self.old self.new }
-    {
-        let Subchannel::Working(place, running) = &mut self.subchannel else {
-            return 0;
-        };
-        let place = *place;
-        let advance = self
-            .drives
-            .advance(place, running, units, &mut self.storage);
-        if let Some((csw, motion)) = advance.ending {
-            end_program(place, csw, motion, &mut self.subchannel, &mut self.drives);
-        }
-        advance.done
+        self.selector.run_on(&mut self.storage, units)
     }
 
     /// The arm of the drive at an input/output address arrives, if it moves: then its device end is to be stored. It makes no
@@ -71,7 +44,7 @@ impl<S: ImageStore> Channel<S> {
             → DoesQuietly (machine.Arrive address) m (machine.HasArrived result) self.new }
         ensures calls { CallsNoStore self.old self.new }
     {
-        arrive(address, self.number, &mut self.drives)
+        self.selector.arrive(address)
     }
 
     /// The processor takes an interruption: the address that interrupts, and the channel status word that is stored. While a
@@ -83,12 +56,7 @@ impl<S: ImageStore> Channel<S> {
             → DoesQuietly machine.Interrupt m (machine.Interrupted result) self.new }
         ensures calls { CallsNoStore self.old self.new }
     {
-        interrupt(
-            self.number,
-            &mut self.storage,
-            &mut self.subchannel,
-            &mut self.drives,
-        )
+        self.selector.interrupt(&mut self.storage)
     }
 
     /// Resets the channel and its drives: a program that runs is cut, what pends is lost, arms are at rest, sense bytes are
@@ -98,8 +66,6 @@ impl<S: ImageStore> Channel<S> {
             → Does machine.Reset m (machine.WasReset result.unsaved) self.old self.new }
         ensures calls { CallsAtMost 1 self.old self.new }
     {
-        let unsaved = lose_program(self.number, &mut self.subchannel, &mut self.drives);
-        self.drives.reset();
-        Reset { unsaved }
+        self.selector.reset()
     }
 }

@@ -8,7 +8,6 @@ ghost use Rattle.s360_channel.specs.Shares.{with_storage};
 ghost use Rattle.s360_channel.specs.Watched.{ShowsProgram, ShowsDriveAtWork};
 
 use crate::channel::Channel;
-use crate::subchannel::Subchannel;
 use crate::view::Watched;
 use ckd_drive::Drive;
 use ckd_image::ImageStore;
@@ -21,13 +20,7 @@ impl<S: ImageStore> Channel<S> {
         ensures over_any_storage { (s : StorageState) (m : Machine) → StandsFor (with_storage self.now s) m
             → ShowsProgram m result }
     {
-        match &self.subchannel {
-            Subchannel::Working(place, running) => Some(Watched {
-                device: self.drives.device(*place),
-                program: running.view(),
-            }),
-            Subchannel::Idle | Subchannel::Pending(_, _) => None,
-        }
+        self.selector.program()
     }
 
     /// The drive of the program that runs, lent: its registers, its command, and how many bytes have passed in that; none where no
@@ -37,9 +30,6 @@ impl<S: ImageStore> Channel<S> {
         ensures over_any_storage { (s : StorageState) (m : Machine) → StandsFor (with_storage self.now s) m
             → ShowsDriveAtWork m (option_map (λ d. d.now) result) }
     {
-        match &self.subchannel {
-            Subchannel::Working(place, _) => Some(self.drives.drive(*place)),
-            Subchannel::Idle | Subchannel::Pending(_, _) => None,
-        }
+        self.selector.drive_at_work()
     }
 }

@@ -1,16 +1,4 @@
-use Rattle.std.proofs.Common.{◌∙◌, ap, sym, None}
-use Rattle.std.specs.Prelude.{option_map}
-use Rattle.s360_channel.specs.Channel.{AttachedState, device_of}
-use Rattle.s360_channel.specs.Views.{drive_seen, attached_in}
-use Rattle.s360_channel.proofs.Shown.{shows_drive}
 use Rattle.s360_channel.proofs.channel.Channel.drive.Goals as goal
 
-pub returns-in_default-clause-shows : goal.returns-in_default-clause-shows
-returns-in_default-clause-shows g c m h =
-    shows_drive (record { number = c.self.inside.number; storage = c.self.inside.storage; subchannel = c.self.inside.subchannel; drives = c.self.inside.drives }) m c.args.device None
-    (sym (ap (λ x. option_map (λ (u : AttachedState). drive_seen (device_of u)) (attached_in x c.self.inside.drives)) (sym c.place_of.ensures ∙ c.in_default.is))) (rw (← c.self.view_is) at h)
-
 pub returns-clause-shows : goal.returns-clause-shows
-returns-clause-shows g c m h =
-    shows_drive (record { number = c.self.inside.number; storage = c.self.inside.storage; subchannel = c.self.inside.subchannel; drives = c.self.inside.drives }) m c.args.device _
-    (c.seen.ensures ∙ sym (ap (λ x. option_map (λ (u : AttachedState). drive_seen (device_of u)) (attached_in x c.self.inside.drives)) (sym c.in-Some.ensures))) (rw (← c.self.view_is) at h)
+returns-clause-shows g c = rw (← c.self.view_is) (c.drive.ensures.shows c.self.inside.storage)

@@ -1,15 +1,11 @@
-use Rattle.std.proofs.Common.{arith}
-use Rattle.s360_channel.proofs.Asked.{stays}
+use Rattle.std.proofs.Common.{◌∙◌, sym}
 use Rattle.s360_channel.proofs.channel.Channel.interrupt.Goals as goal
 
-pub interrupt-requires : goal.interrupt-requires
-interrupt-requires g c = (omega arith, record { machine = c.self.invariant.machine; stands = c.self.invariant.stands })
-
 pub invariant_of-self : goal.invariant_of-self
-invariant_of-self g c = stays _ c.self.invariant.machine _ _ (c.interrupt.ensures.does c.self.invariant.machine c.self.invariant.stands)
+invariant_of-self g c = let e = c.interrupt.ensures in e.keeps.size ∙ (c.self.invariant ∙ sym e.same.size)
 
 pub returns-clause-does : goal.returns-clause-does
 returns-clause-does g c = rw (← c.self.view_is) c.interrupt.ensures.does
 
 pub returns-clause-calls : goal.returns-clause-calls
-returns-clause-calls g c = rw (← c.self.view_is) c.interrupt.ensures.images
+returns-clause-calls g c = rw (← c.self.view_is) c.interrupt.ensures.calls

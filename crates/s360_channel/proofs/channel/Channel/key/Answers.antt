@@ -1,7 +1,8 @@
 use Rattle.std.proofs.Common.{◌∙◌, ap, sym}
 use Rattle.s360_channel.specs.Views.{key_in}
+use Rattle.s360_channel.specs.Selector.{over}
 use Rattle.s360_channel.proofs.Kept.{storage_in}
 use Rattle.s360_channel.proofs.channel.Channel.key.Goals as goal
 
 pub returns-clause-shows : goal.returns-clause-shows
-returns-clause-shows g c m h = c.key.ensures.key ∙ ap (λ s. key_in s c.args.at) (sym (storage_in (record { number = c.self.inside.number; storage = c.self.inside.storage; subchannel = c.self.inside.subchannel; drives = c.self.inside.drives }) m (rw (← c.self.view_is) at h)))
+returns-clause-shows g c m h = c.key.ensures.key ∙ ap (λ s. key_in s c.args.at) (sym (storage_in (over c.self.inside.selector c.self.inside.storage) m (rw (← c.self.view_is) at h)))

@@ -6,7 +6,6 @@ use Rattle.s360_channel.specs.Channel.{ChannelState}
 use Rattle.s360_channel.proofs.Kept.{shows_part}
 use Rattle.s360_channel.proofs.channel.Channel.peek.Goals as goal
 
--- src/processor.rt
 pub returns-clause-does : goal.returns-clause-does
 returns-clause-does g c m h =
     subst (λ shown. DoesQuietly (Show c.args.at c.args.len) m (Shown shown) c.args.self.now) (there ∙ sym c.slice.ensures.bytes)

@@ -1,19 +1,17 @@
 use Rattle.std.proofs.Common.{◌≡◌, refl, sym, ap, ◌∙◌, is_ok}
 use Rattle.s360_words.specs.Storage.{KeyOf}
 use Rattle.s360_laws.specs.Events.{SetKey}
-use Rattle.s360_channel.proofs.Kept.{does_kept, channel_kept}
+use Rattle.s360_channel.specs.Selector.{over}
+use Rattle.s360_channel.proofs.Kept.{does_kept, kept_size}
 use Rattle.s360_channel.proofs.channel.Channel.set_key.Goals as goal
 use Rattle.s360_channel.proofs.channel.Channel.set_key.Goals.{then-set_key, else-set_key}
 
--- src/processor.rt
 pub invariant_of-self : goal.invariant_of-self
-invariant_of-self g c =
-    channel_kept (SetKey c.args.at c.args.key) (KeyOf c.args.at c.args.key) (λ m. refl) (record { number = c.self.inside.number; storage = c.self.inside.storage; subchannel = c.self.inside.subchannel; drives = c.self.inside.drives }) c.set_key.new.self c.set_key.result c.set_key.result c.set_key.ensures.answer c.set_key.ensures.change refl c.self.invariant
+invariant_of-self g c = kept_size (KeyOf c.args.at c.args.key) c.self.inside.storage c.set_key.new.self c.set_key.result c.set_key.ensures.change ∙ c.self.invariant
 
--- src/processor.rt
 pub returns-clause-does : goal.returns-clause-does
 returns-clause-does g c m h =
-    does_kept (SetKey c.args.at c.args.key) (KeyOf c.args.at c.args.key) (λ m. refl) (record { number = c.self.inside.number; storage = c.self.inside.storage; subchannel = c.self.inside.subchannel; drives = c.self.inside.drives }) c.set_key.new.self c.set_key.result (is_ok c.if-set_key.result) c.set_key.ensures.answer c.set_key.ensures.change told m (rw (← c.self.view_is) at h)
+    does_kept (SetKey c.args.at c.args.key) (KeyOf c.args.at c.args.key) (λ m. refl) (over c.self.inside.selector c.self.inside.storage) c.set_key.new.self c.set_key.result (is_ok c.if-set_key.result) c.set_key.ensures.answer c.set_key.ensures.change told m (rw (← c.self.view_is) at h)
   where
     told : is_ok c.if-set_key.result ≡ c.set_key.result
     told = elim c.if-set_key.branch [

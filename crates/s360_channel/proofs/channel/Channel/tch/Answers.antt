@@ -1,0 +1,4 @@
+use Rattle.s360_channel.proofs.channel.Channel.tch.Goals as goal
+
+pub returns : goal.returns
+returns g c = rw (← c.self.view_is) (c.tch.ensures c.self.inside.storage)
