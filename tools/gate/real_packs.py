@@ -146,7 +146,7 @@ def defective_track_is_read_from_its_alternate_and_told(s: Scratch) -> None:
 
 @row
 def defective_track_without_an_alternate_ends_the_data_set(s: Scratch) -> None:
-    nowhere = "track 1 of the data set: it is defective, and its record 0 names no track of the volume"
+    nowhere = "track 1 of the data set: it is defective, and no record 0 names a track of the volume"
     other = "track 1 of the data set: it is defective, and the track that its record 0 names is no alternate"
     for named, flag, text in [((3, 0), 1, nowhere), ((2, 10), 1, nowhere), ((2, 1), 1, other), (DEFECTIVE, 1, other), (HELD, 0, other), (HELD, 3, other)]:
         wear(s.path("pack.ckd"), named, flag)

@@ -11,6 +11,7 @@ use Rattle.volume_labels.specs.declared.fields.TrackAddress.{TrackAddress}
 use Rattle.volume_labels.specs.Fields.{track_address_at}
 use Rattle.dasd_extract.specs.declared.alternates.Holder.{Holder}
 use Rattle.dasd_extract.specs.declared.alternates.Holder.TheVariants.{Itself, Alternate, Nowhere}
+use Rattle.dasd_extract.specs.Blocks.{number_of}
 
 -- the flag byte of a track
 abbrev pub flags_of : Track → ℕ
@@ -23,6 +24,10 @@ is_defective t = flags_of t / 2 % 2 == 1
 abbrev pub is_alternate : Track → Bool
 is_alternate t = flags_of t % 4 == 1
 
+-- record 0 is there: the first record has this number
+abbrev pub has_record_0 : Track → Bool
+has_record_0 t = not (length t.records == 0) && (number_of (record_in t 0) == 0)
+
 -- the track that record 0 names
 abbrev pub named_by : Track → TrackAddress
 named_by t = track_address_at (record_in t 0).id 0
@@ -32,7 +37,7 @@ abbrev pub holder_named : Geometry → TrackAddress → Holder
 holder_named g a = if nat_lt a.cylinder g.cylinders && nat_lt a.head (heads_of g.model) then Alternate (track_at g a.cylinder a.head) else Nowhere
 
 abbrev pub holder_on : Geometry → Track → Holder
-holder_on g t = if not (is_defective t) then Itself else (if length t.records == 0 then Nowhere else holder_named g (named_by t))
+holder_on g t = if not (is_defective t) then Itself else (if has_record_0 t then holder_named g (named_by t) else Nowhere)
 
 -- where the blocks of a track are: on itself; of a defective one on its alternate, or nowhere
 abbrev pub holder_of : Geometry → Result Track SlotFault → Holder

@@ -3,8 +3,9 @@
 ghost use Rattle.std.specs.Prelude.{◌≡◌, ◌≤◌, ◌<◌, length};
 ghost use Rattle.ckd_track.specs.Track.{track_of};
 ghost use Rattle.volume_labels.specs.Fields.{track_address_at};
-ghost use Rattle.dasd_extract.specs.Alternates.{is_defective, is_alternate, named_by, holder_named, holder_on, holder_of, IsOnVolume, is_other};
+ghost use Rattle.dasd_extract.specs.Alternates.{is_defective, is_alternate, has_record_0, named_by, holder_named, holder_on, holder_of, IsOnVolume, is_other};
 
+use crate::blocks::number_of;
 use ckd_track::{Geometry, TrackView, read_slot};
 use volume_labels::TrackAddress;
 
@@ -31,6 +32,13 @@ fn is_alternate(view: &TrackView) -> bool
     ensures { result ≡ is_alternate view.now }
 {
     view.ha()[0] % 4 == 1
+}
+
+// Whether a track has a record 0.
+fn has_record_0(view: &TrackView) -> bool
+    ensures { result ≡ has_record_0 view.now }
+{
+    !view.is_empty() && number_of(view, 0) == 0
 }
 
 // The track that record 0 names.
@@ -65,7 +73,7 @@ fn holder_on(geometry: Geometry, view: &TrackView) -> Holder
     if !is_defective(view) {
         return Holder::Itself;
     }
-    if view.is_empty() {
+    if !has_record_0(view) {
         return Holder::Nowhere;
     }
     holder_named(geometry, named_by(view))

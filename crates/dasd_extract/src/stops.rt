@@ -23,7 +23,7 @@ pub enum Cause {
     BadExtent,
     /// An extent has a track that the volume has not.
     NoTrack,
-    /// The track is defective, and its record 0 names no track of the volume as its alternate.
+    /// The track is defective, and has no record 0 that names a track of the volume as its alternate.
     NoAlternate,
     /// The track is defective, and the track that its record 0 names is not flagged as an alternate, or is defective too.
     NotAlternate,
@@ -105,7 +105,7 @@ impl fmt::Display for Cause {
             Cause::BadExtent => f.write_str("an extent is no run of tracks"),
             Cause::NoTrack => f.write_str("an extent has a track that the volume has not"),
             Cause::NoAlternate => {
-                f.write_str("it is defective, and its record 0 names no track of the volume")
+                f.write_str("it is defective, and no record 0 names a track of the volume")
             }
             Cause::NotAlternate => {
                 f.write_str(
