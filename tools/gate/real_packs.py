@@ -154,6 +154,18 @@ def defective_track_without_an_alternate_ends_the_data_set(s: Scratch) -> None:
 
 
 @row
+def defective_track_without_a_record_0_ends_the_data_set(s: Scratch) -> None:
+    empty: list[Record] = []
+    for records in (empty, [Record(address(*HELD) + b"\1", b"", card("TWO"))]):
+        wear(s.path("pack.ckd"))
+        image = Image(s.path("pack.ckd"))
+        image.volume.write(*DEFECTIVE, Track(b"\2" + address(*DEFECTIVE), records))
+        image.save()
+        text = "track 1 of the data set: it is defective, and no record 0 names a track of the volume"
+        same(s.dasd("extract", "pack.ckd", "CARDS", "--text"), fault(text, "ONE\n"), f"{len(records)} records")
+
+
+@row
 def end_before_an_end_of_file_tells_alternates_too(s: Scratch) -> None:
     wear(s.path("pack.ckd"))
     image = Image(s.path("pack.ckd"))
