@@ -13,10 +13,13 @@ module _ (s : Wanted) (g : Geometry) (slots : List (List ℕ)) where
   none_read = refl
 
   -- one track more
-  pub one_more_read : (i before now : ℕ) → before ≡ alternates_read s g slots i → now ≡ before + track_read_from s g slots i → now ≡ alternates_read s g slots (i + 1)
+  pub one_more_read : (i before now : ℕ) → before ≡ alternates_read s g slots i → now ≡ before + track_read_from s g slots i
+      → now ≡ alternates_read s g slots (i + 1)
   unfolding alternates_read
-  one_more_read i before now is more = more ∙ ap (λ k. k + track_read_from s g slots i) is ∙ ap (alternates_read s g slots) (sym (add-one i))
+  one_more_read i before now is more =
+      more ∙ ap (λ k. k + track_read_from s g slots i) is ∙ ap (alternates_read s g slots) (sym (add-one i))
 
 -- what was printed, and how it is told
-pub told : (n m : ℕ) (w : Written) (ended : Option Stop) (a b : Stream) → m ≡ n → Printed w a b ended → Printed (told_behind n w) a b (option_map (stop_behind m) ended)
+pub told : (n m : ℕ) (w : Written) (ended : Option Stop) (a b : Stream) → m ≡ n → Printed w a b ended
+    → Printed (told_behind n w) a b (option_map (stop_behind m) ended)
 told n m w ended a b is p = (p.0, ap (λ k. option_map (stop_behind k) ended) is ∙ ap (option_map (stop_behind n)) p.1)

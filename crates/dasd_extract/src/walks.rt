@@ -105,7 +105,8 @@ fn extract_alternate<V: SlotReader, W: Write>(
     ensures writes { CountsWrites result (seen_by W.contents writer.old) (seen_by W.contents writer.new) }
     ensures volume { IsRead result (V.volume volume.old) (V.volume volume.new) (V.failures volume.old) (V.failures volume.new) }
     ensures size { length room.new.slot.items ≡ length room.old.slot.items }
-    ensures alternates { OnOk result (Reads (V.volume volume.old) (λ _ slots. read_from slots (Holder.Alternate held)) room.old.alternates room.new.alternates) }
+    ensures alternates { OnOk result (Reads (V.volume volume.old)
+        (λ _ slots. read_from slots (Holder.Alternate held)) room.old.alternates room.new.alternates) }
     ensures few { room.new.alternates ≤ room.old.alternates + 1 }
 {
     if load(volume, held, room).is_err() {

@@ -4,7 +4,8 @@ use Rattle.std.proofs.Math.Nat.{mul-le-mul_right}
 use Rattle.volume_labels.specs.declared.fields.Extent.{Extent}
 use Rattle.data_sets.specs.Addresses.{is_split, is_run, number_of_track}
 
-by_type : (heads : ℕ) (e : Extent) (shares : Bool) → is_split e ≡ shares → is_run heads e ≡ true → number_of_track heads e.first ≤ number_of_track heads e.last
+by_type : (heads : ℕ) (e : Extent) (shares : Bool) → is_split e ≡ shares → is_run heads e ≡ true
+    → number_of_track heads e.first ≤ number_of_track heads e.last
 by_type heads e true is run =
     let cylinders : e.first.cylinder ≤ e.last.cylinder = search (rules, tests) in
     let in_heads : e.first.head ≤ e.last.head = search (rules, tests) in

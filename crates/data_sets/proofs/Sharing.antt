@@ -22,7 +22,8 @@ bounds heads e s = record {
   heads_order = search (rules, tests);
 }
 
-tracks_of_split : (heads : ℕ) (e : Extent) → IsSplit heads e → tracks_of_extent heads e ≡ (e.last.cylinder + 1 - e.first.cylinder) * heads_in e
+tracks_of_split : (heads : ℕ) (e : Extent) → IsSplit heads e
+    → tracks_of_extent heads e ≡ (e.last.cylinder + 1 - e.first.cylinder) * heads_in e
 tracks_of_split heads e s = rw s.shares refl
 
 number_in_split : (heads : ℕ) (e : Extent) (n : ℕ) → IsSplit heads e → track_in heads e n ≡ number_of_track heads (split_track e n)
@@ -32,7 +33,8 @@ pub tracks_lie_in : (heads : ℕ) (e : Extent) (n : ℕ) → IsSplit heads e →
 tracks_lie_in heads e n s within =
     let b = bounds heads e s in
     let some : 0 < heads_in e = omega (arith, b.heads_order) in
-    let cylinder : n / heads_in e < e.last.cylinder + 1 - e.first.cylinder = (div-lt_iff_lt-mul some).1 (rw (tracks_of_split heads e s) at within) in
+    let cylinder : n / heads_in e < e.last.cylinder + 1 - e.first.cylinder =
+    (div-lt_iff_lt-mul some).1 (rw (tracks_of_split heads e s) at within) in
     let head : n % heads_in e < heads_in e = mod-lt n some in record {
       first_cylinder = omega arith;
       last_cylinder = omega (arith, cylinder, b.cylinders);
@@ -40,7 +42,7 @@ tracks_lie_in heads e n s within =
       last_head = omega (arith, head, b.heads_order);
     }
 
--- the row and the place in it of a track that lies in a split extent
+-- its row is the cylinder behind the first, and its place in it the head behind the first
 pub has_all_tracks : (heads : ℕ) (e : Extent) (t : TrackAddress) → IsSplit heads e → LiesIn e t → HasTrack heads e t
 has_all_tracks heads e t s l =
     let row = t.cylinder - e.first.cylinder in
@@ -50,8 +52,10 @@ has_all_tracks heads e t s l =
     let cylinder : e.first.cylinder + row ≡ t.cylinder = omega (arith, l.first_cylinder) in
     let head : e.first.head + place ≡ t.head = omega (arith, l.first_head) in record {
       n = row * heads_in e + place;
-      within = rw (tracks_of_split heads e s, mul_comm (e.last.cylinder + 1 - e.first.cylinder) (heads_in e)) (mul-add-lt row (heads_in e) place (e.last.cylinder + 1 - e.first.cylinder) rows inside);
-      is_track = number_in_split heads e (row * heads_in e + place) s ∙ rw (div-mul-add row (heads_in e) place inside, mod-mul-add row (heads_in e) place inside, cylinder, head) refl;
+      within = rw (tracks_of_split heads e s, mul_comm (e.last.cylinder + 1 - e.first.cylinder) (heads_in e))
+          (mul-add-lt row (heads_in e) place (e.last.cylinder + 1 - e.first.cylinder) rows inside);
+      is_track = number_in_split heads e (row * heads_in e + place) s
+          ∙ rw (div-mul-add row (heads_in e) place inside, mod-mul-add row (heads_in e) place inside, cylinder, head) refl;
     }
 
 -- a track's head is told by its number
@@ -67,6 +71,7 @@ share_no_track heads d e m n s u apart m_within n_within same =
     let f = bounds heads e u in
     let x = head_of_number heads (split_track d m) (omega (arith, a.last_head, c.last_head)) in
     let y = head_of_number heads (split_track e n) (omega (arith, b.last_head, f.last_head)) in
-    let numbers : number_of_track heads (split_track d m) ≡ number_of_track heads (split_track e n) = sym (number_in_split heads d m s) ∙ same ∙ number_in_split heads e n u in
+    let numbers : number_of_track heads (split_track d m) ≡ number_of_track heads (split_track e n) =
+    sym (number_in_split heads d m s) ∙ same ∙ number_in_split heads e n u in
     let heads_same : (split_track d m).head ≡ (split_track e n).head = sym x ∙ ap (λ k. k % heads) numbers ∙ y in
     absurd (omega (arith, heads_same, a.last_head, b.first_head, apart))

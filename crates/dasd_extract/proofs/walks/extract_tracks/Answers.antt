@@ -19,8 +19,9 @@ returns-in-Ok-Some-clause-written g c = λ slots known.
     let step = rw (c.loop-i.invariant.volume, c.in-Ok-Some.field-0-is) at c.in-Ok-Some.ensures.written in
     let more = rw (c.loop-i.invariant.volume) at c.in-Ok-Some.ensures.alternates in
     let number = one_more_read _ _ slots c.loop-i.i _ _ (c.loop-i.invariant.alternates slots known) (more slots known) in
-    rw c.stop_behind.ensures (ended _ _ _ _ _ (stays _ (c.loop-i.i + 1) _ _ _ _ (omega arith)
-    (one_more _ c.loop-i.i _ _ _ _ (c.loop-i.invariant.written slots known) (told _ _ _ (Some c.in-Ok-Some.stop) _ _ number (step slots known)))))
+    let last = told _ _ _ (Some c.in-Ok-Some.stop) _ _ number (step slots known) in
+    let all = one_more _ c.loop-i.i _ _ _ _ (c.loop-i.invariant.written slots known) last in
+    rw c.stop_behind.ensures (ended _ _ _ _ _ (stays _ (c.loop-i.i + 1) _ _ _ _ (omega arith) all))
 
 pub returns-in-Err-clause-written : goal.returns-in-Err-clause-written
 returns-in-Err-clause-written g c = λ slots known.

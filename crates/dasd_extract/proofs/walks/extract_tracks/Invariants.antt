@@ -12,7 +12,8 @@ invariant-loop-i g l =
     let before = g.V.SlotReader.volume l.fn.volume in
     let s = wanted l.source.form l.source.extents.now l.source.start l.source.tracks in record {
       written : (slots : List (List ℕ)) → before.slots ≡ Some slots
-          → Printed (until_stop (track_told s before.geometry slots) l.i) (seen_by g.W.Write.contents l.fn.writer) (seen_by g.W.Write.contents l.writer) None;
+          → Printed (until_stop (track_told s before.geometry slots) l.i)
+          (seen_by g.W.Write.contents l.fn.writer) (seen_by g.W.Write.contents l.writer) None;
       alternates : (slots : List (List ℕ)) → before.slots ≡ Some slots → l.room.alternates ≡ alternates_read s before.geometry slots l.i;
       few : l.room.alternates ≤ l.i;
       sound : NoneFailed (seen_by g.W.Write.contents l.fn.writer) (seen_by g.W.Write.contents l.writer);
