@@ -17,9 +17,13 @@ FORMAT = {"FB": 0x90, "VB": 0x50}
 DAYS = bytes([74, 1, 109, 99, 1, 109])
 
 
-def extent(image: Image, number: int, run: Run) -> bytes:
+# The types of extents: tracks of data; and those of an extent that shares its cylinders, of each of which it has its heads from the first to the last.
+DATA, SHARED = 0x01, 0x80
+
+
+def extent(image: Image, number: int, run: Run, kind: int = DATA) -> bytes:
     """An extent of a control block."""
-    return bytes([1, number]) + b"".join(map(image.address, run))
+    return bytes([kind, number]) + b"".join(map(image.address, run))
 
 
 @dataclass
@@ -33,10 +37,11 @@ class DataSet:
     runs: list[Run]
     last: tuple[int, int]
     form: str = "FB"
+    kind: int = DATA
 
     def blocks(self, image: Image, serial: str, number: int) -> list[tuple[bytes, bytes]]:
         """Its control blocks: that of format 1, which stands as the record of this number, and one of format 3 behind it if need be."""
-        extents = [extent(image, *it) for it in enumerate(self.runs)]
+        extents = [extent(image, *it, self.kind) for it in enumerate(self.runs)]
         block = b"\xf1" + ebcdic(serial, 6) + b"\0\1" + DAYS + bytes([len(extents), 0, 0]) + ebcdic("SCRIPT", 13) + bytes(7)
         block += ORGANISATION[self.organisation] + bytes([FORMAT[self.form], 0])
         block += self.block_length.to_bytes(2, "big") + self.record_length.to_bytes(2, "big")

@@ -1,5 +1,6 @@
 pub mod Added
-pub mod Followed
+pub mod Cylinders
+mod Followed
 pub mod Spelled
 pub mod Sums
 pub mod Columns

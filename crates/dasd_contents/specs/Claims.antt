@@ -1,10 +1,10 @@
 -- Which tracks of a volume are some extent's: a mark for each, which is 0 where it is none's.
-use Rattle.std.specs.Prelude.{ℕ, ◌+◌, ◌-◌, ◌==◌, Bool, not, ◌&&◌, if◌then◌else◌, List, ◌++◌, take, drop, replicate, slice_range, Option, Some, None}
+use Rattle.std.specs.Prelude.{ℕ, zero, suc, ◌+◌, ◌-◌, ◌==◌, Bool, not, ◌&&◌, if◌then◌else◌, List, ◌++◌, take, drop, replicate, slice_range, Option, Some, None}
 use Rattle.std.specs.List.{position}
 use Rattle.ckd_track.specs.declared.geometries.Geometry.{Geometry}
 use Rattle.ckd_track.specs.Model.{heads_of}
 use Rattle.volume_labels.specs.declared.fields.Extent.{Extent}
-use Rattle.data_sets.specs.Addresses.{number_of_track, is_run}
+use Rattle.data_sets.specs.Addresses.{number_of_track, is_split, is_run, heads_in}
 use Rattle.dasd_contents.specs.declared.runs.Run.{Run}
 use Rattle.dasd_contents.specs.declared.findings.Problem.{Problem}
 use Rattle.dasd_contents.specs.declared.findings.Problem.TheVariants.{BadExtent, ExtentOutside, Overlap}
@@ -35,7 +35,36 @@ marked_up_to marks first behind = take first marks ++ (replicate (behind - first
 abbrev pub claimed : (marks : List ℕ) → Run → List ℕ
 claimed marks r = marked_up_to marks r.first (end_of_claim r (place_taken marks r))
 
--- the tracks of an extent
+-- what is claimed: the marks behind it, and the first track that was some extent's already
+pub record Claimed : Type 0 where
+  pub marks : List ℕ
+  pub taken : Option ℕ
+
+abbrev pub run_claimed : (marks : List ℕ) → Run → Claimed
+run_claimed marks r = record { marks = claimed marks r; taken = first_taken marks r }
+
+-- a claim ends at a track that is taken; where none was, it goes on
+abbrev pub unless_taken : Option ℕ → (marks : List ℕ) → (List ℕ → Claimed) → Claimed
+unless_taken None marks more = more marks
+unless_taken (Some track) marks more = record { marks = marks; taken = Some track }
+
+-- the tracks of a split extent on the cylinder that is so many behind its first
+abbrev pub run_on : Geometry → Extent → (k : ℕ) → Run
+run_on g e k = record {
+  first = number_of_track (heads_of g.model) (record { cylinder = e.first.cylinder + k; head = e.first.head });
+  tracks = heads_in e;
+}
+
+-- those of so many cylinders, one after another
+unfoldable pub cylinders_claimed : (most : ℕ) → Geometry → Extent → (k : ℕ) → (marks : List ℕ) → Claimed
+cylinders_claimed zero g e k marks = record { marks = marks; taken = None }
+cylinders_claimed (suc most) g e k marks =
+    unless_taken (first_taken marks (run_on g e k)) (claimed marks (run_on g e k)) (cylinders_claimed most g e (k + 1))
+
+abbrev pub split_claimed : Geometry → Extent → (marks : List ℕ) → Claimed
+split_claimed g e marks = cylinders_claimed (e.last.cylinder + 1 - e.first.cylinder) g e 0 marks
+
+-- the tracks of an extent that is no split one
 abbrev pub run_of : Geometry → Extent → Run
 run_of g e = record {
   first = number_of_track (heads_of g.model) e.first;
@@ -46,18 +75,20 @@ abbrev pub overlap : Extent → Option ℕ → Option Problem
 overlap e None = None
 overlap e (Some track) = Some (Overlap e track)
 
--- what is wrong with an extent; those of type 80, which share cylinders, have their tracks in turn
+-- all tracks of an extent are claimed
+abbrev pub tracks_claimed : Geometry → Extent → (marks : List ℕ) → Claimed
+tracks_claimed g e marks = if is_split e then split_claimed g e marks else run_claimed marks (run_of g e)
+
+-- what is wrong with an extent
 abbrev pub claim_of : Geometry → (marks : List ℕ) → Extent → Option Problem
 claim_of g marks e =
     if not (is_run (heads_of g.model) e) then Some (BadExtent e)
     else (if not (exists_on g e.first && exists_on g e.last) then Some (ExtentOutside e)
-    else (if e.kind == 0x80 then None
-    else overlap e (first_taken marks (run_of g e))))
+    else overlap e (tracks_claimed g e marks).taken)
 
 -- the marks behind it
 abbrev pub claimed_by : Geometry → (marks : List ℕ) → Extent → List ℕ
 claimed_by g marks e =
     if not (is_run (heads_of g.model) e) then marks
     else (if not (exists_on g e.first && exists_on g e.last) then marks
-    else (if e.kind == 0x80 then marks
-    else claimed marks (run_of g e)))
+    else (tracks_claimed g e marks).marks)

@@ -77,8 +77,17 @@ listed_extent extents i = comma_before i ++ four_text (slice_index_or extents i 
 abbrev pub extents_text : List Extent → List ℕ
 extents_text extents = of_each (listed_extent extents) (length extents)
 
+-- their types, likewise
+abbrev pub listed_type : List Extent → (i : ℕ) → List ℕ
+listed_type extents i = comma_before i ++ decimal (slice_index_or extents i no_extent).kind
+
+abbrev pub types_text : List Extent → List ℕ
+types_text extents = of_each (listed_type extents) (length extents)
+
 abbrev pub set_object : (path : List ℕ) → Geometry → DataSetBlock → List Extent → List ℕ
-set_object path g d extents = path_text path ++ (name_members d ++ (number_members g d extents ++ (extents_text extents ++ (codes "]}" ++ line_feed))))
+set_object path g d extents =
+    path_text path ++ (name_members d ++ (number_members g d extents ++ (extents_text extents
+    ++ (codes "],\"extent_types\":[" ++ (types_text extents ++ (codes "]}" ++ line_feed))))))
 
 -- a control block among those of its volume: the object of its data set, if it is one's
 abbrev pub block_object : (path : List ℕ) → Geometry → List Block → Block → List ℕ

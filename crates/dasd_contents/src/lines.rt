@@ -13,12 +13,13 @@ use crate::blocks::Block;
 use crate::checks::number_of_free;
 use crate::findings::Finding;
 use crate::reading::Contents;
-use crate::runs::{is_on, number_of};
+use crate::runs::is_on;
 use crate::sets::{DataSet, data_set_of, free_tracks};
 use crate::words::{Bounds, Day, Format, Organisation, Owner, Place, Text, format_width};
 use ckd_track::Geometry;
 use counted_io::{Counted, WriteFault, write_flushed};
 use dasd_volumes::VolumeFault;
+use data_sets::tracks_of_extent;
 use std::alloc::Global;
 use std::io;
 use std::io::Write;
@@ -281,9 +282,7 @@ fn tracks_in(geometry: Geometry, extent: Extent) -> u64
     if extent.kind == USER_LABELS || !is_on(geometry, extent) {
         return 0;
     }
-    let first = number_of(geometry, extent.first);
-    let last = number_of(geometry, extent.last);
-    u64::from(last + 1 - first)
+    u64::from(tracks_of_extent(geometry.model.heads() as u8, extent))
 }
 
 /// How many tracks of a data set are used, by the address of its last block.

@@ -5,7 +5,7 @@ ghost use Rattle.std.specs.List.{flat_map};
 ghost use Rattle.std.specs.Io.KnownBytes.{Appends};
 ghost use Rattle.counted_io.specs.Streams.{seen_by, Takes, TakesFront, IsFlushed};
 ghost use Rattle.dasd_volumes.specs.Printing.{CountsWrites};
-ghost use Rattle.dasd_contents.specs.Objects.{quoted_text, four_text, day_or_null, path_text, label_members, alone_members, volume_object, name_members, number_members, comma_before, listed_extent, extents_text, set_object, block_object, finding_members, finding_object, volume_objects, contents_objects};
+ghost use Rattle.dasd_contents.specs.Objects.{quoted_text, four_text, day_or_null, path_text, label_members, alone_members, volume_object, name_members, number_members, comma_before, listed_extent, extents_text, listed_type, types_text, set_object, block_object, finding_members, finding_object, volume_objects, contents_objects};
 
 use crate::blocks::Block;
 use crate::findings::Finding;
@@ -274,6 +274,8 @@ fn write_set<W: Write>(writer: &mut W, volume: Volume, set: &DataSet) -> io::Res
     write_names(writer, &set.block)?;
     write_numbers(writer, volume.geometry, &set.block, extents)?;
     write_extents(writer, extents)?;
+    writer.write_all(b"],\"extent_types\":[")?;
+    write_types(writer, extents)?;
     writer.write_all(b"]}\n")
 }
 
@@ -330,6 +332,25 @@ fn write_extent<W: Write>(writer: &mut W, extents: &[Extent], i: usize) -> io::R
 {
     write_comma(writer, i)?;
     write!(writer, "{}", Four(extents[i]))
+}
+
+// The types of extents, with commas between them.
+fn write_types<W: Write>(writer: &mut W, extents: &[Extent]) -> io::Result<()>
+    ensures { OnOk result (Appends (W.contents writer.old) (W.contents writer.new) (types_text extents.now)) }
+{
+    for i in 0..extents.len() {
+        write_type(writer, extents, i)?;
+    }
+    Ok(())
+}
+
+// The type of an extent, behind a comma where it is not the first.
+fn write_type<W: Write>(writer: &mut W, extents: &[Extent], i: usize) -> io::Result<()>
+    requires { i < length extents.now }
+    ensures { OnOk result (Appends (W.contents writer.old) (W.contents writer.new) (listed_type extents.now i)) }
+{
+    write_comma(writer, i)?;
+    write!(writer, "{}", extents[i].kind)
 }
 
 // The comma before a part of a list that is not the first.

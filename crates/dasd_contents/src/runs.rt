@@ -7,6 +7,7 @@ ghost use Rattle.data_sets.specs.Addresses.{number_of_track, is_run};
 ghost use Rattle.dasd_contents.specs.Runs.{exists_on, is_on, is_table_extent, walked_of, address_of_number};
 
 use ckd_track::Geometry;
+use data_sets::is_run as is_run_of;
 use volume_labels::{Extent, TrackAddress};
 
 /// Tracks that stand one behind another.
@@ -33,14 +34,11 @@ pub(crate) fn number_of(geometry: Geometry, track: TrackAddress) -> u32
     track.cylinder as u32 * geometry.model.heads() as u32 + track.head as u32
 }
 
-/// Whether an extent names heads that the drive has, and does not end before it begins.
+/// Whether an extent names heads that the drive has, and does not end before it begins: a split one in its cylinders or in its heads.
 pub(crate) fn is_run(geometry: Geometry, extent: Extent) -> bool
     ensures { result ≡ is_run (heads_of geometry.model) extent }
 {
-    let heads = geometry.model.heads() as u16;
-    extent.first.head < heads
-        && extent.last.head < heads
-        && number_of(geometry, extent.first) <= number_of(geometry, extent.last)
+    is_run_of(geometry.model.heads() as u8, extent)
 }
 
 /// Whether the tracks of an extent are all on the volume.
@@ -64,6 +62,7 @@ pub(crate) fn is_table_extent(geometry: Geometry, block: TrackAddress, extent: E
 
 /// The tracks of a volume table of contents that are read: those of its extent that are on the volume, or the track of its
 /// format 4 block.
+#[tactic(auto, using(data_sets::proofs::Orders::numbers_in_order))]
 pub(crate) fn walked(geometry: Geometry, block: TrackAddress, extent: Extent) -> Run
     requires { exists_on geometry block ≡ true }
     ensures value { result ≡ walked_of geometry block extent }

@@ -4,3 +4,4 @@ pub mod Numbers
 pub mod Characters
 pub mod Printings
 pub mod Spelled
+pub mod Told

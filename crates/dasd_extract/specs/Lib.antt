@@ -1,3 +1,4 @@
+pub mod Alternates
 pub mod Blocks
 pub mod Members
 pub mod Names

@@ -6,7 +6,7 @@ ghost use Rattle.ckd_track.specs.Track.{record_in};
 ghost use Rattle.dasd_extract.specs.Written.{Writes, these_bytes};
 ghost use Rattle.dasd_extract.specs.Blocks.{line_of, piece_text, lines_written, directory_written, form_written, block_written, number_of};
 
-use crate::stops::{Cause, Stop};
+use crate::stops::{Cause, Stop, stop_at};
 use crate::texts::write_text;
 use ckd_track::TrackView;
 use data_sets::{DIRECTORY_BLOCK, Piece, RecordForm, Segment, next_record, without_blanks};
@@ -69,7 +69,7 @@ fn write_lines<W: Write>(
             Ok(None) => return Ok(None),
             Err(fault) => {
                 let cause = Cause::NoRecord(number, fault);
-                return Ok(Some(Stop { track, cause }));
+                return Ok(Some(stop_at(track, cause)));
             }
         }
     }
@@ -90,7 +90,7 @@ fn write_directory<W: Write>(
         write_raw(writer, block)
     } else {
         let cause = Cause::NotDirectory(number);
-        Ok(Some(Stop { track, cause }))
+        Ok(Some(stop_at(track, cause)))
     }
 }
 
@@ -143,7 +143,7 @@ pub(crate) fn write_block<W: Write>(
 {
     if view.data_of(i).is_empty() {
         let cause = Cause::EndOfFile;
-        return Ok(Some(Stop { track, cause }));
+        return Ok(Some(stop_at(track, cause)));
     }
     write_in_form(writer, form, track, view, i)
 }

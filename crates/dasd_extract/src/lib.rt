@@ -2,6 +2,7 @@
 //! lines of text.
 #![tactic(auto)]
 
+mod alternates;
 mod blocks;
 mod members;
 mod names;

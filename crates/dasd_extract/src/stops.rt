@@ -1,5 +1,8 @@
 //! Where the blocks of a data set end, and why.
 
+ghost use Rattle.std.specs.Prelude.{◌≡◌};
+ghost use Rattle.dasd_extract.specs.Written.{stop_at, cause_behind, stop_behind};
+
 use ckd_track::SlotFault;
 use dasd_volumes::Reason;
 use data_sets::RecordFault;
@@ -10,6 +13,8 @@ use std::fmt;
 pub enum Cause {
     /// An end-of-file record, which is one without data.
     EndOfFile,
+    /// An end-of-file record, behind tracks that were read from their alternates.
+    EndBehindAlternates,
     /// The extents end before an end-of-file record.
     PastExtents,
     /// The address of the first block lies behind the extents.
@@ -18,6 +23,10 @@ pub enum Cause {
     BadExtent,
     /// An extent has a track that the volume has not.
     NoTrack,
+    /// The track is defective, and has no record 0 that names a track of the volume as its alternate.
+    NoAlternate,
+    /// The track is defective, and the track that its record 0 names is not flagged as an alternate, or is defective too.
+    NotAlternate,
     /// The track can't be read.
     Unreadable(SlotFault),
     /// The track of the first block has no block of this number.
@@ -30,31 +39,79 @@ pub enum Cause {
     TooManyTracks,
 }
 
-/// Where the blocks of a data set end, and why: the track is counted from the data set's first on, which is 0.
+/// Where the blocks of a data set end, why, and how many tracks up to there were read from their alternates: the track is counted from
+/// the data set's first on, which is 0.
 #[derive(Clone, Copy, Debug)]
 pub struct Stop {
     /// The track.
     pub track: u32,
     /// Why.
     pub cause: Cause,
+    /// How many tracks up to there are defective, and were read from their alternates.
+    pub alternates: u32,
+}
+
+/// An end with no defective track before it.
+pub(crate) fn stop_at(track: u32, cause: Cause) -> Stop
+    ensures { result ≡ stop_at track cause }
+{
+    Stop {
+        track,
+        cause,
+        alternates: 0,
+    }
+}
+
+// Why blocks end, where so many tracks were read from their alternates.
+fn cause_behind(alternates: u32, cause: Cause) -> Cause
+    ensures { result ≡ cause_behind alternates cause }
+{
+    if alternates != 0 && cause == Cause::EndOfFile {
+        return Cause::EndBehindAlternates;
+    }
+    cause
+}
+
+/// The same end, behind so many tracks that were read from their alternates.
+pub(crate) fn stop_behind(alternates: u32, stop: Stop) -> Stop
+    ensures { result ≡ stop_behind alternates stop }
+{
+    Stop {
+        track: stop.track,
+        cause: cause_behind(alternates, stop.cause),
+        alternates,
+    }
 }
 
 impl fmt::Display for Stop {
     fn fmt<W: fmt::Write>(&self, f: &mut fmt::Formatter<W>) -> fmt::Result {
         let track = self.track;
         let cause = self.cause;
-        write!(f, "track {track} of the data set: {cause}")
+        write!(f, "track {track} of the data set: {cause}")?;
+        if self.alternates == 0 {
+            return Ok(());
+        }
+        let alternates = self.alternates;
+        write!(f, "; tracks read from their alternates: {alternates}")
     }
 }
 
 impl fmt::Display for Cause {
     fn fmt<W: fmt::Write>(&self, f: &mut fmt::Formatter<W>) -> fmt::Result {
         match self {
-            Cause::EndOfFile => f.write_str("end of file"),
+            Cause::EndOfFile | Cause::EndBehindAlternates => f.write_str("end of file"),
             Cause::PastExtents => f.write_str("the extents end before an end of file"),
             Cause::Outside => f.write_str("it is behind the extents"),
             Cause::BadExtent => f.write_str("an extent is no run of tracks"),
             Cause::NoTrack => f.write_str("an extent has a track that the volume has not"),
+            Cause::NoAlternate => {
+                f.write_str("it is defective, and no record 0 names a track of the volume")
+            }
+            Cause::NotAlternate => {
+                f.write_str(
+                    "it is defective, and the track that its record 0 names is no alternate",
+                )
+            }
             Cause::Unreadable(fault) => write!(f, "unreadable {}", Reason(*fault)),
             Cause::NoBlock(number) => write!(f, "no block {number}"),
             Cause::NotDirectory(number) => write!(f, "block {number} is none of a directory"),

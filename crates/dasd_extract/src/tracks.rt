@@ -7,7 +7,7 @@ ghost use Rattle.dasd_extract.specs.Blocks.{number_of};
 ghost use Rattle.dasd_extract.specs.Walk.{first_block, blocks_from, blocks_or_none, slot_written};
 
 use crate::blocks::{Form, number_of, write_block};
-use crate::stops::{Cause, Stop};
+use crate::stops::{Cause, Stop, stop_at};
 use ckd_track::{TrackView, read_slot};
 use std::io;
 use std::io::Write;
@@ -79,7 +79,7 @@ fn write_readable<W: Write>(
         Some(first) => write_from(writer, form, track, view, first),
         None => {
             let cause = Cause::NoBlock(number);
-            Ok(Some(Stop { track, cause }))
+            Ok(Some(stop_at(track, cause)))
         }
     }
 }
@@ -97,7 +97,7 @@ pub(crate) fn write_slot<W: Write>(
         Err(fault) => {
             let track = part.track;
             let cause = Cause::Unreadable(fault);
-            Ok(Some(Stop { track, cause }))
+            Ok(Some(stop_at(track, cause)))
         }
     }
 }

@@ -1,6 +1,6 @@
 //! The blocks of a data set, over extents and tracks.
 
-ghost use Rattle.std.specs.Prelude.{◌≡◌, ◌<◌, ◌≢◌, length, OnOk, IfErr};
+ghost use Rattle.std.specs.Prelude.{◌≡◌, ◌<◌, ◌≤◌, ◌+◌, ◌≢◌, length, OnOk, IfErr};
 ghost use Rattle.counted_io.specs.Streams.{seen_by};
 ghost use Rattle.ckd_track.specs.Geometry.{tracks_of};
 ghost use Rattle.ckd_track.specs.Track as tracks;
@@ -8,10 +8,12 @@ ghost use Rattle.ckd_image.specs.Store.{Counts};
 ghost use Rattle.dasd_volumes.specs.Printing.{CountsWrites};
 ghost use Rattle.dasd_volumes.specs.Reading.{IsRead, IsSlotOf};
 ghost use Rattle.dasd_extract.specs.Written.{PrintsWritten};
-ghost use Rattle.dasd_extract.specs.Walk.{past_end, number_on, slot_written, wanted, PrintsSource, PrintsTrack, PrintsSlot};
+ghost use Rattle.dasd_extract.specs.Alternates.{read_from};
+ghost use Rattle.dasd_extract.specs.Walk.{past_end, number_on, slot_written, found_read_from, track_read_from, wanted, PrintsSource, PrintsTrack, PrintsSlot, PrintsAlternate, Reads};
 
+use crate::alternates::{Holder, holder_of, is_other};
 use crate::blocks::Form;
-use crate::stops::{Cause, Stop};
+use crate::stops::{Cause, Stop, stop_at, stop_behind};
 use crate::tracks::{Part, write_slot};
 use ckd_image::StoreFault;
 use counted_io::{Counted, WriteFault, write_whole};
@@ -52,14 +54,15 @@ fn number_on(start: RelativeAddress, i: u16) -> u8
     if i == 0 { start.number } else { 0 }
 }
 
-// The slot of a track, and what is written of it.
+// The slot of a track, what is written of it, and how many tracks were read from their alternates.
 #[derive(Drop)]
 struct Room {
     slot: Vec<u8>,
     written: Vec<u8>,
+    alternates: u32,
 }
 
-// Prints the blocks of a track of the volume, which is loaded into the slot.
+// Prints the blocks of a track of the volume, which is loaded into the slot; those of a defective track from its alternate.
 fn extract_found<V: SlotReader, W: Write>(
     volume: &mut V,
     writer: &mut Counted<W>,
@@ -69,14 +72,50 @@ fn extract_found<V: SlotReader, W: Write>(
 ) -> Result<Option<Stop>, VolumeFault>
     requires exists { found < tracks_of (V.volume volume.old).geometry }
     requires size { length room.old.slot.items ≡ (V.volume volume.old).geometry.track_size }
+    requires few { room.old.alternates < 65535 }
     ensures written { PrintsSlot part found (V.volume volume.old) result (seen_by W.contents writer.old) (seen_by W.contents writer.new) }
     ensures writes { CountsWrites result (seen_by W.contents writer.old) (seen_by W.contents writer.new) }
     ensures volume { IsRead result (V.volume volume.old) (V.volume volume.new) (V.failures volume.old) (V.failures volume.new) }
     ensures size { length room.new.slot.items ≡ length room.old.slot.items }
+    ensures alternates { OnOk result (Reads (V.volume volume.old) (found_read_from found) room.old.alternates room.new.alternates) }
+    ensures few { room.new.alternates ≤ room.old.alternates + 1 }
 {
     if load(volume, found, room).is_err() {
         return Err(VolumeFault::Store);
     }
+    match holder_of(volume.geometry(), room.slot.as_slice()) {
+        Holder::Itself => print_slot(writer, part, room.slot.as_slice(), &mut room.written),
+        Holder::Alternate(held) => extract_alternate(volume, writer, part, held, room),
+        Holder::Nowhere => Ok(Some(stop_at(part.track, Cause::NoAlternate))),
+    }
+}
+
+// Prints the blocks of a defective track from its alternate, which is loaded into the slot.
+fn extract_alternate<V: SlotReader, W: Write>(
+    volume: &mut V,
+    writer: &mut Counted<W>,
+    part: Part,
+    held: u32,
+    room: &mut Room,
+) -> Result<Option<Stop>, VolumeFault>
+    requires exists { held < tracks_of (V.volume volume.old).geometry }
+    requires size { length room.old.slot.items ≡ (V.volume volume.old).geometry.track_size }
+    requires few { room.old.alternates < 65535 }
+    ensures written { PrintsAlternate part held (V.volume volume.old) result (seen_by W.contents writer.old) (seen_by W.contents writer.new) }
+    ensures writes { CountsWrites result (seen_by W.contents writer.old) (seen_by W.contents writer.new) }
+    ensures volume { IsRead result (V.volume volume.old) (V.volume volume.new) (V.failures volume.old) (V.failures volume.new) }
+    ensures size { length room.new.slot.items ≡ length room.old.slot.items }
+    ensures alternates { OnOk result (Reads (V.volume volume.old)
+        (λ _ slots. read_from slots (Holder.Alternate held)) room.old.alternates room.new.alternates) }
+    ensures few { room.new.alternates ≤ room.old.alternates + 1 }
+{
+    if load(volume, held, room).is_err() {
+        return Err(VolumeFault::Store);
+    }
+    if is_other(room.slot.as_slice()) {
+        return Ok(Some(stop_at(part.track, Cause::NotAlternate)));
+    }
+    room.alternates += 1;
     print_slot(writer, part, room.slot.as_slice(), &mut room.written)
 }
 
@@ -88,6 +127,7 @@ fn load<V: SlotReader>(volume: &mut V, track: u32, room: &mut Room) -> Result<()
     ensures kept { V.volume volume.new ≡ V.volume volume.old }
     ensures counted { Counts (V.failures volume.old) (V.failures volume.new) result }
     ensures size { length room.new.slot.items ≡ length room.old.slot.items }
+    ensures alternates { room.new.alternates ≡ room.old.alternates }
 {
     volume.load(track, room.slot.as_mut_slice())
 }
@@ -123,11 +163,16 @@ fn extract_track<V: SlotReader, W: Write>(
     room: &mut Room,
 ) -> Result<Option<Stop>, VolumeFault>
     requires size { length room.old.slot.items ≡ (V.volume volume.old).geometry.track_size }
+    requires few { room.old.alternates < 65535 }
     ensures written { PrintsTrack (wanted source.entry.form source.entry.extents.now source.entry.start source.entry.tracks) i (V.volume volume.old) result
         (seen_by W.contents writer.old) (seen_by W.contents writer.new) }
     ensures writes { CountsWrites result (seen_by W.contents writer.old) (seen_by W.contents writer.new) }
     ensures volume { IsRead result (V.volume volume.old) (V.volume volume.new) (V.failures volume.old) (V.failures volume.new) }
     ensures size { length room.new.slot.items ≡ length room.old.slot.items }
+    ensures alternates { OnOk result (Reads (V.volume volume.old)
+        (λ g slots. track_read_from (wanted source.entry.form source.entry.extents.now source.entry.start source.entry.tracks) g slots i)
+        room.old.alternates room.new.alternates) }
+    ensures few { room.new.alternates ≤ room.old.alternates + 1 }
 {
     let geometry = volume.geometry();
     let track = source.start.track as u32 + i as u32;
@@ -144,13 +189,13 @@ fn extract_track<V: SlotReader, W: Write>(
         TrackPlace::PastEnd => past_end(i),
         TrackPlace::BadExtent => Cause::BadExtent,
     };
-    Ok(Some(Stop { track, cause }))
+    Ok(Some(stop_at(track, cause)))
 }
 
 /// Writes the blocks of a data set or of a member of one, from its start on: block after block, track after track over its
 /// extents, up to the first end-of-file record (IBM System/360 Operating System, Data Management Services, 'Direct Access Volumes').
-/// It says where they end, and why. Of the volume one slot is in memory at a time, with what is written of its track, which goes out
-/// as a whole.
+/// A track that is flagged as defective is read from the alternate that its record 0 names. It says where they end, why, and how many
+/// alternates were read. Of the volume one slot is in memory at a time, with what is written of its track, which goes out as a whole.
 ///
 /// # Errors
 ///
@@ -171,7 +216,11 @@ pub fn extract<V: SlotReader, W: Write>(
         return Err(VolumeFault::OutOfMemory);
     };
     let written = Vec::new(alloc);
-    let mut room = Room { slot, written };
+    let mut room = Room {
+        slot,
+        written,
+        alternates: 0,
+    };
     extract_tracks(volume, writer, source, &mut room)
 }
 
@@ -183,6 +232,7 @@ fn extract_tracks<V: SlotReader, W: Write>(
     room: &mut Room,
 ) -> Result<Stop, VolumeFault>
     requires size { length room.old.slot.items ≡ (V.volume volume.old).geometry.track_size }
+    requires none { room.old.alternates ≡ 0 }
     ensures written { PrintsSource (wanted source.entry.form source.entry.extents.now source.entry.start source.entry.tracks) (V.volume volume.old) result
         (seen_by W.contents writer.old) (seen_by W.contents writer.new) }
     ensures writes { CountsWrites result (seen_by W.contents writer.old) (seen_by W.contents writer.new) }
@@ -190,13 +240,12 @@ fn extract_tracks<V: SlotReader, W: Write>(
 {
     for i in 0..source.tracks {
         match extract_track(volume, writer, source, i, room) {
-            Ok(Some(stop)) => return Ok(stop),
+            Ok(Some(stop)) => return Ok(stop_behind(room.alternates, stop)),
             Ok(None) => {}
             Err(fault) => return Err(fault),
         }
     }
-    Ok(Stop {
-        track: source.start.track as u32 + source.tracks as u32,
-        cause: Cause::TooManyTracks,
-    })
+    let track = source.start.track as u32 + source.tracks as u32;
+    let stop = stop_at(track, Cause::TooManyTracks);
+    Ok(stop_behind(room.alternates, stop))
 }

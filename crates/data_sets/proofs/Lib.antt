@@ -1,2 +1,4 @@
 mod Entries
 mod Extents
+mod Sharing
+pub mod Orders

@@ -3,3 +3,4 @@ pub mod Directories
 pub mod Lines
 pub mod Names
 pub mod Records
+pub mod Sharing

@@ -7,8 +7,9 @@ mod directories;
 mod lines;
 mod names;
 mod records;
+pub mod splits;
 
-pub use crate::addresses::{TrackPlace, track_of};
+pub use crate::addresses::{TrackPlace, is_run, is_split, track_in, track_of, tracks_of_extent};
 pub use crate::directories::{
     DIRECTORY_BLOCK, Directory, DirectoryEntry, DirectoryFault, DirectoryStep, directory_step,
     read_directory,

@@ -11,8 +11,9 @@ returns-in-Ok-None g c =
 
 pub returns-in-Err : goal.returns-in-Err
 returns-in-Err g c =
+    rw c.stop_at.ensures (
     let is = this_step _ _ _ _ _ _ (Err c.in-Err.fault) c.in-Err.ensures.value c.loop-test.true in
-    no_more _ _ _ c.loop.invariant.whole _ _ _ is c.loop.invariant.written
+    no_more _ _ _ c.loop.invariant.whole _ _ _ is c.loop.invariant.written)
 
 pub loop-preserved : goal.loop-preserved
 loop-preserved g c =

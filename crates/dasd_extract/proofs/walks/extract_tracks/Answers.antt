@@ -1,10 +1,13 @@
-use Rattle.std.proofs.Common.{◌+◌, rules, tests, arith, refl, None}
+use Rattle.std.proofs.Common.{◌+◌, ◌∙◌, sym, rules, tests, arith, refl, Some, None}
 use Rattle.dasd_extract.proofs.Printings.{begun, one_more, stays, ended, front_of_next}
+use Rattle.dasd_extract.proofs.Told.{none_read, one_more_read, told}
 use Rattle.dasd_extract.proofs.walks.extract_tracks.Goals as goal
 
 pub loop-i-init : goal.loop-i-init
 loop-i-init g c = record {
   written = λ slots known. begun _ _;
+  alternates = λ slots known. c.requires.none ∙ sym (none_read _ _ slots);
+  few = search (rules, tests);
   sound = refl;
   volume = refl;
   failures = refl;
@@ -14,7 +17,11 @@ loop-i-init g c = record {
 pub returns-in-Ok-Some-clause-written : goal.returns-in-Ok-Some-clause-written
 returns-in-Ok-Some-clause-written g c = λ slots known.
     let step = rw (c.loop-i.invariant.volume, c.in-Ok-Some.field-0-is) at c.in-Ok-Some.ensures.written in
-    ended _ _ _ _ _ (stays _ (c.loop-i.i + 1) _ _ _ _ (omega arith) (one_more _ c.loop-i.i _ _ _ _ (c.loop-i.invariant.written slots known) (step slots known)))
+    let more = rw (c.loop-i.invariant.volume) at c.in-Ok-Some.ensures.alternates in
+    let number = one_more_read _ _ slots c.loop-i.i _ _ (c.loop-i.invariant.alternates slots known) (more slots known) in
+    let last = told _ _ _ (Some c.in-Ok-Some.stop) _ _ number (step slots known) in
+    let all = one_more _ c.loop-i.i _ _ _ _ (c.loop-i.invariant.written slots known) last in
+    rw c.stop_behind.ensures (ended _ _ _ _ _ (stays _ (c.loop-i.i + 1) _ _ _ _ (omega arith) all))
 
 pub returns-in-Err-clause-written : goal.returns-in-Err-clause-written
 returns-in-Err-clause-written g c = λ slots known.
@@ -25,7 +32,13 @@ pub loop-i-preserved : goal.loop-i-preserved
 loop-i-preserved g c = record {
   written = λ slots known.
       let step = rw (c.loop-i.invariant.volume, c.in-Ok-None.field-0-is) at c.in-Ok-None.ensures.written in
-      one_more _ c.loop-i.i _ _ _ None (c.loop-i.invariant.written slots known) (step slots known);
+      let more = rw (c.loop-i.invariant.volume) at c.in-Ok-None.ensures.alternates in
+      let number = one_more_read _ _ slots c.loop-i.i _ _ (c.loop-i.invariant.alternates slots known) (more slots known) in
+      one_more _ c.loop-i.i _ _ _ None (c.loop-i.invariant.written slots known) (told _ _ _ None _ _ number (step slots known));
+  alternates = λ slots known.
+      let more = rw (c.loop-i.invariant.volume) at c.in-Ok-None.ensures.alternates in
+      one_more_read _ _ slots c.loop-i.i _ _ (c.loop-i.invariant.alternates slots known) (more slots known);
+  few = search (rules, tests);
   sound = search (rules, tests);
   volume = search (rules, tests);
   failures = search (rules, tests);
