@@ -1,5 +1,6 @@
 pub mod Blocks
 pub mod Members
 pub mod Names
+pub mod Stops
 pub mod Walk
 pub mod Written

@@ -1,5 +1,8 @@
 //! Where the blocks of a data set end, and why.
 
+ghost use Rattle.std.specs.Prelude.{Some};
+ghost use Rattle.dasd_extract.specs.Stops.{lie_text, cause_text, stop_text};
+
 use ckd_track::SlotFault;
 use dasd_volumes::Reason;
 use data_sets::RecordFault;
@@ -40,6 +43,8 @@ pub struct Stop {
 }
 
 impl fmt::Display for Stop {
+    ghost output = { λ s. Some (stop_text s) };
+
     fn fmt<W: fmt::Write>(&self, f: &mut fmt::Formatter<W>) -> fmt::Result {
         let track = self.track;
         let cause = self.cause;
@@ -48,6 +53,8 @@ impl fmt::Display for Stop {
 }
 
 impl fmt::Display for Cause {
+    ghost output = { λ c. Some (cause_text c) };
+
     fn fmt<W: fmt::Write>(&self, f: &mut fmt::Formatter<W>) -> fmt::Result {
         match self {
             Cause::EndOfFile => f.write_str("end of file"),
@@ -69,6 +76,8 @@ impl fmt::Display for Cause {
 struct Lie(RecordFault);
 
 impl fmt::Display for Lie {
+    ghost output = { λ l. Some (lie_text l.0) };
+
     fn fmt<W: fmt::Write>(&self, f: &mut fmt::Formatter<W>) -> fmt::Result {
         f.write_str(match self.0 {
             RecordFault::ShortRecord => "ends within a record",
