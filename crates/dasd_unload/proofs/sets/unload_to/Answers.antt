@@ -1,4 +1,4 @@
-use Rattle.std.proofs.Common.{◌∙◌, ap, List, ℕ}
+use Rattle.std.proofs.Common.{◌∙◌, ap}
 use Rattle.dasd_extract.specs.Walk.{wanted}
 use Rattle.dasd_jobs.specs.Written.{with_file}
 use Rattle.dasd_unload.proofs.Through.{extracted, through}
