@@ -5,7 +5,8 @@ use Rattle.dasd_jobs.specs.Written.{Replaced}
 use Rattle.dasd_unload.specs.Unloads.{AddsIn, StandsIn}
 
 -- some came, and then others
-pub adds_both : (folder : List ℕ) (before between now : List Replaced) → AddsIn folder before between → AddsIn folder between now → AddsIn folder before now
+pub adds_both : (folder : List ℕ) (before between now : List Replaced) → AddsIn folder before between → AddsIn folder between now
+    → AddsIn folder before now
 adds_both folder before between now first next = record {
   more = first.more ++ next.more;
   added = next.added ∙ ap (λ l. l ++ next.more) first.added ∙ append_assoc before first.more next.more;

@@ -14,15 +14,19 @@ why_behind f a b c none (inl w) = inl (w.0, w.1 ∙ none)
 why_behind f a b c none (inr w) = inr (w.0, w.1 ∙ ap (λ n. n + 1) none)
 
 -- a text was printed, and then the next one
-pub then_told : {A : Type 0} (r : Result A UnloadFault) (first next : List ℕ) (a b c : Stream) → Takes a b first × NoneFailed a b → TellsText r next b c → TellsText r (first ++ next) a c
+pub then_told : {A : Type 0} (r : Result A UnloadFault) (first next : List ℕ) (a b c : Stream) → Takes a b first × NoneFailed a b
+    → TellsText r next b c → TellsText r (first ++ next) a c
 then_told (Ok _) first next a b c told this = (takes_more a b c first next told.0 this.0, this.1 ∙ told.1)
 then_told (Err f) first next a b c told this = (front_behind a b c first next told.0 this.0, why_behind f a b c told.1 this.1)
 
 -- findings were told, and then the next ones
-pub then_findings : {A : Type 0} (r : Result A UnloadFault) (json : Option (List ℕ)) (name : List ℕ) (first next : List (List ℕ)) (a b c : Stream)
-    → Takes a b (flat_map (line_text json) (finding_lines name first)) × NoneFailed a b → TellsText r (flat_map (line_text json) (finding_lines name next)) b c
+pub then_findings : {A : Type 0} (r : Result A UnloadFault) (json : Option (List ℕ)) (name : List ℕ) (first next : List (List ℕ))
+    (a b c : Stream)
+    → Takes a b (flat_map (line_text json) (finding_lines name first)) × NoneFailed a b
+    → TellsText r (flat_map (line_text json) (finding_lines name next)) b c
     → TellsText r (flat_map (line_text json) (finding_lines name (first ++ next))) a c
 then_findings r json name first next a b c told this =
     subst (λ text. TellsText r text a c)
-    (sym (ap (flat_map (line_text json)) (map-append (FindingLine name) first next) ∙ flat_map-append (line_text json) (finding_lines name first) (finding_lines name next)))
+    (sym (ap (flat_map (line_text json)) (map-append (FindingLine name) first next)
+    ∙ flat_map-append (line_text json) (finding_lines name first) (finding_lines name next)))
     (then_told r _ _ a b c told this)

@@ -1,5 +1,6 @@
 -- The data set or the member that is asked for, and what of it is written.
 use Rattle.std.specs.Prelude.{◌≡◌, ◌⊎◌, ℕ, ◌==◌, Bool, true, false, not, List, [], bit_and, bytes_eq, find, Option, Some, None, option_map, Result, Ok}
+use Rattle.std.specs.Option.{option_copied}
 use Rattle.counted_io.specs.Streams.{Stream, TakesFront, IsFlushed}
 use Rattle.volume_labels.specs.declared.fields.Extent.{Extent}
 use Rattle.volume_labels.specs.declared.fields.RelativeAddress.{RelativeAddress}
@@ -19,6 +20,7 @@ use Rattle.dasd_extract.specs.Names.{Names, is_name}
 use Rattle.dasd_extract.specs.Walk.{Wanted, Extracts, PrintsSource, source_written}
 use Rattle.dasd_jobs.specs.Written.{Replaced, with_file}
 use Rattle.dasd_unload.specs.declared.fault.UnloadFault.{UnloadFault}
+use Rattle.dasd_unload.specs.declared.sets.WantedSet.{WantedSet}
 use Rattle.dasd_unload.specs.Unloads.{Outcome, CountsPrinted, is_of_job}
 
 -- blocks are written as they stand, or as lines, if the format of the data set is of some records
@@ -39,6 +41,9 @@ pub record AskedSet : Type 0 where
 
 abbrev pub asked : (name : List ℕ) → (member : Option (List ℕ)) → (is_text : Bool) → (target : Option (List ℕ)) → AskedSet
 asked name member is_text target = record { name = name; member = member; is_text = is_text; target = target }
+
+abbrev pub asked_by : WantedSet → AskedSet
+asked_by w = asked w.name.now (option_copied w.member) w.is_text (option_copied w.target)
 
 -- a volume's first data set of a name, if it has one
 pub record NamesSet (text : List ℕ) (v : KnownVolume) (found : Option DataSet) : Type 0 where

@@ -5,7 +5,7 @@ ghost use Rattle.std.specs.Option.{option_copied};
 ghost use Rattle.counted_io.specs.Streams.{seen_by, IsFlushed};
 ghost use Rattle.dasd_extract.specs.Walk.{PrintsSource, wanted};
 ghost use Rattle.dasd_unload.specs.Unloads.{UnloadsTo, CountsPrinted, outcome, is_of_job, leaves_a_file};
-ghost use Rattle.dasd_unload.specs.Asked.{asked, beginning, form_of, is_partitioned, SetOf, MemberOf, StartsAt, Asks, PutsBlocks, PrintsFirst, StopsPrinting, CountsSet, UnloadsSet};
+ghost use Rattle.dasd_unload.specs.Asked.{asked_by, beginning, form_of, is_partitioned, SetOf, MemberOf, StartsAt, Asks, PutsBlocks, PrintsFirst, StopsPrinting, CountsSet, UnloadsSet};
 ghost use Rattle.dasd_unload.specs.Causes.{WhyNoStart, WhyNot, UnloadsOrTells};
 
 use crate::fault::{NO_MEMORY, UnloadFault, of_reading, of_volume};
@@ -72,7 +72,7 @@ pub fn unload_set<F: ImageFiles, V: SlotReader, W: Write>(
     writer: &mut Counted<W>,
     set: WantedSet,
 ) -> Result<(), UnloadFault>
-    ensures unloaded { UnloadsOrTells result (asked set.entry.name.now (option_copied set.entry.member) set.entry.is_text (option_copied set.entry.target))
+    ensures unloaded { UnloadsOrTells result (asked_by set.entry)
         (V.volume volume.old) (outcome (F.written files.old) (seen_by W.contents writer.old)) (outcome (F.written files.new) (seen_by W.contents writer.new)) }
     ensures writes { CountsSet result (option_copied set.entry.target) (seen_by W.contents writer.old) (seen_by W.contents writer.new) }
     ensures same { F.opened files.new ≡ F.opened files.old }
@@ -93,10 +93,12 @@ fn unload_from<F: ImageFiles, V: SlotReader, W: Write>(
     writer: &mut Counted<W>,
     set: WantedSet,
 ) -> Result<Stop, UnloadFault>
-    ensures done { IfOk result (UnloadsSet (asked set.entry.name.now (option_copied set.entry.member) set.entry.is_text (option_copied set.entry.target))
+    ensures done { IfOk result (UnloadsSet (asked_by set.entry)
         (V.volume volume.old) (outcome (F.written files.old) (seen_by W.contents writer.old)) (outcome (F.written files.new) (seen_by W.contents writer.new))) }
-    ensures why { IfErr result (λ e. WhyNot e (asked set.entry.name.now (option_copied set.entry.member) set.entry.is_text (option_copied set.entry.target)) (V.volume volume.old)) }
-    ensures front { IfErr result (λ e. StopsPrinting e (asked set.entry.name.now (option_copied set.entry.member) set.entry.is_text (option_copied set.entry.target)) (V.volume volume.old)
+    ensures why { IfErr result (λ e. WhyNot e (asked_by set.entry)
+        (V.volume volume.old)) }
+    ensures front { IfErr result (λ e. StopsPrinting e (asked_by set.entry)
+        (V.volume volume.old)
         (seen_by W.contents writer.old) (seen_by W.contents writer.new)) }
     ensures writes { CountsSet result (option_copied set.entry.target) (seen_by W.contents writer.old) (seen_by W.contents writer.new) }
     ensures same { F.opened files.new ≡ F.opened files.old }
@@ -124,9 +126,11 @@ fn find_blocks<V: SlotReader>(
     volume: &mut V,
     asked_for: WantedSet,
 ) -> Result<FoundBlocks, UnloadFault>
-    ensures found { IfOk result (λ found. Asks (asked asked_for.entry.name.now (option_copied asked_for.entry.member) asked_for.entry.is_text (option_copied asked_for.entry.target)) (V.volume volume.old)
+    ensures found { IfOk result (λ found. Asks (asked_by asked_for.entry)
+        (V.volume volume.old)
         (wanted found.form found.set.extents.items found.start 65535)) }
-    ensures why { IfErr result (λ e. WhyNot e (asked asked_for.entry.name.now (option_copied asked_for.entry.member) asked_for.entry.is_text (option_copied asked_for.entry.target)) (V.volume volume.old)) }
+    ensures why { IfErr result (λ e. WhyNot e (asked_by asked_for.entry)
+        (V.volume volume.old)) }
     ensures reads { IfErr result (λ e. e ≢ UnloadFault.Job JobFault.Write) }
     ensures kept { V.volume volume.new ≡ V.volume volume.old }
 {

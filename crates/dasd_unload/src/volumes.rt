@@ -97,7 +97,8 @@ pub fn unload_volume<F: ImageFiles, W: Write>(
     paths: &[&str],
     volume: WantedVolume,
 ) -> Result<usize, UnloadFault>
-    ensures volume { UnloadsVolume result (map (λ path. path.now) paths.now) (plan_of volume.entry.folder.now volume.entry.is_text volume.entry.json volume.entry.path.now)
+    ensures volume { UnloadsVolume result (map (λ path. path.now) paths.now)
+        (plan_of volume.entry.folder.now volume.entry.is_text volume.entry.json volume.entry.path.now)
         (F.opened files.old) (F.opened files.new)
         (outcome (F.written files.old) (seen_by W.contents writer.old)) (outcome (F.written files.new) (seen_by W.contents writer.new)) }
     ensures writes { CountsReport result (seen_by W.contents writer.old) (seen_by W.contents writer.new) }
@@ -139,7 +140,8 @@ fn unload_contents<F: ImageFiles, V: SlotReader, W: Write>(
     report: &mut Report,
     target: Target,
 ) -> Result<(), UnloadFault>
-    ensures does { DoesOfVolume result (V.volume volume.old) (plan target.entry.folder.now target.entry.is_text (option_copied target.entry.json))
+    ensures does { DoesOfVolume result (V.volume volume.old)
+        (plan target.entry.folder.now target.entry.is_text (option_copied target.entry.json))
         (λ u. volume_steps u)
         (outcome (F.written files.old) (seen_by W.contents writer.old)) (outcome (F.written files.new) (seen_by W.contents writer.new))
         report.old.tally report.new.tally }
@@ -172,7 +174,8 @@ fn unload_sets<F: ImageFiles, V: SlotReader, W: Write>(
     report: &mut Report,
     table: Table,
 ) -> Result<(), UnloadFault>
-    ensures does { DoesOfVolume result (V.volume volume.old) (plan table.entry.target.folder.now table.entry.target.is_text (option_copied table.entry.target.json))
+    ensures does { DoesOfVolume result (V.volume volume.old)
+        (plan table.entry.target.folder.now table.entry.target.is_text (option_copied table.entry.target.json))
         (λ u. flat_map (block_steps u table.entry.blocks.now) table.entry.blocks.now)
         (outcome (F.written files.old) (seen_by W.contents writer.old)) (outcome (F.written files.new) (seen_by W.contents writer.new))
         report.old.tally report.new.tally }
@@ -199,7 +202,8 @@ fn unload_block<F: ImageFiles, V: SlotReader, W: Write>(
     report: &mut Report,
     row: Row,
 ) -> Result<(), UnloadFault>
-    ensures does { DoesOfVolume result (V.volume volume.old) (plan row.entry.table.target.folder.now row.entry.table.target.is_text (option_copied row.entry.table.target.json))
+    ensures does { DoesOfVolume result (V.volume volume.old)
+        (plan row.entry.table.target.folder.now row.entry.table.target.is_text (option_copied row.entry.table.target.json))
         (λ u. block_steps u row.entry.table.blocks.now row.entry.block.now)
         (outcome (F.written files.old) (seen_by W.contents writer.old)) (outcome (F.written files.new) (seen_by W.contents writer.new))
         report.old.tally report.new.tally }
@@ -235,7 +239,8 @@ fn unload_one<F: ImageFiles, V: SlotReader, W: Write>(
     report: &mut Report,
     listed: Listed,
 ) -> Result<(), UnloadFault>
-    ensures does { DoesOfVolume result (V.volume volume.old) (plan listed.entry.target.folder.now listed.entry.target.is_text (option_copied listed.entry.target.json))
+    ensures does { DoesOfVolume result (V.volume volume.old)
+        (plan listed.entry.target.folder.now listed.entry.target.is_text (option_copied listed.entry.target.json))
         (λ u. set_steps u listed.entry.set.now.block listed.entry.set.now.extents.items listed.entry.set.now.fault)
         (outcome (F.written files.old) (seen_by W.contents writer.old)) (outcome (F.written files.new) (seen_by W.contents writer.new))
         report.old.tally report.new.tally }
@@ -320,7 +325,8 @@ fn unload_members<F: ImageFiles, V: SlotReader, W: Write>(
     report: &mut Report,
     opened: Opened,
 ) -> Result<(), UnloadFault>
-    ensures does { DoesOfVolume result (V.volume volume.old) (plan opened.entry.target.folder.now opened.entry.target.is_text (option_copied opened.entry.target.json))
+    ensures does { DoesOfVolume result (V.volume volume.old)
+        (plan opened.entry.target.folder.now opened.entry.target.is_text (option_copied opened.entry.target.json))
         (λ u. partitioned_steps u opened.entry.set.now.block.name opened.entry.set.now.extents.items opened.entry.form)
         (outcome (F.written files.old) (seen_by W.contents writer.old)) (outcome (F.written files.new) (seen_by W.contents writer.new))
         report.old.tally report.new.tally }
@@ -386,7 +392,8 @@ fn unload_item<F: ImageFiles, V: SlotReader, W: Write>(
     item: Item,
 ) -> Result<(), UnloadFault>
     requires name { IsFileName item.name.now }
-    ensures does { DoesOfVolume result (V.volume volume.old) (plan item.entry.target.folder.now item.entry.target.is_text (option_copied item.entry.target.json))
+    ensures does { DoesOfVolume result (V.volume volume.old)
+        (plan item.entry.target.folder.now item.entry.target.is_text (option_copied item.entry.target.json))
         (λ u. Unload item.entry.name.now
         (wanted item.entry.source.form item.entry.source.extents.now item.entry.source.start item.entry.source.tracks) ∷ [])
         (outcome (F.written files.old) (seen_by W.contents writer.old)) (outcome (F.written files.new) (seen_by W.contents writer.new))

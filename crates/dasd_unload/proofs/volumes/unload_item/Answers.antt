@@ -13,7 +13,8 @@ pub returns-in-Ok-unload_to-clause-does : goal.returns-in-Ok-unload_to-clause-do
 returns-in-Ok-unload_to-clause-does g c =
     let t = c.args.item.target in
     let s = c.args.item.source in
-    came c.unloaded.result (g.V.SlotReader.volume c.args.volume.now) (plan t.folder.now t.is_text (option_copied t.json)) c.args.item.name.now c.as_str.result.now
+    came c.unloaded.result (g.V.SlotReader.volume c.args.volume.now) (plan t.folder.now t.is_text (option_copied t.json))
+    c.args.item.name.now c.as_str.result.now
     (wanted s.form s.extents.now s.start s.tracks) _ _ c.in-Ok-unload_to.unloaded _ _ _ _
     (c.as_str.ensures.value ∙ c.in-Ok.ensures.path) c.in-Ok-unload_to.ensures.file c.unloaded.ensures.text c.unloaded.ensures.counted
 
@@ -21,7 +22,8 @@ pub returns-in-Err-Job-Exists-clause-does : goal.returns-in-Err-Job-Exists-claus
 returns-in-Err-Job-Exists-clause-does g c =
     let t = c.args.item.target in
     let s = c.args.item.source in
-    kept_out c.finding.result (g.V.SlotReader.volume c.args.volume.now) (plan t.folder.now t.is_text (option_copied t.json)) c.args.item.name.now _ _ _ _ _
+    kept_out c.finding.result (g.V.SlotReader.volume c.args.volume.now) (plan t.folder.now t.is_text (option_copied t.json))
+    c.args.item.name.now _ _ _ _ _
     (wanted s.form s.extents.now s.start s.tracks) _ c.in-Err-Job-Exists.ensures.file c.finding.ensures.text c.finding.ensures.counted
 
 pub returns-clause-does : goal.returns-clause-does

@@ -26,7 +26,8 @@ pub returns-in-Err-directory-clause-does : goal.returns-in-Err-directory-clause-
 returns-in-Err-directory-clause-does g c =
     let set = c.args.opened.set.now in
     let t = c.args.opened.target in
-    directory_stopped (g.V.SlotReader.volume c.args.volume.now) (plan t.folder.now t.is_text (option_copied t.json)) set.block.name set.extents.items c.args.opened.form
+    directory_stopped (g.V.SlotReader.volume c.args.volume.now) (plan t.folder.now t.is_text (option_copied t.json)) set.block.name
+    set.extents.items c.args.opened.form
     c.in-Ok.members (rw c.as_slice-extents.ensures.value at c.in-Ok.ensures.members) c.in-Ok.members.entries.items refl _ _ _ _ _ _
     (rw (c.as_str.ensures.value ∙ c.in-Ok-name_of_set.ensures.name) at c.in-Err-directory.ensures.text)
 
@@ -39,8 +40,10 @@ loop-entry-init g c =
       same = refl;
       kept = c.in-Ok.ensures.volume.0;
       steps =
-          directory_told (g.V.SlotReader.volume c.args.volume.now) (plan t.folder.now t.is_text (option_copied t.json)) set.block.name set.extents.items c.args.opened.form
-          c.in-Ok.members (rw c.as_slice-extents.ensures.value at c.in-Ok.ensures.members) c.as_slice-entries.result.now c.as_slice-entries.ensures.value _ _ _ _ _
+          directory_told (g.V.SlotReader.volume c.args.volume.now) (plan t.folder.now t.is_text (option_copied t.json)) set.block.name
+          set.extents.items c.args.opened.form
+          c.in-Ok.members (rw c.as_slice-extents.ensures.value at c.in-Ok.ensures.members) c.as_slice-entries.result.now
+          c.as_slice-entries.ensures.value _ _ _ _ _
           (rw (c.as_str.ensures.value ∙ c.in-Ok-name_of_set.ensures.name) at c.in_default.ensures.text)
           (rw (c.as_str.ensures.value ∙ c.in-Ok-name_of_set.ensures.name) at c.in_default.ensures.counted);
     }
@@ -57,10 +60,21 @@ returns-in-Err-unload_item-clause-does g c =
     let set = c.args.opened.set.now in
     let t = c.args.opened.target in
     let form = c.args.opened.form in
-    stop_next (g.V.SlotReader.volume c.args.volume.now) (plan t.folder.now t.is_text (option_copied t.json)) (λ u. partitioned_steps u set.block.name set.extents.items form)
-    (λ u e. member_step set.block.name set.extents.items form e ∷ []) c.as_slice-entries.result.now c.loop-entry.entry-index _ _ _ _ c.loop-entry.invariant.steps _ _ _ _ _
+    stop_next (g.V.SlotReader.volume c.args.volume.now) (plan t.folder.now t.is_text (option_copied t.json))
+    (λ u. partitioned_steps u set.block.name set.extents.items form)
+    (λ u e. member_step set.block.name set.extents.items form e ∷ []) c.as_slice-entries.result.now c.loop-entry.entry-index _ _ _ _
+    c.loop-entry.invariant.steps _ _ _ _ _
     c.loop-entry-test.true
-    (rw (c.loop-entry.invariant.kept, c.as_str-in-loop-entry.ensures.value ∙ c.in-Ok-name_of_member.ensures.name, c.member_of.ensures.extents, c.as_slice-extents.ensures.value, c.member_of.ensures.start, c.member_of.ensures.tracks, c.member_of.ensures.form) at c.in-Err-unload_item.ensures.does)
+    (rw (
+      c.loop-entry.invariant.kept,
+      c.as_str-in-loop-entry.ensures.value
+          ∙ c.in-Ok-name_of_member.ensures.name,
+      c.member_of.ensures.extents,
+      c.as_slice-extents.ensures.value,
+      c.member_of.ensures.start,
+      c.member_of.ensures.tracks,
+      c.member_of.ensures.form,
+    ) at c.in-Err-unload_item.ensures.does)
 
 pub loop-entry-preserved : goal.loop-entry-preserved
 loop-entry-preserved g c =
@@ -72,10 +86,21 @@ loop-entry-preserved g c =
       same = c.unload_item.ensures.same ∙ c.loop-entry.invariant.same;
       kept = c.unload_item.ensures.kept ∙ c.loop-entry.invariant.kept;
       steps =
-          next (g.V.SlotReader.volume c.args.volume.now) (plan t.folder.now t.is_text (option_copied t.json)) (λ u. partitioned_steps u set.block.name set.extents.items form)
-          (λ u e. member_step set.block.name set.extents.items form e ∷ []) c.as_slice-entries.result.now c.loop-entry.entry-index _ _ _ _ c.loop-entry.invariant.steps _ _ _
+          next (g.V.SlotReader.volume c.args.volume.now) (plan t.folder.now t.is_text (option_copied t.json))
+          (λ u. partitioned_steps u set.block.name set.extents.items form)
+          (λ u e. member_step set.block.name set.extents.items form e ∷ []) c.as_slice-entries.result.now c.loop-entry.entry-index _ _ _
+          _ c.loop-entry.invariant.steps _ _ _
           c.loop-entry-test.true
-          (rw (c.loop-entry.invariant.kept, c.as_str-in-loop-entry.ensures.value ∙ c.in-Ok-name_of_member.ensures.name, c.member_of.ensures.extents, c.as_slice-extents.ensures.value, c.member_of.ensures.start, c.member_of.ensures.tracks, c.member_of.ensures.form) at c.in_default-unload_item.ensures.does);
+          (rw (
+            c.loop-entry.invariant.kept,
+            c.as_str-in-loop-entry.ensures.value
+                ∙ c.in-Ok-name_of_member.ensures.name,
+            c.member_of.ensures.extents,
+            c.as_slice-extents.ensures.value,
+            c.member_of.ensures.start,
+            c.member_of.ensures.tracks,
+            c.member_of.ensures.form,
+          ) at c.in_default-unload_item.ensures.does);
     }
 
 pub returns-clause-does : goal.returns-clause-does
@@ -83,5 +108,7 @@ returns-clause-does g c =
     let set = c.args.opened.set.now in
     let t = c.args.opened.target in
     let form = c.args.opened.form in
-    all (g.V.SlotReader.volume c.args.volume.now) (plan t.folder.now t.is_text (option_copied t.json)) (λ u. partitioned_steps u set.block.name set.extents.items form)
-    (λ u e. member_step set.block.name set.extents.items form e ∷ []) c.as_slice-entries.result.now c.loop-entry.entry-index _ _ _ _ c.loop-entry.invariant.steps c.loop-entry-test.false
+    all (g.V.SlotReader.volume c.args.volume.now) (plan t.folder.now t.is_text (option_copied t.json))
+    (λ u. partitioned_steps u set.block.name set.extents.items form)
+    (λ u e. member_step set.block.name set.extents.items form e ∷ []) c.as_slice-entries.result.now c.loop-entry.entry-index _ _ _ _
+    c.loop-entry.invariant.steps c.loop-entry-test.false

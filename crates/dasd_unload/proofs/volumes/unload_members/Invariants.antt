@@ -21,5 +21,6 @@ invariant-loop-entry g l =
       steps : SoFar v (plan l.target.folder.now l.target.is_text (option_copied l.target.json))
           (λ u. flat_map (λ e. member_step set.block.name set.extents.items l.opened.form e ∷ []) (drop l.entry-index l.entries))
           (λ u. partitioned_steps u set.block.name set.extents.items l.opened.form)
-          (outcome (written l.fn.files) (printed l.fn.writer)) (outcome (written l.files) (printed l.writer)) l.fn.report.tally l.report.tally;
+          (outcome (written l.fn.files) (printed l.fn.writer)) (outcome (written l.files) (printed l.writer)) l.fn.report.tally
+          l.report.tally;
     }

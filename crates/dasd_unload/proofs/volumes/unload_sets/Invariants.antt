@@ -19,5 +19,6 @@ invariant-loop-block g l =
       kept : g.V.SlotReader.volume l.volume ≡ v;
       steps : SoFar v (plan l.table.target.folder.now l.table.target.is_text (option_copied l.table.target.json))
           (λ u. flat_map (block_steps u l.blocks) (drop l.block-index l.blocks)) (λ u. flat_map (block_steps u l.blocks) l.blocks)
-          (outcome (written l.fn.files) (printed l.fn.writer)) (outcome (written l.files) (printed l.writer)) l.fn.report.tally l.report.tally;
+          (outcome (written l.fn.files) (printed l.fn.writer)) (outcome (written l.files) (printed l.writer)) l.fn.report.tally
+          l.report.tally;
     }

@@ -5,4 +5,5 @@ use Rattle.dasd_unload.proofs.report.Report.directory.Goals as goal
 
 pub returns-clause-text : goal.returns-clause-text
 returns-clause-text g c =
-    then_findings c.ended.result (option_copied c.args.named.json) c.args.named.name.now (directory_texts c.args.members.now.fault) _ _ _ _ c.in_default.ensures.text c.ended.ensures.text
+    then_findings c.ended.result (option_copied c.args.named.json) c.args.named.name.now (directory_texts c.args.members.now.fault) _ _ _
+    _ c.in_default.ensures.text c.ended.ensures.text
