@@ -2,5 +2,6 @@ pub mod Alternates
 pub mod Blocks
 pub mod Members
 pub mod Names
+pub mod Stops
 pub mod Walk
 pub mod Written

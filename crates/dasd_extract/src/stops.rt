@@ -1,6 +1,7 @@
 //! Where the blocks of a data set end, and why.
 
-ghost use Rattle.std.specs.Prelude.{◌≡◌};
+ghost use Rattle.std.specs.Prelude.{◌≡◌, Some};
+ghost use Rattle.dasd_extract.specs.Stops.{lie_text, cause_text, followed_text, stop_text};
 ghost use Rattle.dasd_extract.specs.Written.{stop_at, cause_behind, stop_behind};
 
 use ckd_track::SlotFault;
@@ -84,19 +85,34 @@ pub(crate) fn stop_behind(alternates: u32, stop: Stop) -> Stop
 }
 
 impl fmt::Display for Stop {
+    ghost output = { λ s. Some (stop_text s) };
+
     fn fmt<W: fmt::Write>(&self, f: &mut fmt::Formatter<W>) -> fmt::Result {
         let track = self.track;
         let cause = self.cause;
-        write!(f, "track {track} of the data set: {cause}")?;
-        if self.alternates == 0 {
-            return Ok(());
+        let followed = Followed(self.alternates);
+        write!(f, "track {track} of the data set: {cause}{followed}")
+    }
+}
+
+// How many tracks were read from their alternates, where some were.
+#[derive(Clone, Copy)]
+struct Followed(u32);
+
+impl fmt::Display for Followed {
+    ghost output = { λ n. Some (followed_text n.0) };
+
+    fn fmt<W: fmt::Write>(&self, f: &mut fmt::Formatter<W>) -> fmt::Result {
+        match self.0 {
+            0 => Ok(()),
+            number => write!(f, "; tracks read from their alternates: {number}"),
         }
-        let alternates = self.alternates;
-        write!(f, "; tracks read from their alternates: {alternates}")
     }
 }
 
 impl fmt::Display for Cause {
+    ghost output = { λ c. Some (cause_text c) };
+
     fn fmt<W: fmt::Write>(&self, f: &mut fmt::Formatter<W>) -> fmt::Result {
         match self {
             Cause::EndOfFile | Cause::EndBehindAlternates => f.write_str("end of file"),
@@ -126,6 +142,8 @@ impl fmt::Display for Cause {
 struct Lie(RecordFault);
 
 impl fmt::Display for Lie {
+    ghost output = { λ l. Some (lie_text l.0) };
+
     fn fmt<W: fmt::Write>(&self, f: &mut fmt::Formatter<W>) -> fmt::Result {
         f.write_str(match self.0 {
             RecordFault::ShortRecord => "ends within a record",

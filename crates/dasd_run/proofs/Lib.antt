@@ -1,3 +1,5 @@
 mod Built
+mod Held
+pub mod Paths
 pub mod Saving
 mod Told

@@ -1,5 +1,5 @@
 -- What is done of each request.
-use Rattle.std.specs.Prelude.{◌≡◌, ◌==◌, ℕ, List, map, true, if◌then◌else◌, Result, Ok, Err, IfOk, IfErr, OnOk}
+use Rattle.std.specs.Prelude.{◌≡◌, ◌==◌, ℕ, List, map, if◌then◌else◌, Result, Ok, Err, IfOk, OnOk}
 use Rattle.counted_io.specs.Streams.{Stream, IsFlushed}
 use Rattle.dasd_volumes.specs.Volumes.{volume_text, check_text, NumberIn}
 use Rattle.dasd_words.specs.declared.requests.NewImage.{NewImage}
@@ -9,13 +9,15 @@ use Rattle.dasd_jobs.specs.Printed.{CountsLines, PrintsFiles}
 use Rattle.dasd_jobs.specs.Sources.{SourceFile, OfVolume}
 use Rattle.dasd_jobs.specs.Written.{Replaced, Formats}
 use Rattle.dasd_jobs.specs.declared.faults.JobFault.{JobFault}
+use Rattle.dasd_unload.specs.Unloads.{Outcome, outcome}
 use Rattle.dasd_run.specs.declared.commands.Ending.{Ending}
 use Rattle.dasd_run.specs.declared.commands.Ending.TheVariants.{Done, Findings}
 use Rattle.dasd_run.specs.declared.fault.ProgramFault.{ProgramFault}
 use Rattle.dasd_run.specs.declared.fault.ProgramFault.TheVariants as fault
-use Rattle.dasd_run.specs.Faults.{keeps_files}
+use Rattle.dasd_run.specs.Held.{ListsContents}
 use Rattle.dasd_run.specs.Outside.{Outside}
 use Rattle.dasd_run.specs.Runs.{RunsOrStops}
+use Rattle.dasd_run.specs.Unloads.{ExtractsSet, ExtractsVolume}
 
 -- how the program ends with a job over files: so, where the job is done; and else its fault is the program's
 abbrev pub ended : {A : Type 0} → (A → Ending) → Result A JobFault → Result Ending ProgramFault
@@ -51,9 +53,9 @@ ChecksVolume result paths opened_before opened printed_before printed =
 abbrev pub Looks : (before now : Outside) → Type 0
 Looks before now = (now.written ≡ before.written) × (now.read ≡ before.read)
 
--- files are written, but none with a fault that says so; and nothing is read of the reader
-abbrev pub Unloads : Result Ending ProgramFault → (before now : Outside) → Type 0
-Unloads result before now = IfErr result (λ e. keeps_files e ≡ true → now.written ≡ before.written) × (now.read ≡ before.read)
+-- the files that were made, and what was printed
+abbrev pub left_of : Outside → Outcome
+left_of o = outcome o.written o.printed
 
 -- What is done of a request, and what it leaves outside of the program.
 abbrev pub Answers : Request → Result Ending ProgramFault → (before now : Outside) → Type 0
@@ -64,6 +66,10 @@ Answers (request.List paths) result before now =
 Answers (request.Check paths) result before now =
     ChecksVolume result (map (λ path. path.now) paths.items) before.opened now.opened before.printed now.printed × Looks before now
 Answers (request.Run asked) result before now = RunsOrStops result asked before now
-Answers (request.Extract asked) result before now = Unloads result before now
-Answers (request.ExtractAll asked) result before now = Unloads result before now
+Answers (request.ListContents asked) result before now =
+    ListsContents result asked before.opened now.opened before.printed now.printed × Looks before now
+Answers (request.Extract asked) result before now =
+    ExtractsSet result asked before.opened now.opened (left_of before) (left_of now) × (now.read ≡ before.read)
+Answers (request.ExtractAll asked) result before now =
+    ExtractsVolume result asked before.opened now.opened (left_of before) (left_of now) × (now.read ≡ before.read)
 Answers asked result before now = Looks before now

@@ -4,4 +4,7 @@ pub mod Decks
 pub mod Outside
 pub mod Runs
 pub mod Saves
+pub mod Paths
+pub mod Held
+pub mod Unloads
 pub mod Answers

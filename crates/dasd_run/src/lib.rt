@@ -9,6 +9,7 @@ mod explain;
 mod fault;
 mod hash;
 mod list;
+mod printed_paths;
 mod remarks;
 mod runs;
 mod saves;

@@ -1,14 +1,18 @@
 //! Data sets, unloaded from a volume.
 
 ghost use Rattle.std.specs.Prelude.{◌≡◌, true, IfErr};
+ghost use Rattle.counted_io.specs.Streams.{seen_by};
+ghost use Rattle.dasd_unload.specs.Unloads.{outcome};
 ghost use Rattle.dasd_run.specs.Faults.{keeps_files};
+ghost use Rattle.dasd_run.specs.Held.{findings_ending};
+ghost use Rattle.dasd_run.specs.Unloads.{ExtractsSet, ExtractsVolume, unload_ending};
 
-use crate::archive::quoted;
 use crate::commands::Ending;
 use crate::fault::ProgramFault;
+use crate::printed_paths::quoted;
 use counted_io::Counted;
 use dasd_jobs::{ImageFiles, open_volume};
-use dasd_unload::{WantedSet, WantedVolume, unload_set, unload_volume};
+use dasd_unload::{UnloadFault, WantedSet, WantedVolume, unload_set, unload_volume};
 use dasd_words::{ExtractedSet, ExtractedVolume};
 use std::alloc::Global;
 use std::io::Write;
@@ -20,7 +24,9 @@ pub(crate) fn extract_set<F: ImageFiles, W: Write>(
     writer: &mut Counted<W>,
     asked: &ExtractedSet,
 ) -> Result<Ending, ProgramFault>
-    ensures { IfErr result (λ e. keeps_files e ≡ true → F.written files.new ≡ F.written files.old) }
+    ensures keeps { IfErr result (λ e. keeps_files e ≡ true → F.written files.new ≡ F.written files.old) }
+    ensures extracts { ExtractsSet result asked.now (F.opened files.old) (F.opened files.new)
+        (outcome (F.written files.old) (seen_by W.contents writer.old)) (outcome (F.written files.new) (seen_by W.contents writer.new)) }
 {
     let set = WantedSet {
         name: asked.name.data_set,
@@ -28,7 +34,10 @@ pub(crate) fn extract_set<F: ImageFiles, W: Write>(
         target: asked.target,
         is_text: asked.is_text,
     };
-    let mut volume = open_volume(alloc, files, asked.paths.as_slice())?;
+    let mut volume = match open_volume(alloc, files, asked.paths.as_slice()) {
+        Ok(volume) => volume,
+        Err(fault) => return Err(ProgramFault::Job(fault)),
+    };
     match unload_set(alloc, files, &mut volume, writer, set) {
         Ok(()) => Ok(Ending::Done),
         Err(fault) => Err(ProgramFault::Unload(fault)),
@@ -39,20 +48,32 @@ pub(crate) fn extract_set<F: ImageFiles, W: Write>(
 pub(crate) fn extract_volume<F: ImageFiles, W: Write>(
     alloc: Global,
     files: &mut F,
-    writer: &mut W,
+    writer: &mut Counted<W>,
     asked: &ExtractedVolume,
 ) -> Result<Ending, ProgramFault>
-    ensures { IfErr result (λ e. keeps_files e ≡ true → F.written files.new ≡ F.written files.old) }
+    ensures keeps { IfErr result (λ e. keeps_files e ≡ true → F.written files.new ≡ F.written files.old) }
+    ensures extracts { ExtractsVolume result asked.now (F.opened files.old) (F.opened files.new)
+        (outcome (F.written files.old) (seen_by W.contents writer.old)) (outcome (F.written files.new) (seen_by W.contents writer.new)) }
 {
     let paths = asked.paths.as_slice();
-    let path = quoted(alloc, paths)?;
+    let path = match quoted(alloc, paths) {
+        Ok(path) => path,
+        Err(fault) => return Err(fault),
+    };
     let volume = WantedVolume {
         folder: asked.folder,
         is_text: asked.is_text,
         path: path.as_str(),
         json: asked.json,
     };
-    match unload_volume(alloc, files, writer, paths, volume) {
+    unload_ending(unload_volume(alloc, files, writer, paths, volume))
+}
+
+// How the program ends with so many findings of an unloaded volume.
+fn unload_ending(unloaded: Result<usize, UnloadFault>) -> Result<Ending, ProgramFault>
+    ensures { result ≡ unload_ending findings_ending unloaded }
+{
+    match unloaded {
         Ok(0) => Ok(Ending::Done),
         Ok(_) => Ok(Ending::Findings),
         Err(fault) => Err(ProgramFault::Unload(fault)),

@@ -1,52 +1,114 @@
 //! What a volume holds: its label, its data sets, and what is wrong with them.
 
-ghost use Rattle.std.specs.Prelude.{◌≡◌};
+ghost use Rattle.std.specs.Prelude.{◌≡◌, ◌≢◌, length, IfOk, IfErr, OnOk, OnErr};
+ghost use Rattle.std.specs.Option.{option_copied};
+ghost use Rattle.counted_io.specs.Streams.{seen_by, Takes, TakesFront, IsFlushed};
+ghost use Rattle.dasd_volumes.specs.Printing.{CountsWrites};
+ghost use Rattle.dasd_run.specs.Held.{SaysAll, PrintsHeld, ListsContents, contents_text, findings_ending};
 
-use crate::archive::quoted;
 use crate::commands::Ending;
-use crate::fault::ProgramFault;
+use crate::fault::{ProgramFault, of_printing};
+use crate::printed_paths::{path_if, quoted};
 use ckd_track::Geometry;
 use counted_io::Counted;
 use dasd_contents::{Contents, check_contents, read_contents, write_lines, write_objects};
-use dasd_jobs::{ImageFiles, SlotReader, open_volume};
+use dasd_jobs::{ImageFiles, JobFault, SlotReader, open_volume};
+use dasd_volumes::VolumeFault;
 use dasd_words::PrintedVolume;
 use std::alloc::Global;
 use std::io::Write;
 
 /// Prints what the volume of these files holds, and says whether something is wrong with it.
+///
+/// # Errors
+///
+/// There is no memory, or the files hold no volume, or it can't be read, before anything is printed; or a write failed, or the flush, and
+/// exactly then it is a write fault.
 pub(crate) fn list_contents<F: ImageFiles, W: Write>(
     alloc: Global,
     files: &mut F,
     writer: &mut Counted<W>,
     asked: &PrintedVolume,
 ) -> Result<Ending, ProgramFault>
-    ensures { F.written files.new ≡ F.written files.old }
+    ensures kept { F.written files.new ≡ F.written files.old }
+    ensures lists { ListsContents result asked.now (F.opened files.old) (F.opened files.new)
+        (seen_by W.contents writer.old) (seen_by W.contents writer.new) }
 {
     let paths = asked.paths.as_slice();
-    let mut volume = open_volume(alloc, files, paths)?;
-    let geometry = volume.geometry();
-    let contents = checked_contents(alloc, &mut volume, geometry)?;
-    if asked.json {
-        let path = quoted(alloc, paths)?;
-        write_objects(alloc, writer, path.as_str(), geometry, &contents)?;
-    } else {
-        write_lines(alloc, writer, geometry, &contents)?;
+    let path = match quoted(alloc, paths) {
+        Ok(path) => path,
+        Err(fault) => return Err(fault),
+    };
+    let json = path_if(asked.json, path.as_str());
+    match open_volume(alloc, files, paths) {
+        Ok(mut volume) => print_contents(alloc, &mut volume, writer, json),
+        Err(fault) => Err(ProgramFault::Job(fault)),
     }
-    if contents.found.findings.is_empty() {
-        Ok(Ending::Done)
-    } else {
-        Ok(Ending::Findings)
+}
+
+// Prints what a volume holds, in lines, or in objects where they have its paths; and says whether something is wrong with it.
+fn print_contents<V: SlotReader, W: Write>(
+    alloc: Global,
+    volume: &mut V,
+    writer: &mut Counted<W>,
+    json: Option<&str>,
+) -> Result<Ending, ProgramFault>
+    ensures { PrintsHeld result (option_copied json.entry) (V.volume volume.old) (seen_by W.contents writer.old) (seen_by W.contents writer.new) }
+{
+    let geometry = volume.geometry();
+    let contents = match checked_contents(alloc, volume) {
+        Ok(contents) => contents,
+        Err(fault) => return Err(fault),
+    };
+    match write_contents(alloc, writer, json, geometry, &contents) {
+        Ok(()) => Ok(ending_of(&contents)),
+        Err(fault) => Err(of_printing(fault)),
+    }
+}
+
+// Prints what a volume says of itself, in lines, or in objects where they have its paths.
+fn write_contents<W: Write>(
+    alloc: Global,
+    writer: &mut Counted<W>,
+    json: Option<&str>,
+    geometry: Geometry,
+    contents: &Contents,
+) -> Result<(), VolumeFault>
+    ensures text { OnOk result (Takes (seen_by W.contents writer.old) (seen_by W.contents writer.new)
+        (contents_text (option_copied json.entry) geometry contents.now)) }
+    ensures front { OnErr result (TakesFront (seen_by W.contents writer.old) (seen_by W.contents writer.new)
+        (contents_text (option_copied json.entry) geometry contents.now)) }
+    ensures writes { CountsWrites result (seen_by W.contents writer.old) (seen_by W.contents writer.new) }
+    ensures flushed { OnOk result (IsFlushed (seen_by W.contents writer.new)) }
+{
+    match json {
+        Some(path) => write_objects(alloc, writer, path, geometry, contents),
+        None => write_lines(alloc, writer, geometry, contents),
+    }
+}
+
+// How the program ends, by what is wrong with a volume.
+fn ending_of(contents: &Contents) -> Ending
+    ensures { result ≡ findings_ending (length contents.now.found.findings.items) }
+{
+    match contents.found.findings.as_slice().len() {
+        0 => Ending::Done,
+        _ => Ending::Findings,
     }
 }
 
 // What a volume says of itself, with all that is wrong.
-fn checked_contents<V: SlotReader>(
-    alloc: Global,
-    volume: &mut V,
-    geometry: Geometry,
-) -> Result<Contents, ProgramFault> {
-    let mut contents = read_contents(alloc, volume)?;
-    match check_contents(alloc, geometry, &mut contents) {
+fn checked_contents<V: SlotReader>(alloc: Global, volume: &mut V) -> Result<Contents, ProgramFault>
+    ensures says { IfOk result (SaysAll (V.volume volume.old)) }
+    ensures kept { V.volume volume.new ≡ V.volume volume.old }
+    ensures fault { IfErr result (λ e. e ≢ ProgramFault.Job JobFault.Write) }
+{
+    let mut contents = match read_contents(alloc, volume) {
+        Ok(contents) => contents,
+        Err(VolumeFault::Store) => return Err(ProgramFault::Job(JobFault::Read)),
+        Err(_) => return Err(ProgramFault::OutOfMemory),
+    };
+    match check_contents(alloc, volume.geometry(), &mut contents) {
         Ok(()) => Ok(contents),
         Err(_) => Err(ProgramFault::OutOfMemory),
     }

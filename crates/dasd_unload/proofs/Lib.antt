@@ -1,3 +1,6 @@
 pub mod Folder
 mod Found
+pub mod Steps
 mod Through
+mod Told
+mod Unloaded

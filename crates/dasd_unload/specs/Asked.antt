@@ -1,6 +1,7 @@
 -- The data set or the member that is asked for, and what of it is written.
-use Rattle.std.specs.Prelude.{◌≡◌, ℕ, ◌==◌, Bool, true, false, not, List, [], bit_and, bytes_eq, find, Option, Some, None, option_map}
-use Rattle.std.specs.Io.KnownBytes.{Keeps}
+use Rattle.std.specs.Prelude.{◌≡◌, ◌⊎◌, ℕ, ◌==◌, Bool, true, false, not, List, [], bit_and, bytes_eq, find, Option, Some, None, option_map, Result, Ok}
+use Rattle.std.specs.Option.{option_copied}
+use Rattle.counted_io.specs.Streams.{Stream, TakesFront, IsFlushed}
 use Rattle.volume_labels.specs.declared.fields.Extent.{Extent}
 use Rattle.volume_labels.specs.declared.fields.RelativeAddress.{RelativeAddress}
 use Rattle.volume_labels.specs.declared.blocks.DataSetBlock.{DataSetBlock}
@@ -16,8 +17,11 @@ use Rattle.dasd_extract.specs.declared.members.Members.{Members}
 use Rattle.dasd_extract.specs.declared.stops.Stop.{Stop}
 use Rattle.dasd_extract.specs.Members.{MembersOf}
 use Rattle.dasd_extract.specs.Names.{Names, is_name}
-use Rattle.dasd_extract.specs.Walk.{Wanted, Extracts}
+use Rattle.dasd_extract.specs.Walk.{Wanted, Extracts, PrintsSource, source_written}
 use Rattle.dasd_jobs.specs.Written.{Replaced, with_file}
+use Rattle.dasd_unload.specs.declared.fault.UnloadFault.{UnloadFault}
+use Rattle.dasd_unload.specs.declared.sets.WantedSet.{WantedSet}
+use Rattle.dasd_unload.specs.Unloads.{Outcome, CountsPrinted, is_of_job}
 
 -- blocks are written as they stand, or as lines, if the format of the data set is of some records
 abbrev pub form_of : DataSetBlock → (is_text : Bool) → Option Form
@@ -37,6 +41,9 @@ pub record AskedSet : Type 0 where
 
 abbrev pub asked : (name : List ℕ) → (member : Option (List ℕ)) → (is_text : Bool) → (target : Option (List ℕ)) → AskedSet
 asked name member is_text target = record { name = name; member = member; is_text = is_text; target = target }
+
+abbrev pub asked_by : WantedSet → AskedSet
+asked_by w = asked w.name.now (option_copied w.member) w.is_text (option_copied w.target)
 
 -- a volume's first data set of a name, if it has one
 pub record NamesSet (text : List ℕ) (v : KnownVolume) (found : Option DataSet) : Type 0 where
@@ -92,13 +99,34 @@ pub record PutsBlocks (path : List ℕ) (s : Wanted) (v : KnownVolume) (before n
   pub put : now ≡ with_file before path bytes
   pub blocks : Extracts s v (Some []) (Some bytes) stop
 
--- they were, where a path is named, and the writer got nothing; else the writer got them, and no file came
-abbrev pub WritesTo : (target : Option (List ℕ)) → Wanted → KnownVolume → (files_before files_now : List Replaced) → (before now : Option (List ℕ)) → Stop → Type 0
-WritesTo (Some path) s v files_before files_now before now stop = PutsBlocks path s v files_before files_now stop × Keeps before now
-WritesTo None s v files_before files_now before now stop = (files_now ≡ files_before) × Extracts s v before now stop
+-- They were, where a path is named, and nothing was printed; else they were printed, and none of them is held back, and no file came.
+abbrev pub WritesTo : (target : Option (List ℕ)) → Wanted → KnownVolume → (before now : Outcome) → Stop → Type 0
+WritesTo (Some path) s v before now stop = PutsBlocks path s v before.written now.written stop × (now.printed ≡ before.printed)
+WritesTo None s v before now stop = (now.written ≡ before.written) × PrintsSource s v (Ok stop) before.printed now.printed × IsFlushed now.printed
 
 -- what is asked for was found and written, and its blocks end so
-pub record UnloadsSet (a : AskedSet) (v : KnownVolume) (files_before files_now : List Replaced) (before now : Option (List ℕ)) (stop : Stop) : Type 0 where
+pub record UnloadsSet (a : AskedSet) (v : KnownVolume) (before now : Outcome) (stop : Stop) : Type 0 where
   pub source : Wanted
   pub asks : Asks a v source
-  pub written : WritesTo a.target source v files_before files_now before now stop
+  pub written : WritesTo a.target source v before now stop
+
+-- only the first bytes of the blocks of a source were printed, if the slots of the volume are known
+abbrev pub PrintsFirst : Wanted → KnownVolume → (before after : Stream) → Type 0
+PrintsFirst s v before after = (slots : List (List ℕ)) → v.slots ≡ Some slots → TakesFront before after (source_written s v.geometry slots).bytes
+
+-- what is asked for was found, and was to be printed; but a fault of the volume or of a write stopped it
+pub record PrintsSome (f : UnloadFault) (a : AskedSet) (v : KnownVolume) (before after : Stream) : Type 0 where
+  pub of_job : is_of_job f ≡ true
+  pub to_writer : a.target ≡ None
+  pub source : Wanted
+  pub asks : Asks a v source
+  pub front : PrintsFirst source v before after
+
+-- nothing was printed, or only the first bytes
+abbrev pub StopsPrinting : UnloadFault → AskedSet → KnownVolume → (before after : Stream) → Type 0
+StopsPrinting f a v before after = (after ≡ before) ⊎ PrintsSome f a v before after
+
+-- A write fault comes exactly where a write failed, or the flush; or where the file of the path can't be made, and then nothing is printed.
+abbrev pub CountsSet : {A : Type 0} → Result A UnloadFault → (target : Option (List ℕ)) → (before after : Stream) → Type 0
+CountsSet r None before after = CountsPrinted r before after
+CountsSet r (Some path) before after = after ≡ before

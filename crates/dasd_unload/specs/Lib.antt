@@ -1,3 +1,5 @@
 pub mod Unloads
 pub mod Asked
 pub mod Causes
+pub mod Told
+pub mod Volumes

@@ -1,7 +1,8 @@
 -- What is unloaded from a volume, and where it goes.
-use Rattle.std.specs.Prelude.{◌≡◌, ℕ, Bool, true, false, List, [], ◌++◌, length, codes, Option, Some, None, Result, Ok, Err}
+use Rattle.std.specs.Prelude.{◌≡◌, ◌≢◌, ◌⊎◌, ℕ, Bool, true, false, List, [], ◌++◌, length, codes, Option, Some, None, Result, Ok, Err}
 use Rattle.std.specs.List.{All}
 use Rattle.data_sets.specs.Names.{safe_name_of}
+use Rattle.counted_io.specs.Streams.{Stream, NoneFailed, OneFailed}
 use Rattle.dasd_volumes.specs.declared.fault.VolumeFault.{VolumeFault}
 use Rattle.dasd_volumes.specs.declared.fault.VolumeFault.TheVariants as volume
 use Rattle.dasd_volumes.specs.Reading.{KnownVolume}
@@ -12,11 +13,29 @@ use Rattle.dasd_unload.specs.declared.fault.UnloadFault.{UnloadFault}
 use Rattle.dasd_unload.specs.declared.fault.UnloadFault.TheVariants as fault
 use Rattle.dasd_unload.specs.declared.sets.Unloaded.{Unloaded}
 
+-- what a call leaves: the files that were made, and what was printed
+pub record Outcome : Type 0 where
+  pub written : List Replaced
+  pub printed : Stream
+
+abbrev pub outcome : List Replaced → Stream → Outcome
+outcome written printed = record { written = written; printed = printed }
+
 -- a slot that can't be read is a file that can't be
 abbrev pub unload_fault : VolumeFault → UnloadFault
 unload_fault volume.OutOfMemory = fault.Job job.OutOfMemory
 unload_fault volume.Store = fault.Job job.Read
 unload_fault volume.Write = fault.Job job.Write
+
+-- of a call that writes nothing
+abbrev pub reading_fault : VolumeFault → UnloadFault
+reading_fault volume.Store = fault.Job job.Read
+reading_fault other = fault.Job job.OutOfMemory
+
+-- a write failed, or a flush, exactly where a write fault is answered
+abbrev pub CountsPrinted : {A : Type 0} → Result A UnloadFault → (before after : Stream) → Type 0
+CountsPrinted (Ok _) before after = NoneFailed before after
+CountsPrinted (Err f) before after = ((f ≢ fault.Job job.Write) × NoneFailed before after) ⊎ ((f ≡ fault.Job job.Write) × OneFailed before after)
 
 -- what is unloaded was put at its path before it is told that it is not whole; every other fault leaves no file
 abbrev pub leaves_a_file : UnloadFault → Bool

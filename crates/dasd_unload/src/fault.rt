@@ -1,7 +1,7 @@
 //! Why data sets were not unloaded.
 
 ghost use Rattle.std.specs.Prelude.{◌≡◌};
-ghost use Rattle.dasd_unload.specs.Unloads.{unload_fault};
+ghost use Rattle.dasd_unload.specs.Unloads.{unload_fault, reading_fault};
 
 use dasd_extract::Stop;
 use dasd_jobs::JobFault;
@@ -43,4 +43,14 @@ pub(crate) fn of_volume(fault: VolumeFault) -> UnloadFault
         VolumeFault::Store => JobFault::Read,
         VolumeFault::Write => JobFault::Write,
     })
+}
+
+/// What a fault of a call is that reads a volume, and writes nothing.
+pub(crate) fn of_reading(fault: VolumeFault) -> UnloadFault
+    ensures { result ≡ reading_fault fault }
+{
+    match fault {
+        VolumeFault::Store => UnloadFault::Job(JobFault::Read),
+        _ => NO_MEMORY,
+    }
 }

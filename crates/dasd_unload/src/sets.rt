@@ -1,13 +1,14 @@
 //! A data set or a member of a partitioned one, unloaded from a volume.
 
-ghost use Rattle.std.specs.Prelude.{◌≡◌, true, false, IfOk, IfErr, OnErr};
+ghost use Rattle.std.specs.Prelude.{◌≡◌, ◌≢◌, true, false, Ok, IfOk, IfErr, OnOk, OnErr};
 ghost use Rattle.std.specs.Option.{option_copied};
-ghost use Rattle.dasd_extract.specs.Walk.{Extracts, wanted};
-ghost use Rattle.dasd_unload.specs.Unloads.{UnloadsTo, is_of_job, leaves_a_file};
-ghost use Rattle.dasd_unload.specs.Asked.{asked, form_of, is_partitioned, SetOf, MemberOf, StartsAt, UnloadsSet};
+ghost use Rattle.counted_io.specs.Streams.{seen_by, IsFlushed};
+ghost use Rattle.dasd_extract.specs.Walk.{PrintsSource, wanted};
+ghost use Rattle.dasd_unload.specs.Unloads.{UnloadsTo, CountsPrinted, outcome, is_of_job, leaves_a_file};
+ghost use Rattle.dasd_unload.specs.Asked.{asked_by, beginning, form_of, is_partitioned, SetOf, MemberOf, StartsAt, Asks, PutsBlocks, PrintsFirst, StopsPrinting, CountsSet, UnloadsSet};
 ghost use Rattle.dasd_unload.specs.Causes.{WhyNoStart, WhyNot, UnloadsOrTells};
 
-use crate::fault::{NO_MEMORY, UnloadFault, of_volume};
+use crate::fault::{NO_MEMORY, UnloadFault, of_reading, of_volume};
 use counted_io::{Counted, WriteFault, flush_all};
 use dasd_contents::{DataSet, find, read_contents};
 use dasd_extract::{
@@ -42,6 +43,14 @@ pub struct WantedSet<'a> {
     pub is_text: bool,
 }
 
+/// What is asked for on a volume: its data set, how its blocks are written, and where they begin.
+#[derive(Drop)]
+struct FoundBlocks {
+    set: DataSet,
+    form: Form,
+    start: RelativeAddress,
+}
+
 /// What was unloaded to a file: how many bytes, and where the blocks end and why.
 #[derive(Clone, Copy)]
 pub(crate) struct Unloaded {
@@ -63,15 +72,17 @@ pub fn unload_set<F: ImageFiles, V: SlotReader, W: Write>(
     writer: &mut Counted<W>,
     set: WantedSet,
 ) -> Result<(), UnloadFault>
-    ensures unloaded { UnloadsOrTells result (asked set.entry.name.now (option_copied set.entry.member) set.entry.is_text (option_copied set.entry.target))
-        (V.volume volume.old) (F.written files.old) (F.written files.new) (W.contents writer.old.inner) (W.contents writer.new.inner) }
+    ensures unloaded { UnloadsOrTells result (asked_by set.entry)
+        (V.volume volume.old) (outcome (F.written files.old) (seen_by W.contents writer.old)) (outcome (F.written files.new) (seen_by W.contents writer.new)) }
+    ensures writes { CountsSet result (option_copied set.entry.target) (seen_by W.contents writer.old) (seen_by W.contents writer.new) }
+    ensures same { F.opened files.new ≡ F.opened files.old }
     ensures kept { IfErr result (λ e. leaves_a_file e ≡ false → F.written files.new ≡ F.written files.old) }
 {
-    let stop = unload_from(alloc, files, volume, writer, set)?;
-    if stop.cause != Cause::EndOfFile {
-        return Err(UnloadFault::NotWhole(stop));
+    match unload_from(alloc, files, volume, writer, set) {
+        Ok(stop) if stop.cause == Cause::EndOfFile => Ok(()),
+        Ok(stop) => Err(UnloadFault::NotWhole(stop)),
+        Err(fault) => Err(fault),
     }
-    Ok(())
 }
 
 // Unloads a data set or a member of one from a volume, and says where its blocks end, and why.
@@ -82,34 +93,56 @@ fn unload_from<F: ImageFiles, V: SlotReader, W: Write>(
     writer: &mut Counted<W>,
     set: WantedSet,
 ) -> Result<Stop, UnloadFault>
-    ensures done { IfOk result (UnloadsSet (asked set.entry.name.now (option_copied set.entry.member) set.entry.is_text (option_copied set.entry.target))
-        (V.volume volume.old) (F.written files.old) (F.written files.new) (W.contents writer.old.inner) (W.contents writer.new.inner)) }
-    ensures why { IfErr result (λ e. WhyNot e (asked set.entry.name.now (option_copied set.entry.member) set.entry.is_text (option_copied set.entry.target)) (V.volume volume.old)) }
+    ensures done { IfOk result (UnloadsSet (asked_by set.entry)
+        (V.volume volume.old) (outcome (F.written files.old) (seen_by W.contents writer.old)) (outcome (F.written files.new) (seen_by W.contents writer.new))) }
+    ensures why { IfErr result (λ e. WhyNot e (asked_by set.entry)
+        (V.volume volume.old)) }
+    ensures front { IfErr result (λ e. StopsPrinting e (asked_by set.entry)
+        (V.volume volume.old)
+        (seen_by W.contents writer.old) (seen_by W.contents writer.new)) }
+    ensures writes { CountsSet result (option_copied set.entry.target) (seen_by W.contents writer.old) (seen_by W.contents writer.new) }
+    ensures same { F.opened files.new ≡ F.opened files.old }
     ensures kept { OnErr result (F.written files.new ≡ F.written files.old) }
 {
-    let Some(found) = find_set(alloc, volume, set.name)? else {
-        return Err(UnloadFault::NoDataSet);
-    };
-    let Some(form) = form_of(&found.block, set.is_text) else {
-        return Err(UnloadFault::NoRecordFormat);
-    };
-    let start = match find_start(alloc, volume, &found, set.member) {
-        Ok(start) => start,
+    let found = match find_blocks(alloc, volume, set) {
+        Ok(found) => found,
         Err(fault) => return Err(fault),
     };
     let source = Source {
-        extents: found.extents.as_slice(),
-        start,
+        extents: found.set.extents.as_slice(),
+        start: found.start,
         tracks: u16::MAX,
-        form,
+        form: found.form,
     };
     match set.target {
-        Some(path) => {
-            let unloaded = unload_to(alloc, files, volume, path, source)?;
-            files.settle();
-            Ok(unloaded.stop)
-        }
-        None => Ok(print(alloc, volume, writer, source)?),
+        Some(path) => put(alloc, files, volume, path, source),
+        None => print(alloc, volume, writer, source),
+    }
+}
+
+// What is asked for on a volume.
+fn find_blocks<V: SlotReader>(
+    alloc: Global,
+    volume: &mut V,
+    asked_for: WantedSet,
+) -> Result<FoundBlocks, UnloadFault>
+    ensures found { IfOk result (λ found. Asks (asked_by asked_for.entry)
+        (V.volume volume.old)
+        (wanted found.form found.set.extents.items found.start 65535)) }
+    ensures why { IfErr result (λ e. WhyNot e (asked_by asked_for.entry)
+        (V.volume volume.old)) }
+    ensures reads { IfErr result (λ e. e ≢ UnloadFault.Job JobFault.Write) }
+    ensures kept { V.volume volume.new ≡ V.volume volume.old }
+{
+    let Some(set) = find_set(alloc, volume, asked_for.name)? else {
+        return Err(UnloadFault::NoDataSet);
+    };
+    let Some(form) = form_of(&set.block, asked_for.is_text) else {
+        return Err(UnloadFault::NoRecordFormat);
+    };
+    match find_start(alloc, volume, &set, asked_for.member) {
+        Ok(start) => Ok(FoundBlocks { set, form, start }),
+        Err(fault) => Err(fault),
     }
 }
 
@@ -121,6 +154,7 @@ fn find_set<V: SlotReader>(
 ) -> Result<Option<DataSet>, UnloadFault>
     ensures found { IfOk result (SetOf name.now (V.volume volume.old)) }
     ensures fault { IfErr result (λ e. is_of_job e ≡ true) }
+    ensures reads { IfErr result (λ e. e ≢ UnloadFault.Job JobFault.Write) }
     ensures kept { V.volume volume.new ≡ V.volume volume.old }
 {
     let Some(name) = data_set_name(name) else {
@@ -128,7 +162,7 @@ fn find_set<V: SlotReader>(
     };
     let contents = match read_contents(alloc, volume) {
         Ok(contents) => contents,
-        Err(fault) => return Err(of_volume(fault)),
+        Err(fault) => return Err(of_reading(fault)),
     };
     match find(alloc, contents.found.blocks.as_slice(), &name) {
         Ok(found) => Ok(found),
@@ -154,7 +188,12 @@ pub(crate) fn is_partitioned(block: &DataSetBlock) -> bool
 }
 
 /// All blocks of a data set with these extents.
-pub(crate) fn whole<'a>(extents: &'a [Extent], form: Form) -> Source<'a> {
+pub(crate) fn whole<'a>(extents: &'a [Extent], form: Form) -> Source<'a>
+    ensures extents { result.extents.now ≡ extents.now }
+    ensures start { result.start ≡ beginning }
+    ensures tracks { result.tracks ≡ 65535 }
+    ensures form { result.form ≡ form }
+{
     Source {
         extents,
         start: FIRST,
@@ -172,15 +211,17 @@ fn find_start<V: SlotReader>(
 ) -> Result<RelativeAddress, UnloadFault>
     ensures start { IfOk result (StartsAt (V.volume volume.old) set.now (option_copied member.entry)) }
     ensures why { IfErr result (λ e. WhyNoStart e (V.volume volume.old) set.now (option_copied member.entry)) }
+    ensures reads { IfErr result (λ e. e ≢ UnloadFault.Job JobFault.Write) }
     ensures kept { V.volume volume.new ≡ V.volume volume.old }
 {
     match (is_partitioned(&set.block), member) {
         (false, None) => Ok(FIRST),
         (false, Some(_)) => Err(UnloadFault::NoMember),
         (true, None) => Err(UnloadFault::NoMemberNamed),
-        (true, Some(member)) => match find_entry(alloc, volume, set, member)? {
-            Some(entry) => Ok(entry.address),
-            None => Err(UnloadFault::NoMember),
+        (true, Some(member)) => match find_entry(alloc, volume, set, member) {
+            Ok(Some(entry)) => Ok(entry.address),
+            Ok(None) => Err(UnloadFault::NoMember),
+            Err(fault) => Err(fault),
         },
     }
 }
@@ -194,6 +235,7 @@ fn find_entry<V: SlotReader>(
 ) -> Result<Option<DirectoryEntry>, UnloadFault>
     ensures found { IfOk result (MemberOf member.now (V.volume volume.old) set.now.extents.items) }
     ensures fault { IfErr result (λ e. is_of_job e ≡ true) }
+    ensures reads { IfErr result (λ e. e ≢ UnloadFault.Job JobFault.Write) }
     ensures kept { V.volume volume.new ≡ V.volume volume.old }
 {
     let Some(name) = member_name(member) else {
@@ -201,20 +243,24 @@ fn find_entry<V: SlotReader>(
     };
     let members = match read_members(alloc, volume, set.extents.as_slice()) {
         Ok(members) => members,
-        Err(fault) => return Err(of_volume(fault)),
+        Err(fault) => return Err(of_reading(fault)),
     };
     Ok(find_member(members.entries.as_slice(), name))
 }
 
-// Writes the blocks of a source to the writer.
+// Writes the blocks of a source to the writer, and leaves none of them held back.
 fn print<V: SlotReader, W: Write>(
     alloc: Global,
     volume: &mut V,
     writer: &mut Counted<W>,
     source: Source,
 ) -> Result<Stop, UnloadFault>
-    ensures blocks { IfOk result (Extracts (wanted source.entry.form source.entry.extents.now source.entry.start source.entry.tracks)
-        (V.volume volume.old) (W.contents writer.old.inner) (W.contents writer.new.inner)) }
+    ensures blocks { IfOk result (λ stop. PrintsSource (wanted source.entry.form source.entry.extents.now source.entry.start source.entry.tracks)
+        (V.volume volume.old) (Ok stop) (seen_by W.contents writer.old) (seen_by W.contents writer.new)) }
+    ensures front { OnErr result (PrintsFirst (wanted source.entry.form source.entry.extents.now source.entry.start source.entry.tracks)
+        (V.volume volume.old) (seen_by W.contents writer.old) (seen_by W.contents writer.new)) }
+    ensures writes { CountsPrinted result (seen_by W.contents writer.old) (seen_by W.contents writer.new) }
+    ensures flushed { OnOk result (IsFlushed (seen_by W.contents writer.new)) }
     ensures fault { IfErr result (λ e. is_of_job e ≡ true) }
 {
     let stop = match extract(alloc, volume, writer, source) {
@@ -224,6 +270,29 @@ fn print<V: SlotReader, W: Write>(
     match flush_all(writer) {
         Ok(()) => Ok(stop),
         Err(WriteFault) => Err(UnloadFault::Job(JobFault::Write)),
+    }
+}
+
+// Puts the blocks of a source into a new file at a path, whose name is on the disk behind this.
+fn put<F: ImageFiles, V: SlotReader>(
+    alloc: Global,
+    files: &mut F,
+    volume: &mut V,
+    path: &str,
+    source: Source,
+) -> Result<Stop, UnloadFault>
+    ensures file { IfOk result (PutsBlocks path.now (wanted source.entry.form source.entry.extents.now source.entry.start source.entry.tracks)
+        (V.volume volume.old) (F.written files.old) (F.written files.new)) }
+    ensures kept { OnErr result (F.written files.new ≡ F.written files.old) }
+    ensures same { F.opened files.new ≡ F.opened files.old }
+    ensures fault { IfErr result (λ e. is_of_job e ≡ true) }
+{
+    match unload_to(alloc, files, volume, path, source) {
+        Ok(unloaded) => {
+            files.settle();
+            Ok(unloaded.stop)
+        }
+        Err(fault) => Err(fault),
     }
 }
 
@@ -241,6 +310,8 @@ pub(crate) fn unload_to<F: ImageFiles, V: SlotReader>(
 ) -> Result<Unloaded, UnloadFault>
     ensures file { UnloadsTo result path.now (wanted source.entry.form source.entry.extents.now source.entry.start source.entry.tracks)
         (V.volume volume.old) (F.written files.old) (F.written files.new) }
+    ensures same { F.opened files.new ≡ F.opened files.old }
+    ensures kept { V.volume volume.new ≡ V.volume volume.old }
     ensures fault { IfErr result (λ e. is_of_job e ≡ true) }
 {
     let new = match begin_file(alloc, files, path) {

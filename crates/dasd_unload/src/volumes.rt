@@ -1,12 +1,19 @@
 //! All data sets of a volume, each unloaded to a file.
 
-ghost use Rattle.std.specs.Prelude.{◌≡◌, ◌++◌, None, Some, codes, IfOk, IfErr, OnOk, true};
+ghost use Rattle.std.specs.Prelude.{◌≡◌, ◌++◌, ◌∷◌, [], if◌then◌else◌, None, Some, codes, map, IfOk, IfErr, OnOk, true};
+ghost use Rattle.std.specs.List.{flat_map};
+ghost use Rattle.std.specs.Option.{option_copied};
 ghost use Rattle.std.specs.String.{string_bytes};
-ghost use Rattle.dasd_unload.specs.Unloads.{AddsIn, IsFileName, file_name, is_of_job};
+ghost use Rattle.counted_io.specs.Streams.{seen_by, IsFlushed};
+ghost use Rattle.dasd_contents.specs.Sets.{is_data_set};
+ghost use Rattle.dasd_extract.specs.Walk.{wanted};
+ghost use Rattle.dasd_unload.specs.Unloads.{AddsIn, IsFileName, outcome, file_name, is_of_job};
+ghost use Rattle.dasd_unload.specs.Volumes.{plan, plan_of, Unload, path_in, block_steps, partitioned_steps, set_steps, volume_steps, DoesOfVolume, CountsReport, UnloadsVolume};
 
-use crate::fault::{NO_MEMORY, UnloadFault, of_volume};
-use crate::report::Report;
+use crate::fault::{NO_MEMORY, UnloadFault, of_reading};
+use crate::report::{Named, Report, Wrong};
 use crate::sets::{form_of, is_partitioned, unload_to, whole};
+use counted_io::Counted;
 use dasd_contents::{Block, DataSet, data_set_of, read_contents};
 use dasd_extract::{Form, Source, member_of, read_members};
 use dasd_jobs::{ImageFiles, JobFault, SlotReader, open_volume};
@@ -28,42 +35,74 @@ pub struct WantedVolume<'a> {
     pub json: bool,
 }
 
-/// Where data sets go, and how.
+/// Where data sets go, how, and how the lines of what is told are written.
 #[derive(Clone, Copy)]
 struct Target<'a> {
     alloc: Global,
     folder: &'a str,
     is_text: bool,
+    json: Option<&'a str>,
 }
 
-/// A data set, and how its blocks are written.
+/// The control blocks of a volume, and where its data sets go.
+#[derive(Clone, Copy)]
+struct Table<'a> {
+    target: Target<'a>,
+    blocks: &'a [Block],
+}
+
+/// One of the control blocks.
+#[derive(Clone, Copy)]
+struct Row<'a> {
+    table: Table<'a>,
+    block: &'a Block,
+}
+
+/// A data set, and where it goes.
+#[derive(Clone, Copy)]
+struct Listed<'a> {
+    target: Target<'a>,
+    set: &'a DataSet,
+}
+
+/// A data set, where it goes, and how its blocks are written.
 #[derive(Clone, Copy)]
 struct Opened<'a> {
+    target: Target<'a>,
     set: &'a DataSet,
     form: Form,
 }
 
-/// What is unloaded, and the name of its file.
+/// What is unloaded, where it goes, and the name of its file.
 #[derive(Clone, Copy)]
 struct Item<'a> {
+    target: Target<'a>,
     name: &'a str,
     source: Source<'a>,
 }
 
-/// Unloads all data sets and members from the volume of these files, each to a new file of a folder, under a name that can't lead out of
-/// it. It prints a line for each of them, for each that is not whole or not unloaded, with why, and for how many there are of both; and
-/// answers how many things were wrong. A file that is there already stays, and is one of these.
+/// Unloads all data sets and members from the volume of these files, each once to a new file of a folder, under a name that can't lead
+/// out of it, in the order of the table of contents and of the directories. It prints a line for each of them, for each that is not
+/// whole or not unloaded, with why, and for how many there are of both; and answers how many things were wrong. A file that is there
+/// already stays, and is one of these.
 ///
 /// # Errors
 ///
-/// A fault stopped it: the files that were written until then stay.
+/// A fault stopped it: the files that were written until then stay, and no other is there. It is a write fault where a write of a line
+/// failed, or the flush, or where a file can't be made.
 pub fn unload_volume<F: ImageFiles, W: Write>(
     alloc: Global,
     files: &mut F,
-    writer: &mut W,
+    writer: &mut Counted<W>,
     paths: &[&str],
     volume: WantedVolume,
 ) -> Result<usize, UnloadFault>
+    ensures volume { UnloadsVolume result (map (λ path. path.now) paths.now)
+        (plan_of volume.entry.folder.now volume.entry.is_text volume.entry.json volume.entry.path.now)
+        (F.opened files.old) (F.opened files.new)
+        (outcome (F.written files.old) (seen_by W.contents writer.old)) (outcome (F.written files.new) (seen_by W.contents writer.new)) }
+    ensures writes { CountsReport result (seen_by W.contents writer.old) (seen_by W.contents writer.new) }
+    ensures flushed { OnOk result (IsFlushed (seen_by W.contents writer.new)) }
     ensures files { AddsIn volume.entry.folder.now (F.written files.old) (F.written files.new) }
     ensures fault { IfErr result (λ e. is_of_job e ≡ true) }
 {
@@ -71,73 +110,170 @@ pub fn unload_volume<F: ImageFiles, W: Write>(
         Ok(opened) => opened,
         Err(fault) => return Err(UnloadFault::Job(fault)),
     };
-    let contents = match read_contents(alloc, &mut opened) {
-        Ok(contents) => contents,
-        Err(fault) => return Err(of_volume(fault)),
-    };
-    let path = volume.json.then_some(volume.path);
-    let mut report = Report::new(writer, path);
-    report.contents(contents.found.findings.len())?;
     let target = Target {
         alloc,
         folder: volume.folder,
         is_text: volume.is_text,
+        json: path_if(volume.json, volume.path),
     };
-    let blocks = contents.found.blocks.as_slice();
-    let unloaded = unload_sets(target, files, &mut opened, &mut report, blocks);
+    let mut report = Report::new(alloc);
+    let unloaded = unload_contents(files, &mut opened, writer, &mut report, target);
     files.settle();
-    unloaded?;
-    report.end()
+    match unloaded {
+        Ok(()) => report.end(writer, target.json),
+        Err(fault) => Err(fault),
+    }
 }
 
-// Unloads the data sets of these control blocks.
-fn unload_sets<F: ImageFiles, V: SlotReader, W: Write>(
-    target: Target,
+// The paths of a volume, where they are asked for.
+fn path_if<'a>(json: bool, path: &'a str) -> Option<&'a str>
+    ensures { option_copied result ≡ (if json then Some path.now else None) }
+{
+    json.then_some(path)
+}
+
+// Unloads the data sets of a volume, behind what is wrong with its label and its control blocks.
+fn unload_contents<F: ImageFiles, V: SlotReader, W: Write>(
     files: &mut F,
     volume: &mut V,
-    report: &mut Report<W>,
-    blocks: &[Block],
+    writer: &mut Counted<W>,
+    report: &mut Report,
+    target: Target,
 ) -> Result<(), UnloadFault>
+    ensures does { DoesOfVolume result (V.volume volume.old)
+        (plan target.entry.folder.now target.entry.is_text (option_copied target.entry.json))
+        (λ u. volume_steps u)
+        (outcome (F.written files.old) (seen_by W.contents writer.old)) (outcome (F.written files.new) (seen_by W.contents writer.new))
+        report.old.tally report.new.tally }
     ensures files { AddsIn target.entry.folder.now (F.written files.old) (F.written files.new) }
+    ensures same { F.opened files.new ≡ F.opened files.old }
+    ensures kept { V.volume volume.new ≡ V.volume volume.old }
     ensures fault { IfErr result (λ e. is_of_job e ≡ true) }
 {
+    let contents = match read_contents(target.alloc, volume) {
+        Ok(contents) => contents,
+        Err(fault) => return Err(of_reading(fault)),
+    };
+    let named = Named {
+        name: "volume table of contents",
+        json: target.json,
+    };
+    let findings = contents.found.findings.as_slice();
+    if let Err(fault) = report.contents(writer, named, findings.len()) {
+        return Err(fault);
+    }
+    let blocks = contents.found.blocks.as_slice();
+    unload_sets(files, volume, writer, report, Table { target, blocks })
+}
+
+// Unloads the data sets of control blocks.
+fn unload_sets<F: ImageFiles, V: SlotReader, W: Write>(
+    files: &mut F,
+    volume: &mut V,
+    writer: &mut Counted<W>,
+    report: &mut Report,
+    table: Table,
+) -> Result<(), UnloadFault>
+    ensures does { DoesOfVolume result (V.volume volume.old)
+        (plan table.entry.target.folder.now table.entry.target.is_text (option_copied table.entry.target.json))
+        (λ u. flat_map (block_steps u table.entry.blocks.now) table.entry.blocks.now)
+        (outcome (F.written files.old) (seen_by W.contents writer.old)) (outcome (F.written files.new) (seen_by W.contents writer.new))
+        report.old.tally report.new.tally }
+    ensures files { AddsIn table.entry.target.folder.now (F.written files.old) (F.written files.new) }
+    ensures same { F.opened files.new ≡ F.opened files.old }
+    ensures kept { V.volume volume.new ≡ V.volume volume.old }
+    ensures fault { IfErr result (λ e. is_of_job e ≡ true) }
+{
+    let blocks = table.blocks;
     for block in blocks {
-        if block.kind == BlockKind::DataSet {
-            let Ok(set) = data_set_of(target.alloc, blocks, block) else {
-                return Err(NO_MEMORY);
-            };
-            unload_one(target, files, volume, report, &set)?;
+        let row = Row { table, block };
+        if let Err(fault) = unload_block(files, volume, writer, report, row) {
+            return Err(fault);
         }
     }
     Ok(())
 }
 
-// Unloads a data set, or its members.
-fn unload_one<F: ImageFiles, V: SlotReader, W: Write>(
-    target: Target,
+// Unloads the data set of a control block, if it is one's.
+fn unload_block<F: ImageFiles, V: SlotReader, W: Write>(
     files: &mut F,
     volume: &mut V,
-    report: &mut Report<W>,
-    set: &DataSet,
+    writer: &mut Counted<W>,
+    report: &mut Report,
+    row: Row,
 ) -> Result<(), UnloadFault>
-    ensures files { AddsIn target.entry.folder.now (F.written files.old) (F.written files.new) }
+    ensures does { DoesOfVolume result (V.volume volume.old)
+        (plan row.entry.table.target.folder.now row.entry.table.target.is_text (option_copied row.entry.table.target.json))
+        (λ u. block_steps u row.entry.table.blocks.now row.entry.block.now)
+        (outcome (F.written files.old) (seen_by W.contents writer.old)) (outcome (F.written files.new) (seen_by W.contents writer.new))
+        report.old.tally report.new.tally }
+    ensures files { AddsIn row.entry.table.target.folder.now (F.written files.old) (F.written files.new) }
+    ensures same { F.opened files.new ≡ F.opened files.old }
+    ensures kept { V.volume volume.new ≡ V.volume volume.old }
     ensures fault { IfErr result (λ e. is_of_job e ≡ true) }
 {
-    let name = name_of_set(target.alloc, set)?;
-    if let Some(fault) = set.fault {
-        report.finding(name.as_str(), &fault)?;
+    let Row { table, block } = row;
+    if !is_data_set(block) {
+        return Ok(());
+    }
+    let target = table.target;
+    let Ok(set) = data_set_of(target.alloc, table.blocks, block) else {
+        return Err(NO_MEMORY);
+    };
+    let listed = Listed { target, set: &set };
+    unload_one(files, volume, writer, report, listed)
+}
+
+// Whether a control block is one of format 1.
+fn is_data_set(block: &Block) -> bool
+    ensures { result ≡ is_data_set block.now.kind }
+{
+    block.kind == BlockKind::DataSet
+}
+
+// Unloads a data set, or its members.
+fn unload_one<F: ImageFiles, V: SlotReader, W: Write>(
+    files: &mut F,
+    volume: &mut V,
+    writer: &mut Counted<W>,
+    report: &mut Report,
+    listed: Listed,
+) -> Result<(), UnloadFault>
+    ensures does { DoesOfVolume result (V.volume volume.old)
+        (plan listed.entry.target.folder.now listed.entry.target.is_text (option_copied listed.entry.target.json))
+        (λ u. set_steps u listed.entry.set.now.block listed.entry.set.now.extents.items listed.entry.set.now.fault)
+        (outcome (F.written files.old) (seen_by W.contents writer.old)) (outcome (F.written files.new) (seen_by W.contents writer.new))
+        report.old.tally report.new.tally }
+    ensures files { AddsIn listed.entry.target.folder.now (F.written files.old) (F.written files.new) }
+    ensures same { F.opened files.new ≡ F.opened files.old }
+    ensures kept { V.volume volume.new ≡ V.volume volume.old }
+    ensures fault { IfErr result (λ e. is_of_job e ≡ true) }
+{
+    let Listed { target, set } = listed;
+    let name = match name_of_set(target.alloc, set) {
+        Ok(name) => name,
+        Err(fault) => return Err(fault),
+    };
+    let named = Named {
+        name: name.as_str(),
+        json: target.json,
+    };
+    if let Err(fault) = report.chain(writer, named, set.fault) {
+        return Err(fault);
     }
     let Some(form) = form_of(&set.block, target.is_text) else {
-        return report.finding(name.as_str(), &"its format is of no records");
+        return report.finding(writer, named, Wrong::NoRecords);
     };
     if is_partitioned(&set.block) {
-        return unload_members(target, files, volume, report, Opened { set, form });
+        let opened = Opened { target, set, form };
+        return unload_members(files, volume, writer, report, opened);
     }
     let item = Item {
-        name: name.as_str(),
+        target,
+        name: named.name,
         source: whole(set.extents.as_slice(), form),
     };
-    unload_item(target, files, volume, report, item)
+    unload_item(files, volume, writer, report, item)
 }
 
 // The name of the file for a data set.
@@ -183,37 +319,60 @@ fn push(to: &mut String, text: &str) -> Result<(), UnloadFault>
 
 // Unloads the members of a partitioned data set.
 fn unload_members<F: ImageFiles, V: SlotReader, W: Write>(
-    target: Target,
     files: &mut F,
     volume: &mut V,
-    report: &mut Report<W>,
+    writer: &mut Counted<W>,
+    report: &mut Report,
     opened: Opened,
 ) -> Result<(), UnloadFault>
-    ensures files { AddsIn target.entry.folder.now (F.written files.old) (F.written files.new) }
+    ensures does { DoesOfVolume result (V.volume volume.old)
+        (plan opened.entry.target.folder.now opened.entry.target.is_text (option_copied opened.entry.target.json))
+        (λ u. partitioned_steps u opened.entry.set.now.block.name opened.entry.set.now.extents.items opened.entry.form)
+        (outcome (F.written files.old) (seen_by W.contents writer.old)) (outcome (F.written files.new) (seen_by W.contents writer.new))
+        report.old.tally report.new.tally }
+    ensures files { AddsIn opened.entry.target.folder.now (F.written files.old) (F.written files.new) }
+    ensures same { F.opened files.new ≡ F.opened files.old }
+    ensures kept { V.volume volume.new ≡ V.volume volume.old }
     ensures fault { IfErr result (λ e. is_of_job e ≡ true) }
 {
-    let Opened { set, form } = opened;
+    let Opened { target, set, form } = opened;
     let extents = set.extents.as_slice();
     let members = match read_members(target.alloc, volume, extents) {
         Ok(members) => members,
-        Err(fault) => return Err(of_volume(fault)),
+        Err(fault) => return Err(of_reading(fault)),
     };
-    let name = name_of_set(target.alloc, set)?;
-    report.directory(name.as_str(), &members)?;
-    for entry in members.entries.as_slice() {
-        let name = name_of_member(target.alloc, set, entry)?;
+    let name = match name_of_set(target.alloc, set) {
+        Ok(name) => name,
+        Err(fault) => return Err(fault),
+    };
+    let named = Named {
+        name: name.as_str(),
+        json: target.json,
+    };
+    if let Err(fault) = report.directory(writer, named, &members) {
+        return Err(fault);
+    }
+    let entries = members.entries.as_slice();
+    for entry in entries {
+        let name = match name_of_member(target.alloc, set, entry) {
+            Ok(name) => name,
+            Err(fault) => return Err(fault),
+        };
         let item = Item {
+            target,
             name: name.as_str(),
             source: member_of(extents, *entry, form),
         };
-        unload_item(target, files, volume, report, item)?;
+        if let Err(fault) = unload_item(files, volume, writer, report, item) {
+            return Err(fault);
+        }
     }
     Ok(())
 }
 
 // The path of a file in a folder.
 fn path_in(alloc: Global, folder: &str, name: &str) -> Result<String, UnloadFault>
-    ensures path { IfOk result (λ path. string_bytes path ≡ folder.now ++ codes "/" ++ name.now) }
+    ensures path { IfOk result (λ path. string_bytes path ≡ path_in folder.now name.now) }
     ensures fault { IfErr result (λ e. is_of_job e ≡ true) }
 {
     let Ok(mut path) = folder.to_string(alloc) else {
@@ -226,20 +385,40 @@ fn path_in(alloc: Global, folder: &str, name: &str) -> Result<String, UnloadFaul
 
 // Unloads one, to a new file. A file that is there stays, and is a finding.
 fn unload_item<F: ImageFiles, V: SlotReader, W: Write>(
-    target: Target,
     files: &mut F,
     volume: &mut V,
-    report: &mut Report<W>,
+    writer: &mut Counted<W>,
+    report: &mut Report,
     item: Item,
 ) -> Result<(), UnloadFault>
     requires name { IsFileName item.name.now }
-    ensures files { AddsIn target.entry.folder.now (F.written files.old) (F.written files.new) }
+    ensures does { DoesOfVolume result (V.volume volume.old)
+        (plan item.entry.target.folder.now item.entry.target.is_text (option_copied item.entry.target.json))
+        (λ u. Unload item.entry.name.now
+        (wanted item.entry.source.form item.entry.source.extents.now item.entry.source.start item.entry.source.tracks) ∷ [])
+        (outcome (F.written files.old) (seen_by W.contents writer.old)) (outcome (F.written files.new) (seen_by W.contents writer.new))
+        report.old.tally report.new.tally }
+    ensures files { AddsIn item.entry.target.folder.now (F.written files.old) (F.written files.new) }
+    ensures same { F.opened files.new ≡ F.opened files.old }
+    ensures kept { V.volume volume.new ≡ V.volume volume.old }
     ensures fault { IfErr result (λ e. is_of_job e ≡ true) }
 {
-    let path = path_in(target.alloc, target.folder, item.name)?;
-    match unload_to(target.alloc, files, volume, path.as_str(), item.source) {
-        Ok(unloaded) => report.unloaded(item.name, unloaded),
-        Err(UnloadFault::Job(JobFault::Exists)) => report.finding(item.name, &"file exists"),
+    let Item {
+        target,
+        name,
+        source,
+    } = item;
+    let path = match path_in(target.alloc, target.folder, name) {
+        Ok(path) => path,
+        Err(fault) => return Err(fault),
+    };
+    let named = Named {
+        name,
+        json: target.json,
+    };
+    match unload_to(target.alloc, files, volume, path.as_str(), source) {
+        Ok(unloaded) => report.unloaded(writer, named, unloaded),
+        Err(UnloadFault::Job(JobFault::Exists)) => report.finding(writer, named, Wrong::Exists),
         Err(fault) => Err(fault),
     }
 }

@@ -1,4 +1,4 @@
-use Rattle.std.proofs.Common.{◌∙◌, ap, List, ℕ}
+use Rattle.std.proofs.Common.{◌∙◌, ap}
 use Rattle.dasd_extract.specs.Walk.{wanted}
 use Rattle.dasd_jobs.specs.Written.{with_file}
 use Rattle.dasd_unload.proofs.Through.{extracted, through}
@@ -11,7 +11,8 @@ returns-in-Ok-put_file-clause-file g c =
       bytes = bytes;
       put = c.in-Ok-put_file.ensures.file ∙ ap (λ l. with_file l c.args.path.now bytes) c.begin_file.ensures.kept;
       blocks =
-          through (wanted c.args.source.form c.args.source.extents.now c.args.source.start c.args.source.tracks) (g.V.SlotReader.volume c.args.volume.now) _ _ _ bytes
+          through (wanted c.args.source.form c.args.source.extents.now c.args.source.start c.args.source.tracks)
+          (g.V.SlotReader.volume c.args.volume.now) _ _ _ bytes
           (ap (λ n. g.F.Draft.ImageStore.content n.draft) c.new-writer.ensures.inner ∙ c.in-Ok.ensures.empty)
           (ap (λ n. g.F.Draft.ImageStore.content n.draft) c.into_inner-written.ensures)
           (extracted _ (g.V.SlotReader.volume c.args.volume.now) _ _ _ c.in-Ok-extract.ensures.written);

@@ -1,0 +1,42 @@
+//! The paths of an image, as they are printed.
+
+ghost use Rattle.std.specs.Prelude.{◌≡◌, map, string_bytes, if◌then◌else◌, Some, None, IfOk, IfErr};
+ghost use Rattle.std.specs.Option.{option_copied};
+ghost use Rattle.dasd_run.specs.Paths.{joined_paths, quoted_paths};
+
+use crate::fault::ProgramFault;
+use serde_json::Value;
+use std::alloc::Global;
+
+// The paths of an image, joined by plus signs.
+fn joined(alloc: Global, paths: &[&str]) -> Result<String, ProgramFault>
+    ensures text { IfOk result (λ text. string_bytes text ≡ joined_paths (map (λ path. path.now) paths.now)) }
+    ensures fault { IfErr result (λ e. e ≡ ProgramFault.OutOfMemory) }
+{
+    match paths.join(alloc, "+") {
+        Ok(joined) => Ok(joined),
+        Err(_) => Err(ProgramFault::OutOfMemory),
+    }
+}
+
+/// The paths of an image as one string of JSON: joined by plus signs, with quotes.
+pub(crate) fn quoted(alloc: Global, paths: &[&str]) -> Result<String, ProgramFault>
+    ensures text { IfOk result (λ text. string_bytes text ≡ quoted_paths (map (λ path. path.now) paths.now)) }
+    ensures fault { IfErr result (λ e. e ≡ ProgramFault.OutOfMemory) }
+{
+    let joined = match joined(alloc, paths) {
+        Ok(joined) => joined,
+        Err(fault) => return Err(fault),
+    };
+    match Value::String(joined).to_string(alloc) {
+        Ok(text) => Ok(text),
+        Err(_) => Err(ProgramFault::OutOfMemory),
+    }
+}
+
+/// They are printed where lines are objects of JSON.
+pub(crate) fn path_if<'a>(json: bool, path: &'a str) -> Option<&'a str>
+    ensures { option_copied result ≡ (if json then Some path.now else None) }
+{
+    json.then_some(path)
+}

@@ -1,0 +1,188 @@
+-- All data sets of a volume, unloaded to the files of a folder: step by step, in the order of the table of contents and of the directories.
+use Rattle.std.specs.Prelude.{◌≡◌, ◌⊎◌, ℕ, Bool, true, false, if◌then◌else◌, List, [], ◌∷◌, ◌++◌, length, map, codes, Option, Some, None, Result, Ok, Err}
+use Rattle.std.specs.List.{flat_map, fold}
+use Rattle.counted_io.specs.Streams.{Stream, Takes, TakesFront, NoneFailed, OneFailed}
+use Rattle.volume_labels.specs.declared.fields.Extent.{Extent}
+use Rattle.volume_labels.specs.declared.blocks.DataSetBlock.{DataSetBlock}
+use Rattle.volume_labels.specs.Labels.{data_set_block_of}
+use Rattle.data_sets.specs.declared.directories.DirectoryEntry.{DirectoryEntry}
+use Rattle.data_sets.specs.Directories.{entries_of}
+use Rattle.dasd_volumes.specs.Reading.{KnownVolume}
+use Rattle.dasd_contents.specs.declared.blocks.Block.{Block}
+use Rattle.dasd_contents.specs.declared.chains.ChainFault.{ChainFault}
+use Rattle.dasd_contents.specs.Contents.{Said, contents_of}
+use Rattle.dasd_contents.specs.Sets.{is_data_set, extents_behind, behind_block}
+use Rattle.dasd_extract.specs.declared.blocks.Form.{Form}
+use Rattle.dasd_extract.specs.Written.{Written}
+use Rattle.dasd_extract.specs.Walk.{Wanted, wanted, source_written}
+use Rattle.dasd_extract.specs.Members.{directory}
+use Rattle.dasd_jobs.specs.Sources.{SourceFile, OfVolume}
+use Rattle.dasd_jobs.specs.Written.{Replaced}
+use Rattle.dasd_jobs.specs.declared.faults.JobFault.TheVariants as job
+use Rattle.dasd_unload.specs.declared.fault.UnloadFault.{UnloadFault}
+use Rattle.dasd_unload.specs.declared.fault.UnloadFault.TheVariants.{Job}
+use Rattle.dasd_unload.specs.declared.report.Tally.{Tally}
+use Rattle.dasd_unload.specs.Unloads.{Outcome, file_name}
+use Rattle.dasd_unload.specs.Asked.{form_of, is_partitioned, beginning}
+use Rattle.dasd_unload.specs.Told.{Line, FileLine, finding_lines, line_text, count_line, no_line, total_text, chain_texts, end_texts, directory_texts, contents_texts}
+
+-- how a volume is unloaded: the folder of the files, whether records are written as lines of text, and the paths of the volume as a
+-- string of JSON, where what is told are objects of JSON
+pub record Plan : Type 0 where
+  pub folder : List ℕ
+  pub is_text : Bool
+  pub json : Option (List ℕ)
+
+abbrev pub plan : (folder : List ℕ) → (is_text : Bool) → (json : Option (List ℕ)) → Plan
+plan folder is_text json = record { folder = folder; is_text = is_text; json = json }
+
+-- objects of JSON have the path only if they are asked for
+abbrev pub plan_of : (folder : List ℕ) → (is_text : Bool) → (json : Bool) → (path : List ℕ) → Plan
+plan_of folder is_text json path = plan folder is_text (if json then Some path else None)
+
+-- a volume, with its slots, and how it is unloaded
+pub record Unloading : Type 0 where
+  pub volume : KnownVolume
+  pub slots : List (List ℕ)
+  pub plan : Plan
+
+abbrev pub unloading : KnownVolume → (slots : List (List ℕ)) → Plan → Unloading
+unloading v slots p = record { volume = v; slots = slots; plan = p }
+
+-- What is done of a volume: a data set without members, or a member, is unloaded to the file of this name; or it is told what is wrong
+-- with what has this name, if something is.
+pub data Step : Type 0 where
+  Unload : (name : List ℕ) → (source : Wanted) → Step
+  Tell : (name : List ℕ) → (texts : List (List ℕ)) → Step
+
+abbrev pub member_step : (data_set : List ℕ) → List Extent → Form → DirectoryEntry → Step
+member_step data_set extents form e = Unload (file_name data_set (Some e.name)) (wanted form extents e.address 65535)
+
+-- what is wrong with a directory, by what was read of it, is told, and then each of its members is unloaded
+abbrev pub directory_steps : (data_set : List ℕ) → List Extent → Form → (directory : Written) → List Step
+directory_steps data_set extents form w =
+    Tell (file_name data_set None) (directory_texts (entries_of w.bytes).fault ++ end_texts w.stop) ∷ map (member_step data_set extents form) (entries_of w.bytes).entries
+
+abbrev pub partitioned_steps : Unloading → (data_set : List ℕ) → List Extent → Form → List Step
+partitioned_steps u data_set extents form = directory_steps data_set extents form (source_written (directory extents) u.volume.geometry u.slots)
+
+-- a data set without members is unloaded, or the members of one that has some
+abbrev pub steps_in_form : Unloading → DataSetBlock → List Extent → Form → List Step
+steps_in_form u d extents form =
+    if is_partitioned d then partitioned_steps u d.name extents form else Unload (file_name d.name None) (wanted form extents beginning 65535) ∷ []
+
+-- none is, where its format has no records that could be lines
+abbrev pub steps_of_form : Unloading → DataSetBlock → List Extent → Option Form → List Step
+steps_of_form u d extents (Some form) = steps_in_form u d extents form
+steps_of_form u d extents None = Tell (file_name d.name None) (codes "its format is of no records" ∷ []) ∷ []
+
+-- of a data set it is told first if the chain of its control blocks is broken
+abbrev pub set_steps : Unloading → DataSetBlock → List Extent → Option ChainFault → List Step
+set_steps u d extents fault = Tell (file_name d.name None) (chain_texts fault) ∷ steps_of_form u d extents (form_of d u.plan.is_text)
+
+-- a format 1 block is that of a data set; no other is
+abbrev pub block_steps : Unloading → List Block → Block → List Step
+block_steps u blocks b =
+    if is_data_set b.kind then set_steps u (data_set_block_of b.key b.bytes) (extents_behind blocks b) (behind_block blocks b).fault else []
+
+abbrev pub said_steps : Unloading → Said → List Step
+said_steps u said = Tell (codes "volume table of contents") (contents_texts (length said.findings)) ∷ flat_map (block_steps u said.blocks) said.blocks
+
+-- All steps of a volume: it is told if something is wrong with its table of contents; and then those of its data sets come, in the
+-- order of the table.
+abbrev pub volume_steps : Unloading → List Step
+volume_steps u = said_steps u (contents_of u.volume.geometry u.slots)
+
+-- a step that was done; what is to be unloaded is kept out where a file is at its path already
+pub record Done : Type 0 where
+  pub step : Step
+  pub is_kept_out : Bool
+
+abbrev pub path_in : (folder name : List ℕ) → List ℕ
+path_in folder name = folder ++ codes "/" ++ name
+
+-- the file of a step: the blocks, under the name in the folder
+abbrev pub files_of_step : Unloading → Step → (is_kept_out : Bool) → List Replaced
+files_of_step u (Unload name s) false = record { path = path_in u.plan.folder name; bytes = (source_written s u.volume.geometry u.slots).bytes } ∷ []
+files_of_step u (Unload name s) true = []
+files_of_step u (Tell name texts) is_kept_out = []
+
+abbrev pub files_of : Unloading → Done → List Replaced
+files_of u d = files_of_step u d.step d.is_kept_out
+
+-- what is told of it: how long its file is, and where its blocks end, if that is before their end of file; or that it is kept out
+abbrev pub unloaded_lines : (name : List ℕ) → Written → List Line
+unloaded_lines name w = FileLine name (length w.bytes) ∷ finding_lines name (end_texts w.stop)
+
+abbrev pub lines_of_step : Unloading → Step → (is_kept_out : Bool) → List Line
+lines_of_step u (Unload name s) false = unloaded_lines name (source_written s u.volume.geometry u.slots)
+lines_of_step u (Unload name s) true = finding_lines name (codes "file exists" ∷ [])
+lines_of_step u (Tell name texts) is_kept_out = finding_lines name texts
+
+abbrev pub lines_of : Unloading → Done → List Line
+lines_of u d = lines_of_step u d.step d.is_kept_out
+
+abbrev pub text_of : Unloading → Done → List ℕ
+text_of u d = flat_map (line_text u.plan.json) (lines_of u d)
+
+abbrev pub counted_of : Unloading → Tally → Done → Tally
+counted_of u t d = fold count_line t (lines_of u d)
+
+-- Steps were done in their order, each once, but for the rest: exactly their files came, and their lines were told.
+pub record DoesUpTo (rest : List Step) (u : Unloading) (steps : List Step) (before now : Outcome) (told_before told : Tally) : Type 0 where
+  pub done : List Done
+  pub in_order : map (λ d. d.step) done ++ rest ≡ steps
+  pub written : now.written ≡ before.written ++ flat_map (files_of u) done
+  pub printed : Takes before.printed now.printed (flat_map (text_of u) done)
+  pub counted : told ≡ fold (counted_of u) told_before done
+
+-- A fault stops a text: its first bytes are printed; and where no write of it failed, but that of a file, all of it is.
+pub record StopsText (fault : UnloadFault) (text : List ℕ) (before after : Stream) : Type 0 where
+  pub front : TakesFront before after text
+  pub whole : fault ≡ Job job.Write → NoneFailed before after → Takes before after text
+
+-- A fault stopped it: the first of the steps were done, and none behind them.
+pub record DoesSome (fault : UnloadFault) (u : Unloading) (steps : List Step) (before now : Outcome) : Type 0 where
+  pub done : List Done
+  pub rest : List Step
+  pub in_order : map (λ d. d.step) done ++ rest ≡ steps
+  pub written : now.written ≡ before.written ++ flat_map (files_of u) done
+  pub printed : StopsText fault (flat_map (text_of u) done) before.printed now.printed
+
+-- all steps were done, or, with a fault, some of them
+abbrev pub DoesOrStops : {A : Type 0} → Result A UnloadFault → Unloading → List Step → (before now : Outcome) → (told_before told : Tally) → Type 0
+DoesOrStops (Ok _) u steps before now told_before told = DoesUpTo [] u steps before now told_before told
+DoesOrStops (Err fault) u steps before now told_before told = DoesSome fault u steps before now
+
+-- No write of what is told failed; or one did, with a write fault. Where a file can't be made, a write fault comes too.
+abbrev pub CountsReport : {A : Type 0} → Result A UnloadFault → (before after : Stream) → Type 0
+CountsReport (Ok _) before after = NoneFailed before after
+CountsReport (Err fault) before after = NoneFailed before after ⊎ ((fault ≡ Job job.Write) × OneFailed before after)
+
+-- the same of the steps of a volume, if its slots are known
+pub record DoesOfVolume {A : Type 0} (r : Result A UnloadFault) (v : KnownVolume) (p : Plan) (steps : Unloading → List Step) (before now : Outcome) (told_before told : Tally) : Type 0 where
+  pub counts : CountsReport r before.printed now.printed
+  pub does : (slots : List (List ℕ)) → v.slots ≡ Some slots → DoesOrStops r (unloading v slots p) (steps (unloading v slots p)) before now told_before told
+
+-- all steps of a volume were done: exactly their files came, and this was told, and so many findings
+pub record AllDone (u : Unloading) (before now : Outcome) (Told : (text : List ℕ) → (findings : ℕ) → Type 0) : Type 0 where
+  pub done : List Done
+  pub in_order : map (λ d. d.step) done ≡ volume_steps u
+  pub written : now.written ≡ before.written ++ flat_map (files_of u) done
+  pub told : Told (flat_map (text_of u) done ++ total_text u.plan.json (fold (counted_of u) no_line done)) (fold (counted_of u) no_line done).findings
+
+-- All were, and this is how many findings there are; or, with a fault, some, and the files that came until then stay; or all, and the last
+-- line was not printed as a whole.
+abbrev pub UnloadsAll : Result ℕ UnloadFault → Unloading → (before now : Outcome) → Type 0
+UnloadsAll (Ok n) u before now = AllDone u before now (λ text findings. Takes before.printed now.printed text × (n ≡ findings))
+UnloadsAll (Err fault) u before now =
+    DoesSome fault u (volume_steps u) before now ⊎ AllDone u before now (λ text findings. TakesFront before.printed now.printed text)
+
+abbrev pub UnloadsKnown : Result ℕ UnloadFault → KnownVolume → Plan → (before now : Outcome) → Type 0
+UnloadsKnown r v p before now = (slots : List (List ℕ)) → v.slots ≡ Some slots → UnloadsAll r (unloading v slots p) before now
+
+-- The volume in the files at these paths was unloaded, if its slots are known; or nothing came, with a fault.
+abbrev pub UnloadsVolume : Result ℕ UnloadFault → (paths : List (List ℕ)) → Plan → (opened_before opened : List SourceFile) → (before now : Outcome) → Type 0
+UnloadsVolume (Ok n) paths p opened_before opened before now = OfVolume paths opened_before opened (λ v. UnloadsKnown (Ok n) v p before now)
+UnloadsVolume (Err fault) paths p opened_before opened before now =
+    (now ≡ before) ⊎ OfVolume paths opened_before opened (λ v. UnloadsKnown (Err fault) v p before now)
