@@ -1,3 +1,6 @@
 mod Built
+pub mod Heads
+pub mod Paths
 pub mod Saving
 mod Told
+pub mod Writes

@@ -8,6 +8,8 @@ use Rattle.dasd_jobs.specs.declared.faults.JobFault.{JobFault}
 use Rattle.dasd_jobs.specs.declared.faults.JobFault.TheVariants as job
 use Rattle.dasd_jobs.specs.declared.files.FileFault.{FileFault}
 use Rattle.dasd_jobs.specs.declared.files.FileFault.TheVariants as file
+use Rattle.dasd_volumes.specs.declared.fault.VolumeFault.{VolumeFault}
+use Rattle.dasd_volumes.specs.declared.fault.VolumeFault.TheVariants as volume
 use Rattle.dasd_unload.specs.declared.fault.UnloadFault.{UnloadFault}
 use Rattle.dasd_unload.specs.declared.fault.UnloadFault.TheVariants as unload
 use Rattle.dasd_run.specs.declared.fault.ProgramFault.{ProgramFault}
@@ -91,3 +93,9 @@ opening_fault file.Exists = fault.TraceInUse
 abbrev pub volume_fault : JobFault → (is_taken : Bool) → ProgramFault
 volume_fault job.InUse true = fault.AddressTaken
 volume_fault f is_taken = fault.Job f
+
+-- what the fault of a volume that is printed is to the program: a slot that can't be read is a file that can't be
+abbrev pub printing_fault : VolumeFault → ProgramFault
+printing_fault volume.OutOfMemory = fault.Job job.OutOfMemory
+printing_fault volume.Store = fault.Job job.Read
+printing_fault volume.Write = fault.Job job.Write

@@ -4,4 +4,7 @@ pub mod Decks
 pub mod Outside
 pub mod Runs
 pub mod Saves
+pub mod Printed
+pub mod Compared
+pub mod Strict
 pub mod Answers

@@ -1,7 +1,7 @@
 //! Why `dasd` did not do what it was asked.
 
 ghost use Rattle.std.specs.Prelude.{◌≡◌};
-ghost use Rattle.dasd_run.specs.Faults.{attach_fault, volume_fault};
+ghost use Rattle.dasd_run.specs.Faults.{attach_fault, volume_fault, printing_fault};
 
 use dasd_jobs::JobFault;
 use dasd_unload::UnloadFault;
@@ -108,14 +108,21 @@ impl From<JobFault> for ProgramFault {
     }
 }
 
-/// A slot that can't be read is a file that can't be.
 impl From<VolumeFault> for ProgramFault {
     fn from(fault: VolumeFault) -> ProgramFault {
-        ProgramFault::Job(match fault {
-            VolumeFault::Store => JobFault::Read,
-            fault => JobFault::from(fault),
-        })
+        of_printing(fault)
     }
+}
+
+/// What the fault of a volume that is printed is to the program: a slot that can't be read is a file that can't be.
+pub(crate) fn of_printing(fault: VolumeFault) -> ProgramFault
+    ensures { result ≡ printing_fault fault }
+{
+    ProgramFault::Job(match fault {
+        VolumeFault::OutOfMemory => JobFault::OutOfMemory,
+        VolumeFault::Store => JobFault::Read,
+        VolumeFault::Write => JobFault::Write,
+    })
 }
 
 /// What a fault of attaching is to the program.

@@ -12,6 +12,7 @@ mod list;
 mod remarks;
 mod runs;
 mod saves;
+mod strict;
 mod traces;
 mod unload;
 mod vtoc;
