@@ -206,7 +206,8 @@ fn list_track<W: Write>(
     slot: &[u8],
 ) -> Result<(), WriteFault>
     ensures { WritesWhole result (seen_by W.contents writer.old) (seen_by W.contents writer.new)
-        (listed_part listing.entry.form.style listing.entry.form.path.now listing.entry.used_only track.geometry.model track.cylinder track.head (track_of slot.now)) }
+        (listed_part listing.entry.form.style listing.entry.form.path.now listing.entry.used_only track.geometry.model
+        track.cylinder track.head (track_of slot.now)) }
 {
     match read_slot(slot) {
         Ok(view) => list_asked(writer, listing, track, &view),
@@ -256,7 +257,8 @@ fn list_asked<W: Write>(
     view: &TrackView,
 ) -> Result<(), WriteFault>
     ensures { WritesWhole result (seen_by W.contents writer.old) (seen_by W.contents writer.new)
-        (listed_part listing.entry.form.style listing.entry.form.path.now listing.entry.used_only track.geometry.model track.cylinder track.head (Ok view.now)) }
+        (listed_part listing.entry.form.style listing.entry.form.path.now listing.entry.used_only track.geometry.model
+        track.cylinder track.head (Ok view.now)) }
 {
     if listing.used_only && view.len() <= 1 {
         return Ok(());

@@ -90,7 +90,8 @@ abbrev pub PrintsWhole : {A : Type 0} → Result A VolumeFault → (text : Geome
 PrintsWhole printing text v before now = PrintsText printing text v before now × CountsWrites printing before now × OnOk printing (IsFlushed now)
 
 -- this text of a part of a volume is printed, where the volume has that part; and else nothing is, and there is no such track
-abbrev pub PrintsPart : Result Ending ProgramFault → (Geometry → Type 0) → (text : Geometry → List (List ℕ) → List ℕ) → KnownVolume → (before now : Stream) → Type 0
+abbrev pub PrintsPart : Result Ending ProgramFault → (Geometry → Type 0) → (text : Geometry → List (List ℕ) → List ℕ) → KnownVolume
+    → (before now : Stream) → Type 0
 PrintsPart result HasPart text v before now =
     (HasPart v.geometry × (printing : Result (Unit {0}) VolumeFault) × (result ≡ printed_ending (λ done. Done) printing)
     × PrintsWhole printing text v before now)

@@ -10,7 +10,8 @@ use Rattle.dasd_archive.proofs.objects.begin_object.Goals as goal
 pub returns-in_err-write_path : goal.returns-in_err-write_path
 returns-in_err-write_path g c =
     let p = err_from_is_err_and c.from_residual.result c.from_residual.ensures.1 in
-    rw p.1 (stopped_before _ _ (codes "{\"path\":" ++ c.args.path.now) (concat (codes ",\"cylinder\":" ∷ decimal c.args.address.cylinder ∷ codes ",\"head\":" ∷ decimal c.args.address.head ∷ [])) c.in_err-write_path.ensures)
+    let head = codes ",\"cylinder\":" ∷ decimal c.args.address.cylinder ∷ codes ",\"head\":" ∷ decimal c.args.address.head ∷ [] in
+    rw p.1 (stopped_before _ _ (codes "{\"path\":" ++ c.args.path.now) (concat head) c.in_err-write_path.ensures)
 
 pub returns : goal.returns
 returns g c =

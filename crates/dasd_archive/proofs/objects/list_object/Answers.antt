@@ -10,4 +10,7 @@ returns-in-Ok g c =
     then_whole c.list_track.result _ _ _ (place_text c.args.path.now c.args.track.cylinder c.args.track.head) _ c.in-Ok.ensures c.list_track.ensures
 
 pub returns-in-Err : goal.returns-in-Err
-returns-in-Err g c = stopped_before _ _ _ (whole_text c.args.track.geometry.model c.args.view.now ++ (of_each (listed_record c.args.view.now) (length c.args.view.now.records) ++ codes "]}\n")) c.in-Err.ensures
+returns-in-Err g c =
+    let view = c.args.view.now in
+    let records = of_each (listed_record view) (length view.records) in
+    stopped_before _ _ _ (whole_text c.args.track.geometry.model view ++ (records ++ codes "]}\n")) c.in-Err.ensures

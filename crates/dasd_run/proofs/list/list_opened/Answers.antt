@@ -18,5 +18,11 @@ returns-in-Err g c =
       subst (HasCylinders part.cylinders) same c.in-Some.ensures.exist,
       Err c.in-Err.fault,
       ap Err c.of_printing.ensures,
-      (λ slots known. subst (λ r. TakesFront before after (list_text form.style form.path.now part.used_only r v.geometry slots)) cylinders (c.in-Err.ensures.lines slots known), c.in-Err.ensures.writes, tt),
+      (
+        λ slots known.
+            subst (λ r. TakesFront before after (list_text form.style form.path.now part.used_only r v.geometry slots)) cylinders
+            (c.in-Err.ensures.lines slots known),
+        c.in-Err.ensures.writes,
+        tt,
+      ),
     )

@@ -7,8 +7,10 @@ use Rattle.dasd_run.proofs.strict.check_heads.Given as goal
 
 -- what is found of the headers so far is printed and counted, and no call failed
 abbrev pub invariant-loop-i : goal.invariant-loop-i
-invariant-loop-i g l = record {
-  found : Takes (seen_by g.W.Write.contents l.fn.writer) (seen_by g.W.Write.contents l.writer) (finding_lines l.fn.form.style l.fn.form.path.now (of_each (λ i. findings_in_header (min (i + 1) 255) (slice_index_or l.fn.heads i [])) l.i))
-      × CountsUp l.fn.tally l.tally (of_each (λ i. findings_in_header (min (i + 1) 255) (slice_index_or l.fn.heads i [])) l.i);
-  sound : NoneFailed (seen_by g.W.Write.contents l.fn.writer) (seen_by g.W.Write.contents l.writer);
-}
+invariant-loop-i g l =
+    let before = seen_by g.W.Write.contents l.fn.writer in
+    let so_far = seen_by g.W.Write.contents l.writer in
+    let found = of_each (λ i. findings_in_header (min (i + 1) 255) (slice_index_or l.fn.heads i [])) l.i in record {
+      found : Takes before so_far (finding_lines l.fn.form.style l.fn.form.path.now found) × CountsUp l.fn.tally l.tally found;
+      sound : NoneFailed before so_far;
+    }

@@ -11,14 +11,24 @@ use Rattle.dasd_run.proofs.strict.check_opened.Goals as goal
 -- what was found of the headers was not printed to its end
 pub returns-in-Err : goal.returns-in-Err
 returns-in-Err g c =
-    let f = c.in-Err.fault in (Err f, ap Err c.of_printing.ensures, tt, (λ slots known. front_before _ _ _ _ c.in-Err.ensures.found, writes_told (Unit {0}) Tally f _ _ c.in-Err.ensures.writes, tt))
+    let f = c.in-Err.fault in (
+      Err f,
+      ap Err c.of_printing.ensures,
+      tt,
+      (λ slots known. front_before _ _ _ _ c.in-Err.ensures.found, writes_told (Unit {0}) Tally f _ _ c.in-Err.ensures.writes, tt),
+    )
 
 pub returns-in-Ok : goal.returns-in-Ok
 returns-in-Ok g c =
     let heads = c.in_default.ensures in
     let is = heads.found.1 [] c.new-tally.ensures in
     let found = found_in c.args.heads.now in
-    (Ok c.in-Ok.tally, ap Ok c.ending_of.ensures, c.in-Ok.ensures.counts found is, (λ slots known. takes_more _ _ _ _ _ heads.found.0 (c.in-Ok.ensures.lines found is slots known), c.in-Ok.ensures.writes ∙ heads.writes, c.in-Ok.ensures.flushed))
+    let strict = c.in-Ok.ensures in (
+      Ok c.in-Ok.tally,
+      ap Ok c.ending_of.ensures,
+      strict.counts found is,
+      (λ slots known. takes_more _ _ _ _ _ heads.found.0 (strict.lines found is slots known), strict.writes ∙ heads.writes, strict.flushed),
+    )
 
 -- what was found of the volume was not
 pub returns-in-Err-check_strict : goal.returns-in-Err-check_strict
@@ -28,4 +38,13 @@ returns-in-Err-check_strict g c =
     let is = heads.found.1 [] c.new-tally.ensures in
     let strict = c.in-Err-check_strict.ensures in
     let after = seen_by g.W.Write.contents c.check_strict.new.writer in
-    (Err f, ap Err c.of_printing-in-Err-check_strict.ensures, tt, (λ slots known. front_behind _ _ after _ _ heads.found.0 (strict.lines (found_in c.args.heads.now) is slots known), writes_behind Tally f _ _ after heads.writes strict.writes, tt))
+    let found = found_in c.args.heads.now in (
+      Err f,
+      ap Err c.of_printing-in-Err-check_strict.ensures,
+      tt,
+      (
+        λ slots known. front_behind _ _ after _ _ heads.found.0 (strict.lines found is slots known),
+        writes_behind Tally f _ _ after heads.writes strict.writes,
+        tt,
+      ),
+    )
