@@ -1,5 +1,5 @@
 pub mod Lined
-pub mod Listed
+pub mod Together
 pub mod Prefixes
 pub mod Printing
 pub mod Reported

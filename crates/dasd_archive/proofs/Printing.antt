@@ -1,8 +1,11 @@
 -- Texts of which the first bytes are printed.
-use Rattle.std.proofs.Common.{◌≡◌, ◌∙◌, ◌+◌, ℕ, List, [], ◌++◌, Result, Ok, Err, ap, refl}
+use Rattle.std.proofs.Common.{◌∙◌, ◌+◌, ℕ, List, [], ◌++◌, Result, Ok, Err, ap, refl}
 use Rattle.counted_io.specs.Streams.{Stream, Takes, TakesFront, NoneFailed, OneFailed, WritesWhole}
 use Rattle.counted_io.proofs.Written.{takes_nothing, takes_more}
 use Rattle.dasd_volumes.specs.declared.fault.VolumeFault.{VolumeFault}
+use Rattle.ckd_track.specs.declared.geometries.Geometry.{Geometry}
+use Rattle.dasd_volumes.specs.Printing.{PrintsText}
+use Rattle.dasd_volumes.specs.Reading.{KnownVolume}
 use Rattle.dasd_volumes.proofs.Fronts.{begins_with_all, begins_before, front_more, front_behind}
 use Rattle.dasd_archive.specs.Printed.{PrintsBytes}
 
@@ -25,3 +28,9 @@ then_whole (Err fault) a b c text more h w = (front_behind a b c text more h.0 w
 
 pub stopped_before : (a b : Stream) (text more : List ℕ) → TakesFront a b text × OneFailed a b → TakesFront a b (text ++ more) × OneFailed a b
 stopped_before a b text more h = (front_before a b text more h.0, h.1)
+
+-- a text is written, and then that of a volume or its first bytes
+pub text_behind : {A : Type 0} (r : Result A VolumeFault) (a b c : Stream) (text : Geometry → List ℕ) (more : Geometry → List (List ℕ) → List ℕ) (v : KnownVolume)
+    → Takes a b (text v.geometry) → PrintsText r more v b c → PrintsText r (λ g slots. text g ++ more g slots) v a c
+text_behind (Ok done) a b c text more v h p = λ slots known. takes_more a b c (text v.geometry) (more v.geometry slots) h (p slots known)
+text_behind (Err fault) a b c text more v h p = λ slots known. front_behind a b c (text v.geometry) (more v.geometry slots) h (p slots known)

@@ -2,7 +2,7 @@
 
 ghost use Rattle.std.specs.Prelude.{◌≡◌, ◌≢◌, ◌<◌, ◌≤◌, length, OnOk, IfOk, IfErr};
 ghost use Rattle.std.specs.Io.KnownBytes.{Appends};
-ghost use Rattle.counted_io.specs.Streams.{seen_by};
+ghost use Rattle.counted_io.specs.Streams.{seen_by, IsFlushed};
 ghost use Rattle.ckd_track.specs.Geometry.{tracks_of};
 ghost use Rattle.dasd_volumes.specs.Printing.{CountsWrites};
 ghost use Rattle.dasd_volumes.specs.Reading.{IsSlotOf};
@@ -69,6 +69,7 @@ pub fn compare<V: SlotReader, U: SlotReader, W: Write>(
     ensures writes { CountsWrites result (seen_by W.contents writer.old) (seen_by W.contents writer.new) }
     ensures kept { V.volume one.new ≡ V.volume one.old }
     ensures other_kept { U.volume other.new ≡ U.volume other.old }
+    ensures flushed { OnOk result (IsFlushed (seen_by W.contents writer.new)) }
 {
     let size = one.geometry().track_size as usize;
     let (Ok(first), Ok(second)) = (vec![in alloc; 0u8; size], vec![in alloc; 0u8; size]) else {
@@ -99,6 +100,7 @@ fn print_number<W: Write>(
     ensures lines { PrintsBytes result (number_line form.now.style form.now.path.now form.now.other.now differing)
         (seen_by W.contents writer.old) (seen_by W.contents writer.new) }
     ensures writes { CountsWrites result (seen_by W.contents writer.old) (seen_by W.contents writer.new) }
+    ensures flushed { OnOk result (IsFlushed (seen_by W.contents writer.new)) }
 {
     lines.clear();
     if write_number(lines, form, differing).is_err() {

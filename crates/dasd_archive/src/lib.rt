@@ -7,6 +7,8 @@ mod differences;
 mod dumps;
 mod findings;
 mod lists;
+mod objects;
+mod pieces;
 mod printed;
 mod reports;
 mod rows;

@@ -1,22 +1,27 @@
 //! The tracks of a part of a volume, with their records.
 
-ghost use Rattle.std.specs.Prelude.{◌≡◌, ◌≢◌, ◌<◌, ◌≤◌, ◌++◌, length, Ok, Err, OnOk, IfErr};
+ghost use Rattle.std.specs.Prelude.{◌≡◌, ◌≢◌, ◌<◌, ◌≤◌, ◌++◌, length, Ok, Err, IfErr, OnOk};
 ghost use Rattle.std.specs.List.{flat_map};
-ghost use Rattle.std.specs.Io.KnownBytes.{Appends, Keeps};
+ghost use Rattle.counted_io.specs.Streams.{seen_by, WritesWhole, IsFlushed};
 ghost use Rattle.ckd_track.specs.Track.{track_of, record_in};
 ghost use Rattle.dasd_volumes.specs.Lines.{model_number_of, volume_line, track_line, record_line};
-ghost use Rattle.dasd_volumes.specs.Reading.{Prints, IsRead};
-ghost use Rattle.dasd_volumes.specs.Volumes.{of_each};
-ghost use Rattle.dasd_archive.specs.Listing.{volume_object, volume_part, comma_before, record_object, listed_record, whole_text, track_object, track_part, listed_part, cylinder_part, cylinders_part, list_text};
+ghost use Rattle.dasd_volumes.specs.Lines as lines;
+ghost use Rattle.dasd_volumes.specs.Printing.{PrintsText, CountsWrites};
+ghost use Rattle.dasd_volumes.specs.Reading.{IsRead};
+ghost use Rattle.dasd_archive.specs.Listing.{volume_part, track_part, listed_part, cylinder_part, cylinders_part, list_text};
 
-use crate::dumps::{Range, TrackForm, dump_count, dump_unreadable, write_place};
+use crate::dumps::Range;
+use crate::objects::{list_object, list_unreadable_object, list_volume_object};
+use crate::pieces::{LINE, put_address, put_count, put_fault};
 use crate::reports::{Form, Style};
 use crate::tracks::TrackPlace;
+use arrayvec::ArrayString;
 use ckd_track::{DriveModel, Geometry, SlotFault, TrackView, read_slot, used};
-use dasd_volumes::{Hexadecimal, SlotReader, TrackAddress, VolumeFault};
+use counted_io::{Counted, WriteFault, flush_all, write_whole};
+use dasd_volumes::{SlotReader, TrackAddress, VolumeFault};
 use std::alloc::Global;
-use std::io;
 use std::io::Write;
+use text_lines::{put_bytes, put_decimal};
 
 /// What is listed of a volume, and how.
 #[derive(Clone, Copy)]
@@ -34,39 +39,61 @@ pub struct Listing<'a> {
 ///
 /// # Errors
 ///
-/// There is no memory for a slot, before anything is printed; or a read or a write fails: what was printed before stays.
+/// There is no memory for a slot, before anything is printed; a read of the volume failed; or a write failed, or the last flush, and
+/// exactly then it is a write fault. What was printed are the first bytes of the text.
 pub fn list_part<V: SlotReader, W: Write>(
     alloc: Global,
     volume: &mut V,
-    writer: &mut W,
+    writer: &mut Counted<W>,
     listing: Listing,
 ) -> Result<(), VolumeFault>
     requires order { listing.cylinders.first ≤ listing.cylinders.last }
     requires exists { listing.cylinders.last < (V.volume volume.old).geometry.cylinders }
-    ensures lines { OnOk result
-        (Prints (list_text listing.entry.form.style listing.entry.form.path.now listing.entry.used_only listing.entry.cylinders)
-        (V.volume volume.old) (W.contents writer.old) (W.contents writer.new)) }
-    ensures none { IfErr result (λ e. e ≡ VolumeFault.OutOfMemory → Keeps (W.contents writer.old) (W.contents writer.new)) }
+    ensures lines { PrintsText result
+        (list_text listing.entry.form.style listing.entry.form.path.now listing.entry.used_only listing.entry.cylinders)
+        (V.volume volume.old) (seen_by W.contents writer.old) (seen_by W.contents writer.new) }
+    ensures writes { CountsWrites result (seen_by W.contents writer.old) (seen_by W.contents writer.new) }
+    ensures none { IfErr result (λ e. e ≡ VolumeFault.OutOfMemory → writer.new ≡ writer.old) }
     ensures volume { IsRead result (V.volume volume.old) (V.volume volume.new) (V.failures volume.old) (V.failures volume.new) }
+    ensures flushed { OnOk result (IsFlushed (seen_by W.contents writer.new)) }
 {
-    let geometry = volume.geometry();
-    let Ok(mut slot) = vec![in alloc; 0u8; geometry.track_size as usize] else {
+    let Ok(mut slot) = vec![in alloc; 0u8; volume.geometry().track_size as usize] else {
         return Err(VolumeFault::OutOfMemory);
     };
-    if list_volume(writer, listing.form, geometry).is_err() {
-        return Err(VolumeFault::Write);
-    }
-    if let Err(fault) = list_cylinders(volume, writer, listing, slot.as_mut_slice()) {
+    if let Err(fault) = list_all(volume, writer, listing, slot.as_mut_slice()) {
         return Err(fault);
     }
-    match writer.flush() {
+    match flush_all(writer) {
         Ok(()) => Ok(()),
-        Err(_) => Err(VolumeFault::Write),
+        Err(WriteFault) => Err(VolumeFault::Write),
     }
 }
 
-// The number of a drive's model.
-fn model_number(model: DriveModel) -> u16
+// Prints the volume and its cylinders, each of whose tracks is loaded into the slot.
+fn list_all<V: SlotReader, W: Write>(
+    volume: &mut V,
+    writer: &mut Counted<W>,
+    listing: Listing,
+    slot: &mut [u8],
+) -> Result<(), VolumeFault>
+    requires order { listing.cylinders.first ≤ listing.cylinders.last }
+    requires exists { listing.cylinders.last < (V.volume volume.old).geometry.cylinders }
+    requires size { length slot.old ≡ (V.volume volume.old).geometry.track_size }
+    ensures lines { PrintsText result
+        (list_text listing.entry.form.style listing.entry.form.path.now listing.entry.used_only listing.entry.cylinders)
+        (V.volume volume.old) (seen_by W.contents writer.old) (seen_by W.contents writer.new) }
+    ensures writes { CountsWrites result (seen_by W.contents writer.old) (seen_by W.contents writer.new) }
+    ensures memory { IfErr result (λ e. e ≢ VolumeFault.OutOfMemory) }
+    ensures volume { IsRead result (V.volume volume.old) (V.volume volume.new) (V.failures volume.old) (V.failures volume.new) }
+{
+    match list_volume(writer, listing.form, volume.geometry()) {
+        Ok(()) => list_cylinders(volume, writer, listing, slot),
+        Err(WriteFault) => Err(VolumeFault::Write),
+    }
+}
+
+/// The number of a drive's model.
+pub(crate) fn model_number(model: DriveModel) -> u16
     ensures { result ≡ model_number_of model }
 {
     match model {
@@ -76,57 +103,49 @@ fn model_number(model: DriveModel) -> u16
 }
 
 // The line of the volume.
-fn list_volume<W: Write>(writer: &mut W, form: Form, geometry: Geometry) -> io::Result<()>
-    ensures { OnOk result (Appends (W.contents writer.old) (W.contents writer.new)
-        (volume_part form.entry.style form.entry.path.now geometry)) }
+fn list_volume<W: Write>(
+    writer: &mut Counted<W>,
+    form: Form,
+    geometry: Geometry,
+) -> Result<(), WriteFault>
+    ensures { WritesWhole result (seen_by W.contents writer.old) (seen_by W.contents writer.new) (volume_part form.entry.style form.entry.path.now geometry) }
 {
     match form.style {
-        Style::Text => write_geometry(writer, geometry),
-        Style::Json => write_volume(writer, form.path, geometry),
+        Style::Text => list_geometry(writer, geometry),
+        Style::Json => list_volume_object(writer, form.path, geometry),
     }
 }
 
 // The volume in words.
-fn write_geometry<W: Write>(writer: &mut W, geometry: Geometry) -> io::Result<()>
-    ensures { OnOk result (Appends (W.contents writer.old) (W.contents writer.new) (volume_line geometry)) }
+fn list_geometry<W: Write>(writer: &mut Counted<W>, geometry: Geometry) -> Result<(), WriteFault>
+    ensures { WritesWhole result (seen_by W.contents writer.old) (seen_by W.contents writer.new) (volume_line geometry) }
 {
-    let model = model_number(geometry.model);
-    let cylinders = geometry.cylinders;
-    let heads = geometry.model.heads();
-    let size = geometry.track_size;
-    writeln!(
-        writer,
-        "{model} {cylinders} cylinders {heads} heads slot {size}"
-    )
-}
-
-// The volume as an object.
-fn write_volume<W: Write>(writer: &mut W, path: &str, geometry: Geometry) -> io::Result<()>
-    ensures { OnOk result (Appends (W.contents writer.old) (W.contents writer.new) (volume_object path.now geometry)) }
-{
-    let model = model_number(geometry.model);
-    let cylinders = geometry.cylinders;
-    let heads = geometry.model.heads();
-    let size = geometry.track_size;
-    writeln!(
-        writer,
-        "{{\"path\":{path},\"model\":{model},\"cylinders\":{cylinders},\"heads\":{heads},\"slot_size\":{size}}}"
-    )
+    let mut line: ArrayString<LINE> = ArrayString::new();
+    put_decimal(&mut line, u32::from(model_number(geometry.model)));
+    line.push_str(" ");
+    put_decimal(&mut line, u32::from(geometry.cylinders));
+    line.push_str(" cylinders ");
+    put_decimal(&mut line, u32::from(geometry.model.heads()));
+    line.push_str(" heads slot ");
+    put_decimal(&mut line, geometry.track_size);
+    line.push_str("\n");
+    write_whole(writer, line.as_bytes())
 }
 
 // The cylinders, each of whose tracks is loaded into the slot.
 fn list_cylinders<V: SlotReader, W: Write>(
     volume: &mut V,
-    writer: &mut W,
+    writer: &mut Counted<W>,
     listing: Listing,
     slot: &mut [u8],
 ) -> Result<(), VolumeFault>
     requires order { listing.cylinders.first ≤ listing.cylinders.last }
     requires exists { listing.cylinders.last < (V.volume volume.old).geometry.cylinders }
     requires size { length slot.old ≡ (V.volume volume.old).geometry.track_size }
-    ensures lines { OnOk result
-        (Prints (cylinders_part listing.entry.form.style listing.entry.form.path.now listing.entry.used_only listing.entry.cylinders)
-        (V.volume volume.old) (W.contents writer.old) (W.contents writer.new)) }
+    ensures lines { PrintsText result
+        (cylinders_part listing.entry.form.style listing.entry.form.path.now listing.entry.used_only listing.entry.cylinders)
+        (V.volume volume.old) (seen_by W.contents writer.old) (seen_by W.contents writer.new) }
+    ensures writes { CountsWrites result (seen_by W.contents writer.old) (seen_by W.contents writer.new) }
     ensures memory { IfErr result (λ e. e ≢ VolumeFault.OutOfMemory) }
     ensures volume { IsRead result (V.volume volume.old) (V.volume volume.new) (V.failures volume.old) (V.failures volume.new) }
 {
@@ -144,16 +163,17 @@ fn list_cylinders<V: SlotReader, W: Write>(
 // The tracks of one cylinder, each of which is loaded into the slot.
 fn list_cylinder<V: SlotReader, W: Write>(
     volume: &mut V,
-    writer: &mut W,
+    writer: &mut Counted<W>,
     listing: Listing,
     cylinder: u16,
     slot: &mut [u8],
 ) -> Result<(), VolumeFault>
     requires exists { cylinder < (V.volume volume.old).geometry.cylinders }
     requires size { length slot.old ≡ (V.volume volume.old).geometry.track_size }
-    ensures lines { OnOk result
-        (Prints (cylinder_part listing.entry.form.style listing.entry.form.path.now listing.entry.used_only cylinder)
-        (V.volume volume.old) (W.contents writer.old) (W.contents writer.new)) }
+    ensures lines { PrintsText result
+        (cylinder_part listing.entry.form.style listing.entry.form.path.now listing.entry.used_only cylinder)
+        (V.volume volume.old) (seen_by W.contents writer.old) (seen_by W.contents writer.new) }
+    ensures writes { CountsWrites result (seen_by W.contents writer.old) (seen_by W.contents writer.new) }
     ensures memory { IfErr result (λ e. e ≢ VolumeFault.OutOfMemory) }
     ensures volume { IsRead result (V.volume volume.old) (V.volume volume.new) (V.failures volume.old) (V.failures volume.new) }
     ensures size { length slot.new ≡ length slot.old }
@@ -171,7 +191,7 @@ fn list_cylinder<V: SlotReader, W: Write>(
             cylinder,
             head,
         };
-        if list_track(writer, listing, track, slot).is_err() {
+        if let Err(WriteFault) = list_track(writer, listing, track, slot) {
             return Err(VolumeFault::Write);
         }
     }
@@ -180,13 +200,14 @@ fn list_cylinder<V: SlotReader, W: Write>(
 
 // The lines of one track, if it is asked for.
 fn list_track<W: Write>(
-    writer: &mut W,
+    writer: &mut Counted<W>,
     listing: Listing,
     track: TrackPlace,
     slot: &[u8],
-) -> io::Result<()>
-    ensures { OnOk result (Appends (W.contents writer.old) (W.contents writer.new)
-        (listed_part listing.entry.form.style listing.entry.form.path.now listing.entry.used_only track.geometry.model track.cylinder track.head (track_of slot.now))) }
+) -> Result<(), WriteFault>
+    ensures { WritesWhole result (seen_by W.contents writer.old) (seen_by W.contents writer.new)
+        (listed_part listing.entry.form.style listing.entry.form.path.now listing.entry.used_only track.geometry.model
+        track.cylinder track.head (track_of slot.now)) }
 {
     match read_slot(slot) {
         Ok(view) => list_asked(writer, listing, track, &view),
@@ -196,28 +217,48 @@ fn list_track<W: Write>(
 
 // The line of a track that can't be read.
 fn list_unreadable<W: Write>(
-    writer: &mut W,
+    writer: &mut Counted<W>,
     form: Form,
     track: TrackPlace,
     fault: SlotFault,
-) -> io::Result<()>
-    ensures { OnOk result (Appends (W.contents writer.old) (W.contents writer.new)
-        (track_part form.entry.style form.entry.path.now track.geometry.model track.cylinder track.head (Err fault))) }
+) -> Result<(), WriteFault>
+    ensures { WritesWhole result (seen_by W.contents writer.old) (seen_by W.contents writer.new)
+        (track_part form.entry.style form.entry.path.now track.geometry.model track.cylinder track.head (Err fault)) }
 {
     let TrackPlace { cylinder, head, .. } = track;
     let address = TrackAddress { cylinder, head };
-    dump_unreadable(writer, &TrackForm { form, address }, fault)
+    match form.style {
+        Style::Text => list_unreadable_line(writer, address, fault),
+        Style::Json => list_unreadable_object(writer, form.path, address, fault),
+    }
+}
+
+// A track that can't be read, as a line.
+fn list_unreadable_line<W: Write>(
+    writer: &mut Counted<W>,
+    address: TrackAddress,
+    fault: SlotFault,
+) -> Result<(), WriteFault>
+    ensures { WritesWhole result (seen_by W.contents writer.old) (seen_by W.contents writer.new) (lines.unreadable_line address.cylinder address.head fault) }
+{
+    let mut line: ArrayString<LINE> = ArrayString::new();
+    put_address(&mut line, address);
+    line.push_str(" unreadable ");
+    put_fault(&mut line, fault);
+    line.push_str("\n");
+    write_whole(writer, line.as_bytes())
 }
 
 // The lines of a track that can be read, if it is asked for.
 fn list_asked<W: Write>(
-    writer: &mut W,
+    writer: &mut Counted<W>,
     listing: Listing,
     track: TrackPlace,
     view: &TrackView,
-) -> io::Result<()>
-    ensures { OnOk result (Appends (W.contents writer.old) (W.contents writer.new)
-        (listed_part listing.entry.form.style listing.entry.form.path.now listing.entry.used_only track.geometry.model track.cylinder track.head (Ok view.now))) }
+) -> Result<(), WriteFault>
+    ensures { WritesWhole result (seen_by W.contents writer.old) (seen_by W.contents writer.new)
+        (listed_part listing.entry.form.style listing.entry.form.path.now listing.entry.used_only track.geometry.model
+        track.cylinder track.head (Ok view.now)) }
 {
     if listing.used_only && view.len() <= 1 {
         return Ok(());
@@ -229,106 +270,59 @@ fn list_asked<W: Write>(
 }
 
 // A track and its records, a line each.
-fn list_lines<W: Write>(writer: &mut W, track: TrackPlace, view: &TrackView) -> io::Result<()>
-    ensures { OnOk result (Appends (W.contents writer.old) (W.contents writer.new)
-        (track_line track.geometry.model track.cylinder track.head view.now ++ flat_map record_line view.now.records)) }
+fn list_lines<W: Write>(
+    writer: &mut Counted<W>,
+    track: TrackPlace,
+    view: &TrackView,
+) -> Result<(), WriteFault>
+    ensures { WritesWhole result (seen_by W.contents writer.old) (seen_by W.contents writer.new)
+        (track_line track.geometry.model track.cylinder track.head view.now ++ flat_map record_line view.now.records) }
 {
     list_home_address(writer, track, view)?;
-    for i in 0..view.len() {
-        dump_count(writer, view, i)?;
-    }
-    Ok(())
-}
-
-// The first line of a track.
-fn list_home_address<W: Write>(
-    writer: &mut W,
-    track: TrackPlace,
-    view: &TrackView,
-) -> io::Result<()>
-    ensures { OnOk result (Appends (W.contents writer.old) (W.contents writer.new)
-        (track_line track.geometry.model track.cylinder track.head view.now)) }
-{
-    let TrackPlace { cylinder, head, .. } = track;
-    let address = TrackAddress { cylinder, head };
-    let home_address = Hexadecimal(view.ha());
-    let records = view.len();
-    let used = used(track.geometry.model, view);
-    writeln!(
-        writer,
-        "{address} HA {home_address} records {records} used {used}"
-    )
-}
-
-// A track with its records as an object.
-fn list_object<W: Write>(
-    writer: &mut W,
-    path: &str,
-    track: TrackPlace,
-    view: &TrackView,
-) -> io::Result<()>
-    ensures { OnOk result (Appends (W.contents writer.old) (W.contents writer.new)
-        (track_object path.now track.geometry.model track.cylinder track.head view.now)) }
-{
-    let TrackPlace { cylinder, head, .. } = track;
-    write_place(writer, path, TrackAddress { cylinder, head })?;
-    write_whole(writer, track.geometry.model, view)?;
-    list_records(writer, view)?;
-    writer.write_all(b"]}\n")
-}
-
-// What an object of a track says of it as a whole.
-fn write_whole<W: Write>(writer: &mut W, model: DriveModel, view: &TrackView) -> io::Result<()>
-    ensures { OnOk result (Appends (W.contents writer.old) (W.contents writer.new) (whole_text model view.now)) }
-{
-    let home_address = Hexadecimal(view.ha());
-    let used = used(model, view);
-    write!(
-        writer,
-        ",\"home_address\":\"{home_address}\",\"used\":{used},\"records\":["
-    )
-}
-
-// The records of a track as objects, with commas between them.
-fn list_records<W: Write>(writer: &mut W, view: &TrackView) -> io::Result<()>
-    ensures { OnOk result (Appends (W.contents writer.old) (W.contents writer.new)
-        (of_each (listed_record view.now) (length view.now.records))) }
-{
     for i in 0..view.len() {
         list_record(writer, view, i)?;
     }
     Ok(())
 }
 
-// A record as an object, behind a comma where it is not the first.
-fn list_record<W: Write>(writer: &mut W, view: &TrackView, i: usize) -> io::Result<()>
-    requires { i < length view.now.records }
-    ensures { OnOk result (Appends (W.contents writer.old) (W.contents writer.new) (listed_record view.now i)) }
+// The first line of a track.
+fn list_home_address<W: Write>(
+    writer: &mut Counted<W>,
+    track: TrackPlace,
+    view: &TrackView,
+) -> Result<(), WriteFault>
+    ensures { WritesWhole result (seen_by W.contents writer.old) (seen_by W.contents writer.new)
+        (track_line track.geometry.model track.cylinder track.head view.now) }
 {
-    write_comma(writer, i)?;
-    write_record(writer, view, i)
+    let TrackPlace { cylinder, head, .. } = track;
+    let mut line: ArrayString<LINE> = ArrayString::new();
+    put_address(&mut line, TrackAddress { cylinder, head });
+    line.push_str(" HA ");
+    put_bytes(&mut line, view.ha());
+    line.push_str(" records ");
+    put_count(&mut line, view.len());
+    line.push_str(" used ");
+    put_decimal(&mut line, used(track.geometry.model, view));
+    line.push_str("\n");
+    write_whole(writer, line.as_bytes())
 }
 
-// The comma before a part of a list that is not the first.
-fn write_comma<W: Write>(writer: &mut W, i: usize) -> io::Result<()>
-    ensures { OnOk result (Appends (W.contents writer.old) (W.contents writer.new) (comma_before i)) }
-{
-    if i == 0 {
-        return Ok(());
-    }
-    writer.write_all(b",")
-}
-
-// A record as an object.
-fn write_record<W: Write>(writer: &mut W, view: &TrackView, i: usize) -> io::Result<()>
+// The line of a record.
+fn list_record<W: Write>(
+    writer: &mut Counted<W>,
+    view: &TrackView,
+    i: usize,
+) -> Result<(), WriteFault>
     requires { i < length view.now.records }
-    ensures { OnOk result (Appends (W.contents writer.old) (W.contents writer.new) (record_object (record_in view.now i))) }
+    ensures { WritesWhole result (seen_by W.contents writer.old) (seen_by W.contents writer.new) (record_line (record_in view.now i)) }
 {
-    let identifier = Hexadecimal(&view.count_of(i)[..5]);
-    let key_length = view.key_of(i).len();
-    let data_length = view.data_of(i).len();
-    write!(
-        writer,
-        "{{\"identifier\":\"{identifier}\",\"key_length\":{key_length},\"data_length\":{data_length}}}"
-    )
+    let mut line: ArrayString<LINE> = ArrayString::new();
+    line.push_str("  ");
+    put_bytes(&mut line, &view.count_of(i)[..5]);
+    line.push_str(" KL ");
+    put_count(&mut line, view.key_of(i).len());
+    line.push_str(" DL ");
+    put_count(&mut line, view.data_of(i).len());
+    line.push_str("\n");
+    write_whole(writer, line.as_bytes())
 }

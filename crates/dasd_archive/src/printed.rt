@@ -1,7 +1,7 @@
 //! Lines that were made in memory are printed.
 
-ghost use Rattle.std.specs.Prelude.{◌≡◌, IfErr};
-ghost use Rattle.counted_io.specs.Streams.{seen_by};
+ghost use Rattle.std.specs.Prelude.{◌≡◌, IfErr, OnOk};
+ghost use Rattle.counted_io.specs.Streams.{seen_by, IsFlushed};
 ghost use Rattle.dasd_volumes.specs.Printing.{CountsWrites};
 ghost use Rattle.dasd_archive.specs.Printed.{PrintsBytes};
 
@@ -40,6 +40,7 @@ pub(crate) fn print_flushed<W: Write>(
     ensures lines { PrintsBytes result lines.now (seen_by W.contents writer.old) (seen_by W.contents writer.new) }
     ensures writes { CountsWrites result (seen_by W.contents writer.old) (seen_by W.contents writer.new) }
     ensures fault { IfErr result (λ e. e ≡ VolumeFault.Write) }
+    ensures flushed { OnOk result (IsFlushed (seen_by W.contents writer.new)) }
 {
     match write_flushed(writer, lines) {
         Ok(()) => Ok(()),

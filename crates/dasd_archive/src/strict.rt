@@ -1,7 +1,7 @@
 //! A strict check of a volume.
 
 ghost use Rattle.std.specs.Prelude.{◌≡◌, ◌≢◌, ◌<◌, ◌≤◌, List, length, IfOk, IfErr, OnOk};
-ghost use Rattle.counted_io.specs.Streams.{seen_by};
+ghost use Rattle.counted_io.specs.Streams.{seen_by, IsFlushed};
 ghost use Rattle.ckd_track.specs.Geometry.{tracks_of};
 ghost use Rattle.ckd_image.specs.Store.{Counts};
 ghost use Rattle.dasd_volumes.specs.Printing.{PrintsText, CountsWrites};
@@ -92,6 +92,7 @@ pub fn check_strict<V: SlotReader, W: Write>(
         (seen_by W.contents writer.old) (seen_by W.contents writer.new) }
     ensures writes { CountsWrites result (seen_by W.contents writer.old) (seen_by W.contents writer.new) }
     ensures volume { IsRead result (V.volume volume.old) (V.volume volume.new) (V.failures volume.old) (V.failures volume.new) }
+    ensures flushed { OnOk result (IsFlushed (seen_by W.contents writer.new)) }
 {
     let mut tally = tally;
     let size = volume.geometry().track_size as usize;
@@ -120,6 +121,7 @@ fn print_tally<W: Write>(
         (seen_by W.contents writer.old) (seen_by W.contents writer.new) }
     ensures writes { CountsWrites result (seen_by W.contents writer.old) (seen_by W.contents writer.new) }
     ensures fault { IfErr result (λ e. e ≢ VolumeFault.Store) }
+    ensures flushed { OnOk result (IsFlushed (seen_by W.contents writer.new)) }
 {
     lines.clear();
     if write_tally(lines, form, tally).is_err() {

@@ -21,7 +21,8 @@ use Rattle.dasd_run.specs.declared.commands.Ending.{Ending}
 use Rattle.dasd_run.specs.declared.fault.ProgramFault.{ProgramFault}
 use Rattle.dasd_run.specs.declared.fault.ProgramFault.TheVariants as fault
 use Rattle.dasd_run.specs.Faults.{printing_fault}
-use Rattle.dasd_run.specs.Held.{SaysWith, SaysAll, all_findings, said_text, contents_text, findings_ending, CountsFault, PrintsHeld, volume_paths, json_path, ListsContents}
+use Rattle.dasd_run.specs.Held.{SaysWith, SaysAll, all_findings, said_text, contents_text, CountsFault, PrintsHeld, json_path, ListsContents}
+use Rattle.dasd_run.specs.Printed.{paths_of, ending_of}
 
 -- the text of what was read is that of what the volume says
 text_is : (json : Option (List ℕ)) (g : Geometry) (s : Said) (all : List Finding) (c : Contents) → SaysWith s all c → contents_text json g c ≡ said_text json g s all
@@ -38,13 +39,13 @@ text_is (Some path) g s all c w =
 
 -- all of it was printed, or its first bytes
 module _ (json : Option (List ℕ)) (v : KnownVolume) (c : Contents) (is : SaysAll v c) (a b : Stream) where
-  pub all_held : (ending : Ending) → ending ≡ findings_ending (length c.found.findings.items) → Takes a b (contents_text json v.geometry c) → NoneFailed a b → IsFlushed b
+  pub all_held : (ending : Ending) → ending ≡ ending_of (length c.found.findings.items) → Takes a b (contents_text json v.geometry c) → NoneFailed a b → IsFlushed b
       → PrintsHeld (Ok ending) json v a b
   all_held ending ends took none flushed = (
     λ slots known.
         let s = contents_of v.geometry slots in
         let w = is slots known in
-        (subst (Takes a b) (text_is json v.geometry s (all_findings v.geometry s) c w) took, ends ∙ ap (λ (l : List Finding). findings_ending (length l)) w.findings),
+        (subst (Takes a b) (text_is json v.geometry s (all_findings v.geometry s) c w) took, ends ∙ ap (λ (l : List Finding). ending_of (length l)) w.findings),
     none,
     flushed,
   )
@@ -65,7 +66,7 @@ none_held json v f a other = (λ slots known. record { front = []; rest = _; who
 
 -- the volume in files that were opened
 pub listed : (r : Result Ending ProgramFault) (asked : PrintedVolume) (opened_before opened : List SourceFile) (x : OpenedState) (a b : Stream)
-    → OpensPaths (volume_paths asked) x.contents opened_before opened → Mounts x.contents x.geometry → PrintsHeld r (json_path asked) (volume_in x.geometry x.contents) a b
+    → OpensPaths (paths_of asked) x.contents opened_before opened → Mounts x.contents x.geometry → PrintsHeld r (json_path asked) (volume_in x.geometry x.contents) a b
     → ListsContents r asked opened_before opened a b
 listed (Ok ending) asked opened_before opened x a b opens mounts so = record { geometry = x.geometry; contents = x.contents; opens = opens; mounts = mounts; so = so }
 listed (Err f) asked opened_before opened x a b opens mounts so = inr (record { geometry = x.geometry; contents = x.contents; opens = opens; mounts = mounts; so = so })

@@ -1,5 +1,7 @@
 mod Built
 mod Held
+pub mod Heads
 pub mod Paths
 pub mod Saving
 mod Told
+pub mod Writes

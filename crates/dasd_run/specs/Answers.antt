@@ -1,8 +1,12 @@
 -- What is done of each request.
-use Rattle.std.specs.Prelude.{◌≡◌, ◌==◌, ℕ, List, map, if◌then◌else◌, Result, Ok, Err, IfOk, OnOk}
+use Rattle.std.specs.Prelude.{◌≡◌, ◌⊎◌, ℕ, List, map, if◌then◌else◌, Result, Ok, Err, IfOk, OnOk}
 use Rattle.counted_io.specs.Streams.{Stream, IsFlushed}
+use Rattle.dasd_archive.specs.Dump.{dump_text, IsPartOf}
 use Rattle.dasd_volumes.specs.Volumes.{volume_text, check_text, NumberIn}
 use Rattle.dasd_words.specs.declared.requests.NewImage.{NewImage}
+use Rattle.dasd_words.specs.declared.requests.PrintedVolume.{PrintedVolume}
+use Rattle.dasd_words.specs.declared.requests.ListedPart.{ListedPart}
+use Rattle.dasd_words.specs.declared.requests.DumpedPart.{DumpedPart}
 use Rattle.dasd_words.specs.declared.requests.Request.{Request}
 use Rattle.dasd_words.specs.declared.requests.Request.TheVariants as request
 use Rattle.dasd_jobs.specs.Printed.{CountsLines, PrintsFiles}
@@ -11,22 +15,22 @@ use Rattle.dasd_jobs.specs.Written.{Replaced, Formats}
 use Rattle.dasd_jobs.specs.declared.faults.JobFault.{JobFault}
 use Rattle.dasd_unload.specs.Unloads.{Outcome, outcome}
 use Rattle.dasd_run.specs.declared.commands.Ending.{Ending}
-use Rattle.dasd_run.specs.declared.commands.Ending.TheVariants.{Done, Findings}
+use Rattle.dasd_run.specs.declared.commands.Ending.TheVariants.{Done}
 use Rattle.dasd_run.specs.declared.fault.ProgramFault.{ProgramFault}
 use Rattle.dasd_run.specs.declared.fault.ProgramFault.TheVariants as fault
+use Rattle.dasd_run.specs.Compared.{ComparesFiles}
 use Rattle.dasd_run.specs.Held.{ListsContents}
 use Rattle.dasd_run.specs.Outside.{Outside}
+use Rattle.dasd_run.specs.Paths.{joined_paths, quoted_paths}
+use Rattle.dasd_run.specs.Printed.{style_of, paths_of, asked_part, asked_list, HasCylinders, ending_of, IsUnopened, HashesWhole, PrintsPart}
 use Rattle.dasd_run.specs.Runs.{RunsOrStops}
+use Rattle.dasd_run.specs.Strict.{ChecksStrictly}
 use Rattle.dasd_run.specs.Unloads.{ExtractsSet, ExtractsVolume}
 
 -- how the program ends with a job over files: so, where the job is done; and else its fault is the program's
 abbrev pub ended : {A : Type 0} → (A → Ending) → Result A JobFault → Result Ending ProgramFault
 ended ending (Ok done) = Ok (ending done)
 ended ending (Err f) = Err (fault.Job f)
-
--- a check has findings where it counts some
-abbrev pub ending_of : ℕ → Ending
-ending_of found = if found == 0 then Done else Findings
 
 -- the new image that is asked for is put at its path, and its line printed and flushed
 abbrev pub FormatsVolume : Result Ending ProgramFault → NewImage → (before now : List Replaced) → (printed_before printed : Stream) → Type 0
@@ -49,6 +53,30 @@ ChecksVolume result paths opened_before opened printed_before printed =
     × PrintsFiles job check_text paths opened_before opened printed_before printed × CountsLines job printed_before printed
     × OnOk job (IsFlushed printed)
 
+-- this part of the volume in the files that are named is dumped
+abbrev pub DumpsPart : Result Ending ProgramFault → PrintedVolume → DumpedPart → (opened_before opened : List SourceFile) → (before now : Stream) → Type 0
+DumpsPart result asked part opened_before opened before now =
+    IsUnopened result before now
+    ⊎ OfVolume (paths_of asked) opened_before opened
+    (λ v. PrintsPart result (IsPartOf (asked_part part)) (dump_text (style_of asked.json) (quoted_paths (paths_of asked)) (asked_part part)) v before now)
+
+-- some of its cylinders are listed
+abbrev pub ListsPart : Result Ending ProgramFault → PrintedVolume → ListedPart → (opened_before opened : List SourceFile) → (before now : Stream) → Type 0
+ListsPart result asked part opened_before opened before now =
+    IsUnopened result before now
+    ⊎ OfVolume (paths_of asked) opened_before opened
+    (λ v. PrintsPart result (HasCylinders part.cylinders) (asked_list (style_of asked.json) (quoted_paths (paths_of asked)) part) v before now)
+
+-- the path in the line of a hash: as it was typed, and as a string of JSON in an object
+abbrev pub hashed_path : PrintedVolume → List ℕ
+hashed_path asked = if asked.json then quoted_paths (paths_of asked) else joined_paths (paths_of asked)
+
+-- its hash is printed, and it has findings where there are tracks that can't be read
+abbrev pub HashesVolume : Result Ending ProgramFault → PrintedVolume → (opened_before opened : List SourceFile) → (before now : Stream) → Type 0
+HashesVolume result asked opened_before opened before now =
+    IsUnopened result before now
+    ⊎ OfVolume (paths_of asked) opened_before opened (λ v. HashesWhole result (hashed_path asked) asked.json v before now)
+
 -- no file is written, and nothing is read of the reader
 abbrev pub Looks : (before now : Outside) → Type 0
 Looks before now = (now.written ≡ before.written) × (now.read ≡ before.read)
@@ -63,8 +91,19 @@ Answers (request.Format asked) result before now =
     FormatsVolume result asked before.written now.written before.printed now.printed × (now.read ≡ before.read)
 Answers (request.List paths) result before now =
     ListsVolume result (map (λ path. path.now) paths.items) before.opened now.opened before.printed now.printed × Looks before now
+Answers (request.ListPart asked part) result before now =
+    ListsPart result asked part before.opened now.opened before.printed now.printed × Looks before now
 Answers (request.Check paths) result before now =
     ChecksVolume result (map (λ path. path.now) paths.items) before.opened now.opened before.printed now.printed × Looks before now
+Answers (request.CheckStrictly asked) result before now =
+    ChecksStrictly result asked before.opened now.opened before.printed now.printed × Looks before now
+Answers (request.Dump asked part) result before now =
+    DumpsPart result asked part before.opened now.opened before.printed now.printed × Looks before now
+Answers (request.Compare asked) result before now =
+    ComparesFiles result asked before.opened now.opened before.printed now.printed × Looks before now
+Answers (request.Hash asked) result before now =
+    HashesVolume result asked before.opened now.opened before.printed now.printed × Looks before now
+Answers (request.Explain noted) result before now = OnOk result (IsFlushed now.printed) × (now.opened ≡ before.opened) × Looks before now
 Answers (request.Run asked) result before now = RunsOrStops result asked before now
 Answers (request.ListContents asked) result before now =
     ListsContents result asked before.opened now.opened before.printed now.printed × Looks before now
@@ -72,4 +111,3 @@ Answers (request.Extract asked) result before now =
     ExtractsSet result asked before.opened now.opened (left_of before) (left_of now) × (now.read ≡ before.read)
 Answers (request.ExtractAll asked) result before now =
     ExtractsVolume result asked before.opened now.opened (left_of before) (left_of now) × (now.read ≡ before.read)
-Answers asked result before now = Looks before now

@@ -1,5 +1,5 @@
 -- What a volume holds, as it is printed: its label, its data sets, and what is wrong with them.
-use Rattle.std.specs.Prelude.{◌≡◌, ◌≢◌, ◌⊎◌, ◌==◌, ℕ, if◌then◌else◌, List, ◌++◌, length, map, Option, Some, None, Result, Ok, Err}
+use Rattle.std.specs.Prelude.{◌≡◌, ◌≢◌, ◌⊎◌, ℕ, if◌then◌else◌, List, ◌++◌, length, Option, Some, None, Result, Ok, Err}
 use Rattle.std.specs.List.{flat_map}
 use Rattle.counted_io.specs.Streams.{Stream, Takes, TakesFront, NoneFailed, OneFailed, IsFlushed}
 use Rattle.ckd_track.specs.declared.geometries.Geometry.{Geometry}
@@ -14,10 +14,10 @@ use Rattle.dasd_words.specs.declared.requests.PrintedVolume.{PrintedVolume}
 use Rattle.dasd_jobs.specs.declared.faults.JobFault.TheVariants as job
 use Rattle.dasd_jobs.specs.Sources.{SourceFile, OfVolume}
 use Rattle.dasd_run.specs.declared.commands.Ending.{Ending}
-use Rattle.dasd_run.specs.declared.commands.Ending.TheVariants.{Done, Findings}
 use Rattle.dasd_run.specs.declared.fault.ProgramFault.{ProgramFault}
 use Rattle.dasd_run.specs.declared.fault.ProgramFault.TheVariants as fault
 use Rattle.dasd_run.specs.Paths.{quoted_paths}
+use Rattle.dasd_run.specs.Printed.{paths_of, ending_of}
 
 -- all that is wrong: with the label and the control blocks, and with the data sets and the free tracks
 abbrev pub all_findings : Geometry → Said → List Finding
@@ -46,12 +46,8 @@ pub record SaysWith (s : Said) (all : List Finding) (c : Contents) : Type 0 wher
 abbrev pub SaysAll : KnownVolume → Contents → Type 0
 SaysAll v c = (slots : List (List ℕ)) → v.slots ≡ Some slots → SaysWith (contents_of v.geometry slots) (all_findings v.geometry (contents_of v.geometry slots)) c
 
--- it is reported where something is wrong
-abbrev pub findings_ending : ℕ → Ending
-findings_ending found = if found == 0 then Done else Findings
-
 abbrev pub held_ending : Geometry → (slots : List (List ℕ)) → Ending
-held_ending g slots = findings_ending (length (all_findings g (contents_of g slots)))
+held_ending g slots = ending_of (length (all_findings g (contents_of g slots)))
 
 -- a write failed, or the flush, exactly where that is the fault
 abbrev pub CountsFault : ProgramFault → (before now : Stream) → Type 0
@@ -66,18 +62,15 @@ PrintsHeld (Ok ending) json v before now =
 PrintsHeld (Err f) json v before now =
     ((slots : List (List ℕ)) → v.slots ≡ Some slots → TakesFront before now (held_text json v.geometry slots)) × CountsFault f before now
 
--- the paths of the files of a volume of which something is printed, and in objects the same as a string of JSON
-abbrev pub volume_paths : PrintedVolume → List (List ℕ)
-volume_paths asked = map (λ path. path.now) asked.paths.items
-
+-- in objects the paths of the files are a string of JSON
 abbrev pub json_path : PrintedVolume → Option (List ℕ)
-json_path asked = if asked.json then Some (quoted_paths (volume_paths asked)) else None
+json_path asked = if asked.json then Some (quoted_paths (paths_of asked)) else None
 
 -- The volume in the files at the paths that were named was printed so, and no other file was opened; or they could not be opened, or hold no
 -- volume, or there was no memory, and nothing was printed.
 abbrev pub ListsContents : Result Ending ProgramFault → PrintedVolume → (opened_before opened : List SourceFile) → (before now : Stream) → Type 0
 ListsContents (Ok ending) asked opened_before opened before now =
-    OfVolume (volume_paths asked) opened_before opened (λ v. PrintsHeld (Ok ending) (json_path asked) v before now)
+    OfVolume (paths_of asked) opened_before opened (λ v. PrintsHeld (Ok ending) (json_path asked) v before now)
 ListsContents (Err f) asked opened_before opened before now =
     ((f ≢ fault.Job job.Write) × (now ≡ before))
-    ⊎ OfVolume (volume_paths asked) opened_before opened (λ v. PrintsHeld (Err f) (json_path asked) v before now)
+    ⊎ OfVolume (paths_of asked) opened_before opened (λ v. PrintsHeld (Err f) (json_path asked) v before now)

@@ -5,6 +5,9 @@ pub mod Outside
 pub mod Runs
 pub mod Saves
 pub mod Paths
+pub mod Printed
 pub mod Held
 pub mod Unloads
+pub mod Compared
+pub mod Strict
 pub mod Answers

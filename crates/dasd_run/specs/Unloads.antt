@@ -15,8 +15,8 @@ use Rattle.dasd_run.specs.declared.commands.Ending.{Ending}
 use Rattle.dasd_run.specs.declared.commands.Ending.TheVariants.{Done}
 use Rattle.dasd_run.specs.declared.fault.ProgramFault.{ProgramFault}
 use Rattle.dasd_run.specs.declared.fault.ProgramFault.TheVariants as fault
-use Rattle.dasd_run.specs.Held.{findings_ending}
 use Rattle.dasd_run.specs.Paths.{quoted_paths}
+use Rattle.dasd_run.specs.Printed.{ending_of}
 
 -- how the program ends with what was unloaded: so, where that is done; and else its fault is the program's
 abbrev pub unload_ending : {A : Type 0} → (A → Ending) → Result A UnloadFault → Result Ending ProgramFault
@@ -51,7 +51,7 @@ asked_plan e = plan_of e.folder.now e.is_text e.json (quoted_paths (map (λ path
 -- nothing that is told is held back. Or a fault stopped it.
 pub record TakesAll (result : Result Ending ProgramFault) (e : ExtractedVolume) (opened_before opened : List SourceFile) (before now : Outcome) : Type 0 where
   pub unloading : Result ℕ UnloadFault
-  pub told : result ≡ unload_ending findings_ending unloading
+  pub told : result ≡ unload_ending ending_of unloading
   pub unloaded : UnloadsVolume unloading (map (λ path. path.now) e.paths.items) (asked_plan e) opened_before opened before now
   pub writes : CountsReport unloading before.printed now.printed
   pub flushed : OnOk unloading (IsFlushed now.printed)

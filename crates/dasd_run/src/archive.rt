@@ -1,111 +1,42 @@
-//! What an archive asks of volumes: a strict check, a dump, and a comparison.
+//! What an archive asks of volumes: a dump, and a comparison.
 
-ghost use Rattle.std.specs.Prelude.{◌≡◌, IfSome};
-ghost use Rattle.dasd_archive.specs.Dump.{IsPartOf};
+ghost use Rattle.std.specs.Prelude.{◌≡◌, Some, IfSome, IfNone, IfOk, IfErr, OnOk};
+ghost use Rattle.std.specs.Io.KnownBytes.{Appends};
+ghost use Rattle.counted_io.specs.Streams.{seen_by, IsFlushed};
+ghost use Rattle.dasd_volumes.specs.Lines.{model_number_of};
+ghost use Rattle.dasd_volumes.specs.Printing.{CountsWrites};
+ghost use Rattle.dasd_archive.specs.Dump.{dump_text, IsPartOf};
+ghost use Rattle.dasd_archive.specs.Printed.{PrintsBytes};
+ghost use Rattle.dasd_run.specs.Answers.{DumpsPart};
+ghost use Rattle.dasd_run.specs.Compared.{shape_text, geometries_line, ComparesVolumes, ComparesFiles};
+ghost use Rattle.dasd_run.specs.Printed.{style_of, range_of, asked_part, PrintsPart};
 
-use crate::commands::Ending;
-use crate::fault::ProgramFault;
+use crate::commands::{Ending, ending_of};
+use crate::fault::{ProgramFault, of_printing};
+use crate::printed_paths::quoted;
 use ckd_track::{DriveModel, Geometry};
-use counted_io::Counted;
-use dasd_archive::{
-    Comparison, FileHeader, Form, Part, Range, Style, Tally, check_headers, check_strict, compare,
-    dump,
-};
-use dasd_jobs::{ImageFiles, JobFault, OpenedFile, SlotReader, open_volume};
+use counted_io::{Counted, WriteFault, write_flushed};
+use dasd_archive::{Comparison, Form, Part, Range, Style, compare, dump};
+use dasd_jobs::{ImageFiles, SlotReader, open_volume};
+use dasd_volumes::VolumeFault;
 use dasd_words::{ComparedVolumes, DumpedPart, Numbers, PrintedVolume};
-use serde_json::Value;
 use std::alloc::Global;
-use std::fmt;
 use std::io::Write;
-
-/// The length of a file's header, in bytes.
-const HEADER: usize = 512;
+use std::{fmt, io};
 
 /// For whom lines are printed.
-pub(crate) fn style(json: bool) -> Style {
+pub(crate) fn style(json: bool) -> Style
+    ensures { result ≡ style_of json }
+{
     if json { Style::Json } else { Style::Text }
 }
 
-/// The paths of an image as one string of JSON: joined by plus signs, with quotes.
-pub(crate) fn quoted(alloc: Global, paths: &[&str]) -> Result<String, ProgramFault> {
-    let mut joined = String::new(alloc);
-    for (i, path) in paths.iter().enumerate() {
-        if i > 0 {
-            joined.push('+')?;
-        }
-        joined.push_str(path)?;
-    }
-    Ok(Value::String(joined).to_string(alloc)?)
-}
-
-/// Prints all that is found on the volume of these files, and says whether there is an error.
-pub(crate) fn check_strictly<F: ImageFiles, W: Write>(
-    alloc: Global,
-    files: &mut F,
-    writer: &mut Counted<W>,
-    asked: &PrintedVolume,
-) -> Result<Ending, ProgramFault>
-    ensures { F.written files.new ≡ F.written files.old }
-{
-    let paths = asked.paths.as_slice();
-    let mut volume = open_volume(alloc, files, paths)?;
-    let path = quoted(alloc, paths)?;
-    let form = Form {
-        style: style(asked.json),
-        path: path.as_str(),
-    };
-    let tally = check_each_header(alloc, files, writer, paths, form)?;
-    let tally = check_strict(alloc, &mut volume, writer, form, tally)?;
-    if tally.errors == 0 {
-        Ok(Ending::Done)
-    } else {
-        Ok(Ending::Findings)
-    }
-}
-
-// Prints what is found of the headers of these files, the first of which is number 1, and counts it.
-fn check_each_header<F: ImageFiles, W: Write>(
-    alloc: Global,
-    files: &mut F,
-    writer: &mut Counted<W>,
-    paths: &[&str],
-    form: Form,
-) -> Result<Tally, ProgramFault>
-    ensures { F.written files.new ≡ F.written files.old }
-{
-    let mut tally = Tally::new();
-    let mut header = [0u8; HEADER];
-    for (i, path) in paths.iter().enumerate() {
-        read_header(alloc, files, path, &mut header)?;
-        let number = u8::try_from(i).unwrap_or(u8::MAX).saturating_add(1);
-        let head = FileHeader {
-            file: number,
-            bytes: &header,
-        };
-        check_headers(alloc, writer, &mut tally, form, head)?;
-    }
-    Ok(tally)
-}
-
-// Reads the header of a file.
-fn read_header<F: ImageFiles>(
-    alloc: Global,
-    files: &mut F,
-    path: &str,
-    header: &mut [u8; HEADER],
-) -> Result<(), ProgramFault>
-    ensures { F.written files.new ≡ F.written files.old }
-{
-    let Ok(mut file) = files.open(alloc, path) else {
-        return Err(ProgramFault::Job(JobFault::Read));
-    };
-    match file.read_at(0, header) {
-        Ok(()) => Ok(()),
-        Err(_) => Err(ProgramFault::Job(JobFault::Read)),
-    }
-}
-
 /// Prints the bytes of a part of the volume of these files.
+///
+/// # Errors
+///
+/// There is no memory, or the files hold no volume, or it has no such part, before a line is printed; or what stopped the dump, behind
+/// the lines that are printed. A write fault comes exactly where a write failed, or the last flush.
 pub(crate) fn dump_part<F: ImageFiles, W: Write>(
     alloc: Global,
     files: &mut F,
@@ -113,24 +44,49 @@ pub(crate) fn dump_part<F: ImageFiles, W: Write>(
     asked: &PrintedVolume,
     part: DumpedPart,
 ) -> Result<Ending, ProgramFault>
-    ensures { F.written files.new ≡ F.written files.old }
+    ensures kept { F.written files.new ≡ F.written files.old }
+    ensures dumps { DumpsPart result asked.now part (F.opened files.old) (F.opened files.new)
+        (seen_by W.contents writer.old) (seen_by W.contents writer.new) }
 {
     let paths = asked.paths.as_slice();
-    let mut volume = open_volume(alloc, files, paths)?;
-    let Some(part) = part_of(volume.geometry(), part) else {
-        return Err(ProgramFault::NoTrack);
+    let path = match quoted(alloc, paths) {
+        Ok(path) => path,
+        Err(fault) => return Err(fault),
     };
-    let path = quoted(alloc, paths)?;
     let form = Form {
         style: style(asked.json),
         path: path.as_str(),
     };
-    dump(alloc, &mut volume, writer, form, part)?;
-    Ok(Ending::Done)
+    match open_volume(alloc, files, paths) {
+        Ok(mut volume) => dump_opened(alloc, &mut volume, writer, form, part),
+        Err(fault) => Err(ProgramFault::Job(fault)),
+    }
+}
+
+// Prints the bytes of a part of a volume.
+fn dump_opened<V: SlotReader, W: Write>(
+    alloc: Global,
+    volume: &mut V,
+    writer: &mut Counted<W>,
+    form: Form,
+    part: DumpedPart,
+) -> Result<Ending, ProgramFault>
+    ensures { PrintsPart result (IsPartOf (asked_part part)) (dump_text form.entry.style form.entry.path.now (asked_part part))
+        (V.volume volume.old) (seen_by W.contents writer.old) (seen_by W.contents writer.new) }
+{
+    let Some(part) = part_of(volume.geometry(), part) else {
+        return Err(ProgramFault::NoTrack);
+    };
+    match dump(alloc, volume, writer, form, part) {
+        Ok(()) => Ok(Ending::Done),
+        Err(fault) => Err(of_printing(fault)),
+    }
 }
 
 /// Numbers as a range.
-pub(crate) fn range(numbers: Numbers) -> Range {
+pub(crate) fn range(numbers: Numbers) -> Range
+    ensures { result ≡ range_of numbers }
+{
     Range {
         first: numbers.first,
         last: numbers.last,
@@ -139,7 +95,9 @@ pub(crate) fn range(numbers: Numbers) -> Range {
 
 // The part of a volume of this geometry that words ask for, if it has these tracks.
 fn part_of(geometry: Geometry, part: DumpedPart) -> Option<Part>
-    ensures { IfSome result (λ part. IsPartOf part geometry) }
+    ensures part { IfSome result (λ found. found ≡ asked_part part) }
+    ensures exists { IfSome result (λ found. IsPartOf (asked_part part) geometry) }
+    ensures none { IfNone result (IsPartOf (asked_part part) geometry → ⊥) }
 {
     let cylinders = range(part.cylinders);
     let heads = range(part.heads);
@@ -158,35 +116,112 @@ fn part_of(geometry: Geometry, part: DumpedPart) -> Option<Part>
     })
 }
 
-/// Prints what differs of the volumes of two lists of files, and says whether something does.
+/// Prints what differs of the volumes of two lists of files, and says whether something does. Of volumes of two geometries it prints
+/// these, and compares no track.
+///
+/// # Errors
+///
+/// There is no memory, or the files of a list hold no volume, before a line is printed; or what stopped the comparison, behind the lines
+/// that are printed. A write fault comes exactly where a write failed, or the last flush.
 pub(crate) fn compare_both<F: ImageFiles, W: Write>(
     alloc: Global,
     files: &mut F,
     writer: &mut Counted<W>,
     asked: &ComparedVolumes,
 ) -> Result<Ending, ProgramFault>
-    ensures { F.written files.new ≡ F.written files.old }
+    ensures kept { F.written files.new ≡ F.written files.old }
+    ensures compares { ComparesFiles result asked.now (F.opened files.old) (F.opened files.new)
+        (seen_by W.contents writer.old) (seen_by W.contents writer.new) }
 {
-    let one = asked.one.as_slice();
-    let other = asked.other.as_slice();
-    let mut volume = open_volume(alloc, files, one)?;
-    let mut beside = open_volume(alloc, files, other)?;
-    let path = quoted(alloc, one)?;
-    let other = quoted(alloc, other)?;
+    let path = match quoted(alloc, asked.one.as_slice()) {
+        Ok(path) => path,
+        Err(fault) => return Err(fault),
+    };
+    let other = match quoted(alloc, asked.other.as_slice()) {
+        Ok(path) => path,
+        Err(fault) => return Err(fault),
+    };
     let form = Comparison {
         style: style(asked.json),
         path: path.as_str(),
         other: other.as_str(),
         lists: asked.lists,
     };
-    if volume.geometry() != beside.geometry() {
-        return write_geometries(writer, form, volume.geometry(), beside.geometry());
+    let mut volume = match open_volume(alloc, files, asked.one.as_slice()) {
+        Ok(volume) => volume,
+        Err(fault) => return Err(ProgramFault::Job(fault)),
+    };
+    match open_volume(alloc, files, asked.other.as_slice()) {
+        Ok(mut beside) => compare_opened(alloc, &mut volume, &mut beside, writer, form),
+        Err(fault) => Err(ProgramFault::Job(fault)),
     }
-    let differences = compare(alloc, &mut volume, &mut beside, writer, form)?;
-    if differences == 0 {
-        Ok(Ending::Done)
-    } else {
-        Ok(Ending::Findings)
+}
+
+// Prints what differs of two volumes, and says whether something does.
+fn compare_opened<V: SlotReader, U: SlotReader, W: Write>(
+    alloc: Global,
+    one: &mut V,
+    other: &mut U,
+    writer: &mut Counted<W>,
+    form: Comparison,
+) -> Result<Ending, ProgramFault>
+    ensures { ComparesVolumes result form.entry.style form.entry.path.now form.entry.other.now form.entry.lists
+        (V.volume one.old) (U.volume other.old) (seen_by W.contents writer.old) (seen_by W.contents writer.new) }
+{
+    let (geometry, beside) = (one.geometry(), other.geometry());
+    if beside != geometry {
+        return match print_geometries(alloc, writer, form, geometry, beside) {
+            Ok(()) => Ok(Ending::Findings),
+            Err(fault) => Err(of_printing(fault)),
+        };
+    }
+    match compare(alloc, one, other, writer, form) {
+        Ok(differing) => Ok(ending_of(differing)),
+        Err(fault) => Err(of_printing(fault)),
+    }
+}
+
+// Prints the line of two geometries that differ, which is made in memory.
+fn print_geometries<W: Write>(
+    alloc: Global,
+    writer: &mut Counted<W>,
+    form: Comparison,
+    one: Geometry,
+    other: Geometry,
+) -> Result<(), VolumeFault>
+    ensures line { PrintsBytes result (geometries_line form.entry.style form.entry.path.now form.entry.other.now one other)
+        (seen_by W.contents writer.old) (seen_by W.contents writer.new) }
+    ensures writes { CountsWrites result (seen_by W.contents writer.old) (seen_by W.contents writer.new) }
+    ensures flushed { OnOk result (IsFlushed (seen_by W.contents writer.new)) }
+{
+    let mut line = Vec::new(alloc);
+    if write_geometries(&mut line, form, one, other).is_err() {
+        return Err(VolumeFault::OutOfMemory);
+    }
+    match write_flushed(writer, line.as_slice()) {
+        Ok(()) => Ok(()),
+        Err(WriteFault) => Err(VolumeFault::Write),
+    }
+}
+
+// The line of two geometries that differ.
+fn write_geometries<W: Write>(
+    writer: &mut W,
+    form: Comparison,
+    one: Geometry,
+    other: Geometry,
+) -> io::Result<()>
+    ensures { OnOk result (Appends (W.contents writer.old) (W.contents writer.new)
+        (geometries_line form.entry.style form.entry.path.now form.entry.other.now one other)) }
+{
+    let (path, beside) = (form.path, form.other);
+    let (one, other) = (Shape(one), Shape(other));
+    match form.style {
+        Style::Text => writeln!(writer, "geometry {one} and {other}"),
+        Style::Json => writeln!(
+            writer,
+            "{{\"path\":{path},\"other\":{beside},\"text\":\"geometry {one} and {other}\"}}"
+        ),
     }
 }
 
@@ -195,39 +230,25 @@ pub(crate) fn compare_both<F: ImageFiles, W: Write>(
 struct Shape(Geometry);
 
 impl fmt::Display for Shape {
+    ghost use Rattle.std.specs.Prelude.{Some};
+    ghost use Rattle.dasd_run.specs.Compared.{shape_text};
+
+    ghost output = { λ s. Some (shape_text s.0) };
+
     fn fmt<W: fmt::Write>(&self, f: &mut fmt::Formatter<W>) -> fmt::Result {
-        let model = match self.0.model {
-            DriveModel::D2311 => 2311,
-            DriveModel::D2314 => 2314,
-        };
+        let model = model_number(self.0.model);
         let cylinders = self.0.cylinders;
         let size = self.0.track_size;
         write!(f, "{model} {cylinders} cylinders slot {size}")
     }
 }
 
-// The line of two geometries that differ: no track is then compared.
-fn write_geometries<W: Write>(
-    writer: &mut W,
-    form: Comparison,
-    one: Geometry,
-    other: Geometry,
-) -> Result<Ending, ProgramFault> {
-    let one = Shape(one);
-    let other = Shape(other);
-    let written = match form.style {
-        Style::Text => writeln!(writer, "geometry {one} and {other}"),
-        Style::Json => writeln!(
-            writer,
-            "{{\"path\":{},\"other\":{},\"text\":\"geometry {one} and {other}\"}}",
-            form.path, form.other
-        ),
-    };
-    match written {
-        Ok(()) => match writer.flush() {
-            Ok(()) => Ok(Ending::Findings),
-            Err(_) => Err(ProgramFault::Job(JobFault::Write)),
-        },
-        Err(_) => Err(ProgramFault::Job(JobFault::Write)),
+// The number of a drive's model.
+fn model_number(model: DriveModel) -> u16
+    ensures { result ≡ model_number_of model }
+{
+    match model {
+        DriveModel::D2311 => 2311,
+        DriveModel::D2314 => 2314,
     }
 }

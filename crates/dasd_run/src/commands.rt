@@ -2,18 +2,20 @@
 
 ghost use Rattle.std.specs.Prelude.{◌≡◌, true, map, IfErr};
 ghost use Rattle.counted_io.specs.Streams.{seen_by};
-ghost use Rattle.dasd_run.specs.Answers.{FormatsVolume, ListsVolume, ChecksVolume, Answers, ending_of};
+ghost use Rattle.dasd_run.specs.Answers.{FormatsVolume, ListsVolume, ChecksVolume, Answers};
 ghost use Rattle.dasd_run.specs.Faults.{keeps_files};
+ghost use Rattle.dasd_run.specs.Printed.{ending_of};
 ghost use Rattle.dasd_run.specs.Runs.{RunsOrStops, Tells};
 ghost use Rattle.dasd_run.specs.Saves.{Concludes};
 
-use crate::archive::{check_strictly, compare_both, dump_part};
+use crate::archive::{compare_both, dump_part};
 use crate::decks::{read_deck, run_deck, tell_fault};
 use crate::explain::explain;
 use crate::fault::ProgramFault;
 use crate::hash::hash_volume;
 use crate::list::list_part;
 use crate::runs::{Disks, build, finish};
+use crate::strict::check_strictly;
 use crate::traces::{Traces, begin_trace, end_trace};
 use crate::unload::{extract_set, extract_volume};
 use crate::vtoc::list_contents;

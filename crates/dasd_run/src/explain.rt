@@ -1,8 +1,12 @@
 //! Numbers that somebody has noted, in words.
 
+ghost use Rattle.std.specs.Prelude.{OnOk};
+ghost use Rattle.counted_io.specs.Streams.{seen_by, IsFlushed};
+
 use crate::commands::Ending;
 use crate::fault::ProgramFault;
 use arrayvec::ArrayVec;
+use counted_io::Counted;
 use dasd_jobs::JobFault;
 use dasd_words::Noted;
 use s360_explain::{Lines, of_ccw, of_csw, of_ending, of_pasted, of_sense, of_status};
@@ -41,7 +45,12 @@ fn of_sense_bytes(bytes: ArrayVec<u8, 8>) -> Lines {
 }
 
 /// Prints what a number means.
-pub(crate) fn explain<W: Write>(writer: &mut W, noted: Noted) -> Result<Ending, ProgramFault> {
+pub(crate) fn explain<W: Write>(
+    writer: &mut Counted<W>,
+    noted: Noted,
+) -> Result<Ending, ProgramFault>
+    ensures { OnOk result (IsFlushed (seen_by W.contents writer.new)) }
+{
     let lines = lines_of(noted);
     for line in lines.as_slice() {
         if writeln!(writer, "{line}").is_err() {

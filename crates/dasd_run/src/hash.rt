@@ -1,92 +1,73 @@
 //! The hash of what a volume says.
 
-ghost use Rattle.std.specs.Prelude.{◌≡◌, map, IfOk, IfErr, OnOk};
-ghost use Rattle.counted_io.specs.Streams.{seen_by, IsFlushed};
-ghost use Rattle.dasd_jobs.specs.Causes.{volume_fault};
-ghost use Rattle.dasd_jobs.specs.Printed.{CountsLines, PrintsFiles};
-ghost use Rattle.dasd_jobs.specs.Sources.{OfVolume};
-ghost use Rattle.volume_hash.specs.Lines.{hash_text};
-ghost use Rattle.volume_hash.specs.Message.{NumberOfUnreadable};
+ghost use Rattle.std.specs.Prelude.{◌≡◌, string_bytes, IfOk, IfErr};
+ghost use Rattle.counted_io.specs.Streams.{seen_by};
+ghost use Rattle.dasd_run.specs.Answers.{hashed_path, HashesVolume};
+ghost use Rattle.dasd_run.specs.Printed.{HashesWhole};
 
-use crate::archive::quoted;
 use crate::commands::{Ending, ending_of};
-use crate::fault::ProgramFault;
+use crate::fault::{ProgramFault, of_printing};
+use crate::printed_paths::{joined, quoted};
 use counted_io::Counted;
-use dasd_jobs::{ImageFiles, JobFault, open_volume};
-use dasd_volumes::VolumeFault;
+use dasd_jobs::{ImageFiles, SlotReader, open_volume};
 use dasd_words::PrintedVolume;
-use std::alloc::{AllocError, Global};
+use std::alloc::Global;
 use std::io::Write;
 use volume_hash::{Form, print_hash};
 
 /// Prints the hash of the volume of these files, and says whether it has tracks that can't be read.
+///
+/// # Errors
+///
+/// There is no memory, or the files hold no volume, or a track can't be read: nothing is printed. Or a write failed, or the flush, and
+/// exactly then it is a write fault.
 pub(crate) fn hash_volume<F: ImageFiles, W: Write>(
     alloc: Global,
     files: &mut F,
     writer: &mut Counted<W>,
     asked: &PrintedVolume,
 ) -> Result<Ending, ProgramFault>
-    ensures { F.written files.new ≡ F.written files.old }
+    ensures kept { F.written files.new ≡ F.written files.old }
+    ensures hashes { HashesVolume result asked.now (F.opened files.old) (F.opened files.new)
+        (seen_by W.contents writer.old) (seen_by W.contents writer.new) }
 {
-    let paths = asked.paths.as_slice();
-    let path = if asked.json {
-        quoted(alloc, paths)?
-    } else {
-        joined(alloc, paths)?
+    let path = match path_of(alloc, asked) {
+        Ok(path) => path,
+        Err(fault) => return Err(fault),
     };
     let form = Form {
         path: path.as_str(),
         json: asked.json,
     };
-    match hash_files(alloc, files, writer, paths, form) {
-        Ok(unreadable) => Ok(ending_of(unreadable)),
+    match open_volume(alloc, files, asked.paths.as_slice()) {
+        Ok(mut volume) => hash_opened(alloc, &mut volume, writer, form),
         Err(fault) => Err(ProgramFault::Job(fault)),
     }
 }
 
-// The paths of an image, joined by plus signs.
-fn joined(alloc: Global, paths: &[&str]) -> Result<String, AllocError> {
-    let mut joined = String::new(alloc);
-    for (i, path) in paths.iter().enumerate() {
-        if i > 0 {
-            joined.push('+')?;
-        }
-        joined.push_str(path)?;
+// The path in the line of a hash.
+fn path_of(alloc: Global, asked: &PrintedVolume) -> Result<String, ProgramFault>
+    ensures text { IfOk result (λ text. string_bytes text ≡ hashed_path asked.now) }
+    ensures fault { IfErr result (λ e. e ≡ ProgramFault.OutOfMemory) }
+{
+    if asked.json {
+        return quoted(alloc, asked.paths.as_slice());
     }
-    Ok(joined)
+    joined(alloc, asked.paths.as_slice())
 }
 
-// Prints the hash of the volume that these files hold, in their order, and answers how many of its tracks can't be read. No file is
-// written.
-fn hash_files<F: ImageFiles, W: Write>(
+// Prints the hash of a volume, and says whether it has tracks that can't be read.
+fn hash_opened<V: SlotReader, W: Write>(
     alloc: Global,
-    files: &mut F,
+    volume: &mut V,
     writer: &mut Counted<W>,
-    paths: &[&str],
     form: Form,
-) -> Result<u32, JobFault>
-    ensures kept { F.written files.new ≡ F.written files.old }
-    ensures number { IfOk result (λ n. OfVolume (map (λ path. path.now) paths.now) (F.opened files.old) (F.opened files.new) (λ v. NumberOfUnreadable v n)) }
-    ensures lines { PrintsFiles result (hash_text form.entry.path.now form.entry.json) (map (λ path. path.now) paths.now)
-        (F.opened files.old) (F.opened files.new) (seen_by W.contents writer.old) (seen_by W.contents writer.new) }
-    ensures writes { CountsLines result (seen_by W.contents writer.old) (seen_by W.contents writer.new) }
-    ensures none { IfErr result (λ e. e ≡ JobFault.OutOfMemory → writer.new ≡ writer.old) }
-    ensures flushed { OnOk result (IsFlushed (seen_by W.contents writer.new)) }
+) -> Result<Ending, ProgramFault>
+    ensures { HashesWhole result form.entry.path.now form.entry.json (V.volume volume.old)
+        (seen_by W.contents writer.old) (seen_by W.contents writer.new) }
 {
-    let mut volume = open_volume(alloc, files, paths)?;
-    match print_hash(alloc, &mut volume, writer, form) {
-        Ok(unreadable) => Ok(unreadable),
-        Err(fault) => Err(of_volume(fault)),
-    }
-}
-
-// What a fault over the files of a volume is to a job: a slot that can't be read is a file that can't be.
-fn of_volume(fault: VolumeFault) -> JobFault
-    ensures { result ≡ volume_fault fault }
-{
-    match fault {
-        VolumeFault::OutOfMemory => JobFault::OutOfMemory,
-        VolumeFault::Store => JobFault::Read,
-        VolumeFault::Write => JobFault::Write,
+    match print_hash(alloc, volume, writer, form) {
+        Ok(unreadable) => Ok(ending_of(unreadable)),
+        Err(fault) => Err(of_printing(fault)),
     }
 }

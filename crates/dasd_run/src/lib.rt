@@ -13,6 +13,7 @@ mod printed_paths;
 mod remarks;
 mod runs;
 mod saves;
+mod strict;
 mod traces;
 mod unload;
 mod vtoc;

@@ -1,11 +1,16 @@
 //! A list of a part of a volume.
 
-ghost use Rattle.std.specs.Prelude.{◌≡◌, ◌≤◌, ◌<◌, IfSome};
+ghost use Rattle.std.specs.Prelude.{◌≡◌, IfSome, IfNone};
+ghost use Rattle.counted_io.specs.Streams.{seen_by};
+ghost use Rattle.dasd_run.specs.Answers.{ListsPart};
+ghost use Rattle.dasd_run.specs.Printed.{asked_cylinders, asked_list, HasCylinders, PrintsPart};
 
-use crate::archive::{quoted, range, style};
+use crate::archive::{range, style};
 use crate::commands::Ending;
-use crate::fault::ProgramFault;
+use crate::fault::{ProgramFault, of_printing};
+use crate::printed_paths::quoted;
 use ckd_track::Geometry;
+use counted_io::Counted;
 use dasd_archive::{Form, Listing, Range};
 use dasd_jobs::{ImageFiles, SlotReader, open_volume};
 use dasd_words::{ListedPart, Numbers, PrintedVolume};
@@ -13,37 +18,67 @@ use std::alloc::Global;
 use std::io::Write;
 
 /// Prints a part of the volume of these files.
+///
+/// # Errors
+///
+/// There is no memory, or the files hold no volume, or it has no such part, before a line is printed; or what stopped the list, behind
+/// the lines that are printed. A write fault comes exactly where a write failed, or the last flush.
 pub(crate) fn list_part<F: ImageFiles, W: Write>(
     alloc: Global,
     files: &mut F,
-    writer: &mut W,
+    writer: &mut Counted<W>,
     asked: &PrintedVolume,
     part: ListedPart,
 ) -> Result<Ending, ProgramFault>
-    ensures { F.written files.new ≡ F.written files.old }
+    ensures kept { F.written files.new ≡ F.written files.old }
+    ensures lists { ListsPart result asked.now part (F.opened files.old) (F.opened files.new)
+        (seen_by W.contents writer.old) (seen_by W.contents writer.new) }
 {
     let paths = asked.paths.as_slice();
-    let mut volume = open_volume(alloc, files, paths)?;
-    let Some(cylinders) = cylinders_of(volume.geometry(), part.cylinders) else {
-        return Err(ProgramFault::NoTrack);
+    let path = match quoted(alloc, paths) {
+        Ok(path) => path,
+        Err(fault) => return Err(fault),
     };
-    let path = quoted(alloc, paths)?;
     let form = Form {
         style: style(asked.json),
         path: path.as_str(),
+    };
+    match open_volume(alloc, files, paths) {
+        Ok(mut volume) => list_opened(alloc, &mut volume, writer, form, part),
+        Err(fault) => Err(ProgramFault::Job(fault)),
+    }
+}
+
+// Prints a part of a volume.
+fn list_opened<V: SlotReader, W: Write>(
+    alloc: Global,
+    volume: &mut V,
+    writer: &mut Counted<W>,
+    form: Form,
+    part: ListedPart,
+) -> Result<Ending, ProgramFault>
+    ensures { PrintsPart result (HasCylinders part.cylinders) (asked_list form.entry.style form.entry.path.now part)
+        (V.volume volume.old) (seen_by W.contents writer.old) (seen_by W.contents writer.new) }
+{
+    let Some(cylinders) = cylinders_of(volume.geometry(), part.cylinders) else {
+        return Err(ProgramFault::NoTrack);
     };
     let listing = Listing {
         form,
         cylinders,
         used_only: part.used_only,
     };
-    dasd_archive::list_part(alloc, &mut volume, writer, listing)?;
-    Ok(Ending::Done)
+    match dasd_archive::list_part(alloc, volume, writer, listing) {
+        Ok(()) => Ok(Ending::Done),
+        Err(fault) => Err(of_printing(fault)),
+    }
 }
 
 // The cylinders that words ask for, or all, if a volume of this geometry has them.
 fn cylinders_of(geometry: Geometry, asked: Option<Numbers>) -> Option<Range>
-    ensures { IfSome result (λ cylinders. (cylinders.first ≤ cylinders.last) × (cylinders.last < geometry.cylinders)) }
+    ensures cylinders { IfSome result (λ found. found ≡ asked_cylinders asked geometry) }
+    ensures exist { IfSome result (λ found. HasCylinders asked geometry) }
+    ensures none { IfNone result (HasCylinders asked geometry → ⊥) }
 {
     let cylinders = match asked {
         Some(numbers) => range(numbers),

@@ -8,8 +8,8 @@ use crate::fault::ProgramFault;
 use serde_json::Value;
 use std::alloc::Global;
 
-// The paths of an image, joined by plus signs.
-fn joined(alloc: Global, paths: &[&str]) -> Result<String, ProgramFault>
+/// The paths of an image, joined by plus signs.
+pub(crate) fn joined(alloc: Global, paths: &[&str]) -> Result<String, ProgramFault>
     ensures text { IfOk result (λ text. string_bytes text ≡ joined_paths (map (λ path. path.now) paths.now)) }
     ensures fault { IfErr result (λ e. e ≡ ProgramFault.OutOfMemory) }
 {

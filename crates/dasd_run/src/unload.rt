@@ -4,7 +4,7 @@ ghost use Rattle.std.specs.Prelude.{◌≡◌, true, IfErr};
 ghost use Rattle.counted_io.specs.Streams.{seen_by};
 ghost use Rattle.dasd_unload.specs.Unloads.{outcome};
 ghost use Rattle.dasd_run.specs.Faults.{keeps_files};
-ghost use Rattle.dasd_run.specs.Held.{findings_ending};
+ghost use Rattle.dasd_run.specs.Printed.{ending_of};
 ghost use Rattle.dasd_run.specs.Unloads.{ExtractsSet, ExtractsVolume, unload_ending};
 
 use crate::commands::Ending;
@@ -71,7 +71,7 @@ pub(crate) fn extract_volume<F: ImageFiles, W: Write>(
 
 // How the program ends with so many findings of an unloaded volume.
 fn unload_ending(unloaded: Result<usize, UnloadFault>) -> Result<Ending, ProgramFault>
-    ensures { result ≡ unload_ending findings_ending unloaded }
+    ensures { result ≡ unload_ending ending_of unloaded }
 {
     match unloaded {
         Ok(0) => Ok(Ending::Done),

@@ -4,7 +4,8 @@ ghost use Rattle.std.specs.Prelude.{◌≡◌, ◌≢◌, length, IfOk, IfErr, O
 ghost use Rattle.std.specs.Option.{option_copied};
 ghost use Rattle.counted_io.specs.Streams.{seen_by, Takes, TakesFront, IsFlushed};
 ghost use Rattle.dasd_volumes.specs.Printing.{CountsWrites};
-ghost use Rattle.dasd_run.specs.Held.{SaysAll, PrintsHeld, ListsContents, contents_text, findings_ending};
+ghost use Rattle.dasd_run.specs.Held.{SaysAll, PrintsHeld, ListsContents, contents_text};
+ghost use Rattle.dasd_run.specs.Printed.{ending_of};
 
 use crate::commands::Ending;
 use crate::fault::{ProgramFault, of_printing};
@@ -89,7 +90,7 @@ fn write_contents<W: Write>(
 
 // How the program ends, by what is wrong with a volume.
 fn ending_of(contents: &Contents) -> Ending
-    ensures { result ≡ findings_ending (length contents.now.found.findings.items) }
+    ensures { result ≡ ending_of (length contents.now.found.findings.items) }
 {
     match contents.found.findings.as_slice().len() {
         0 => Ending::Done,

@@ -1,11 +1,12 @@
 use Rattle.std.proofs.Common.{rules, tests, [], refl}
-use Rattle.std.proofs.KnownBytes.{Appends-nil}
-use Rattle.dasd_volumes.proofs.Appended.{begun, one_more}
+use Rattle.counted_io.proofs.Written.{takes_nothing}
+use Rattle.dasd_volumes.proofs.Fronts.{begun, one_more, front_of_next}
 use Rattle.dasd_archive.proofs.lists.list_cylinders.Goals as goal
 
 pub loop-i-init : goal.loop-i-init
 loop-i-init g c = record {
-  lines = λ slots known. begun _ _ [] _ (Appends-nil _);
+  lines = λ slots known. begun _ _ [] _ (takes_nothing _);
+  sound = refl;
   volume = refl;
   failures = refl;
   size = search (rules, tests);
@@ -14,10 +15,16 @@ loop-i-init g c = record {
 pub loop-i-preserved : goal.loop-i-preserved
 loop-i-preserved g c = record {
   lines = λ slots known. one_more _ _ _ [] _ c.loop-i.i (c.loop-i.invariant.lines slots known) (search (rules, tests));
+  sound = search (rules, tests);
   volume = search (rules, tests);
   failures = search (rules, tests);
   size = search (rules, tests);
 }
+
+-- a cylinder was not printed to its end
+pub returns-in-Err-clause-lines : goal.returns-in-Err-clause-lines
+returns-in-Err-clause-lines g c =
+    λ slots known. front_of_next _ _ _ [] _ c.loop-i.i _ (search (rules, tests)) (c.loop-i.invariant.lines slots known) (search (rules, tests))
 
 -- each of the cylinders is passed
 pub returns-clause-lines : goal.returns-clause-lines

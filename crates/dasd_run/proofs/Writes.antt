@@ -1,0 +1,18 @@
+-- How often writes failed, in several steps.
+use Rattle.std.proofs.Common.{◌≡◌, ◌∙◌, ℕ, ◌+◌, Err, ap}
+use Rattle.counted_io.specs.Streams.{Stream, NoneFailed}
+use Rattle.dasd_volumes.specs.declared.fault.VolumeFault.{VolumeFault}
+use Rattle.dasd_volumes.specs.declared.fault.VolumeFault.TheVariants.{OutOfMemory, Store, Write}
+use Rattle.dasd_volumes.specs.Printing.{CountsWrites}
+
+-- a fault of one call that another call tells
+pub writes_told : (A B : Type 0) (f : VolumeFault) (a b : Stream) → CountsWrites {A = A} (Err f) a b → CountsWrites {A = B} (Err f) a b
+writes_told A B OutOfMemory a b h = h
+writes_told A B Store a b h = h
+writes_told A B Write a b h = h
+
+-- one behind a call that had none
+pub writes_behind : (A : Type 0) (f : VolumeFault) (a b c : Stream) → NoneFailed a b → CountsWrites {A = A} (Err f) b c → CountsWrites {A = A} (Err f) a c
+writes_behind A OutOfMemory a b c none h = h ∙ none
+writes_behind A Store a b c none h = h ∙ none
+writes_behind A Write a b c none h = h ∙ ap (λ (n : ℕ). n + 1) none

@@ -1,0 +1,58 @@
+use Rattle.std.proofs.Common.{◌≡◌, ◌∙◌, ℕ, List, map, inr, ap, subst}
+use Rattle.counted_io.specs.Streams.{seen_by}
+use Rattle.dasd_archive.specs.declared.reports.Style.{Style}
+use Rattle.dasd_jobs.specs.Sources.{SourceFile, OpenedState, OpensPaths, volume_in}
+use Rattle.dasd_run.specs.Compared.{one_of, other_of, ComparesVolumes}
+use Rattle.dasd_run.specs.Paths.{quoted_paths}
+use Rattle.dasd_run.specs.Printed.{style_of}
+use Rattle.dasd_run.proofs.archive.compare_both.Goals as goal
+
+pub returns-in-Ok-open_volume-2-clause-compares : goal.returns-in-Ok-open_volume-2-clause-compares
+returns-in-Ok-open_volume-2-clause-compares g c = inr (record {
+  between = between;
+  so = record {
+    geometry = v.geometry;
+    contents = v.contents;
+    opens = subst (λ paths. OpensPaths paths v.contents before between) (ap (map (λ path. path.now)) c.as_slice-3.ensures.value) c.in-Ok-open_volume.ensures.opens;
+    mounts = c.in-Ok-open_volume.ensures.mounts;
+    so = record {
+      geometry = w.geometry;
+      contents = w.contents;
+      opens = subst (λ paths. OpensPaths paths w.contents between now) (ap (map (λ path. path.now)) c.as_slice-4.ensures.value) c.in-Ok-open_volume-2.ensures.opens;
+      mounts = c.in-Ok-open_volume-2.ensures.mounts;
+      so = compares;
+    };
+  };
+})
+  where
+    v : OpenedState
+    v = c.in-Ok-open_volume.volume
+
+    w : OpenedState
+    w = c.in-Ok-open_volume-2.beside
+
+    before : List SourceFile
+    before = g.F.ImageFiles.opened c.args.files.now
+
+    between : List SourceFile
+    between = g.F.ImageFiles.opened c.open_volume.new.files
+
+    now : List SourceFile
+    now = g.F.ImageFiles.opened c.open_volume-2.new.files
+
+    Compares : Style → (path other : List ℕ) → Type 0
+    Compares style path other =
+        ComparesVolumes c.compare_opened.result style path other c.args.asked.now.lists (volume_in v.geometry v.contents) (volume_in w.geometry w.contents)
+        (seen_by g.W.Write.contents c.args.writer.now) (seen_by g.W.Write.contents c.compare_opened.new.writer)
+
+    path_is : c.as_str.result.now ≡ quoted_paths (one_of c.args.asked.now)
+    path_is = c.as_str.ensures.value ∙ (c.in-Ok.ensures.text ∙ ap quoted_paths (ap (map (λ path. path.now)) c.as_slice.ensures.value))
+
+    other_is : c.as_str-2.result.now ≡ quoted_paths (other_of c.args.asked.now)
+    other_is = c.as_str-2.ensures.value ∙ (c.in-Ok-quoted.ensures.text ∙ ap quoted_paths (ap (map (λ path. path.now)) c.as_slice-2.ensures.value))
+
+    compares : Compares (style_of c.args.asked.now.json) (quoted_paths (one_of c.args.asked.now)) (quoted_paths (other_of c.args.asked.now))
+    compares =
+        subst (Compares (style_of c.args.asked.now.json) (quoted_paths (one_of c.args.asked.now))) other_is
+        (subst (λ path. Compares (style_of c.args.asked.now.json) path c.as_str-2.result.now) path_is
+        (subst (λ style. Compares style c.as_str.result.now c.as_str-2.result.now) c.style.ensures c.compare_opened.ensures))

@@ -1,0 +1,37 @@
+use Rattle.std.proofs.Common.{◌≡◌, ◌∙◌, ℕ, List, map, inr, ap, subst}
+use Rattle.counted_io.specs.Streams.{seen_by}
+use Rattle.dasd_archive.specs.Dump.{dump_text, IsPartOf}
+use Rattle.dasd_archive.specs.declared.reports.Style.{Style}
+use Rattle.dasd_jobs.specs.Sources.{SourceFile, OpenedState, OpensPaths, volume_in}
+use Rattle.dasd_run.specs.Paths.{quoted_paths}
+use Rattle.dasd_run.specs.Printed.{style_of, paths_of, asked_part, PrintsPart}
+use Rattle.dasd_run.proofs.archive.dump_part.Goals as goal
+
+pub returns-in-Ok-open_volume-clause-dumps : goal.returns-in-Ok-open_volume-clause-dumps
+returns-in-Ok-open_volume-clause-dumps g c = inr (record {
+  geometry = v.geometry;
+  contents = v.contents;
+  opens = subst (λ paths. OpensPaths paths v.contents before now) same_paths c.in-Ok-open_volume.ensures.opens;
+  mounts = c.in-Ok-open_volume.ensures.mounts;
+  so = subst (Dumps (style_of c.args.asked.now.json)) same_path (subst (λ style. Dumps style c.as_str.result.now) c.style.ensures c.dump_opened.ensures);
+})
+  where
+    v : OpenedState
+    v = c.in-Ok-open_volume.volume
+
+    before : List SourceFile
+    before = g.F.ImageFiles.opened c.args.files.now
+
+    now : List SourceFile
+    now = g.F.ImageFiles.opened c.open_volume.new.files
+
+    Dumps : Style → (path : List ℕ) → Type 0
+    Dumps style path =
+        PrintsPart c.dump_opened.result (IsPartOf (asked_part c.args.part)) (dump_text style path (asked_part c.args.part)) (volume_in v.geometry v.contents)
+        (seen_by g.W.Write.contents c.args.writer.now) (seen_by g.W.Write.contents c.dump_opened.new.writer)
+
+    same_paths : map (λ path. path.now) c.as_slice-paths.result.now ≡ paths_of c.args.asked.now
+    same_paths = ap (map (λ path. path.now)) c.as_slice-paths.ensures.value
+
+    same_path : c.as_str.result.now ≡ quoted_paths (paths_of c.args.asked.now)
+    same_path = c.as_str.ensures.value ∙ (c.in-Ok.ensures.text ∙ ap quoted_paths same_paths)

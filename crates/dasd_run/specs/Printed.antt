@@ -1,0 +1,93 @@
+-- What a command prints of the volume of files, and which part of it words ask for.
+use Rattle.std.specs.Prelude.{◌≡◌, ◌≤◌, ◌<◌, ◌⊎◌, ◌-◌, ◌==◌, ℕ, Bool, true, false, if◌then◌else◌, List, map, Option, Some, None, Result, Ok, Err, IfOk, OnOk}
+use Rattle.counted_io.specs.Streams.{Stream, IsFlushed}
+use Rattle.ckd_track.specs.declared.geometries.Geometry.{Geometry}
+use Rattle.dasd_volumes.specs.declared.fault.VolumeFault.{VolumeFault}
+use Rattle.dasd_volumes.specs.Printing.{PrintsText, CountsWrites}
+use Rattle.dasd_volumes.specs.Reading.{KnownVolume}
+use Rattle.dasd_archive.specs.declared.reports.Style.{Style}
+use Rattle.dasd_archive.specs.declared.reports.Style.TheVariants.{Text, Json}
+use Rattle.dasd_archive.specs.declared.dumps.Range.{Range}
+use Rattle.dasd_archive.specs.declared.dumps.Part.{Part}
+use Rattle.dasd_archive.specs.Listing.{list_text}
+use Rattle.volume_hash.specs.Lines.{hash_text}
+use Rattle.volume_hash.specs.Message.{NumberOfUnreadable}
+use Rattle.dasd_words.specs.declared.requests.Numbers.{Numbers}
+use Rattle.dasd_words.specs.declared.requests.ListedPart.{ListedPart}
+use Rattle.dasd_words.specs.declared.requests.DumpedPart.{DumpedPart}
+use Rattle.dasd_words.specs.declared.requests.PrintedVolume.{PrintedVolume}
+use Rattle.dasd_jobs.specs.declared.faults.JobFault.TheVariants as job
+use Rattle.dasd_run.specs.declared.commands.Ending.{Ending}
+use Rattle.dasd_run.specs.declared.commands.Ending.TheVariants.{Done, Findings}
+use Rattle.dasd_run.specs.declared.fault.ProgramFault.{ProgramFault}
+use Rattle.dasd_run.specs.declared.fault.ProgramFault.TheVariants as fault
+use Rattle.dasd_run.specs.Faults.{printing_fault}
+
+-- for whom lines are printed
+abbrev pub style_of : (json : Bool) → Style
+style_of true = Json
+style_of false = Text
+
+-- the paths of the files of a volume of which something is printed
+abbrev pub paths_of : PrintedVolume → List (List ℕ)
+paths_of asked = map (λ path. path.now) asked.paths.items
+
+-- the part of a volume that words ask for
+abbrev pub range_of : Numbers → Range
+range_of numbers = record { first = numbers.first; last = numbers.last }
+
+abbrev pub asked_part : DumpedPart → Part
+asked_part part = record { cylinders = range_of part.cylinders; heads = range_of part.heads; numbers = range_of part.records }
+
+-- the cylinders that words ask for, or all of a volume
+abbrev pub asked_cylinders : Option Numbers → Geometry → Range
+asked_cylinders (Some numbers) g = range_of numbers
+asked_cylinders None g = record { first = 0; last = g.cylinders - 1 }
+
+abbrev pub HasCylinders : Option Numbers → Geometry → Type 0
+HasCylinders asked g =
+    ((asked_cylinders asked g).first ≤ (asked_cylinders asked g).last) × ((asked_cylinders asked g).last < g.cylinders)
+
+-- what a list prints of the part of a volume that words ask for
+abbrev pub asked_list : Style → (path : List ℕ) → ListedPart → Geometry → (slots : List (List ℕ)) → List ℕ
+asked_list style path part g slots = list_text style path part.used_only (asked_cylinders part.cylinders g) g slots
+
+-- there is no memory, or files can't be opened or read or hold no volume
+abbrev pub is_unopened : ProgramFault → Bool
+is_unopened fault.OutOfMemory = true
+is_unopened (fault.Job job.Write) = false
+is_unopened (fault.Job _) = true
+is_unopened _ = false
+
+-- a command ended with such a fault, and nothing was printed
+abbrev pub IsUnopened : Result Ending ProgramFault → (before now : Stream) → Type 0
+IsUnopened (Ok ending) before now = ⊥
+IsUnopened (Err f) before now = (is_unopened f ≡ true) × (now ≡ before)
+
+-- a check or a comparison has findings where it counts some
+abbrev pub ending_of : ℕ → Ending
+ending_of found = if found == 0 then Done else Findings
+
+-- how a command ends that prints: so, where all is printed; and else its fault is the program's
+abbrev pub printed_ending : {A : Type 0} → (A → Ending) → Result A VolumeFault → Result Ending ProgramFault
+printed_ending ending (Ok done) = Ok (ending done)
+printed_ending ending (Err f) = Err (printing_fault f)
+
+-- This text of a volume is printed, and none of it held back; or with a fault only its first bytes are. A write or the flush failed
+-- exactly where that is the fault.
+abbrev pub PrintsWhole : {A : Type 0} → Result A VolumeFault → (text : Geometry → List (List ℕ) → List ℕ) → KnownVolume → (before now : Stream) → Type 0
+PrintsWhole printing text v before now = PrintsText printing text v before now × CountsWrites printing before now × OnOk printing (IsFlushed now)
+
+-- this text of a part of a volume is printed, where the volume has that part; and else nothing is, and there is no such track
+abbrev pub PrintsPart : Result Ending ProgramFault → (Geometry → Type 0) → (text : Geometry → List (List ℕ) → List ℕ) → KnownVolume
+    → (before now : Stream) → Type 0
+PrintsPart result HasPart text v before now =
+    (HasPart v.geometry × (printing : Result (Unit {0}) VolumeFault) × (result ≡ printed_ending (λ done. Done) printing)
+    × PrintsWhole printing text v before now)
+    ⊎ ((HasPart v.geometry → ⊥) × (result ≡ Err fault.NoTrack) × (now ≡ before))
+
+-- the hash of a volume is printed, and how many of its tracks can't be read is told
+abbrev pub HashesWhole : Result Ending ProgramFault → (path : List ℕ) → (json : Bool) → KnownVolume → (before now : Stream) → Type 0
+HashesWhole result path json v before now =
+    (hashing : Result ℕ VolumeFault) × (result ≡ printed_ending ending_of hashing) × IfOk hashing (NumberOfUnreadable v)
+    × PrintsWhole hashing (hash_text path json) v before now

@@ -1,0 +1,69 @@
+-- What a strict check of the volume of files prints: what is found of the headers, and of the volume.
+use Rattle.std.specs.Prelude.{◌≡◌, ◌⊎◌, ◌+◌, ◌==◌, ℕ, min, if◌then◌else◌, List, [], ◌++◌, length, slice_index_or, Result, IfOk}
+use Rattle.std.specs.List.{AllZip}
+use Rattle.counted_io.specs.Streams.{Stream}
+use Rattle.ckd_track.specs.declared.geometries.Geometry.{Geometry}
+use Rattle.dasd_volumes.specs.declared.fault.VolumeFault.{VolumeFault}
+use Rattle.dasd_volumes.specs.Reading.{KnownVolume}
+use Rattle.dasd_volumes.specs.Volumes.{of_each}
+use Rattle.dasd_archive.specs.declared.findings.Finding.{Finding}
+use Rattle.dasd_archive.specs.declared.reports.Style.{Style}
+use Rattle.dasd_archive.specs.declared.reports.Tally.{Tally}
+use Rattle.dasd_archive.specs.Reports.{finding_lines}
+use Rattle.dasd_archive.specs.Strict.{findings_in_header, strict_text, Adds}
+use Rattle.dasd_words.specs.declared.requests.PrintedVolume.{PrintedVolume}
+use Rattle.dasd_jobs.specs.Sources.{Content, SourceFile, StandsIn, OpensPaths, OfVolume, with_source}
+use Rattle.dasd_run.specs.declared.commands.Ending.{Ending}
+use Rattle.dasd_run.specs.declared.commands.Ending.TheVariants.{Done, Findings}
+use Rattle.dasd_run.specs.declared.fault.ProgramFault.{ProgramFault}
+use Rattle.dasd_run.specs.Paths.{quoted_paths}
+use Rattle.dasd_run.specs.Printed.{style_of, paths_of, IsUnopened, printed_ending, PrintsWhole}
+
+-- a file's header is its first 512 bytes
+abbrev pub IsHead : Content → (head : List ℕ) → Type 0
+IsHead content head = (length head ≡ 512) × StandsIn content 0 head
+
+-- a file was opened by this path, and this is its header
+pub record OpensHead (path : List ℕ) (before now : List SourceFile) (head : List ℕ) : Type 0 where
+  pub content : Content
+  pub opened : now ≡ with_source before path content
+  pub is_head : IsHead content head
+
+-- the files at these paths were opened, in their order, and no other; and these are their headers
+pub record ReadsHeads (paths heads : List (List ℕ)) (before now : List SourceFile) : Type 0 where
+  pub contents : List Content
+  pub opens : OpensPaths paths contents before now
+  pub are_heads : AllZip IsHead contents heads
+
+-- what is found of the headers of files, the first of which is number 1; numbers go up to 255
+abbrev pub found_in : (heads : List (List ℕ)) → List Finding
+found_in heads = of_each (λ i. findings_in_header (min (i + 1) 255) (slice_index_or heads i [])) (length heads)
+
+-- what is found of the headers and of the volume, and how many there are of each severity
+abbrev pub checked_text : Style → (path : List ℕ) → (heads : List (List ℕ)) → Geometry → (slots : List (List ℕ)) → List ℕ
+checked_text style path heads g slots = finding_lines style path (found_in heads) ++ strict_text style path (found_in heads) g slots
+
+-- a strict check has findings where there is an error
+abbrev pub checked_ending : Tally → Ending
+checked_ending tally = if tally.errors == 0 then Done else Findings
+
+-- all that is found of headers and of a volume is printed and counted
+abbrev pub ChecksWhole : Result Ending ProgramFault → Style → (path : List ℕ) → (heads : List (List ℕ)) → KnownVolume → (before now : Stream) → Type 0
+ChecksWhole result style path heads v before now =
+    (checking : Result Tally VolumeFault) × (result ≡ printed_ending checked_ending checking) × IfOk checking (Adds (found_in heads) v)
+    × PrintsWhole checking (checked_text style path heads) v before now
+
+-- The files at these paths were opened to read the volume, and once more to read their headers; no other file was; and this is said of
+-- the volume and the headers.
+pub record OfHeads (paths : List (List ℕ)) (before now : List SourceFile) (P : KnownVolume → List (List ℕ) → Type 0) : Type 0 where
+  pub between : List SourceFile
+  pub heads : List (List ℕ)
+  pub reads : ReadsHeads paths heads between now
+  pub so : OfVolume paths before between (λ v. P v heads)
+
+-- the volume in the files that are named is checked; or they are not opened, and nothing is printed
+abbrev pub ChecksStrictly : Result Ending ProgramFault → PrintedVolume → (opened_before opened : List SourceFile) → (before now : Stream) → Type 0
+ChecksStrictly result asked opened_before opened before now =
+    IsUnopened result before now
+    ⊎ OfHeads (paths_of asked) opened_before opened
+    (λ v heads. ChecksWhole result (style_of asked.json) (quoted_paths (paths_of asked)) heads v before now)
