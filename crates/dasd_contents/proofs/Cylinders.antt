@@ -1,5 +1,5 @@
 -- The claim of a split extent, cylinder by cylinder.
-use Rattle.std.proofs.Common.{ℕ, suc, ◌+◌, ◌-◌, ◌<◌, ◌≤◌, ◌≡◌, ◌∙◌, List, Option, Some, None, ap, sym, refl, arith}
+use Rattle.std.proofs.Common.{ℕ, suc, ◌+◌, ◌-◌, ◌<◌, ◌≤◌, ◌≡◌, ◌∙◌, List, Some, None, ap, sym, refl, arith}
 use Rattle.ckd_track.specs.declared.geometries.Geometry.{Geometry}
 use Rattle.volume_labels.specs.declared.fields.Extent.{Extent}
 use Rattle.dasd_contents.specs.Claims.{Claimed, first_taken, claimed, unless_taken, run_on, cylinders_claimed}

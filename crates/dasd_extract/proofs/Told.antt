@@ -1,5 +1,5 @@
 -- Ends that tell how many tracks were read from their alternates.
-use Rattle.std.proofs.Common.{ℕ, suc, ◌+◌, ◌≡◌, ◌∙◌, List, Option, Some, None, Ok, ap, sym, refl, arith, add-one, option_map}
+use Rattle.std.proofs.Common.{ℕ, ◌+◌, ◌≡◌, ◌∙◌, List, Option, ap, sym, refl, add-one, option_map}
 use Rattle.ckd_track.specs.declared.geometries.Geometry.{Geometry}
 use Rattle.counted_io.specs.Streams.{Stream}
 use Rattle.dasd_extract.specs.declared.stops.Stop.{Stop}
