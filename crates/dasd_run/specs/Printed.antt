@@ -1,8 +1,9 @@
 -- What a command prints of the volume of files, and which part of it words ask for.
-use Rattle.std.specs.Prelude.{◌≡◌, ◌≤◌, ◌<◌, ◌⊎◌, ◌-◌, ◌==◌, ℕ, Bool, true, false, if◌then◌else◌, List, map, Option, Some, None, Result, Ok, Err, IfOk, OnOk}
+use Rattle.std.specs.Prelude.{◌≡◌, ◌≤◌, ◌<◌, ◌⊎◌, ◌-◌, ◌==◌, ℕ, Bool, true, false, if◌then◌else◌, List, map, Option, Some, None, Result, Ok, Err, IfOk, IfErr, OnOk}
 use Rattle.counted_io.specs.Streams.{Stream, IsFlushed}
 use Rattle.ckd_track.specs.declared.geometries.Geometry.{Geometry}
 use Rattle.dasd_volumes.specs.declared.fault.VolumeFault.{VolumeFault}
+use Rattle.dasd_volumes.specs.declared.fault.VolumeFault.TheVariants as volume
 use Rattle.dasd_volumes.specs.Printing.{PrintsText, CountsWrites}
 use Rattle.dasd_volumes.specs.Reading.{KnownVolume}
 use Rattle.dasd_archive.specs.declared.reports.Style.{Style}
@@ -86,8 +87,8 @@ PrintsPart result HasPart text v before now =
     × PrintsWhole printing text v before now)
     ⊎ ((HasPart v.geometry → ⊥) × (result ≡ Err fault.NoTrack) × (now ≡ before))
 
--- the hash of a volume is printed, and how many of its tracks can't be read is told
+-- the hash of a volume is printed, or nothing where there is no memory; and how many of its tracks can't be read is told
 abbrev pub HashesWhole : Result Ending ProgramFault → (path : List ℕ) → (json : Bool) → KnownVolume → (before now : Stream) → Type 0
 HashesWhole result path json v before now =
     (hashing : Result ℕ VolumeFault) × (result ≡ printed_ending ending_of hashing) × IfOk hashing (NumberOfUnreadable v)
-    × PrintsWhole hashing (hash_text path json) v before now
+    × IfErr hashing (λ e. e ≡ volume.OutOfMemory → now ≡ before) × PrintsWhole hashing (hash_text path json) v before now
