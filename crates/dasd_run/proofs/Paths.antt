@@ -1,5 +1,5 @@
 -- Paths that are joined.
-use Rattle.std.proofs.Common.{◌≡◌, ◌∙◌, List, [], ◌∷◌, ◌++◌, map, flat_map, refl, ap}
+use Rattle.std.proofs.Common.{◌≡◌, List, [], ◌∷◌, ◌++◌, map, flat_map, refl, ap}
 use Rattle.std.specs.List.{join_by}
 
 module _ {X A : Type 0} (text : X → List A) (between : List A) where

@@ -1,9 +1,12 @@
--- How often writes failed, in several steps.
-use Rattle.std.proofs.Common.{◌≡◌, ◌∙◌, ℕ, ◌+◌, Err, ap}
+-- How often writes failed, in several steps; and what want of memory is told of.
+use Rattle.std.proofs.Common.{◌≡◌, ◌∙◌, ℕ, ◌+◌, Err, refl, ap}
 use Rattle.counted_io.specs.Streams.{Stream, NoneFailed}
 use Rattle.dasd_volumes.specs.declared.fault.VolumeFault.{VolumeFault}
 use Rattle.dasd_volumes.specs.declared.fault.VolumeFault.TheVariants.{OutOfMemory, Store, Write}
 use Rattle.dasd_volumes.specs.Printing.{CountsWrites}
+use Rattle.dasd_jobs.specs.declared.faults.JobFault.TheVariants as job
+use Rattle.dasd_run.specs.declared.fault.ProgramFault.TheVariants as fault
+use Rattle.dasd_run.specs.Faults.{printing_fault}
 
 -- a fault of one call that another call tells
 pub writes_told : (A B : Type 0) (f : VolumeFault) (a b : Stream) → CountsWrites {A = A} (Err f) a b → CountsWrites {A = B} (Err f) a b
@@ -16,3 +19,9 @@ pub writes_behind : (A : Type 0) (f : VolumeFault) (a b c : Stream) → NoneFail
 writes_behind A OutOfMemory a b c none h = h ∙ none
 writes_behind A Store a b c none h = h ∙ none
 writes_behind A Write a b c none h = h ∙ ap (λ (n : ℕ). n + 1) none
+
+-- want of memory is told of nothing else
+pub memory_told : (f : VolumeFault) → printing_fault f ≡ fault.Job job.OutOfMemory → f ≡ OutOfMemory
+memory_told OutOfMemory e = refl
+memory_told Store e = cc
+memory_told Write e = cc

@@ -22,7 +22,7 @@ use Rattle.dasd_run.specs.Compared.{ComparesFiles}
 use Rattle.dasd_run.specs.Held.{ListsContents}
 use Rattle.dasd_run.specs.Outside.{Outside}
 use Rattle.dasd_run.specs.Paths.{joined_paths, quoted_paths}
-use Rattle.dasd_run.specs.Printed.{style_of, paths_of, asked_part, asked_list, HasCylinders, ending_of, IsUnopened, HashesWhole, PrintsPart}
+use Rattle.dasd_run.specs.Printed.{style_of, paths_of, asked_part, asked_list, HasCylinders, ending_of, IsUnopened, HashesWhole, PrintsPart, TakesMemoryFirst}
 use Rattle.dasd_run.specs.Runs.{RunsOrStops}
 use Rattle.dasd_run.specs.Strict.{ChecksStrictly}
 use Rattle.dasd_run.specs.Unloads.{ExtractsSet, ExtractsVolume}
@@ -92,7 +92,8 @@ Answers (request.Format asked) result before now =
 Answers (request.List paths) result before now =
     ListsVolume result (map (λ path. path.now) paths.items) before.opened now.opened before.printed now.printed × Looks before now
 Answers (request.ListPart asked part) result before now =
-    ListsPart result asked part before.opened now.opened before.printed now.printed × Looks before now
+    ListsPart result asked part before.opened now.opened before.printed now.printed
+    × TakesMemoryFirst result before.printed now.printed × Looks before now
 Answers (request.Check paths) result before now =
     ChecksVolume result (map (λ path. path.now) paths.items) before.opened now.opened before.printed now.printed × Looks before now
 Answers (request.CheckStrictly asked) result before now =

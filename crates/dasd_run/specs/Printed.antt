@@ -79,6 +79,10 @@ printed_ending ending (Err f) = Err (printing_fault f)
 abbrev pub PrintsWhole : {A : Type 0} → Result A VolumeFault → (text : Geometry → List (List ℕ) → List ℕ) → KnownVolume → (before now : Stream) → Type 0
 PrintsWhole printing text v before now = PrintsText printing text v before now × CountsWrites printing before now × OnOk printing (IsFlushed now)
 
+-- memory is taken before anything is printed: where there is none, nothing is
+abbrev pub TakesMemoryFirst : Result Ending ProgramFault → (before now : Stream) → Type 0
+TakesMemoryFirst result before now = IfErr result (λ e. e ≡ fault.Job job.OutOfMemory → now ≡ before)
+
 -- this text of a part of a volume is printed, where the volume has that part; and else nothing is, and there is no such track
 abbrev pub PrintsPart : Result Ending ProgramFault → (Geometry → Type 0) → (text : Geometry → List (List ℕ) → List ℕ) → KnownVolume
     → (before now : Stream) → Type 0

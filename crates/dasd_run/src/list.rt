@@ -3,7 +3,7 @@
 ghost use Rattle.std.specs.Prelude.{◌≡◌, IfSome, IfNone};
 ghost use Rattle.counted_io.specs.Streams.{seen_by};
 ghost use Rattle.dasd_run.specs.Answers.{ListsPart};
-ghost use Rattle.dasd_run.specs.Printed.{asked_cylinders, asked_list, HasCylinders, PrintsPart};
+ghost use Rattle.dasd_run.specs.Printed.{asked_cylinders, asked_list, HasCylinders, PrintsPart, TakesMemoryFirst};
 
 use crate::archive::{range, style};
 use crate::commands::Ending;
@@ -33,6 +33,7 @@ pub(crate) fn list_part<F: ImageFiles, W: Write>(
     ensures kept { F.written files.new ≡ F.written files.old }
     ensures lists { ListsPart result asked.now part (F.opened files.old) (F.opened files.new)
         (seen_by W.contents writer.old) (seen_by W.contents writer.new) }
+    ensures memory { TakesMemoryFirst result (seen_by W.contents writer.old) (seen_by W.contents writer.new) }
 {
     let paths = asked.paths.as_slice();
     let path = match quoted(alloc, paths) {
@@ -57,8 +58,9 @@ fn list_opened<V: SlotReader, W: Write>(
     form: Form,
     part: ListedPart,
 ) -> Result<Ending, ProgramFault>
-    ensures { PrintsPart result (HasCylinders part.cylinders) (asked_list form.entry.style form.entry.path.now part)
+    ensures part { PrintsPart result (HasCylinders part.cylinders) (asked_list form.entry.style form.entry.path.now part)
         (V.volume volume.old) (seen_by W.contents writer.old) (seen_by W.contents writer.new) }
+    ensures memory { TakesMemoryFirst result (seen_by W.contents writer.old) (seen_by W.contents writer.new) }
 {
     let Some(cylinders) = cylinders_of(volume.geometry(), part.cylinders) else {
         return Err(ProgramFault::NoTrack);

@@ -1,12 +1,13 @@
-use Rattle.std.proofs.Common.{◌∙◌, Err, inl, ap, subst}
+use Rattle.std.proofs.Common.{◌∙◌, Err, inl, ap, subst, sym}
 use Rattle.counted_io.specs.Streams.{seen_by, TakesFront}
 use Rattle.dasd_archive.specs.Listing.{list_text}
 use Rattle.dasd_run.specs.Printed.{asked_cylinders, HasCylinders}
+use Rattle.dasd_run.proofs.Writes.{memory_told}
 use Rattle.dasd_run.proofs.list.list_opened.Goals as goal
 
 -- the part was not printed to its end
-pub returns-in-Err : goal.returns-in-Err
-returns-in-Err g c =
+pub returns-in-Err-clause-part : goal.returns-in-Err-clause-part
+returns-in-Err-clause-part g c =
     let v = g.V.SlotReader.volume c.args.volume.now in
     let form = c.args.form in
     let part = c.args.part in
@@ -26,3 +27,7 @@ returns-in-Err g c =
         tt,
       ),
     )
+
+pub returns-in-Err-clause-memory : goal.returns-in-Err-clause-memory
+returns-in-Err-clause-memory g c =
+    λ e. ap (seen_by g.W.Write.contents) (c.in-Err.ensures.none (memory_told c.in-Err.fault (sym c.of_printing.ensures ∙ e)))

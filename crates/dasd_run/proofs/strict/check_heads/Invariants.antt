@@ -1,4 +1,4 @@
-use Rattle.std.proofs.Common.{◌+◌, [], length, min, slice_index_or}
+use Rattle.std.proofs.Common.{◌+◌, [], min, slice_index_or}
 use Rattle.counted_io.specs.Streams.{seen_by, Takes, NoneFailed}
 use Rattle.dasd_volumes.specs.Volumes.{of_each}
 use Rattle.dasd_archive.specs.Reports.{finding_lines, CountsUp}
