@@ -17,7 +17,7 @@ use Rattle.s360_program.specs.Advances as program
 use Rattle.s360_program.specs.declared.program.Ran.{Ran}
 use Rattle.s360_program.specs.Stands.{RunningState, phase_in, Stands}
 use Rattle.s360_laws.specs.declared.condition.ConditionCode.TheVariants.{Two, Three, Zero}
-use Rattle.s360_laws.specs.Events.{Answer, Hio, Reset, WithCode, WasReset, Event, StepBy, Stepped, StatusStored}
+use Rattle.s360_laws.specs.Events.{Answer, Hio, Reset, WithCode, WasReset, StepBy, Stepped, StatusStored}
 use Rattle.s360_laws.specs.Machine.{Machine, react, ended, cut, halt_io, fault_in, reset, unsaved_at, address_of, all_at_rest, at_rest, is_working, step, device_at, with_status}
 use Rattle.s360_laws.specs.Machine as machine
 use Rattle.s360_laws.specs.NothingTold.{TellsNoTrack}
@@ -30,7 +30,7 @@ use Rattle.s360_events.specs.declared.conditions.Condition.{Condition}
 use Rattle.s360_events.specs.declared.conditions.Status.{Status}
 use Rattle.s360_events.specs.Seen.{condition_seen, status_seen}
 use Rattle.s360_channel.specs.Calls.{Does, IsMet, Reports, CallsAtMost}
-use Rattle.s360_channel.specs.Channel.{ChannelState, AttachedState, WorksFor, StandsFor, AllRest, device_of, machine_of, Shows, IsChannel, is_at}
+use Rattle.s360_channel.specs.Channel.{ChannelState, AttachedState, WorksFor, StandsFor, AllRest, device_of, machine_of, Shows, is_at}
 use Rattle.s360_channel.specs.declared.subchannel.Subchannel.{Subchannel}
 use Rattle.s360_channel.specs.declared.subchannel.Subchannel.TheVariants.{Idle, Pending, Working}
 use Rattle.s360_channel.specs.DriveCalls.{at_rest_attached, DriveChanges, DriveIs, AdvancesAt, CutsAt}
@@ -55,7 +55,7 @@ rest_images us = map-map (λ (u : AttachedState). u.drive.image) at_rest_attache
 rest_devices : (us : List AttachedState) → map at_rest (devices us) ≡ devices (map at_rest_attached us)
 rest_devices us = map-map at_rest device_of us ∙ sym (map-map device_of at_rest_attached us)
 
-rest_all : (us : List AttachedState) → AllRest us → AllRest (map at_rest_attached us)
+pub rest_all : (us : List AttachedState) → AllRest us → AllRest (map at_rest_attached us)
 rest_all [] h = tt
 rest_all (u ∷ us) h = (record { idle = h.0.idle; unwritten = h.0.unwritten }, rest_all us h.1)
 
@@ -190,14 +190,6 @@ module _ (c : ChannelState) (place : ℕ) (r : RunningState) (m : Machine) (w : 
       (reset_machine, rest_all drives_then (all_of_others c.drives place (with_drive w.attached new) w.others how.is_ending.drive.rests)) (reset_met how.fault how.met) (reset_told how.fault refl how.met)
 
 -- Steps, cuts and resets at a channel, by what its subchannel is.
-
--- What is done of a channel's parts is done of the channel, which is one behind it.
-pub whole_does : (e : Event) (answer : Answer) (most : ℕ) (parts whole new : ChannelState) → parts ≡ whole → IsChannel parts → ((m : Machine) → StandsFor parts m → Does e m answer parts new × CallsAtMost most parts new)
-    → ((m : Machine) → StandsFor whole m → Does e m answer whole new) × CallsAtMost most whole new × IsChannel new
-whole_does e answer most parts whole new same is d =
-    let this = d is.machine is.stands in
-    subst (λ o. ((m : Machine) → StandsFor o m → Does e m answer o new) × CallsAtMost most o new × IsChannel new) same
-    (λ m s. (d m s).0, this.1, record { machine = (react e this.0.fault is.machine).1; stands = this.0.stands })
 
 pub works : (c : ChannelState) (m : Machine) (place : ℕ) (r : RunningState) → c.subchannel ≡ Working place r → StandsFor c m → WorksFor c place r m
 works c m place r is s = subst (Shows c m) is s.shows

@@ -12,7 +12,6 @@ pub mod Quiet
 pub mod OneMore
 pub mod AllAnswered
 pub mod PartLengths
-pub mod Finishing
 pub mod Removing
 pub mod Images
 pub mod Fronts

@@ -54,7 +54,3 @@ does_selector e answer most old new s t h same keeps does =
 -- calls of the stores don't depend on the storage
 pub calls_over : (most : ℕ) (old new : ChannelState) (s t : Storage) → CallsAtMost most old new → CallsAtMost most (with_storage old s) (with_storage new t)
 calls_over most old new s t h = record { calls = h.calls; failures = h.failures; lasting = h.lasting; geometries = h.geometries }
-
--- storage keeps the size that the selector has
-pub same_size : (old new : SelectorState) (s t : Storage) → length s.bytes ≡ old.size → new.size ≡ old.size → KeepsStorage s t → length t.bytes ≡ new.size
-same_size old new s t h same keeps = keeps.size ∙ (h ∙ sym same)

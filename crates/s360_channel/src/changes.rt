@@ -30,7 +30,7 @@ impl<S: ImageStore> Selector<S> {
         ensures attached { OnOk result (self.new ≡ record self.old {
           drives = self.old.drives ++ new_attached device image ∷ [];
         }) }
-        ensures stands { OnOk result ((s : StorageState) (m : Machine) → StandsFor (over self.old s) m
+        ensures stands { (s : StorageState) → OnOk result ((m : Machine) → StandsFor (over self.old s) m
             → StandsFor (over self.new s) (attached device image m)) }
         ensures refused { (s : StorageState) → IfErr result (λ e. RefusedAs device (over self.old s) e.0) }
         ensures not_taken { (s : StorageState) → OnOk result (NotRefused device (over self.old s)) }

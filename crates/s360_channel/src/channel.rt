@@ -80,11 +80,14 @@ impl<S: ImageStore> Channel<S> {
     pub fn finish(self) -> Finished<S>
         ensures { (m : Machine) → StandsFor self m → Finishes m self result.storage result.images result.reset.unsaved }
     {
-        let Channel { selector, storage } = self;
-        let (images, reset) = selector.finish();
+        let Channel {
+            mut selector,
+            storage,
+        } = self;
+        let reset = selector.reset();
         Finished {
             storage,
-            images,
+            images: selector.into_images(),
             reset,
         }
     }

@@ -7,7 +7,7 @@ ghost use Rattle.s360_laws.specs.Events as machine;
 ghost use Rattle.s360_laws.specs.Machine.{Machine};
 ghost use Rattle.s360_events.specs.Seen.{answer_seen};
 ghost use Rattle.s360_events.specs.declared.answers.Answer.TheVariants as answer;
-ghost use Rattle.s360_channel.specs.Channel.{StandsFor, is_at};
+ghost use Rattle.s360_channel.specs.Channel.{AllRest, StandsFor, is_at};
 ghost use Rattle.s360_channel.specs.Calls.{Does, CallsAtMost};
 ghost use Rattle.s360_channel.specs.Ends.{IsOver, MayBeCut, CutsProgram, LosesProgram, halted_idle, storage_halted};
 ghost use Rattle.s360_channel.specs.Selector.{KeepsSelector, over};
@@ -52,6 +52,7 @@ impl<S: ImageStore> Selector<S> {
         ensures does { (s : StorageState) (m : Machine) → StandsFor (over self.old s) m
             → Does machine.Reset m (machine.WasReset result.unsaved) (over self.old s) (over self.new s) }
         ensures calls { (s : StorageState) → CallsAtMost 1 (over self.old s) (over self.new s) }
+        ensures rests { AllRest self.new.drives }
         ensures same { KeepsSelector self.old self.new }
     {
         let unsaved = lose_program(self.number, &mut self.subchannel, &mut self.drives);

@@ -1,14 +1,11 @@
 //! A channel without a storage of its own.
 
-ghost use Rattle.std.specs.Prelude.{◌≡◌, ◌<◌, ◌↔◌, [], length, IsOk, IfOk};
-ghost use Rattle.s360_words.specs.Storage.{Storage as StorageState};
-ghost use Rattle.s360_laws.specs.Machine.{Machine};
+ghost use Rattle.std.specs.Prelude.{◌≡◌, ◌<◌, ◌↔◌, [], length, map, IsOk, IfOk};
 ghost use Rattle.s360_channel.specs.declared.subchannel.Subchannel.TheVariants.{Idle};
-ghost use Rattle.s360_channel.specs.Channel.{StandsFor};
-ghost use Rattle.s360_channel.specs.Finishes.{Finishes};
-ghost use Rattle.s360_channel.specs.Selector.{IsOver, over};
+ghost use Rattle.s360_channel.specs.Channel.{AllRest};
+ghost use Rattle.s360_channel.specs.Finishes.{images_of};
+ghost use Rattle.s360_channel.specs.Selector.{IsOver};
 
-use crate::channel::Reset;
 use crate::drives::Drives;
 use crate::faults::NewFault;
 use crate::subchannel::Subchannel;
@@ -75,21 +72,19 @@ impl<S: ImageStore> Selector<S> {
         let _size = storage.size();
     }
 
-    /// Resets the selector, and gives back the image of each drive with the low byte of its address, in the order of
-    /// attachment, and what the reset answered. It makes at most one call of a store, which saves a track that was written.
-    pub fn finish(mut self) -> ([Option<(u8, Image<S>)>; 8], Reset)
-        ensures { (s : StorageState) (m : Machine) → StandsFor (over self s) m
-            → Finishes m (over self s) s result.0 result.1.unsaved }
+    /// Gives back the image of each drive with the low byte of its address, in the order of attachment, after a reset. Each holds
+    /// its drive's volume.
+    pub fn into_images(self) -> [Option<(u8, Image<S>)>; 8]
+        requires { AllRest self.drives }
+        ensures images { result ≡ images_of self.drives }
+        ensures volumes { map (λ u. u.drive.image.slots) self.drives ≡ map (λ u. u.drive.state.volume.slots) self.drives }
     {
-        // what is known of a selector before its reset
-        let _number = self.number;
-        let reset = self.reset();
         let Selector {
             number: _,
             size: _,
             subchannel: _,
             drives,
         } = self;
-        (drives.into_images(), reset)
+        drives.into_images()
     }
 }

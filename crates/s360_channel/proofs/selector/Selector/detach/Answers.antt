@@ -1,4 +1,5 @@
 use Rattle.std.proofs.Common.{refl, arith}
+use Rattle.std.proofs.lemmas.Result.{err_from_is_err_and}
 use Rattle.s360_channel.specs.Nexts.{of_parts}
 use Rattle.s360_channel.specs.Packs.{without_device}
 use Rattle.s360_channel.proofs.Removing.{detaches, rests_free}
@@ -6,7 +7,9 @@ use Rattle.s360_channel.proofs.Selecting.{still_over}
 use Rattle.s360_channel.proofs.selector.Selector.detach.Goals as goal
 
 pub returns-in_err-place-clause-refused : goal.returns-in_err-place-clause-refused
-returns-in_err-place-clause-refused g c s m h = let told = c.in_err-place.ensures.refused s m h in search (told)
+returns-in_err-place-clause-refused g c s m h =
+    let p = err_from_is_err_and c.from_residual.result c.from_residual.ensures.1 in
+    rw (p.1, p.2) (c.in_err-place.ensures.refused s m h)
 
 pub remove-requires : goal.remove-requires
 remove-requires g c = (

@@ -1,5 +1,3 @@
-use Rattle.std.proofs.Common.{sym, ap, ◌∙◌}
-use Rattle.s360_channel.specs.Selector.{SelectorState}
 use Rattle.s360_channel.proofs.Selecting.{is_over}
 use Rattle.s360_channel.proofs.selector.Selector.is_over.Goals as goal
 

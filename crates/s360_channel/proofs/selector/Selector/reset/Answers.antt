@@ -1,6 +1,7 @@
-use Rattle.std.proofs.Common.{refl, arith}
+use Rattle.std.proofs.Common.{refl, subst, sym, arith}
 use Rattle.s360_laws.specs.Events.{Reset, WasReset}
-use Rattle.s360_channel.proofs.Calling.{cut_allowed, resets, resets_to}
+use Rattle.s360_channel.specs.Channel.{AllRest}
+use Rattle.s360_channel.proofs.Calling.{cut_allowed, rest_all, resets, resets_to}
 use Rattle.s360_channel.proofs.Selecting.{does_selector, calls_over}
 use Rattle.s360_channel.proofs.selector.Selector.reset.Goals as goal
 
@@ -23,6 +24,12 @@ pub returns-clause-does : goal.returns-clause-does
 returns-clause-does g c =
     let l = c.lose_program-unsaved in
     rw (← c.self.view_is) (λ t m s. (resets_to _ m s l.new.drives l.result l.ensures.lost l.new.subchannel c.reset.new.self l.ensures.idle c.reset.ensures).0)
+
+pub returns-clause-rests : goal.returns-clause-rests
+returns-clause-rests g c =
+    let is = c.self.invariant.is_over.channel in
+    let l = c.lose_program-unsaved in
+    subst AllRest (sym c.reset.ensures) (rest_all _ (resets _ is.machine is.stands l.new.drives l.result l.ensures.lost).0)
 
 pub returns-clause-calls : goal.returns-clause-calls
 returns-clause-calls g c =
