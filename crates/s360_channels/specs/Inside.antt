@@ -1,23 +1,19 @@
 -- What holds between calls, and what is known of a channel that is found.
-use Rattle.std.specs.Prelude.{◌≡◌, ◌<◌, ℕ, suc, length, List, [], ◌∷◌, Option, Some, None}
+use Rattle.std.specs.Prelude.{◌≡◌, ◌<◌, ℕ, length, List, Option, Some, None, slice_index_or}
 use Rattle.s360_words.specs.Storage.{Storage}
 use Rattle.s360_channel.specs.Selector.{IsOver, IsSelector, SelectorState}
 use Rattle.s360_channels.specs.Channels.{ChannelsState, selector_at}
 
--- a channel for a storage of this size, that stands for a machine
-pub record Fits (size : ℕ) (c : SelectorState) : Type 0 where
+-- a channel with this number, for a storage of this size, that stands for a machine
+pub record Fits (number size : ℕ) (c : SelectorState) : Type 0 where
+  pub own_number : c.number ≡ number
+  pub as_large : c.size ≡ size
   pub is_selector : IsSelector c
-  pub size : c.size ≡ size
 
--- From a number on each channel has the number of its place, and fits.
-abbrev pub AllFitFrom : (number size : ℕ) → List (Option SelectorState) → Type 0
-AllFitFrom number size [] = Unit {0}
-AllFitFrom number size (None ∷ cs) = AllFitFrom (suc number) size cs
-AllFitFrom number size (Some c ∷ cs) = (c.number ≡ number) × Fits size c × AllFitFrom (suc number) size cs
-
--- So do all.
-abbrev pub AllFit : (size : ℕ) → List (Option SelectorState) → Type 0
-AllFit size cs = AllFitFrom 0 size cs
+-- There are seven places, and the channel at each has its number, and fits.
+pub record AllFit (size : ℕ) (cs : List (Option SelectorState)) : Type 0 where
+  pub seven : length cs ≡ 7
+  pub fit : (number : ℕ) (c : SelectorState) → slice_index_or cs number None ≡ Some c → Fits number size c
 
 -- what is known of a channel with a number that is found over a storage
 pub record IsFound (number : ℕ) (c : SelectorState) (s : Storage) : Type 0 where

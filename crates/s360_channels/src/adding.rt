@@ -58,12 +58,12 @@ impl<S: ImageStore> Channels<S> {
         let Some(place) = self.place((address / 256) as u8) else {
             return Err((AttachFault::NoChannel, image));
         };
-        match &mut self.list[place] {
-            Some(selector) => match selector.attach(alloc, (address % 256) as u8, image) {
-                Ok(()) => Ok(()),
-                Err((fault, image)) => Err((AttachFault::Refused(fault), image)),
-            },
-            None => Err((AttachFault::NoChannel, image)),
-        }
+        let Some(selector) = &mut self.list[place] else {
+            return Err((AttachFault::NoChannel, image));
+        };
+        let Err((fault, image)) = selector.attach(alloc, (address % 256) as u8, image) else {
+            return Ok(());
+        };
+        Err((AttachFault::Refused(fault), image))
     }
 }

@@ -25,9 +25,12 @@ impl<S: ImageStore> Channels<S> {
             self.old self.new }
     {
         let place = self.place(number)?;
-        let selector = self.list[place].take()?;
-        let (images, reset) = selector.finish();
-        Some(Removed { images, reset })
+        let mut selector = self.list[place].take()?;
+        let reset = selector.reset();
+        Some(Removed {
+            images: selector.into_images(),
+            reset,
+        })
     }
 
     /// Resets each channel, in order of the channels' numbers, and gives back the storage that they shared, and by their numbers

@@ -25,13 +25,14 @@ impl<S: ImageStore> Channels<S> {
         let Some(place) = self.place((address / 256) as u8) else {
             return Err(DetachFault::NoChannel);
         };
-        match &mut self.list[place] {
-            Some(selector) => match selector.detach((address % 256) as u8) {
-                Ok(image) => Ok(image),
-                Err(fault) => Err(DetachFault::Refused(fault)),
-            },
-            None => Err(DetachFault::NoChannel),
-        }
+        let Some(selector) = &mut self.list[place] else {
+            return Err(DetachFault::NoChannel);
+        };
+        let taken = match selector.detach((address % 256) as u8) {
+            Ok(image) => image,
+            Err(fault) => return Err(DetachFault::Refused(fault)),
+        };
+        Ok(taken)
     }
 
     /// Changes the pack of the drive at an address, at the channel of its high byte, and gives back the one that it had, as
@@ -55,12 +56,13 @@ impl<S: ImageStore> Channels<S> {
         let Some(place) = self.place((address / 256) as u8) else {
             return Err((ExchangeFault::NoChannel, image));
         };
-        match &mut self.list[place] {
-            Some(selector) => match selector.exchange((address % 256) as u8, image) {
-                Ok(before) => Ok(before),
-                Err((fault, image)) => Err((ExchangeFault::Refused(fault), image)),
-            },
-            None => Err((ExchangeFault::NoChannel, image)),
-        }
+        let Some(selector) = &mut self.list[place] else {
+            return Err((ExchangeFault::NoChannel, image));
+        };
+        let before = match selector.exchange((address % 256) as u8, image) {
+            Ok(before) => before,
+            Err((fault, image)) => return Err((ExchangeFault::Refused(fault), image)),
+        };
+        Ok(before)
     }
 }

@@ -1,6 +1,6 @@
 //! A channel is found by its number.
 
-ghost use Rattle.std.specs.Prelude.{◌≡◌, IfSome, OnNone, None, option_map};
+ghost use Rattle.std.specs.Prelude.{◌≡◌, IfSome, None, nat_le, option_map, true};
 ghost use Rattle.s360_channels.specs.Channels.{selector_at};
 ghost use Rattle.s360_channels.specs.Inside.{IsPlace};
 
@@ -13,14 +13,15 @@ impl<S: ImageStore> Channels<S> {
     #[inline(always)]
     pub(crate) fn place(&self, number: u8) -> Option<usize>
         ensures there { IfSome result (λ place. IsPlace number place self.now) }
-        ensures missing { OnNone result (selector_at number self.now ≡ None) }
+        ensures beyond { result ≡ None → nat_le 7 number ≡ true }
+        ensures missing { result ≡ None → selector_at number self.now ≡ None }
     {
+        // what is known of storage as soon as it is read
+        let _size = self.storage.size();
         let place = number as usize;
         if place >= self.list.len() {
             return None;
         }
-        // what is known of storage as soon as it is read
-        let _size = self.storage.size();
         Some(place)
     }
 
@@ -29,10 +30,7 @@ impl<S: ImageStore> Channels<S> {
     pub(crate) fn selector(&self, number: u8) -> Option<&Selector<S>>
         ensures { option_map (λ c. c.now) result ≡ selector_at number self.now }
     {
-        let place = number as usize;
-        if place >= self.list.len() {
-            return None;
-        }
+        let place = self.place(number)?;
         self.list[place].as_ref()
     }
 }

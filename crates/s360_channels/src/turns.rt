@@ -44,10 +44,10 @@ impl<S: ImageStore> Channels<S> {
         let Some(place) = self.place((address / 256) as u8) else {
             return false;
         };
-        match &mut self.list[place] {
-            Some(selector) => selector.arrive(address),
-            None => false,
-        }
+        let Some(selector) = &mut self.list[place] else {
+            return false;
+        };
+        selector.arrive(address)
     }
 
     /// Resets the channel with this number and its drives; none where there is no such channel. It makes at most one call of a
@@ -56,10 +56,10 @@ impl<S: ImageStore> Channels<S> {
         ensures { OnChannel number (ResetsTo result) (result ≡ None) self.old self.new }
     {
         let place = self.place(number)?;
-        match &mut self.list[place] {
-            Some(selector) => Some(selector.reset()),
-            None => None,
-        }
+        let Some(selector) = &mut self.list[place] else {
+            return None;
+        };
+        Some(selector.reset())
     }
 
     /// Lets each channel's program do so many units, in order of the channels' numbers, and answers by number as `step` does:
