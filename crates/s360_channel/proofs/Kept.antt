@@ -15,7 +15,7 @@ use Rattle.s360_laws.specs.Machine.{Machine, react, keep, change, part_of, stora
 use Rattle.s360_laws.specs.Machine as machine
 use Rattle.s360_laws.proofs.LedgerLists.{stays}
 use Rattle.s360_channel.specs.Calls.{DoesQuietly}
-use Rattle.s360_channel.specs.Channel.{ChannelState, IsChannel, Shows, StandsFor, WorksFor}
+use Rattle.s360_channel.specs.Channel.{ChannelState, Shows, StandsFor, WorksFor}
 use Rattle.s360_channel.specs.declared.subchannel.Subchannel.{Subchannel}
 use Rattle.s360_channel.specs.declared.subchannel.Subchannel.TheVariants.{Idle, Working, Pending}
 use Rattle.s360_channel.specs.Shares.{with_storage, FindsAnother, IsAsLarge, finding, keys_set}
@@ -92,9 +92,6 @@ module _ (e : Event) (x : Change) (is_keep : (m : Machine) → react e None m �
   does_kept m h =
       subst (λ s. DoesQuietly e m (WasKept ok) (with_storage c s)) (sym (becomes ∙ ap (λ b. cond b (changed x c.storage) c.storage) within))
       (subst (λ b. DoesQuietly e m (WasKept b) (with_storage c (cond (is_within x c.storage) (changed x c.storage) c.storage))) (sym (told ∙ within)) (keeps e x is_keep c m h))
-
-  pub channel_kept : IsChannel c → IsChannel (with_storage c new)
-  channel_kept h = record { machine = (react e None h.machine).1; stands = (does_kept h.machine h.stands).stands }
 
 -- and the size that it leaves
 pub kept_size : (x : Change) (s new : Storage) (kept : Bool) → new ≡ cond kept (changed x s) s → length new.bytes ≡ length s.bytes

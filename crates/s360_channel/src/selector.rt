@@ -15,7 +15,7 @@ use std::marker::Model;
 
 /// A selector channel with its drives, to which storage is lent for each call that needs it. It asks of its caller that the
 /// storage has the selector's size, and nothing else: what others store there between two calls is as if the processor had
-/// stored it, also while a program runs.
+/// stored it, also while a program runs (`finds_another`).
 #[derive(Drop)]
 pub struct Selector<S: ImageStore> {
     pub(crate) number: u8,
@@ -63,7 +63,7 @@ impl<S: ImageStore> Selector<S> {
         self.size
     }
 
-    // What is known of it over a storage of its size; it is known of both as soon as they are read.
+    // Over a storage of its size it is a channel: that is known as soon as both are read.
     pub(crate) fn is_over(&self, storage: &Storage)
         requires { length storage.now.bytes ≡ self.now.size }
         ensures { IsOver self.now storage.now }

@@ -1,8 +1,4 @@
-use Rattle.std.proofs.Common.{◌∙◌, sym}
 use Rattle.s360_channel.proofs.channel.Channel.exchange.Goals as goal
-
-pub invariant_of-self : goal.invariant_of-self
-invariant_of-self g c = c.self.invariant ∙ sym c.exchange.ensures.same.size
 
 pub returns-clause-exchanged : goal.returns-clause-exchanged
 returns-clause-exchanged g c = rw (← c.self.view_is) (c.exchange.ensures.exchanged c.self.inside.storage)

@@ -23,52 +23,69 @@ advance-advance-requires g c =
     (omega arith, there _ is.machine c.in-Working.place c.in-Working.running c.in-Working.is is.stands)
 
 pub end_program-requires : goal.end_program-requires
-end_program-requires g c = (omega arith, still_there c.in-Working.place (AdvancesAt c.in-Working.running c.args.storage.now c.args.units c.advance-advance.result c.advance-advance.new.running c.advance-advance.new.storage) _ _ c.advance-advance.ensures)
+end_program-requires g c = (
+  omega arith,
+  still_there c.in-Working.place
+      (AdvancesAt c.in-Working.running c.args.storage.now c.args.units c.advance-advance.result c.advance-advance.new.running
+      c.advance-advance.new.storage) _ _ c.advance-advance.ensures,
+)
 
 pub invariant_of-self-in-Some : goal.invariant_of-self-in-Some
 invariant_of-self-in-Some g c =
     let a = c.advance-advance in
-    does_selector (StepBy c.args.units) (Stepped a.result.done) (2 * a.result.done) _ _ _ a.new.storage (rw (← c.self.view_is) at c.is_over.ensures) refl a.ensures.how.storage
-    (λ m s. step_ends _ m c.in-Working.place c.in-Working.running c.in-Working.is s c.args.units a.result a.new.running a.new.storage a.new.self a.ensures c.in-Some.csw c.in-Some.motion c.in-Some.is _ _ c.end_program.ensures)
+    does_selector (StepBy c.args.units) (Stepped a.result.done) (2 * a.result.done) _ _ _ a.new.storage
+    (rw (← c.self.view_is) at c.is_over.ensures) refl a.ensures.how.storage
+    (λ m s. step_ends _ m c.in-Working.place c.in-Working.running c.in-Working.is s c.args.units a.result a.new.running a.new.storage
+    a.new.self a.ensures c.in-Some.csw c.in-Some.motion c.in-Some.is _ _ c.end_program.ensures)
 
 pub invariant_of-self-in_default-ending : goal.invariant_of-self-in_default-ending
 invariant_of-self-in_default-ending g c =
     let a = c.advance-advance in
-    does_selector (StepBy c.args.units) (Stepped a.result.done) (2 * a.result.done) _ _ _ a.new.storage (rw (← c.self.view_is) at c.is_over.ensures) refl a.ensures.how.storage
-    (λ m s. step_goes_on _ m c.in-Working.place c.in-Working.running c.in-Working.is s c.args.units a.result a.new.running a.new.storage a.new.self a.ensures (none_left a.result.ending c.in_default-ending.not-Some))
+    does_selector (StepBy c.args.units) (Stepped a.result.done) (2 * a.result.done) _ _ _ a.new.storage
+    (rw (← c.self.view_is) at c.is_over.ensures) refl a.ensures.how.storage
+    (λ m s. step_goes_on _ m c.in-Working.place c.in-Working.running c.in-Working.is s c.args.units a.result a.new.running a.new.storage
+    a.new.self a.ensures (none_left a.result.ending c.in_default-ending.not-Some))
 
 pub returns-in-Some-clause-does : goal.returns-in-Some-clause-does
-returns-in-Some-clause-does g c = rw (← c.self.view_is) (λ m s. let a = c.advance-advance in (step_ends _ m c.in-Working.place c.in-Working.running c.in-Working.is s c.args.units a.result a.new.running a.new.storage a.new.self a.ensures c.in-Some.csw c.in-Some.motion c.in-Some.is _ _ c.end_program.ensures).0)
+returns-in-Some-clause-does g c = rw (← c.self.view_is) (λ m s. let a = c.advance-advance in
+    (step_ends _ m c.in-Working.place c.in-Working.running c.in-Working.is s c.args.units a.result a.new.running a.new.storage a.new.self
+    a.ensures c.in-Some.csw c.in-Some.motion c.in-Some.is _ _ c.end_program.ensures).0)
 
 pub returns-in-Some-clause-most : goal.returns-in-Some-clause-most
 returns-in-Some-clause-most g c =
     let a = c.advance-advance in
     let is = (rw (← c.self.view_is) at c.is_over.ensures).channel in
-    step_most _ is.machine c.in-Working.place c.in-Working.running c.in-Working.is is.stands c.args.units a.result a.new.running a.new.storage a.new.self a.ensures
+    step_most _ is.machine c.in-Working.place c.in-Working.running c.in-Working.is is.stands c.args.units a.result a.new.running
+    a.new.storage a.new.self a.ensures
 
 pub returns-in-Some-clause-calls : goal.returns-in-Some-clause-calls
 returns-in-Some-clause-calls g c =
     let a = c.advance-advance in
     let is = (rw (← c.self.view_is) at c.is_over.ensures).channel in
-    rw (← c.self.view_is) (step_ends _ is.machine c.in-Working.place c.in-Working.running c.in-Working.is is.stands c.args.units a.result a.new.running a.new.storage a.new.self a.ensures c.in-Some.csw c.in-Some.motion c.in-Some.is _ _ c.end_program.ensures).1
+    rw (← c.self.view_is) (step_ends _ is.machine c.in-Working.place c.in-Working.running c.in-Working.is is.stands c.args.units a.result
+    a.new.running a.new.storage a.new.self a.ensures c.in-Some.csw c.in-Some.motion c.in-Some.is _ _ c.end_program.ensures).1
 
 pub returns-in-Some-clause-keeps : goal.returns-in-Some-clause-keeps
 returns-in-Some-clause-keeps g c = c.advance-advance.ensures.how.storage
 
 pub returns-in_default-ending-clause-does : goal.returns-in_default-ending-clause-does
-returns-in_default-ending-clause-does g c = rw (← c.self.view_is) (λ m s. let a = c.advance-advance in (step_goes_on _ m c.in-Working.place c.in-Working.running c.in-Working.is s c.args.units a.result a.new.running a.new.storage a.new.self a.ensures (none_left a.result.ending c.in_default-ending.not-Some)).0)
+returns-in_default-ending-clause-does g c = rw (← c.self.view_is)
+    (λ m s. let a = c.advance-advance in (step_goes_on _ m c.in-Working.place c.in-Working.running c.in-Working.is s c.args.units a.result
+    a.new.running a.new.storage a.new.self a.ensures (none_left a.result.ending c.in_default-ending.not-Some)).0)
 
 pub returns-in_default-ending-clause-most : goal.returns-in_default-ending-clause-most
 returns-in_default-ending-clause-most g c =
     let a = c.advance-advance in
     let is = (rw (← c.self.view_is) at c.is_over.ensures).channel in
-    step_most _ is.machine c.in-Working.place c.in-Working.running c.in-Working.is is.stands c.args.units a.result a.new.running a.new.storage a.new.self a.ensures
+    step_most _ is.machine c.in-Working.place c.in-Working.running c.in-Working.is is.stands c.args.units a.result a.new.running
+    a.new.storage a.new.self a.ensures
 
 pub returns-in_default-ending-clause-calls : goal.returns-in_default-ending-clause-calls
 returns-in_default-ending-clause-calls g c =
     let a = c.advance-advance in
     let is = (rw (← c.self.view_is) at c.is_over.ensures).channel in
-    rw (← c.self.view_is) (step_goes_on _ is.machine c.in-Working.place c.in-Working.running c.in-Working.is is.stands c.args.units a.result a.new.running a.new.storage a.new.self a.ensures (none_left a.result.ending c.in_default-ending.not-Some)).1
+    rw (← c.self.view_is) (step_goes_on _ is.machine c.in-Working.place c.in-Working.running c.in-Working.is is.stands c.args.units
+    a.result a.new.running a.new.storage a.new.self a.ensures (none_left a.result.ending c.in_default-ending.not-Some)).1
 
 pub returns-in_default-ending-clause-keeps : goal.returns-in_default-ending-clause-keeps
 returns-in_default-ending-clause-keeps g c = c.advance-advance.ensures.how.storage

@@ -12,27 +12,34 @@ returns-in_err-place-clause-refused g c s m h =
     rw (p.1, p.2) (c.in_err-place.ensures.refused s m h)
 
 pub remove-requires : goal.remove-requires
-remove-requires g c = (
-  omega arith,
-  let h = c.self.invariant in
-      let k = h.is_over.channel in
-      let this = of_parts c.self.inside.number h.storage c.self.inside.subchannel c.self.inside.drives in
-      rests_free this k.machine k.stands c.args.device c.in_ok-place.place (rw (← c.self.view_is) at c.in_ok-place.ensures.free h.storage),
-)
+remove-requires g c =
+    let i = c.self.inside in (
+      omega arith,
+      let h = c.self.invariant in
+          let k = h.is_over.channel in
+          let this = of_parts i.number h.storage i.subchannel i.drives in
+          let f = rw (← c.self.view_is) at c.in_ok-place.ensures.free h.storage in
+          rests_free this k.machine k.stands c.args.device c.in_ok-place.place f,
+    )
 
 pub invariant_of-self : goal.invariant_of-self
 invariant_of-self g c =
+    let i = c.self.inside in
     let h = c.self.invariant in
     let k = h.is_over.channel in
-    let this = of_parts c.self.inside.number h.storage c.self.inside.subchannel c.self.inside.drives in
+    let this = of_parts i.number h.storage i.subchannel i.drives in
     let f = rw (← c.self.view_is) at c.in_ok-place.ensures.free h.storage in
     still_over _ _ h refl (record {
       machine = without_device c.args.device k.machine;
-      stands = (detaches this k.machine k.stands c.args.device c.in_ok-place.place f c.move_up.new.subchannel c.remove.new.self c.remove.result c.move_up.ensures c.remove.ensures).stands;
+      stands = (detaches this k.machine k.stands c.args.device c.in_ok-place.place f c.move_up.new.subchannel c.remove.new.self
+          c.remove.result c.move_up.ensures c.remove.ensures).stands;
     })
 
 pub returns-clause-detached : goal.returns-clause-detached
-returns-clause-detached g c = rw (← c.self.view_is) (λ s m h.
-    let this = of_parts c.self.inside.number s c.self.inside.subchannel c.self.inside.drives in
+returns-clause-detached g c =
+    let i = c.self.inside in
+    rw (← c.self.view_is) (λ s m h.
+    let this = of_parts i.number s i.subchannel i.drives in
     let f = rw (← c.self.view_is) at c.in_ok-place.ensures.free s in
-    detaches this m h c.args.device c.in_ok-place.place f c.move_up.new.subchannel c.remove.new.self c.remove.result c.move_up.ensures c.remove.ensures)
+    detaches this m h c.args.device c.in_ok-place.place f c.move_up.new.subchannel c.remove.new.self c.remove.result c.move_up.ensures
+    c.remove.ensures)

@@ -19,34 +19,50 @@ fits-requires g c = (
 
 pub returns-then-not-fits-clause-refused : goal.returns-then-not-fits-clause-refused
 returns-then-not-fits-clause-refused g c s m h =
-    let this = of_parts c.self.inside.number s c.self.inside.subchannel c.self.inside.drives in
+    let i = c.self.inside in
+    let this = of_parts i.number s i.subchannel i.drives in
     let st = rw (← c.self.view_is) at h in
-    let f = rw (← c.self.view_is) at c.in-Ok.ensures.free s in
-    (is_free this m st c.args.device c.in-Ok.place f, fits_is this m st c.args.device c.in-Ok.place f c.args.image false c.geometry.result c.geometry.ensures.geometry c.if-not-fits.ensures.volume)
+    let f = rw (← c.self.view_is) at c.in-Ok.ensures.free s in (
+      is_free this m st c.args.device c.in-Ok.place f,
+      fits_is this m st c.args.device c.in-Ok.place f c.args.image false c.geometry.result
+          c.geometry.ensures.geometry c.if-not-fits.ensures.volume,
+    )
 
 pub exchange-requires : goal.exchange-requires
-exchange-requires g c = (
-  omega arith,
-  let h = c.self.invariant in
-      let k = h.is_over.channel in
-      let this = of_parts c.self.inside.number h.storage c.self.inside.subchannel c.self.inside.drives in
-      let f = rw (← c.self.view_is) at c.in-Ok.ensures.free h.storage in
-      may_exchange this k.machine k.stands c.args.device c.in-Ok.place f c.args.image c.geometry.result c.geometry.ensures.geometry c.if-not-fits.ensures.image,
-)
+exchange-requires g c =
+    let i = c.self.inside in (
+      omega arith,
+      let h = c.self.invariant in
+          let k = h.is_over.channel in
+          let this = of_parts i.number h.storage i.subchannel i.drives in
+          let f = rw (← c.self.view_is) at c.in-Ok.ensures.free h.storage in
+          may_exchange this k.machine k.stands c.args.device c.in-Ok.place f c.args.image c.geometry.result c.geometry.ensures.geometry
+          c.if-not-fits.ensures.image,
+    )
 
 pub invariant_of-self : goal.invariant_of-self
 invariant_of-self g c =
+    let i = c.self.inside in
     let h = c.self.invariant in
     let k = h.is_over.channel in
-    let this = of_parts c.self.inside.number h.storage c.self.inside.subchannel c.self.inside.drives in
+    let this = of_parts i.number h.storage i.subchannel i.drives in
     let f = rw (← c.self.view_is) at c.in-Ok.ensures.free h.storage in
-    let fits = fits_is this k.machine k.stands c.args.device c.in-Ok.place f c.args.image true c.geometry.result c.geometry.ensures.geometry c.if-not-fits.ensures.volume in
+    let fits = fits_is this k.machine k.stands c.args.device c.in-Ok.place f c.args.image true c.geometry.result
+    c.geometry.ensures.geometry c.if-not-fits.ensures.volume in
     still_over _ _ h refl
-    (record { machine = with_pack c.args.device c.args.image k.machine; stands = (exchanges this k.machine k.stands c.args.device c.in-Ok.place f c.args.image c.exchange.new.self c.exchange.result fits c.exchange.ensures).stands })
+    (record {
+      machine = with_pack c.args.device c.args.image k.machine;
+      stands =
+          (exchanges this k.machine k.stands c.args.device c.in-Ok.place f c.args.image c.exchange.new.self c.exchange.result fits
+          c.exchange.ensures).stands;
+    })
 
 pub returns-clause-exchanged : goal.returns-clause-exchanged
-returns-clause-exchanged g c = rw (← c.self.view_is) (λ s m h.
-    let this = of_parts c.self.inside.number s c.self.inside.subchannel c.self.inside.drives in
+returns-clause-exchanged g c =
+    let i = c.self.inside in
+    rw (← c.self.view_is) (λ s m h.
+    let this = of_parts i.number s i.subchannel i.drives in
     let f = rw (← c.self.view_is) at c.in-Ok.ensures.free s in
-    let fits = fits_is this m h c.args.device c.in-Ok.place f c.args.image true c.geometry.result c.geometry.ensures.geometry c.if-not-fits.ensures.volume in
+    let fits = fits_is this m h c.args.device c.in-Ok.place f c.args.image true c.geometry.result c.geometry.ensures.geometry
+    c.if-not-fits.ensures.volume in
     exchanges this m h c.args.device c.in-Ok.place f c.args.image c.exchange.new.self c.exchange.result fits c.exchange.ensures)

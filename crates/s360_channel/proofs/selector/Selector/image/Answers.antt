@@ -8,10 +8,14 @@ use Rattle.s360_channel.proofs.selector.Selector.image.Goals as goal
 
 pub returns-in_default-clause-shows : goal.returns-in_default-clause-shows
 returns-in_default-clause-shows g c s m h =
-    shows_volume (of_parts c.self.inside.number s c.self.inside.subchannel c.self.inside.drives) m c.args.device None (rw (← c.self.view_is) at h)
-    (λ off. sym (ap (λ x. option_map (λ (u : AttachedState). u.drive.state.volume) (attached_in x c.self.inside.drives)) (sym c.place_of.ensures ∙ c.in_default.is)))
+    let i = c.self.inside in
+    shows_volume (of_parts i.number s i.subchannel i.drives) m c.args.device None (rw (← c.self.view_is) at h)
+    (λ off. sym (ap (λ x. option_map (λ (u : AttachedState). u.drive.state.volume) (attached_in x i.drives))
+    (sym c.place_of.ensures ∙ c.in_default.is)))
 
 pub returns-clause-shows : goal.returns-clause-shows
 returns-clause-shows g c s m h =
-    lends_volume (of_parts c.self.inside.number s c.self.inside.subchannel c.self.inside.drives) m c.args.device c.in-Some.place c.drive.result.now c.image.result.now (rw (← c.self.view_is) at h)
+    let i = c.self.inside in
+    lends_volume (of_parts i.number s i.subchannel i.drives) m c.args.device c.in-Some.place c.drive.result.now c.image.result.now
+    (rw (← c.self.view_is) at h)
     (sym c.in-Some.ensures) c.drive.ensures c.image.ensures.image c.image.ensures.geometry c.image.ensures.volume

@@ -17,13 +17,15 @@ reset-requires g c =
 pub invariant_of-self : goal.invariant_of-self
 invariant_of-self g c =
     let l = c.lose_program-unsaved in
-    does_selector Reset (WasReset l.result) 1 _ _ _ c.self.invariant.storage c.self.invariant.is_over refl (record { size = refl; keys = refl })
+    does_selector Reset (WasReset l.result) 1 _ _ _ c.self.invariant.storage c.self.invariant.is_over refl
+    (record { size = refl; keys = refl })
     (λ m s. resets_to _ m s l.new.drives l.result l.ensures.lost l.new.subchannel c.reset.new.self l.ensures.idle c.reset.ensures)
 
 pub returns-clause-does : goal.returns-clause-does
 returns-clause-does g c =
     let l = c.lose_program-unsaved in
-    rw (← c.self.view_is) (λ t m s. (resets_to _ m s l.new.drives l.result l.ensures.lost l.new.subchannel c.reset.new.self l.ensures.idle c.reset.ensures).0)
+    rw (← c.self.view_is) (λ t m s. (resets_to _ m s l.new.drives l.result l.ensures.lost l.new.subchannel c.reset.new.self l.ensures.idle
+    c.reset.ensures).0)
 
 pub returns-clause-rests : goal.returns-clause-rests
 returns-clause-rests g c =
@@ -35,4 +37,5 @@ pub returns-clause-calls : goal.returns-clause-calls
 returns-clause-calls g c =
     let is = c.self.invariant.is_over.channel in
     let l = c.lose_program-unsaved in
-    rw (← c.self.view_is) (λ t. calls_over 1 _ _ t t (resets_to _ is.machine is.stands l.new.drives l.result l.ensures.lost l.new.subchannel c.reset.new.self l.ensures.idle c.reset.ensures).1)
+    rw (← c.self.view_is) (λ t. calls_over 1 _ _ t t (resets_to _ is.machine is.stands l.new.drives l.result l.ensures.lost
+    l.new.subchannel c.reset.new.self l.ensures.idle c.reset.ensures).1)

@@ -4,5 +4,6 @@ use Rattle.s360_channel.proofs.selector.Selector.state.Goals as goal
 
 pub returns : goal.returns
 returns g c s m h =
-    view_from (of_parts c.self.inside.number s c.self.inside.subchannel c.self.inside.drives) m (rw (← c.self.view_is) at h)
+    let i = c.self.inside in
+    view_from (of_parts i.number s i.subchannel i.drives) m (rw (← c.self.view_is) at h)
     c.subchannel_shown.result c.shown.result (c.subchannel_shown.ensures s m h) c.shown.ensures
