@@ -11,13 +11,13 @@ use Rattle.s360_laws.specs.Machine as machine
 use Rattle.s360_laws.specs.Machine.{Machine, react}
 use Rattle.s360_channel.specs.Calls.{Does, DoesQuietly}
 use Rattle.s360_channel.specs.Attaches.{NotRefused}
-use Rattle.s360_channel.specs.Channel.{ChannelState, IsChannel, StandsFor, new_attached}
+use Rattle.s360_channel.specs.Channel.{AttachedState, ChannelState, IsChannel, StandsFor, new_attached}
 use Rattle.s360_channel.specs.declared.subchannel.Subchannel.TheVariants.{Idle}
 use Rattle.s360_channel.specs.Selector.{IsOver, IsSelector, KeepsSelector, SelectorState, over}
 use Rattle.s360_channel.proofs.Places.{inside, none_is_some}
 use Rattle.s360_channel.proofs.Selecting.{is_over, still_selector}
 use Rattle.s360_channels.specs.Adding.{AttachesAt, AttachesTo}
-use Rattle.s360_channels.specs.Channels.{ChannelsState, OnChannel, OnFound, channel_at}
+use Rattle.s360_channels.specs.Channels.{ChannelsState, OnChannel, OnFound, channel_at, selector_at}
 use Rattle.s360_channels.specs.Ending.{Ends, Parts, RemovesAt, RemovesFound}
 use Rattle.s360_channels.specs.Inside.{AllFit, Fits, IsFound, IsPlace}
 
@@ -110,6 +110,9 @@ module _ {number place : ℕ} {s : Storage} {cs : List (Option SelectorState)} {
       (subst (λ o. RemovesFound (option_map (λ c. over c s) o) number (Some parts) (record { storage = s; channels = cs }) (record { storage = s; channels = slice_set cs place x })) (sym h.is_there)
       (record { ends = ends; others_stay = ap (λ n. slice_set cs n x) h.same ∙ ap (slice_set cs number) none }))
 
+pub none_removed : (number : ℕ) (v : ChannelsState) → selector_at number v ≡ None → RemovesAt number None v v
+none_removed number v e = subst (λ o. RemovesFound (option_map (λ c. over c v.storage) o) number None v v) (sym e) (refl, refl)
+
 -- A new channel fits.
 
 few : 0 ≤ 8
@@ -137,6 +140,9 @@ new_fits number a s c is h e k = subst (Fits number (length s.bytes)) (sym is) (
 
 pub same_storage : (s : Storage) → KeepsStorage s s
 same_storage s = record { size = refl; keys = refl }
+
+pub keeps_selector : {c c' : SelectorState} {drives : List AttachedState} → c' ≡ record c { drives = drives } → KeepsSelector c c'
+keeps_selector e = record { number = ap (λ (c : SelectorState). c.number) e; size = ap (λ (c : SelectorState). c.size) e }
 
 pub quiet_channel : (e : Event) (answer : Answer) (old new : ChannelState) → IsChannel old → ((m : Machine) → StandsFor old m → DoesQuietly e m answer new) → IsChannel new
 quiet_channel e answer old new k does = record { machine = (react e None k.machine).1; stands = (does k.machine k.stands).stands }

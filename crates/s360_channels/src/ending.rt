@@ -1,11 +1,13 @@
 //! Channels that are taken apart.
 
 ghost use Rattle.std.specs.Prelude.{map, option_map};
-ghost use Rattle.s360_channels.specs.Ending.{FinishesAll, RemovesAt};
+ghost use Rattle.s360_words.specs.Storage.{Storage as StorageState};
+ghost use Rattle.s360_channel.specs.Selector.{over};
+ghost use Rattle.s360_channels.specs.Ending.{Ends, FinishesAll, RemovesAt};
 
 use crate::channels::Channels;
 use ckd_image::{Image, ImageStore};
-use s360_channel::Reset;
+use s360_channel::{Reset, Selector};
 use s360_words::Storage;
 
 /// What a channel was made of, after its last reset.
@@ -24,13 +26,11 @@ impl<S: ImageStore> Channels<S> {
         ensures { RemovesAt number (option_map (λ c. record { images = c.images; unsaved = c.reset.unsaved }) result)
             self.old self.new }
     {
-        let place = self.place(number)?;
-        let mut selector = self.list[place].take()?;
-        let reset = selector.reset();
-        Some(Removed {
-            images: selector.into_images(),
-            reset,
-        })
+        let Some(place) = self.place(number) else {
+            return None;
+        };
+        let selector = self.list[place].take()?;
+        Some(end(selector))
     }
 
     /// Resets each channel, in order of the channels' numbers, and gives back the storage that they shared, and by their numbers
@@ -52,5 +52,16 @@ impl<S: ImageStore> Channels<S> {
         ];
         let Channels { storage, list: _ } = self;
         (storage, channels)
+    }
+}
+
+// A channel is reset, and taken apart. Whatever its storage is, it stays.
+fn end<S: ImageStore>(mut selector: Selector<S>) -> Removed<S>
+    ensures { (s : StorageState) → Ends (over selector s) (record { images = result.images; unsaved = result.reset.unsaved }) s }
+{
+    let reset = selector.reset();
+    Removed {
+        images: selector.into_images(),
+        reset,
     }
 }

@@ -1,4 +1,4 @@
-use Rattle.std.proofs.Common.{◌<◌, subst, sym}
+use Rattle.std.proofs.Common.{◌<◌, subst, sym, length}
 use Rattle.s360_channel.proofs.Places.{inside}
 use Rattle.s360_channels.specs.Inside.{Fits}
 use Rattle.s360_channels.proofs.Fitting.{fit_set, new_fits}
@@ -10,5 +10,7 @@ returns-in_default-clause-refused g c = c.place.ensures.beyond c.in_default.is
 pub invariant_of-self : goal.invariant_of-self
 invariant_of-self g c =
     let p = c.in-Some.ensures.there in
-    fit_set _ c.self.inside.list c.in-Some.place _ c.self.invariant (λ d e. subst (Fits c.in-Some.place _) (inside c.in-Ok.selector d e)
-    (subst (λ n. Fits n _ c.in-Ok.selector) (sym p.same) (new_fits c.args.number c.size.result c.self.inside.storage _ c.in-Ok.ensures.ok (subst (λ n. n < 7) p.same p.within) c.size.ensures.size c.size.ensures.keys)))
+    let s = c.self.inside.storage in
+    let z = c.size.ensures in
+    let fits : Fits c.args.number (length s.bytes) c.in-Ok.selector = new_fits c.args.number c.size.result s c.in-Ok.selector c.in-Ok.ensures.ok (subst (λ n. n < 7) p.same p.within) z.size z.keys in
+    fit_set (length s.bytes) c.self.inside.list c.in-Some.place _ c.self.invariant (λ d e. subst (Fits c.in-Some.place (length s.bytes)) (inside c.in-Ok.selector d e) (subst (λ n. Fits n (length s.bytes) c.in-Ok.selector) (sym p.same) fits))

@@ -1,9 +1,8 @@
-use Rattle.std.proofs.Common.{ap, ◌/◌, ◌%◌}
+use Rattle.std.proofs.Common.{◌/◌, ◌%◌}
 use Rattle.s360_channel.specs.Channel.{attached}
-use Rattle.s360_channel.specs.Selector.{SelectorState}
 use Rattle.s360_channels.specs.Adding.{WhyNot}
 use Rattle.s360_channels.specs.declared.faults.AttachFault.TheVariants as fault
-use Rattle.s360_channels.proofs.Fitting.{attached_behind, fit_behind, here, same_storage, seen_here}
+use Rattle.s360_channels.proofs.Fitting.{attached_behind, fit_behind, here, keeps_selector, same_storage, seen_here}
 use Rattle.s360_channels.proofs.channels.Channels.attach.Goals as goal
 
 pub invariant_of-self-in_default-attach : goal.invariant_of-self-in_default-attach
@@ -12,7 +11,7 @@ invariant_of-self-in_default-attach g c =
     let h = here (c.args.address / 256) _ _ _ _ _ _ c.self.view_is c.in-Some.ensures.there c.self.invariant c.in-Some-list.is in
     let k = h.found.is_over.channel in
     let d = c.in_default-attach.ensures in
-    fit_behind h s _ (record { number = ap (λ (c : SelectorState). c.number) d.attached; size = ap (λ (c : SelectorState). c.size) d.attached }) (same_storage s)
+    fit_behind h s _ (keeps_selector d.attached) (same_storage s)
     (record { machine = attached (c.args.address % 256) c.args.image k.machine; stands = d.stands s k.machine k.stands })
 
 pub returns-in_default-attach-clause-attached : goal.returns-in_default-attach-clause-attached
