@@ -1,5 +1,5 @@
 -- Condition code 3 is answered only where no drive is attached under the address, or the channel has another number.
-use Rattle.std.proofs.Common.{◌≡◌, ℕ, refl, sym, ap, ◌∙◌, subst, true, false, Bool, cond, ◌==◌, ◌/◌, ◌%◌, List, Option, Some, None}
+use Rattle.std.proofs.Common.{◌≡◌, ℕ, refl, sym, ap, ◌∙◌, true, false, Bool, cond, ◌==◌, ◌/◌, ◌%◌, Option, Some, None}
 use Rattle.std.proofs.lemmas.Bool.{eq-eqb}
 use Rattle.std.specs.Prelude.{find, is_some, option_map}
 use Rattle.ckd_command.specs.Drive.{Fault}

@@ -12,5 +12,8 @@ invariant_of-self g c =
     let p = c.in-Some.ensures.there in
     let s = c.self.inside.storage in
     let z = c.size.ensures in
-    let fits : Fits c.args.number (length s.bytes) c.in-Ok.selector = new_fits c.args.number c.size.result s c.in-Ok.selector c.in-Ok.ensures.ok (subst (λ n. n < 7) p.same p.within) z.size z.keys in
-    fit_set (length s.bytes) c.self.inside.list c.in-Some.place _ c.self.invariant (λ d e. subst (Fits c.in-Some.place (length s.bytes)) (inside c.in-Ok.selector d e) (subst (λ n. Fits n (length s.bytes) c.in-Ok.selector) (sym p.same) fits))
+    let small = subst (λ n. n < 7) p.same p.within in
+    let fits = new_fits c.args.number c.size.result s c.in-Ok.selector c.in-Ok.ensures.ok small z.size z.keys in
+    fit_set (length s.bytes) c.self.inside.list c.in-Some.place _ c.self.invariant
+    (λ d e. subst (Fits c.in-Some.place (length s.bytes)) (inside c.in-Ok.selector d e)
+    (subst (λ n. Fits n (length s.bytes) c.in-Ok.selector) (sym p.same) fits))

@@ -4,15 +4,16 @@ use Rattle.s360_channels.proofs.Fitting.{calls_behind, fit_behind, has_size, her
 use Rattle.s360_channels.proofs.channels.Channels.interrupt_at.Goals as goal
 
 pub interrupt-requires : goal.interrupt-requires
-interrupt-requires g c = (omega arith, has_size (here c.args.number _ _ _ _ _ _ c.self.view_is c.in_ok-place.ensures.there c.self.invariant c.in-Some.is))
+interrupt-requires g c = (omega arith, has_size (here _ c.self.view_is c.in_ok-place.ensures.there c.self.invariant c.in-Some.is))
 
 pub invariant_of-self : goal.invariant_of-self
 invariant_of-self g c =
-    let h = here c.args.number _ _ _ _ _ _ c.self.view_is c.in_ok-place.ensures.there c.self.invariant c.in-Some.is in
+    let h = here _ c.self.view_is c.in_ok-place.ensures.there c.self.invariant c.in-Some.is in
     let d = c.interrupt.ensures in
-    fit_behind h _ _ d.same d.keeps (quiet_channel Interrupt _ _ _ h.found.is_over.channel d.does)
+    fit_behind h d.same d.keeps (quiet_channel Interrupt h.found.is_over.channel d.does)
 
 pub returns-in-Some : goal.returns-in-Some
 returns-in-Some g c =
     let d = c.interrupt.ensures in
-    calls_behind (here c.args.number _ _ _ _ _ _ c.self.view_is c.in_ok-place.ensures.there c.self.invariant c.in-Some.is) _ _ _ c.self.view_is _ _ d.same d.keeps (record { does = d.does; calls = d.calls })
+    let h = here _ c.self.view_is c.in_ok-place.ensures.there c.self.invariant c.in-Some.is in
+    calls_behind h _ _ c.self.view_is d.same d.keeps (record { does = d.does; calls = d.calls })

@@ -1,4 +1,4 @@
-use Rattle.std.proofs.Common.{refl, ap}
+use Rattle.std.proofs.Common.{refl}
 use Rattle.s360_channels.proofs.Fitting.{found_at, none_beyond}
 use Rattle.s360_channels.proofs.channels.Channels.place.Goals as goal
 
@@ -8,4 +8,8 @@ returns-then-place-ge7-clause-missing g c = λ h. rw (← c.self.view_is) (none_
 pub returns-clause-there : goal.returns-clause-there
 returns-clause-there g c =
     let z = c.size-size.ensures in
-    rw (← c.self.view_is) (record { same = refl; within = c.if-place-ge7.false; found = λ d there. found_at c.args.number _ c.size-size.result _ d c.self.invariant z.size z.allowed z.keys there })
+    rw (← c.self.view_is) (record {
+      same = refl;
+      within = c.if-place-ge7.false;
+      found = λ d there. found_at c.args.number _ c.size-size.result _ d c.self.invariant z.size z.allowed z.keys there;
+    })

@@ -7,9 +7,11 @@ pub returns-in_default : goal.returns-in_default
 returns-in_default g c = none_removed c.args.number c.args.self.now (c.place.ensures.missing c.in_default.is)
 
 pub invariant_of-self-2 : goal.invariant_of-self-2
-invariant_of-self-2 g c = fit_set _ c.self.inside.list c.in-Some.place _ c.self.invariant (λ d e. none_is_some (sym c.take.ensures.after ∙ e))
+invariant_of-self-2 g c =
+    fit_set _ c.self.inside.list c.in-Some.place _ c.self.invariant (λ d e. none_is_some (sym c.take.ensures.after ∙ e))
 
 pub returns : goal.returns
 returns g c =
-    removed_behind (here c.args.number _ _ _ _ _ _ c.self.view_is c.in-Some.ensures.there c.self.invariant (sym c.in_ok-selector.ensures.value)) _ _ c.self.view_is _ c.take.ensures.after
+    let h = here _ c.self.view_is c.in-Some.ensures.there c.self.invariant (sym c.in_ok-selector.ensures.value) in
+    removed_behind h c.self.view_is c.take.ensures.after
     (c.end.ensures c.self.inside.storage)
