@@ -1,114 +1,156 @@
--- A channel behind a call has storage as large as before, with as many keys, and its number, and still stands for a machine.
-use Rattle.std.proofs.Common.{◌≡◌, ℕ, sym, ap, ◌∙◌, subst, length, Option, Some, None}
-use Rattle.s360_words.specs.Storage.{Storage}
-use Rattle.s360_laws.specs.Events.{Event, Answer, FaultAfter}
-use Rattle.s360_laws.specs.Machine.{Machine, react, start_of}
-use Rattle.s360_channel.specs.Calls.{Does}
-use Rattle.s360_channel.specs.Channel.{ChannelState, IsChannel, Shows, StandsFor}
-use Rattle.s360_channel.specs.Shares.{with_storage}
-use Rattle.s360_channel.specs.declared.channel.Reset.{Reset}
-use Rattle.s360_channel.specs.declared.subchannel.Subchannel.{Subchannel}
-use Rattle.s360_channel.specs.declared.subchannel.Subchannel.TheVariants.{Idle, Working, Pending}
-use Rattle.s360_channel.specs.declared.view.RunOn.{RunOn}
-use Rattle.s360_channel.proofs.Kept.{size_in}
-use Rattle.s360_channels.specs.Channels.{Fits, Quietly, AtMost, RunsTo, ResetsTo}
-use Rattle.s360_channels.specs.Inside.{Exchanged, Serves}
-use Rattle.s360_channels.specs.Turns.{StepsTo}
-use Rattle.s360_channel.proofs.Changing.{seen_by}
-use Rattle.s360_channel.proofs.Works.{storage_seen}
-use Rattle.s360_program.proofs.Ties.{seen}
-use Rattle.s360_channels.proofs.Keys.{OutcomeKeepsKeys, keeps_keys}
-use Rattle.s360_channels.proofs.Staying.{channel_stays, keys_stay, size_stays}
+-- A channel at the place of its number, and the list of channels behind a call of it.
+use Rattle.std.proofs.Common.{◌≡◌, ◌<◌, ◌≤◌, ◌⊎◌, inl, inr, ℕ, zero, suc, refl, sym, ap, ◌∙◌, subst, arith, true, length, ◌++◌, replicate, ◌/◌, List, [], ◌∷◌, Option, Some, None}
+use Rattle.std.proofs.lemmas.Bool.{cases_eq}
+use Rattle.std.proofs.lemmas.List.{get_or_default, get_or_past, get_or-set_other, length-set}
+use Rattle.std.specs.Prelude.{option_map, slice_index_or, slice_set}
+use Rattle.s360_words.specs.Storage.{Storage, is_size}
+use Rattle.ckd_image.specs.Image.{ImageState}
+use Rattle.s360_program.specs.Advances.{KeepsStorage}
+use Rattle.s360_laws.specs.Events.{Event, Answer}
+use Rattle.s360_laws.specs.Machine as machine
+use Rattle.s360_laws.specs.Machine.{Machine, react}
+use Rattle.s360_channel.specs.Calls.{Does, DoesQuietly}
+use Rattle.s360_channel.specs.Attaches.{NotRefused}
+use Rattle.s360_channel.specs.Channel.{AttachedState, ChannelState, IsChannel, StandsFor, new_attached}
+use Rattle.s360_channel.specs.declared.subchannel.Subchannel.TheVariants.{Idle}
+use Rattle.s360_channel.specs.Selector.{KeepsSelector, SelectorState, over}
+use Rattle.s360_channel.proofs.Places.{inside, none_is_some}
+use Rattle.s360_channel.proofs.Selecting.{is_over, still_selector}
+use Rattle.s360_channels.specs.Adding.{AttachesAt, AttachesTo}
+use Rattle.s360_channels.specs.Channels.{ChannelsState, OnChannel, OnFound, channel_at, selector_at}
+use Rattle.s360_channels.specs.Ending.{Ends, Parts, RemovesAt, RemovesFound}
+use Rattle.s360_channels.specs.Inside.{AllFit, Fits, IsFound, IsPlace}
 
--- an event leaves storage as large as it was
-pub does_size : (e : Event) (answer : Answer) (m : Machine) (old new : ChannelState) → StandsFor old m → Does e m answer old new → length new.storage.bytes ≡ length old.storage.bytes
-does_size e answer m old new t d = size_in new _ new.subchannel d.stands.shows ∙ (size_stays e d.fault m ∙ sym (size_in old m old.subchannel t.shows))
+-- Lists of channels.
 
--- and the channel its number
-pub number_in : (c : ChannelState) (m : Machine) → StandsFor c m → m.channel ≡ c.number
-number_in c m t = (seen_by c m c.subchannel t.shows).channel
+-- what stands at a place where something was put
+set_at : (cs : List (Option SelectorState)) (n : ℕ) (x : Option SelectorState) (c : SelectorState) → slice_index_or (slice_set cs n x) n None ≡ Some c → x ≡ Some c
+set_at [] n x c e = none_is_some e
+set_at (d ∷ cs) zero x c e = e
+set_at (d ∷ cs) (suc n) x c e = set_at cs n x c e
 
-number_stays : (e : Event) (fault : Option FaultAfter) (m : Machine) (old new : ChannelState) → StandsFor old m → StandsFor new (react e fault m).1 → new.number ≡ old.number
-number_stays e fault m old new t u = sym (number_in new (react e fault m).1 u) ∙ (channel_stays e fault m ∙ number_in old m t)
+nobody : (n k : ℕ) (c : SelectorState) → slice_index_or (replicate n None) k None ≡ Some c → ⊥
+nobody zero k c e = none_is_some e
+nobody (suc n) zero c e = none_is_some e
+nobody (suc n) (suc k) c e = nobody n k c e
 
--- and storage its keys
-keys_in : (c : ChannelState) (m : Machine) (s : Subchannel) → Shows c m s → length c.storage.keys ≡ length m.storage.keys
-keys_in c m Idle h = ap (λ (m : Machine). length m.storage.keys) (sym h.0)
-keys_in c m (Pending device csw) h = ap (λ (m : Machine). length m.storage.keys) (sym h.0)
-keys_in c m (Working place r) w =
-    ap (λ s. length s.keys) (sym (storage_seen r.key r.stage r.place c.storage w.attached.drive.state w.attached.drive.work))
-    ∙ subst (OutcomeKeepsKeys m.storage) (seen (start_of m w.drive) w.script r c.storage w.attached.drive w.runs) (keeps_keys (start_of m w.drive) w.script)
+pub none_fit : (size : ℕ) → AllFit size (replicate 7 None)
+none_fit size = record { seven = refl; fit = λ n c e. absurd (nobody 7 n c e) }
 
-keys_kept : (e : Event) (fault : Option FaultAfter) (m : Machine) (old new : ChannelState) → StandsFor old m → StandsFor new (react e fault m).1 → length new.storage.keys ≡ length old.storage.keys
-keys_kept e fault m old new t u = keys_in new (react e fault m).1 new.subchannel u.shows ∙ (keys_stay e fault m ∙ sym (keys_in old m old.subchannel t.shows))
+-- all fit where what is put at a place does
+pub fit_set : (size : ℕ) (cs : List (Option SelectorState)) (n : ℕ) (x : Option SelectorState) → AllFit size cs → ((c : SelectorState) → x ≡ Some c → Fits n size c) → AllFit size (slice_set cs n x)
+fit_set size cs n x h f = record { seven = length-set cs n x ∙ h.seven; fit = λ k c e. go k c e (cases_eq k n) }
+  where
+    go : (k : ℕ) (c : SelectorState) → slice_index_or (slice_set cs n x) k None ≡ Some c → (k ≡ n) ⊎ (k ≡ n → ⊥) → Fits k size c
+    go k c e (inl same) = subst (λ k. Fits k size c) (sym same) (f c (set_at cs n x c (subst (λ k. slice_index_or (slice_set cs n x) k None ≡ Some c) same e)))
+    go k c e (inr other) = h.fit k c (sym (get_or-set_other cs n k x None other) ∙ e)
 
--- What a channel is behind a call.
-pub record StillFits (old new : ChannelState) : Type 0 where
-  pub fits : Fits (length old.storage.bytes) new
-  pub keys : length new.storage.keys ≡ length old.storage.keys
-  pub number : new.number ≡ old.number
+-- The channel with a number.
 
-pub quiet_fits : (e : Event) (answer : Answer) (old new : ChannelState) → Quietly e answer old new → IsChannel old → StillFits old new
-quiet_fits e answer old new q k =
-    let d = q.does k.machine k.stands in
-    record {
-      fits = record {
-        is_channel = record { machine = (react e None k.machine).1; stands = d.stands };
-        as_large = size_in new _ new.subchannel d.stands.shows ∙ (size_stays e None k.machine ∙ sym (size_in old k.machine old.subchannel k.stands.shows));
+pub found_at : (number : ℕ) (s : Storage) (a : ℕ) (cs : List (Option SelectorState)) (c : SelectorState) → AllFit (length s.bytes) cs → a ≡ length s.bytes → is_size a ≡ true → length s.keys ≡ a / 2048
+    → slice_index_or cs number None ≡ Some c → IsFound number c s
+found_at number s a cs c h e z k there =
+    let f = h.fit number c there in
+    record { own_number = f.own_number; is_over = is_over c s a f.is_selector e z k (sym f.as_large) }
+
+-- none stands past the seven
+pub none_beyond : (size number : ℕ) (cs : List (Option SelectorState)) → AllFit size cs → 7 ≤ number → slice_index_or cs number None ≡ None
+none_beyond size number cs h few = get_or_past cs number None (subst (λ n. n ≤ number) (sym h.seven) few)
+
+-- A channel that a call has found in the list.
+pub record Here (number place : ℕ) (s : Storage) (cs : List (Option SelectorState)) (c : SelectorState) : Type 0 where
+  pub fit : AllFit (length s.bytes) cs
+  pub same : place ≡ number
+  pub is_there : slice_index_or cs number None ≡ Some c
+  pub found : IsFound number c s
+
+pub here : {number place : ℕ} {v : ChannelsState} {s : Storage} {cs : List (Option SelectorState)} {c : SelectorState} (r : Option SelectorState)
+    → record { storage = s; channels = cs } ≡ v
+    → IsPlace number place v → AllFit (length s.bytes) cs → slice_index_or cs place r ≡ Some c → Here number place s cs c
+here {number} {place} {v} {s} {cs} {c} r view at fit is =
+    let p = subst (IsPlace number place) (sym view) at in
+    let there = subst (λ n. slice_index_or cs n None ≡ Some c) p.same (get_or_default cs place None r (subst (λ n. place < n) (sym fit.seven) p.within) ∙ is) in
+    record { fit = fit; same = p.same; is_there = there; found = p.found c there }
+
+module _ {number place : ℕ} {s : Storage} {cs : List (Option SelectorState)} {c : SelectorState} (h : Here number place s cs c) where
+  pub has_size : length s.bytes ≡ c.size
+  has_size = h.found.is_over.size
+
+  -- all fit behind a call of it
+  pub fit_behind : {t : Storage} {c' : SelectorState} → KeepsSelector c c' → KeepsStorage s t → IsChannel (over c' t) → AllFit (length t.bytes) (slice_set cs place (Some c'))
+  fit_behind {t} {c'} same keeps is =
+      subst (λ n. AllFit n (slice_set cs place (Some c'))) (sym keeps.size)
+      (fit_set (length s.bytes) cs place (Some c') h.fit (λ d e. subst (Fits place (length s.bytes)) (inside c' d e)
+      (record { own_number = same.number ∙ (h.found.own_number ∙ sym h.same); as_large = same.size ∙ sym h.found.is_over.size; is_selector = still_selector c c' s t h.found.is_over same.size keeps is })))
+
+  -- which is what it did to the channels
+  pub calls_behind : (How : ChannelState → ChannelState → Type 0) (Missing : Type 0) {v : ChannelsState} {t : Storage} {c' : SelectorState} → record { storage = s; channels = cs } ≡ v
+      → KeepsSelector c c' → KeepsStorage s t → How (over c s) (over c' t) → OnChannel number How Missing v (record { storage = t; channels = slice_set cs place (Some c') })
+  calls_behind How Missing {v} {t} {c'} view same keeps how =
+      subst (λ v. OnChannel number How Missing v (record { storage = t; channels = slice_set cs place (Some c') })) view
+      (subst (λ o. OnFound o number How Missing (record { storage = s; channels = cs }) (record { storage = t; channels = slice_set cs place (Some c') })) (sym h.is_there)
+      (record { after = c'; how = how; same = same; others_stay = ap (λ n. slice_set cs n (Some c')) h.same; bytes = keeps.size; keys = ap length keeps.keys }))
+
+  -- what is so of it over the storage is so of the channel with its number
+  pub seen_here : (P : Option ChannelState → Storage → Type 0) {v : ChannelsState} → record { storage = s; channels = cs } ≡ v → P (Some (over c s)) s → P (channel_at number v) v.storage
+  seen_here P {v} view x = subst (λ v. P (channel_at number v) v.storage) view (subst (λ o. P (option_map (λ c. over c s) o) s) (sym h.is_there) x)
+
+  -- a drive that was attached to it
+  pub attached_behind : (device : ℕ) (image : ImageState) {v : ChannelsState} {c' : SelectorState} → record { storage = s; channels = cs } ≡ v → c' ≡ record c { drives = c.drives ++ new_attached device image ∷ [] }
+      → NotRefused device (over c s) → AttachesAt number device image v (record { storage = s; channels = slice_set cs place (Some c') })
+  attached_behind device image {v} {c'} view is not =
+      subst (λ v. AttachesAt number device image v (record { storage = s; channels = slice_set cs place (Some c') })) view
+      (subst (λ o. AttachesTo o number device image (record { storage = s; channels = cs }) (record { storage = s; channels = slice_set cs place (Some c') })) (sym h.is_there)
+      (not, ap (λ n. slice_set cs n (Some c')) h.same ∙ ap (λ c. slice_set cs number (Some c)) is))
+
+  -- and it may be taken away
+  pub removed_behind : {parts : Parts} {v : ChannelsState} {x : Option SelectorState} → record { storage = s; channels = cs } ≡ v → x ≡ None → Ends (over c s) parts s
+      → RemovesAt number (Some parts) v (record { storage = s; channels = slice_set cs place x })
+  removed_behind {parts} {v} {x} view none ends =
+      subst (λ v. RemovesAt number (Some parts) v (record { storage = s; channels = slice_set cs place x })) view
+      (subst (λ o. RemovesFound (option_map (λ c. over c s) o) number (Some parts) (record { storage = s; channels = cs }) (record { storage = s; channels = slice_set cs place x })) (sym h.is_there)
+      (record { ends = ends; others_stay = ap (λ n. slice_set cs n x) h.same ∙ ap (slice_set cs number) none }))
+
+pub none_removed : (number : ℕ) (v : ChannelsState) → selector_at number v ≡ None → RemovesAt number None v v
+none_removed number v e = subst (λ o. RemovesFound (option_map (λ c. over c v.storage) o) number None v v) (sym e) (refl, refl)
+
+-- A new channel fits.
+
+few : 0 ≤ 8
+few = omega arith
+
+pub new_fits : (number a : ℕ) (s : Storage) (c : SelectorState) → c ≡ record { number = number; size = a; subchannel = Idle; drives = [] } → number < 7 → a ≡ length s.bytes → length s.keys ≡ a / 2048
+    → Fits number (length s.bytes) c
+new_fits number a s c is h e k = subst (Fits number (length s.bytes)) (sym is) (record {
+  own_number = refl;
+  as_large = e;
+  is_selector = record {
+    storage = s;
+    is_over = record {
+      size = sym e;
+      keys = k;
+      channel = record {
+        machine = record { channel = number; storage = s; subchannel = machine.Idle; devices = [] };
+        stands = record { number = h; few = few; shows = (refl, tt); sound = (tt, tt) };
       };
-      keys = keys_kept e None k.machine old new k.stands d.stands;
-      number = number_stays e None k.machine old new k.stands d.stands;
-    }
+    };
+  };
+})
 
-pub most_fits : (most : ℕ) (e : Event) (answer : Answer) (old new : ChannelState) → AtMost most e answer old new → IsChannel old → StillFits old new
-most_fits most e answer old new q k =
-    let d = q.does k.machine k.stands in
-    record {
-      fits = record {
-        is_channel = record { machine = (react e d.fault k.machine).1; stands = d.stands };
-        as_large = does_size e answer k.machine old new k.stands d;
-      };
-      keys = keys_kept e d.fault k.machine old new k.stands d.stands;
-      number = number_stays e d.fault k.machine old new k.stands d.stands;
-    }
+-- What is so of a channel that is lent is so of the one with its number.
+pub shown : (P : Option ChannelState → Type 0) (number : ℕ) (v : ChannelsState) (c : SelectorState) → Some c ≡ selector_at number v → P (Some (over c v.storage)) → P (channel_at number v)
+shown P number v c e h = subst (λ o. P (option_map (λ c. over c v.storage) o)) e h
 
-module _ (How : ChannelState → ChannelState → Type 0) (fits_after : (old new : ChannelState) → How old new → IsChannel old → StillFits old new) where
-  fits_then : (c : ChannelState) (s : Storage) (c₁ : ChannelState) (s₁ : Storage) (c₂ : ChannelState) → Fits (length s.bytes) c → Exchanged c s c₁ s₁ → How c₁ c₂ → Fits (length s.bytes) c₂
-  fits_then c s c₁ s₁ c₂ f x h =
-      subst (λ n. Fits n c₂) (ap (λ (c : ChannelState). length c.storage.bytes) x.found) (fits_after c₁ c₂ h (x.stands f.is_channel)).fits
+-- A call leaves a channel.
 
-  pub same_number : (c : ChannelState) (s : Storage) (c₁ : ChannelState) (s₁ : Storage) (c₂ c₃ : ChannelState) (s₃ : Storage) → Fits (length s.bytes) c → Exchanged c s c₁ s₁ → How c₁ c₂ → Exchanged c₂ s₁ c₃ s₃ → c₃.number ≡ c.number
-  same_number c s c₁ s₁ c₂ c₃ s₃ f x h y =
-      let number = λ (c : ChannelState). c.number in
-      ap number y.found ∙ ((fits_after c₁ c₂ h (x.stands f.is_channel)).number ∙ ap number x.found)
+pub same_storage : (s : Storage) → KeepsStorage s s
+same_storage s = record { size = refl; keys = refl }
 
-  pub goes_back : (c : ChannelState) (s : Storage) (c₁ : ChannelState) (s₁ : Storage) (c₂ : ChannelState) → Fits (length s.bytes) c → Exchanged c s c₁ s₁ → How c₁ c₂ → length s₁.bytes ≡ length c₂.storage.bytes
-  goes_back c s c₁ s₁ c₂ f x h =
-      ap (λ (s : Storage). length s.bytes) x.gives ∙ (f.as_large ∙ sym (fits_then c s c₁ s₁ c₂ f x h).as_large)
+pub keeps_selector : {c c' : SelectorState} {drives : List AttachedState} → c' ≡ record c { drives = drives } → KeepsSelector c c'
+keeps_selector e = record { number = ap (λ (c : SelectorState). c.number) e; size = ap (λ (c : SelectorState). c.size) e }
 
-  pub serves : (c : ChannelState) (s : Storage) (c₁ : ChannelState) (s₁ : Storage) (c₂ c₃ : ChannelState) (s₃ : Storage) → Fits (length s.bytes) c → Exchanged c s c₁ s₁ → How c₁ c₂ → Exchanged c₂ s₁ c₃ s₃ → Serves How c s c₃ s₃
-  serves c s c₁ s₁ c₂ c₃ s₃ f x h y =
-      let g = fits_then c s c₁ s₁ c₂ f x h in
-      record {
-        finds = record {
-          last = c₂;
-          how = subst (λ c. How c c₂) x.found h;
-          storage = y.gives;
-          channel = y.found ∙ ap (with_storage c₂) x.gives;
-        };
-        fits = record {
-          is_channel = y.stands g.is_channel;
-          as_large = ap (λ (c : ChannelState). length c.storage.bytes) y.found ∙ (ap (λ (s : Storage). length s.bytes) x.gives ∙ f.as_large);
-        };
-        size = ap (λ (s : Storage). length s.bytes) y.gives ∙ g.as_large;
-        keys = ap (λ (s : Storage). length s.keys) y.gives ∙ ((fits_after c₁ c₂ h (x.stands f.is_channel)).keys ∙ ap (λ (c : ChannelState). length c.storage.keys) x.found);
-      }
+pub quiet_channel : (e : Event) {answer : Answer} {old new : ChannelState} → IsChannel old → ((m : Machine) → StandsFor old m → DoesQuietly e m answer new) → IsChannel new
+quiet_channel e k does = record { machine = (react e None k.machine).1; stands = (does k.machine k.stands).stands }
 
-pub runs_fit : (units : ℕ) (ran : RunOn) (old new : ChannelState) → RunsTo units (Some ran) old new → IsChannel old → StillFits old new
-runs_fit units ran old new r k = most_fits _ _ _ old new r.steps k
-
-pub reset_fits : (reset : Reset) (old new : ChannelState) → ResetsTo (Some reset) old new → IsChannel old → StillFits old new
-reset_fits reset old new r k = most_fits _ _ _ old new r k
-
-pub steps_fit : (units done : ℕ) (old new : ChannelState) → StepsTo units (Some done) old new → IsChannel old → StillFits old new
-steps_fit units done old new r k = most_fits _ _ _ old new r.steps k
+pub does_channel : (e : Event) {answer : Answer} {old new : ChannelState} → IsChannel old → ((m : Machine) → StandsFor old m → Does e m answer old new) → IsChannel new
+does_channel e k does = let d = does k.machine k.stands in record { machine = (react e d.fault k.machine).1; stands = d.stands }

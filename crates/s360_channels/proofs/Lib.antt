@@ -1,11 +1,4 @@
-pub mod Keys
-pub mod Staying
 pub mod Fitting
-pub mod At
-pub mod Added
-pub mod Asking
-pub mod Leaving
-pub mod Taking
-pub mod Holding
+pub mod Changes
 pub mod Missing
 pub mod Several

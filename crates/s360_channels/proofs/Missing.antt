@@ -1,7 +1,7 @@
 -- Condition code 3 is answered only where no drive is attached under the address, or the channel has another number.
-use Rattle.std.proofs.Common.{◌≡◌, ℕ, refl, sym, ap, ◌∙◌, true, false, Bool, cond, ◌==◌, ◌/◌, ◌%◌, List, Option, Some, None}
+use Rattle.std.proofs.Common.{◌≡◌, ℕ, refl, sym, ap, ◌∙◌, true, false, Bool, cond, ◌==◌, ◌/◌, ◌%◌, Option, Some, None}
 use Rattle.std.proofs.lemmas.Bool.{eq-eqb}
-use Rattle.std.specs.Prelude.{find, is_some, option_map, slice_index_or}
+use Rattle.std.specs.Prelude.{find, is_some, option_map}
 use Rattle.ckd_command.specs.Drive.{Fault}
 use Rattle.s360_runs.specs.Starts.{First, BadStart, RejectedStart, ImmediateStart, AcceptedStart, first}
 use Rattle.s360_laws.proofs.FindDevices.{found_map}
@@ -14,12 +14,6 @@ use Rattle.s360_channel.proofs.Changing.{seen_by}
 use Rattle.s360_channel.proofs.Places.{both_found, devices}
 use Rattle.s360_channel.specs.Attaches.{is_taken}
 use Rattle.s360_channel.specs.Channel.{ChannelState, StandsFor}
-use Rattle.s360_channels.specs.Asked.{has_drive}
-use Rattle.s360_channels.specs.Channels.{ChannelsState, channel_at}
-use Rattle.s360_channels.specs.Inside.{lent}
-use Rattle.s360_channels.specs.declared.lending.Lending.{Lending}
-use Rattle.s360_channels.proofs.Fitting.{number_in}
-use Rattle.s360_channels.proofs.Holding.{alike}
 
 -- At a machine.
 
@@ -89,7 +83,7 @@ module _ (a : ℕ) (c : ChannelState) (m : Machine) (t : StandsFor c m) (own : c
       ∙ (ap (λ ds. is_some (find (λ d. d.device == a % 256) ds)) (sym k.devices) ∙ h)))
 
   here : (r : Answer × Machine) → on_channel a m r ≡ r
-  here r = ap (λ b. cond b r (WithCode Three, m)) (eq-eqb (a / 256) m.channel (sym own ∙ sym (number_in c m t)))
+  here r = ap (λ b. cond b r (WithCode Three, m)) (eq-eqb (a / 256) m.channel (sym own ∙ sym (seen_by c m c.subchannel t.shows).channel))
 
   answered : (r : Answer × Machine) → answer ≡ (on_channel a m r).0 → r.0 ≡ WithCode Three
   answered r h = sym (ap (λ (r : Answer × Machine). r.0) (here r)) ∙ (sym h ∙ three)
@@ -102,10 +96,3 @@ module _ (a : ℕ) (c : ChannelState) (m : Machine) (t : StandsFor c m) (own : c
 
   pub halt_asks : answer ≡ (react (Hio a) x m).0 → is_taken (a % 256) c ≡ false
   halt_asks h = no_drive (halt_io_missing (fault_in x) (a % 256) m m.subchannel (answered (halt_io (fault_in x) (a % 256) m m.subchannel) h))
-
--- At the channel with a number, or where there is none.
-pub attached_there : (number device : ℕ) (before : ChannelsState) (l : Lending) (cs : List (Option ChannelState)) (o : Option ChannelState) → lent l cs ≡ before → slice_index_or cs number None ≡ o
-    → has_drive device (channel_at number before) ≡ has_drive device o
-attached_there number device before l cs o same e =
-    ap (λ (s : ChannelsState). has_drive device (channel_at number s)) (sym same)
-    ∙ alike (λ p. has_drive device p ≡ has_drive device o) (λ d t h. h) number l cs (ap (has_drive device) e)

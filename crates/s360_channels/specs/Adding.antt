@@ -1,41 +1,40 @@
 -- Channels that are added, and drives that are attached to one of them.
 use Rattle.std.specs.Prelude.{◌≡◌, ◌++◌, ◌∷◌, [], ℕ, List, Option, Some, None, Bool, true, false, is_some, nat_le, slice_index_or, slice_set}
-use Rattle.s360_words.specs.Storage.{cleared}
 use Rattle.ckd_image.specs.Image.{ImageState}
 use Rattle.s360_channel.specs.Attaches as channel
 use Rattle.s360_channel.specs.Channel.{ChannelState, new_attached}
+use Rattle.s360_channel.specs.Selector.{SelectorState, over}
 use Rattle.s360_channel.specs.declared.subchannel.Subchannel.TheVariants.{Idle}
+use Rattle.s360_channels.specs.Channels.{ChannelsState, selector_at}
 use Rattle.s360_channels.specs.declared.faults.AttachFault.{AttachFault}
 use Rattle.s360_channels.specs.declared.faults.AttachFault.TheVariants.{NoChannel, Refused}
 use Rattle.s360_channels.specs.declared.faults.AddFault.{AddFault}
-use Rattle.s360_channels.specs.declared.faults.AddFault.TheVariants.{BadNumber, NumberTaken, OutOfMemory}
+use Rattle.s360_channels.specs.declared.faults.AddFault.TheVariants.{BadNumber, NumberTaken}
 
--- a channel with no drives; the storage that it has between calls is zero, and as large as the shared one
-abbrev pub new_channel : (number size : ℕ) → ChannelState
-new_channel number size = record { number = number; storage = cleared size; subchannel = Idle; drives = [] }
+-- a channel with no drives, for a storage of this size
+abbrev pub new_channel : (number size : ℕ) → SelectorState
+new_channel number size = record { number = number; size = size; subchannel = Idle; drives = [] }
 
-abbrev pub is_taken : (number : ℕ) → List (Option ChannelState) → Bool
+abbrev pub is_taken : (number : ℕ) → List (Option SelectorState) → Bool
 is_taken number cs = is_some (slice_index_or cs number None)
 
-abbrev pub IsFree : (number : ℕ) → List (Option ChannelState) → Type 0
+abbrev pub IsFree : (number : ℕ) → List (Option SelectorState) → Type 0
 IsFree number cs = (nat_le 7 number ≡ false) × (is_taken number cs ≡ false)
 
--- When a channel is not added, in this order: its number is above 6; there is one with this number; there is no memory.
-abbrev pub RefusedAs : (number : ℕ) → List (Option ChannelState) → AddFault → Type 0
+-- When a channel is not added, in this order: its number is above 6; there is one with this number.
+abbrev pub RefusedAs : (number : ℕ) → List (Option SelectorState) → AddFault → Type 0
 RefusedAs number cs BadNumber = nat_le 7 number ≡ true
 RefusedAs number cs NumberTaken = (nat_le 7 number ≡ false) × (is_taken number cs ≡ true)
-RefusedAs number cs OutOfMemory = IsFree number cs
 
 -- A drive that holds this image is attached to the channel with a number, as `s360_channel` does it; every other channel stays.
-abbrev pub AttachesTo : Option ChannelState → (number device : ℕ) → ImageState → (old new : List (Option ChannelState))
-    → Type 0
+abbrev pub AttachesTo : Option SelectorState → (number device : ℕ) → ImageState → (old new : ChannelsState) → Type 0
 AttachesTo None number device image old new = ⊥
 AttachesTo (Some c) number device image old new =
-    channel.NotRefused device c × (new
-    ≡ slice_set old number (Some (record c { drives = c.drives ++ new_attached device image ∷ [] })))
+    channel.NotRefused device (over c old.storage) × (new.channels
+    ≡ slice_set old.channels number (Some (record c { drives = c.drives ++ new_attached device image ∷ [] })))
 
-abbrev pub AttachesAt : (number device : ℕ) → ImageState → (old new : List (Option ChannelState)) → Type 0
-AttachesAt number device image old new = AttachesTo (slice_index_or old number None) number device image old new
+abbrev pub AttachesAt : (number device : ℕ) → ImageState → (old new : ChannelsState) → Type 0
+AttachesAt number device image old new = AttachesTo (selector_at number old) number device image old new
 
 -- Why it is not, in this order: there is no such channel; the channel refuses it.
 abbrev pub WhyNot : Option ChannelState → (device : ℕ) → AttachFault → Type 0

@@ -5,26 +5,21 @@ use Rattle.ckd_image.specs.Image.{ImageState}
 use Rattle.s360_laws.specs.Machine.{Machine}
 use Rattle.s360_channel.specs.Channel.{ChannelState, StandsFor}
 use Rattle.s360_channel.specs.Finishes.{Finishes}
-use Rattle.s360_channel.specs.Shares.{with_storage}
 use Rattle.s360_channels.specs.Channels.{ChannelsState, channel_at}
 
--- What comes back of a channel: a storage, the image of each drive with the low byte of its address, in the order of attachment, and
--- the track that its last reset could not save.
+-- What comes back of a channel: the image of each drive with the low byte of its address, in the order of attachment, and the track
+-- that its last reset could not save.
 pub record Parts : Type 0 where
-  pub storage : Storage
   pub images : List (Option (ℕ × ImageState))
   pub unsaved : Option (ℕ × ℕ × ℕ)
 
--- A channel that finds the shared storage is finished: it is reset, and each image that comes back has the slots of its drive's
--- volume. The storage that comes back with them is the one that it had between calls.
-pub record Ends (c : ChannelState) (s : Storage) (parts : Parts) (after : Storage) : Type 0 where
-  pub finishes : (m : Machine) → StandsFor (with_storage c s) m
-      → Finishes m (with_storage c s) after parts.images parts.unsaved
-  pub own_storage : parts.storage ≡ c.storage
+-- A channel over the shared storage is finished: it is reset, and each image that comes back has the slots of its drive's volume.
+abbrev pub Ends : ChannelState → Parts → (after : Storage) → Type 0
+Ends c parts after = (m : Machine) → StandsFor c m → Finishes m c after parts.images parts.unsaved
 
 -- The channel with a number is finished, and is no more; the shared storage has all that it stored, and every other channel stays.
 pub record Removes (number : ℕ) (c : ChannelState) (parts : Parts) (old new : ChannelsState) : Type 0 where
-  pub ends : Ends c old.storage parts new.storage
+  pub ends : Ends c parts new.storage
   pub others_stay : new.channels ≡ slice_set old.channels number None
 
 -- Where there is no such channel, nothing comes back and nothing changes.

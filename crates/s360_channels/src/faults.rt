@@ -12,9 +12,6 @@ pub enum AddFault {
     /// There is a channel with this number.
     #[error("there is a channel with this number")]
     NumberTaken,
-    /// There is no memory for the storage that the channel holds between calls.
-    #[error("out of memory")]
-    OutOfMemory,
 }
 
 /// Why a drive is not attached. `NoChannel` is looked for first.

@@ -5,16 +5,15 @@ mod adding;
 mod channels;
 mod ending;
 mod faults;
-mod found;
 mod interrupting;
 pub mod laws;
-mod lending;
-mod numbers;
 mod packs;
+mod places;
 mod processor;
 mod showing;
 mod turns;
 
 pub use crate::channels::Channels;
+pub use crate::ending::Removed;
 pub use crate::faults::{AddFault, AttachFault, DetachFault, ExchangeFault};
 pub use crate::interrupting::is_open;

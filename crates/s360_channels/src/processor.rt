@@ -1,13 +1,12 @@
 //! What the processor does to the shared storage. No channel is asked, and none changes.
 
-ghost use Rattle.std.specs.Prelude.{◌≡◌, ◌<◌, length, is_ok, option_map};
+ghost use Rattle.std.specs.Prelude.{◌≡◌, ◌<◌, is_ok, option_map};
 ghost use Rattle.s360_words.specs.Storage.{Bytes, KeyOf};
 ghost use Rattle.s360_laws.specs.Machine.{part_of};
 ghost use Rattle.s360_channel.specs.Views.{key_in};
-ghost use Rattle.s360_channels.specs.Channels.{Puts, Stores};
+ghost use Rattle.s360_channels.specs.Channels.{Stores};
 
 use crate::channels::Channels;
-use crate::lending::{give_back, shared};
 use ckd_image::ImageStore;
 use s360_channel::OutsideStorage;
 use s360_words::Storage;
@@ -17,21 +16,21 @@ impl<S: ImageStore> Channels<S> {
     pub fn storage(&self) -> &Storage
         ensures { result.now ≡ self.now.storage }
     {
-        shared(&self.list, &self.lending)
+        &self.storage
     }
 
     /// These bytes of storage as they are now, also while programs run; none where one of them is outside.
     pub fn peek(&self, at: u32, len: u32) -> Option<&[u8]>
         ensures { option_map (λ bytes. bytes.now) result ≡ part_of self.now.storage at len }
     {
-        shared(&self.list, &self.lending).slice(at, len)
+        self.storage.slice(at, len)
     }
 
     /// The key, below 16, of the block of storage that has this address; none outside storage.
     pub fn key(&self, at: u32) -> Option<u8>
         ensures { result ≡ key_in self.now.storage at }
     {
-        shared(&self.list, &self.lending).key(at)
+        self.storage.key(at)
     }
 
     /// Where the bytes of storage lie, for a processor that shares them without a copy. They stay there until the channels are
@@ -39,8 +38,7 @@ impl<S: ImageStore> Channels<S> {
     pub fn storage_place(&mut self) -> *mut u8
         ensures { self.new ≡ self.old }
     {
-        give_back(&mut self.list, &mut self.lending);
-        self.lending.kept.as_mut_ptr()
+        self.storage.as_mut_ptr()
     }
 
     /// The processor stores these bytes from an address on, also while programs run.
@@ -51,8 +49,7 @@ impl<S: ImageStore> Channels<S> {
     pub fn poke(&mut self, at: u32, bytes: &[u8]) -> Result<(), OutsideStorage>
         ensures { Stores (Bytes at bytes.now) (is_ok result) self.old self.new }
     {
-        give_back(&mut self.list, &mut self.lending);
-        if put(&mut self.lending.kept, at, bytes) {
+        if self.storage.put(at, bytes) {
             Ok(())
         } else {
             Err(OutsideStorage)
@@ -68,30 +65,10 @@ impl<S: ImageStore> Channels<S> {
         requires { key < 16 }
         ensures { Stores (KeyOf at key) (is_ok result) self.old self.new }
     {
-        give_back(&mut self.list, &mut self.lending);
-        if set_key(&mut self.lending.kept, at, key) {
+        if self.storage.set_key(at, key) {
             Ok(())
         } else {
             Err(OutsideStorage)
         }
     }
-}
-
-// Puts bytes into storage, whose size stays.
-#[tactic(auto, using(crate::proofs::Added::put_size))]
-fn put(storage: &mut Storage, at: u32, bytes: &[u8]) -> bool
-    ensures puts { Puts (Bytes at bytes.now) result storage.old storage.new }
-    ensures size { length storage.new.bytes ≡ length storage.old.bytes }
-{
-    storage.put(at, bytes)
-}
-
-// Sets the key of a block of storage, whose size stays.
-#[tactic(auto, using(crate::proofs::Added::put_size))]
-fn set_key(storage: &mut Storage, at: u32, key: u8) -> bool
-    requires { key < 16 }
-    ensures puts { Puts (KeyOf at key) result storage.old storage.new }
-    ensures size { length storage.new.bytes ≡ length storage.old.bytes }
-{
-    storage.set_key(at, key)
 }

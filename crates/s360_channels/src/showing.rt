@@ -1,11 +1,10 @@
-//! What is shown of a channel, its program, its drives and their volumes. Nothing here hands the shared storage over.
+//! What is shown of a channel, its program, its drives and their volumes.
 
 ghost use Rattle.std.specs.Prelude.{◌≡◌, ◌/◌, ◌%◌, is_some, option_map};
 ghost use Rattle.s360_channels.specs.Asked.{ShowsAt, ShowsDriveAtWorkAt, ShowsProgramAt, drive_at, image_at};
 ghost use Rattle.s360_channels.specs.Channels.{channel_at};
 
 use crate::channels::Channels;
-use crate::numbers;
 use ckd_drive::Drive;
 use ckd_image::{Image, ImageStore};
 use s360_channel::{DriveView, View, Watched};
@@ -15,7 +14,7 @@ impl<S: ImageStore> Channels<S> {
     pub fn has(&self, number: u8) -> bool
         ensures { result ≡ is_some (channel_at number self.now) }
     {
-        numbers::has(&self.list, number)
+        self.selector(number).is_some()
     }
 
     /// The subchannel and the arms of the channel with this number, as `Channel::state` shows them; none where there is no such
@@ -23,7 +22,7 @@ impl<S: ImageStore> Channels<S> {
     pub fn state(&self, number: u8) -> Option<View>
         ensures { ShowsAt result self.now.storage (channel_at number self.now) }
     {
-        numbers::state(&self.list, number)
+        Some(self.selector(number)?.state())
     }
 
     /// The program that runs at the channel with this number, between two units, as `Channel::program` shows it over the shared
@@ -31,7 +30,7 @@ impl<S: ImageStore> Channels<S> {
     pub fn program(&self, number: u8) -> Option<Watched>
         ensures { ShowsProgramAt result self.now.storage (channel_at number self.now) }
     {
-        numbers::program(&self.list, number)
+        self.selector(number)?.program()
     }
 
     /// The drive of the program that runs at the channel with this number, lent, as `Channel::drive_at_work` lends it; none where
@@ -39,7 +38,7 @@ impl<S: ImageStore> Channels<S> {
     pub fn drive_at_work(&self, number: u8) -> Option<&Drive<S>>
         ensures { ShowsDriveAtWorkAt (option_map (λ d. d.now) result) self.now.storage (channel_at number self.now) }
     {
-        numbers::drive_at_work(&self.list, number)
+        self.selector(number)?.drive_at_work()
     }
 
     /// What is known of the drive at an address without a channel program, as `Channel::drive` says it; none where there is no
@@ -47,13 +46,15 @@ impl<S: ImageStore> Channels<S> {
     pub fn drive(&self, address: u16) -> Option<DriveView>
         ensures { result ≡ drive_at (address % 256) (channel_at (address / 256) self.now) }
     {
-        numbers::drive(&self.list, address)
+        self.selector((address / 256) as u8)?
+            .drive((address % 256) as u8)
     }
 
     /// The image of the drive at an address, lent, as `Channel::image` lends it; none where there is no such channel or drive.
     pub fn image(&self, address: u16) -> Option<&Image<S>>
         ensures { option_map (λ i. i.now) result ≡ image_at (address % 256) (channel_at (address / 256) self.now) }
     {
-        numbers::image(&self.list, address)
+        self.selector((address / 256) as u8)?
+            .image((address % 256) as u8)
     }
 }

@@ -1,13 +1,14 @@
-//! Units of the channels' programs, and what all channels do in their turns.
+//! What happens beside the processor's instructions: units of the channels' programs, arms that arrive, resets; and what all channels
+//! do in their turns.
 
-ghost use Rattle.std.specs.Prelude.{◌≡◌, None};
-ghost use Rattle.s360_channels.specs.Channels.{OnChannel, ResetsTo};
+ghost use Rattle.std.specs.Prelude.{◌≡◌, ◌/◌, None, false};
+ghost use Rattle.s360_laws.specs.Events as machine;
+ghost use Rattle.s360_channels.specs.Channels.{OnChannel, Quietly, ResetsTo, RunsTo};
 ghost use Rattle.s360_channels.specs.Turns.{EachFrom, StepsTo};
 
 use crate::channels::Channels;
-use crate::numbers;
 use ckd_image::ImageStore;
-use s360_channel::Reset;
+use s360_channel::{Reset, RunOn};
 
 impl<S: ImageStore> Channels<S> {
     /// Lets the program of the channel with this number do so many units, and answers how many it did: fewer where it ended, and 0
@@ -15,7 +16,50 @@ impl<S: ImageStore> Channels<S> {
     pub fn step(&mut self, number: u8, units: u16) -> Option<u16>
         ensures { OnChannel number (StepsTo units result) (result ≡ None) self.old self.new }
     {
-        numbers::step(&mut self.list, &mut self.lending, number, units)
+        let place = self.place(number)?;
+        match &mut self.list[place] {
+            Some(selector) => Some(selector.step(&mut self.storage, units)),
+            None => None,
+        }
+    }
+
+    /// Lets the program of the channel with this number do units until it ends, so many at most; none where there is no such
+    /// channel. A unit makes at most two calls of a store.
+    #[inline(always)]
+    pub fn run_on(&mut self, number: u8, units: u32) -> Option<RunOn>
+        ensures { OnChannel number (RunsTo units result) (result ≡ None) self.old self.new }
+    {
+        let place = self.place(number)?;
+        match &mut self.list[place] {
+            Some(selector) => Some(selector.run_on(&mut self.storage, units)),
+            None => None,
+        }
+    }
+
+    /// The arm of the drive at an input/output address arrives, if it moves. It makes no call of a store.
+    pub fn arrive(&mut self, address: u16) -> bool
+        ensures { OnChannel (address / 256) (Quietly (machine.Arrive address) (machine.HasArrived result))
+            (result ≡ false) self.old self.new }
+    {
+        let Some(place) = self.place((address / 256) as u8) else {
+            return false;
+        };
+        let Some(selector) = &mut self.list[place] else {
+            return false;
+        };
+        selector.arrive(address)
+    }
+
+    /// Resets the channel with this number and its drives; none where there is no such channel. It makes at most one call of a
+    /// store.
+    pub fn reset(&mut self, number: u8) -> Option<Reset>
+        ensures { OnChannel number (ResetsTo result) (result ≡ None) self.old self.new }
+    {
+        let place = self.place(number)?;
+        let Some(selector) = &mut self.list[place] else {
+            return None;
+        };
+        Some(selector.reset())
     }
 
     /// Lets each channel's program do so many units, in order of the channels' numbers, and answers by number as `step` does:

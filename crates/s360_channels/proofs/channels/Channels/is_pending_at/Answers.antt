@@ -1,11 +1,8 @@
-use Rattle.std.proofs.Common.{length}
 use Rattle.s360_channels.specs.Asked.{InterruptsAt}
-use Rattle.s360_channels.specs.Inside.{lent}
-use Rattle.s360_channels.proofs.Holding.{alike}
+use Rattle.s360_channels.proofs.Fitting.{shown}
 use Rattle.s360_channels.proofs.channels.Channels.is_pending_at.Goals as goal
 
-pub returns : goal.returns
-returns g c =
-    let l = c.self.inside.lending in
-    let s = (lent l c.self.inside.list).storage in
-    rw (← c.self.view_is) (alike (InterruptsAt c.is_pending.result s) (λ d t h. h) c.args.number l c.self.inside.list (c.is_pending.ensures (length l.kept.bytes) s c.self.invariant))
+pub returns-in-Some : goal.returns-in-Some
+returns-in-Some g c =
+    let s = c.args.self.now.storage in
+    shown (InterruptsAt c.is_pending.result s) c.args.number c.args.self.now _ c.in-Some.ensures (c.is_pending.ensures s)

@@ -1,11 +1,9 @@
-use Rattle.std.proofs.Common.{length}
+use Rattle.std.proofs.Common.{Some}
 use Rattle.s360_channels.specs.Asked.{ShowsAt}
-use Rattle.s360_channels.specs.Inside.{lent}
-use Rattle.s360_channels.proofs.Holding.{alike, shows_alike}
+use Rattle.s360_channels.proofs.Fitting.{shown}
 use Rattle.s360_channels.proofs.channels.Channels.state.Goals as goal
 
 pub returns : goal.returns
 returns g c =
-    let l = c.self.inside.lending in
-    let s = (lent l c.self.inside.list).storage in
-    rw (← c.self.view_is) (alike (ShowsAt c.state.result s) (shows_alike c.state.result s) c.args.number l c.self.inside.list (c.state.ensures (length l.kept.bytes) s c.self.invariant))
+    let s = c.args.self.now.storage in
+    shown (ShowsAt (Some c.state.result) s) c.args.number c.args.self.now _ c.in_ok-selector.ensures (c.state.ensures s)

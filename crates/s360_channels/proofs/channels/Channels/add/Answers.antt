@@ -1,0 +1,19 @@
+use Rattle.std.proofs.Common.{◌<◌, subst, sym, length}
+use Rattle.s360_channel.proofs.Places.{inside}
+use Rattle.s360_channels.specs.Inside.{Fits}
+use Rattle.s360_channels.proofs.Fitting.{fit_set, new_fits}
+use Rattle.s360_channels.proofs.channels.Channels.add.Goals as goal
+
+pub returns-in_default-clause-refused : goal.returns-in_default-clause-refused
+returns-in_default-clause-refused g c = c.place.ensures.beyond c.in_default.is
+
+pub invariant_of-self : goal.invariant_of-self
+invariant_of-self g c =
+    let p = c.in-Some.ensures.there in
+    let s = c.self.inside.storage in
+    let z = c.size.ensures in
+    let small = subst (λ n. n < 7) p.same p.within in
+    let fits = new_fits c.args.number c.size.result s c.in-Ok.selector c.in-Ok.ensures.ok small z.size z.keys in
+    fit_set (length s.bytes) c.self.inside.list c.in-Some.place _ c.self.invariant
+    (λ d e. subst (Fits c.in-Some.place (length s.bytes)) (inside c.in-Ok.selector d e)
+    (subst (λ n. Fits n (length s.bytes) c.in-Ok.selector) (sym p.same) fits))

@@ -1,0 +1,28 @@
+use Rattle.std.proofs.Common.{◌%◌}
+use Rattle.s360_channel.specs.Packs.{without_device}
+use Rattle.s360_channels.specs.Packs.{RefusedDetach}
+use Rattle.s360_channels.specs.declared.faults.DetachFault.TheVariants as fault
+use Rattle.s360_channels.proofs.Fitting.{calls_behind, fit_behind, here, same_storage, seen_here}
+use Rattle.s360_channels.proofs.channels.Channels.detach.Goals as goal
+
+pub returns-in-Err-clause-refused : goal.returns-in-Err-clause-refused
+returns-in-Err-clause-refused g c =
+    let h = here _ c.self.view_is c.in-Some.ensures.there c.self.invariant c.in-Some-list.is in
+    seen_here h (λ o s. RefusedDetach o s (c.args.address % 256) (fault.Refused c.in-Err.fault)) c.self.view_is
+    (c.in-Err.ensures.refused c.self.inside.storage)
+
+pub invariant_of-self-2 : goal.invariant_of-self-2
+invariant_of-self-2 g c =
+    let s = c.self.inside.storage in
+    let h = here _ c.self.view_is c.in-Some.ensures.there c.self.invariant c.in-Some-list.is in
+    let k = h.found.is_over.channel in
+    let d = c.in-Ok.ensures in
+    fit_behind h d.same (same_storage s)
+    (record { machine = without_device (c.args.address % 256) k.machine; stands = (d.detached s k.machine k.stands).stands })
+
+pub returns-clause-detached : goal.returns-clause-detached
+returns-clause-detached g c =
+    let s = c.self.inside.storage in
+    let d = c.in-Ok.ensures in
+    let h = here _ c.self.view_is c.in-Some.ensures.there c.self.invariant c.in-Some-list.is in
+    calls_behind h _ _ c.self.view_is d.same (same_storage s) (d.detached s)
