@@ -39,7 +39,7 @@ new_volume model cylinders = new_image model cylinders (replicate (image_length 
 -- A drive with this image is attached under an address, to the channel of its high byte and behind that channel's other drives. Every
 -- other channel stays, and so does storage.
 pub record AttachesImage (address : ℕ) (image : ImageState) (old new : ChannelsState) : Type 0 where
-  pub attached : AttachesAt (address / 256) (address % 256) image old.channels new.channels
+  pub attached : AttachesAt (address / 256) (address % 256) image old new
   pub storage : new.storage ≡ old.storage
 
 -- A drive with the image of these files is.

@@ -1,8 +1,8 @@
 -- The channels that a subsystem is made of, and why it is not made.
-use Rattle.std.specs.Prelude.{◌≡◌, ◌==◌, ◌%◌, ◌&&◌, ◌∷◌, [], ℕ, List, Bool, true, false, not, map, Option, Some, None, slice_set, if◌then◌else◌}
+use Rattle.std.specs.Prelude.{◌≡◌, ◌≤◌, ◌==◌, ◌%◌, ◌&&◌, ◌∷◌, [], ℕ, List, Bool, true, false, not, map, Option, Some, None, slice_set, if◌then◌else◌}
 use Rattle.s360_words.specs.Storage.{cleared, is_size}
-use Rattle.s360_channel.specs.Channel.{ChannelState}
-use Rattle.s360_channels.specs.Adding.{new_channel}
+use Rattle.s360_channel.specs.Selector.{SelectorState}
+use Rattle.s360_channels.specs.Adding.{is_taken, new_channel}
 use Rattle.s360_channels.specs.Channels.{ChannelsState}
 use Rattle.s360_channels.specs.Interrupting.{is_open}
 use Rattle.dasd_subsystem.specs.declared.refusal.Refusal.{Refusal}
@@ -13,11 +13,11 @@ abbrev pub is_set : (channels : ℕ) → Bool
 is_set channels = not (channels == 0) && (channels % 2 == 0)
 
 -- the channel with a number, if the set has it; it has no drives
-abbrev pub made_at : (channels size number : ℕ) → Option ChannelState
+abbrev pub made_at : (channels size number : ℕ) → Option SelectorState
 made_at channels size number = if is_open channels number then Some (new_channel number size) else None
 
 -- the channels of a set, by their numbers
-abbrev pub made_list : (channels size : ℕ) → List (Option ChannelState)
+abbrev pub made_list : (channels size : ℕ) → List (Option SelectorState)
 made_list channels size = map (made_at channels size) (0 ∷ 1 ∷ 2 ∷ 3 ∷ 4 ∷ 5 ∷ 6 ∷ [])
 
 -- a storage of so many zero bytes, and the channels of a set over it
@@ -25,8 +25,12 @@ abbrev pub made : (channels size : ℕ) → ChannelsState
 made channels size = record { storage = cleared size; channels = made_list channels size }
 
 -- channels and, if the set has it, the one with a number
-abbrev pub with_channel : (channels size number : ℕ) → List (Option ChannelState) → List (Option ChannelState)
+abbrev pub with_channel : (channels size number : ℕ) → List (Option SelectorState) → List (Option SelectorState)
 with_channel channels size number cs = if is_open channels number then slice_set cs number (Some (new_channel number size)) else cs
+
+-- no channel has this number or a higher one
+abbrev pub AreFree : (number : ℕ) → List (Option SelectorState) → Type 0
+AreFree number cs = (k : ℕ) → number ≤ k → is_taken k cs ≡ false
 
 -- Why they are not made, in this order: it is no set of channels; no storage has this size; there is no memory.
 abbrev pub NotMade : (channels size : ℕ) → Refusal → Type 0

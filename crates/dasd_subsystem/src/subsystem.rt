@@ -40,7 +40,7 @@ impl Subsystem {
         }
         match Storage::new(alloc, size) {
             Ok(storage) => Ok(Subsystem {
-                channels: made_over(alloc, channels, storage)?,
+                channels: made_over(channels, storage),
             }),
             Err(StorageFault::BadSize) => Err(Refusal::BadSize),
             Err(StorageFault::OutOfMemory) => Err(Refusal::OutOfMemory),
