@@ -30,14 +30,16 @@ function looked(...sets) {
     list: [{ model: 2311, cylinders: CYLINDERS, heads: HEADS, slot_size: 4096 }, ...upTo(0, CYLINDERS * HEADS - 1).map(track =>
       ({ cylinder: Math.floor(track / HEADS), head: track % HEADS, home_address: '', used: 100, records: [{}, {}, { data_length: 80 }] }))],
     check: [{ errors: 0, warnings: 0, notes: 0 }],
-    vtoc: [{ serial: 'SHARED', owner: '' }, ...sets.map(([name, extents, extent_types]) => ({ name, organisation: 'PS', extents, extent_types }))],
+    vtoc: [
+      { serial: 'SHARED', owner: '' },
+      ...sets.map(([name, extents, extent_types]) => ({ name, organisation: 'PS', extents, extent_types })),
+    ],
   };
   const lines = (/** @type {string[]} */ [command]) =>
     /** @type {any} */ (told)[command].map((/** @type {object} */ it) => `${JSON.stringify(it)}\n`).join('');
-  const program = {
-    run: (/** @type {string[]} */ words) => ({ status: 0, output: new TextEncoder().encode(lines(words)), errors: new Uint8Array(), files: new Map() }),
-  };
-  const volumes = new Volumes(/** @type {any} */ (program));
+  const run = (/** @type {string[]} */ words) =>
+    ({ status: 0, output: new TextEncoder().encode(lines(words)), errors: new Uint8Array(), files: new Map() });
+  const volumes = new Volumes(/** @type {any} */ ({ run }));
   return volumeOf(1, 'pack.ckd', 0, volumes.look(new Map([['pack.ckd', new Uint8Array()]])));
 }
 
