@@ -12,7 +12,7 @@ from pathlib import Path
 
 from . import says
 
-SCHEMA = 1
+SCHEMA = 2
 #: 'DASD' in ASCII, in the header of the file.
 APPLICATION = 0x44415344
 PATIENCE = 60.0

@@ -5,6 +5,7 @@ from __future__ import annotations
 import json
 import sqlite3
 import zlib
+from collections.abc import Iterator
 
 from .markup import Child, Html, joined, tag
 
@@ -16,6 +17,8 @@ MOST_CELL = 40
 #: So many cylinders are drawn.
 MOST_CYLINDERS = 1180
 FREE, BAD = "free", "bad"
+#: The type of an extent that shares its cylinders with other data sets.
+SHARED = 0x80
 
 
 def picture(connection: sqlite3.Connection, volume: sqlite3.Row) -> Html:
@@ -24,7 +27,8 @@ def picture(connection: sqlite3.Connection, volume: sqlite3.Row) -> Html:
         return tag("p", "The tracks could not be read.")
     heads, cylinders = volume["heads"], min(volume["cylinders"], MOST_CYLINDERS)
     cell = max(1, min(MOST_CELL, WIDTH // cylinders))
-    sets = connection.execute("SELECT number, name, extents, tracks FROM data_sets WHERE volume = ? ORDER BY number", (volume["file"],)).fetchall()
+    query = "SELECT number, name, extents, extent_types, tracks FROM data_sets WHERE volume = ? ORDER BY number"
+    sets = connection.execute(query, (volume["file"],)).fetchall()
     names = {it["number"]: f"{it['name']}, {it['tracks']} tracks" for it in sets}
     paths = paths_of(volume, owners_of(sets, heads), cylinders, cell)
     shapes = [shape(key, places, names) for key, places in sorted(paths.items(), key=lambda it: str(it[0]))]
@@ -50,11 +54,23 @@ def owners_of(sets: list[sqlite3.Row], heads: int) -> dict[int, int]:
     """The number of the data set to which a track belongs."""
     owners: dict[int, int] = {}
     for it in sets:
-        for first, head, last, last_head in json.loads(it["extents"]):
-            first_track, last_track = first * heads + head, last * heads + last_head
-            for track in range(first_track, min(last_track + 1, MOST_CYLINDERS * heads)):
+        extents = json.loads(it["extents"])
+        types = json.loads(it["extent_types"]) if it["extent_types"] else [None] * len(extents)
+        for extent, kind in zip(extents, types):
+            for track in tracks_of_extent(extent, kind, heads):
                 owners.setdefault(track, it["number"])
     return owners
+
+
+def tracks_of_extent(extent: list[int], kind: int | None, heads: int) -> Iterator[int]:
+    """The tracks of an extent, as far as cylinders are drawn. One that shares its cylinders has on each of them the heads from its first to its last;
+    another one, and each whose type `dasd` does not tell, is a run of tracks."""
+    first, head, last, last_head = extent
+    if kind == SHARED:
+        for cylinder in range(first, min(last + 1, MOST_CYLINDERS)):
+            yield from range(cylinder * heads + head, cylinder * heads + min(last_head + 1, heads))
+    else:
+        yield from range(first * heads + head, min(last * heads + last_head + 1, MOST_CYLINDERS * heads))
 
 
 def track_bar(left: int, top: int, cell: int, share: float) -> str:

@@ -1,4 +1,4 @@
--- The schema of a catalogue, version 1. Numbers of places are decimal; hashes are SHA-256, 32 bytes; times are nanoseconds since 1970.
+-- The schema of a catalogue, version 2. Numbers of places are decimal; hashes are SHA-256, 32 bytes; times are nanoseconds since 1970.
 
 -- what the catalogue as a whole is: 'schema', its version; 'hash', the functions by which `said` is made; 'program', the version of dasd
 CREATE TABLE about (name TEXT PRIMARY KEY, value TEXT NOT NULL) WITHOUT ROWID;
@@ -59,6 +59,7 @@ CREATE TABLE data_sets (
     organisation TEXT NOT NULL, format TEXT NOT NULL, record_length INTEGER, block_length INTEGER, key_length INTEGER,
     tracks INTEGER, used INTEGER, created TEXT, expires TEXT,
     extents TEXT NOT NULL,              -- a list in JSON, of lists of cylinder, head, cylinder, head
+    extent_types TEXT,                  -- a list in JSON, of the type of each; NULL where dasd does not tell them
     size INTEGER, said BLOB, text INTEGER REFERENCES texts (id), whole INTEGER,
     PRIMARY KEY (volume, number)) WITHOUT ROWID;
 CREATE INDEX data_sets_by_name ON data_sets (name);

@@ -107,9 +107,10 @@ class Store:
     def _put_set(self, file: int, number: int, found: Set, texts: dict[bytes, int]) -> None:
         told = found.told
         own = self._unloaded(found.own, texts) if found.own else (None, None, None, None)
-        values = (*(told[it] for it in SET), json.dumps(told["extents"]), *own)
+        types = json.dumps(told["extent_types"]) if "extent_types" in told else None
+        values = (*(told[it] for it in SET), json.dumps(told["extents"]), types, *own)
         self.connection.execute(
-            f"INSERT INTO data_sets VALUES ({marks(18)})", (file, number, told["name"], found.file_name or None, *values)
+            f"INSERT INTO data_sets VALUES ({marks(19)})", (file, number, told["name"], found.file_name or None, *values)
         )
         rows = []
         for place, member in enumerate(found.members):

@@ -4,6 +4,7 @@ from __future__ import annotations
 
 import json
 import os
+import sqlite3
 import subprocess
 import unittest
 from pathlib import Path
@@ -13,6 +14,7 @@ from archive import COMMAND, COUNT, Case, catalogue, packs, program, reading, sc
 from make_packs import HOSTILE, WHO, folder_of, kind_of, name_of, plain
 
 from dasd_catalogue import queries
+from dasd_catalogue.database import SCHEMA
 from dasd_catalogue.names import exact
 
 
@@ -208,11 +210,25 @@ class Reading(Case):
     """Catalogues that can't be read."""
 
     def test_no_catalogue(self) -> None:
-        """None, another file, and one of a later schema."""
+        """None, and another file."""
         ran = typed("find", "X", database=self.database)
         self.assertEqual((ran.returncode, ran.stderr), (1, f"dasd-catalogue: there is no {self.database}; dasd-catalogue scan makes it\n"))
         self.database.write_text("a letter\n" * 200, encoding="utf-8")
         self.assertIn("is no catalogue", typed("find", "X", database=self.database).stderr)
+
+    def test_another_schema(self) -> None:
+        """An earlier and a later one are neither read nor written, and stay."""
+        scanned(self.database, [])
+        for version in (SCHEMA - 1, SCHEMA + 1):
+            connection = sqlite3.connect(self.database)
+            connection.execute(f"PRAGMA user_version = {version}")
+            connection.close()
+            held = self.database.read_bytes()
+            told = f"dasd-catalogue: {self.database} has schema {version}, and this program reads {SCHEMA}\n"
+            for words in (("find", "X"), ("scan", str(self.folder), "--dasd", program())):
+                ran = typed(*words, database=self.database)
+                self.assertEqual((ran.returncode, ran.stdout, ran.stderr), (1, "", told))
+            self.assertEqual(self.database.read_bytes(), held)
 
     def test_a_reader_writes_nothing(self) -> None:
         """Not even by SQL."""

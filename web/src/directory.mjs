@@ -3,7 +3,7 @@
 // 256 bytes has two bytes with the length that is used of it, and entries of a name in eight bytes, the relative address of the member's
 // first record in three (track of the data set, record), and a byte whose last five bits count the half words that follow.
 
-import { tracksOf } from './shapes.mjs';
+import { tracksOf } from './extents.mjs';
 
 /** @typedef {import('./shapes.mjs').Volume} Volume */
 /** @typedef {import('./shapes.mjs').DataSet} DataSet */

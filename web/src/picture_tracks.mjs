@@ -1,7 +1,10 @@
 // @ts-check
 // The cells of the picture: what is on a track by its colour, how full it is by how deep that is, and what is wrong by a mark.
 
+import { SHARED } from './extents.mjs';
+
 /** @typedef {import('./shapes.mjs').Volume} Volume */
+/** @typedef {import('./shapes.mjs').DataSet} DataSet */
 /** @typedef {import('./picture.mjs').Layout} Layout */
 /** @typedef {{lit: Set<number> | null, changed: Set<number>, scale: number}} Marks */
 /** @typedef {{ink: string, sheet: string, soft: string, bare: string, alarm: string, caution: string, blue: string, sets: string[]}} Colours */
@@ -17,6 +20,8 @@ export const HATCHINGS = 5;
 export const drawnWith = set => ({colour: set % COLOURS, hatching: Math.floor(set / COLOURS) % HATCHINGS});
 
 const DIM = 0.16;
+/** The height of a data set's name. */
+const NAME = 15;
 
 /**
  * Where a column begins: at a whole pixel, so that cells are sharp and the picture has all of the width.
@@ -164,17 +169,17 @@ export class Tracks {
     const pen = /** @type {CanvasRenderingContext2D} */ (this.pen), { ink, sheet } = this.colours();
     pen.font = '600 10px system-ui, sans-serif';
     for (const set of volume.sets) {
-      const place = largestRun(volume, layout, set.extents), wanted = pen.measureText(set.name).width + 8;
+      const place = largestRun(volume, layout, set), wanted = pen.measureText(set.name).width + 8;
       if (!place || (marks.lit && !marks.lit.has(place.track))) continue;
-      const isTall = place.w < wanted && place.h >= wanted && place.w >= 15;
-      if (place.w < wanted && !isTall) continue;
+      const isWide = place.w >= wanted && place.h >= NAME, isTall = !isWide && place.h >= wanted && place.w >= NAME;
+      if (!isWide && !isTall) continue;
       pen.save();
       pen.translate(place.x + place.w / 2, place.y + place.h / 2);
       if (isTall) pen.rotate(-Math.PI / 2);
       pen.globalAlpha = 0.88;
       pen.fillStyle = sheet;
       pen.beginPath();
-      rounded(pen, { x: -wanted / 2, y: -7.5, w: wanted, h: 15 }, 3);
+      rounded(pen, { x: -wanted / 2, y: -NAME / 2, w: wanted, h: NAME }, 3);
       pen.fill();
       pen.globalAlpha = 1;
       pen.fillStyle = ink;
@@ -281,21 +286,23 @@ function placeIn(layout, heads, track) {
   };
 }
 
-// The largest of a data set's runs that lies in one band, as it stands on the canvas.
 /**
+ * The largest of a data set's runs that lies in one band, as it stands on the canvas: over all heads of its cylinders, or over those that it
+ * has where it shares them.
  * @param {Volume} volume
  * @param {Layout} layout
- * @param {number[][]} extents
+ * @param {DataSet} set
  */
-function largestRun(volume, layout, extents) {
+export function largestRun(volume, layout, set) {
   const { columns, per, cell, tall, left, top, step } = layout;
   let best = null;
-  for (const [first, head, last] of extents) {
+  for (const [at, [first, head, last, lastHead]] of set.extents.entries()) {
+    const [upper, lower] = set.extentTypes[at] === SHARED ? [head, Math.min(lastHead, volume.heads - 1)] : [0, volume.heads - 1];
+    const y = top + upper * tall, h = (lower - upper + 1) * tall, track = first * volume.heads + head;
     for (let column = Math.floor(first / per); column <= Math.floor(last / per);) {
       const band = Math.floor(column / columns), end = Math.min(Math.floor(last / per), (band + 1) * columns - 1);
       const w = (end - column + 1) * cell;
-      if (!best || w > best.w)
-        best = { x: left + (column % columns) * cell, y: top + band * step, w, h: volume.heads * tall, track: first * volume.heads + head };
+      if (!best || w > best.w) best = { x: left + (column % columns) * cell, y: y + band * step, w, h, track };
       column = end + 1;
     }
   }

@@ -78,15 +78,3 @@ export function volumeOf(number, name, bytes, look) {
     sums: look.sums,
   };
 }
-
-/**
- * The tracks of a data set, in its order.
- * @param {DataSet} set
- * @param {number} heads
- */
-export function tracksOf(set, heads) {
-  return set.extents.flatMap(([c1, h1, c2, h2]) => {
-    const first = c1 * heads + h1, last = c2 * heads + h2;
-    return Array.from({ length: Math.max(0, last - first + 1) }, (_, at) => first + at);
-  });
-}

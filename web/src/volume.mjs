@@ -3,6 +3,7 @@
 //
 // The program sees the files under names of its own, so a name that a visitor's file has does not matter.
 
+import { tracksOfExtent } from './extents.mjs';
 import { faultText, refusal, textOf } from './program.mjs';
 import { tarOf } from './tar.mjs';
 
@@ -26,8 +27,9 @@ import { tarOf } from './tar.mjs';
  * @typedef {[number, number, number, number]} Extent
  */
 /**
+ * `extentTypes` has the type of each of the extents; it is empty where an older program does not tell them.
  * @typedef {{ name: string, created: string | null, expires: string | null, organisation: string, format: string, recordLength: number,
- *   blockLength: number, keyLength: number, tracks: number, used: number, extents: Extent[] }} DataSet
+ *   blockLength: number, keyLength: number, tracks: number, used: number, extents: Extent[], extentTypes: number[] }} DataSet
  */
 /**
  * The last three are null where the volume has no table of contents.
@@ -125,6 +127,7 @@ function dataSet(it) {
     name: it.name, created: it.created, expires: it.expires, organisation: it.organisation, format: it.format,
     recordLength: it.record_length,
     blockLength: it.block_length, keyLength: it.key_length, tracks: it.tracks, used: it.used, extents: it.extents,
+    extentTypes: it.extent_types ?? [],
   };
 }
 
@@ -154,13 +157,11 @@ function unloaded(it) {
  */
 function ownersOf(geometry, sets) {
   const owners = new Int16Array(geometry.cylinders * geometry.heads).fill(-1);
-  const place = (/** @type {number} */ cylinder, /** @type {number} */ head) => cylinder * geometry.heads + head;
-  sets.forEach((set, number) => {
-    for (const [cylinder, head, lastCylinder, lastHead] of set.extents) {
-      const end = Math.min(place(lastCylinder, lastHead) + 1, owners.length);
-      for (let at = place(cylinder, head); at < end; at++) if (owners[at] < 0) owners[at] = number;
+  sets.forEach((set, number) => set.extents.forEach((extent, at) => {
+    for (const track of tracksOfExtent(extent, set.extentTypes[at], geometry.heads, owners.length)) {
+      if (owners[track] < 0) owners[track] = number;
     }
-  });
+  }));
   return owners;
 }
 

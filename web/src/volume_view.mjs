@@ -7,7 +7,7 @@ import { Contents } from './contents.mjs';
 import { directoryOf, tracksOfMember } from './directory.mjs';
 import { Picture } from './picture.mjs';
 import { saveAs } from './files.mjs';
-import { tracksOf } from './shapes.mjs';
+import { tracksOf } from './extents.mjs';
 
 /** @typedef {import('./engine.mjs').Engine} Engine */
 /** @typedef {import('./shapes.mjs').Volume} Volume */

@@ -28,6 +28,7 @@ NAMES = ["node", "--test", "test/names.test.mjs"]
 PARTS = ["node", "--test", "test/parts.test.mjs"]
 ENGINE = ["node", "--test", "test/engine.test.mjs"]
 STEPPER = ["node", "--test", "test/stepper.test.mjs"]
+EXTENTS = ["node", "--test", "test/extents.test.mjs"]
 LIBRARY_VECTORS = ["../conformance/run.py", "--every", "10", "protocol=node test/protocol.mjs"]
 PROGRAM_VECTORS = ["../conformance/run.py", "--every", "60", "dasd-traced=node dasd.mjs"]
 
@@ -96,6 +97,16 @@ FAULTS = [
     Fault(
         "a fault of the library is another's",
         "src/library.mjs", "throw Fault.of(code);\n    return code;", "throw Fault.of(code - 1);\n    return code;", [ENGINE],
+    ),
+    Fault("an extent of shared cylinders is a run of tracks", "src/extents.mjs", "if (type !== SHARED)", "if (type !== 0)", [EXTENTS]),
+    Fault("all heads of shared cylinders are one data set's", "src/extents.mjs", "at * heads + head, at", "at * heads, at", [EXTENTS]),
+    Fault(
+        "of shared cylinders the picture is not told",
+        "src/volume.mjs", "tracksOfExtent(extent, set.extentTypes[at], ", "tracksOfExtent(extent, undefined, ", [EXTENTS],
+    ),
+    Fault(
+        "a name stands over all heads of shared cylinders",
+        "src/picture_tracks.mjs", "set.extentTypes[at] === SHARED ?", "set.extentTypes[at] === 0 ?", [EXTENTS],
     ),
 ]
 
