@@ -66,7 +66,7 @@ fn at_once(rt: &HostRuntime, machine: &mut Machine) -> Result<()> {
 // Channels 1 and 2 with a drive each, and storage with the operands of their programs.
 fn set_up(alloc: Global, machine: &mut Machine) -> Result<()> {
     for (number, address) in [(1, 0x190), (2, 0x290)] {
-        machine.add(alloc, number)?;
+        machine.add(number)?;
         attach_new(alloc, machine, address)?;
     }
     for (at, bytes) in &OPERANDS {

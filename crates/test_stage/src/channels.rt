@@ -4,8 +4,7 @@ use crate::channel::{Instruction, answered, keep_all, say_reset};
 use crate::channels_shown::show;
 use crate::stage::Stage;
 use crate::verbs::OfChannels;
-use s360_channel::Finished;
-use s360_channels::Channels;
+use s360_channels::{Channels, Removed};
 use s360_events::Answer;
 use s360_words::Storage;
 use stage_drives::put;
@@ -73,7 +72,7 @@ impl Stage {
             (OfChannels::Does(does), Some(channels)) => instruct(channels, *does, line),
             (OfChannels::Units(units), Some(channels)) => advance(channels, *units, line),
             (OfChannels::Changes(changes), Some(channels)) => {
-                change(rt.alloc(), channels, *changes, line)
+                change(channels, *changes, line)
             }
             (OfChannels::Shows(shows), Some(channels)) => show(channels, *shows, line),
         }
@@ -144,12 +143,8 @@ impl Stage {
             return said.no(NO_CHANNELS);
         };
         match channels.remove(number) {
-            Some(finished) => {
-                let Finished {
-                    storage: _,
-                    images,
-                    reset,
-                } = finished;
+            Some(removed) => {
+                let Removed { images, reset } = removed;
                 if tells_reset {
                     say_reset(&reset, said);
                 }
@@ -210,9 +205,9 @@ fn reset(channels: &mut Several, number: u8) -> Option<Answer> {
 }
 
 // A call of all channels, or one of storage.
-fn change(alloc: Global, channels: &mut Several, changes: Changes, line: &mut Line) {
+fn change(channels: &mut Several, changes: Changes, line: &mut Line) {
     match changes {
-        Changes::Add => add(alloc, channels, line),
+        Changes::Add => add(channels, line),
         Changes::StepAll => {
             let done = channels.step_all(line.half(0));
             line.said.put("STEPALL");
@@ -226,8 +221,8 @@ fn change(alloc: Global, channels: &mut Several, changes: Changes, line: &mut Li
     }
 }
 
-fn add(alloc: Global, channels: &mut Several, line: &mut Line) {
-    match channels.add(alloc, line.byte(0)) {
+fn add(channels: &mut Several, line: &mut Line) {
+    match channels.add(line.byte(0)) {
         Ok(()) => line.said.ok(),
         Err(fault) => line.said.refused(&fault),
     }
