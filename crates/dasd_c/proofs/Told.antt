@@ -7,22 +7,24 @@ use Rattle.s360_events.specs.declared.conditions.Condition.TheVariants as condit
 use Rattle.s360_laws.specs.Events.{Answer}
 use Rattle.dasd_c.specs.Codes.{code_of}
 use Rattle.s360_channel.specs.Channel.{ChannelState}
-use Rattle.s360_channels.specs.Channels.{ChannelsState, OnChannel, OnFound, channel_at}
+use Rattle.s360_channel.specs.Selector.{SelectorState}
+use Rattle.s360_channels.specs.Channels.{ChannelsState, OnChannel, OnFound, selector_at}
 
 module _ (How Other : ChannelState → ChannelState → Type 0) (Missing Lacking : Type 0) (number : ℕ) (old new : ChannelsState)
     (does : (c d : ChannelState) → How c d → Other c d) (misses : Missing → Lacking) where
-  found : (o : Option ChannelState) → OnFound o number How Missing old new → OnFound o number Other Lacking old new
+  found : (o : Option SelectorState) → OnFound o number How Missing old new → OnFound o number Other Lacking old new
   found None h = (misses h.0, h.1)
   found (Some c) h = record {
     after = h.after;
-    finds = record { last = h.finds.last; how = does _ _ h.finds.how; storage = h.finds.storage; channel = h.finds.channel };
+    how = does _ _ h.how;
+    same = h.same;
     others_stay = h.others_stay;
     bytes = h.bytes;
     keys = h.keys;
   }
 
   pub told : OnChannel number How Missing old new → OnChannel number Other Lacking old new
-  told h = found (channel_at number old) h
+  told h = found (selector_at number old) h
 
 pub not_both : {A : Type 0} (a : A) → ◌≡◌ {A = Option A} (Some a) None → ⊥
 not_both a h = cc
