@@ -7,19 +7,25 @@ ghost use Rattle.dasd_jobs.specs.Written.{Replaced, with_file};
 use ckd_image::{ImageStore, StoreFault};
 use std::alloc::Global;
 use std::fmt;
+use thiserror::Error;
 
 /// Why a file was not opened, not read or not replaced.
-#[derive(Clone, Copy)]
+#[derive(Clone, Copy, Debug, Error)]
 pub enum FileFault {
     /// There is no memory for its bytes or for its path.
+    #[error("out of memory")]
     OutOfMemory,
     /// The host refused.
+    #[error("refused by the system")]
     Refused,
     /// Another program has locked it.
+    #[error("in use")]
     InUse,
     /// It was locked already, by this or by another name.
+    #[error("named twice")]
     Twice,
     /// It is there, and was not to be replaced.
+    #[error("file exists")]
     Exists,
 }
 

@@ -4,6 +4,7 @@ ghost use Rattle.std.specs.Prelude.{◌≡◌};
 
 use crate::files::ImageFiles;
 use crate::headers::{HEADER, is_header};
+use byteorder::{ByteOrder, LittleEndian};
 use ckd_image::MountFault;
 use std::fmt;
 
@@ -22,23 +23,13 @@ impl Head {
 
     /// The last cylinder in a file that is not the last; else 0.
     fn highest(&self) -> u16 {
-        u16::from_le_bytes([self.header[18], self.header[19]])
+        LittleEndian::read_u16(&self.header[18..20])
     }
 
     /// The bytes of a cylinder, and the device type.
     fn layout(&self) -> (u64, u8) {
-        let heads = u32::from_le_bytes([
-            self.header[8],
-            self.header[9],
-            self.header[10],
-            self.header[11],
-        ]);
-        let size = u32::from_le_bytes([
-            self.header[12],
-            self.header[13],
-            self.header[14],
-            self.header[15],
-        ]);
+        let heads = LittleEndian::read_u32(&self.header[8..12]);
+        let size = LittleEndian::read_u32(&self.header[12..16]);
         (u64::from(heads) * u64::from(size), self.header[16])
     }
 }

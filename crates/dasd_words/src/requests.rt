@@ -5,6 +5,7 @@ use arrayvec::ArrayVec;
 use ckd_track::DriveModel;
 use s360_explain::Pasted;
 use std::alloc::AllocError;
+use thiserror::Error;
 
 /// What `dasd` is asked to do, and how.
 #[derive(Drop)]
@@ -202,17 +203,22 @@ pub enum TraceTarget<'a> {
 }
 
 /// Why the words ask for nothing.
-#[derive(Drop)]
+#[derive(Debug, Drop, Error)]
 pub enum WordFault {
     /// There is no memory to read them.
+    #[error("out of memory")]
     OutOfMemory,
     /// A word of a volume is of another form, or is the ninth file of an image.
+    #[error("bad volume")]
     BadVolume,
     /// They are wrong: this text says how.
+    #[error("{0}")]
     Usage(String),
     /// They ask for help, which is this text.
+    #[error("{0}")]
     Help(String),
     /// They ask for the version, which is this text.
+    #[error("{0}")]
     Version(String),
 }
 

@@ -5,6 +5,7 @@ use crate::rounds::Rounds;
 use crate::selected::SelectedLines;
 use std::alloc::{AllocError, Global};
 use std::io::Write;
+use thiserror::Error;
 
 /// Which lines a trace has.
 #[derive(Clone, Copy)]
@@ -30,7 +31,8 @@ impl TracedLines {
 }
 
 /// A trace could not be written.
-#[derive(Clone, Copy)]
+#[derive(Clone, Copy, Debug, Error)]
+#[error("the trace could not be written")]
 pub struct TraceFault;
 
 /// Takes the lines of a trace, and writes those that it is to have. A write that fails is its last, and is told at the end.
