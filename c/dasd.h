@@ -105,7 +105,7 @@ uint32_t dasd_interface(void);
 /* --- Making and freeing --- */
 
 /* Makes main storage of so many bytes, all zero and with keys 0, and the channels of this set over it, without drives. The set has one
- * to seven of the channels 0 to 6, and not bit 7, which is no channel's. Each channel takes as much memory again as main storage.
+ * to seven of the channels 0 to 6, and not bit 7, which is no channel's. Main storage is there once, for all of them.
  * DASD_IN_USE, DASD_BAD_CHANNELS, DASD_BAD_SIZE, DASD_NO_MEMORY. It does not answer DASD_NOTHING_HELD. */
 int32_t dasd_new(dasd *d, uint32_t storage_bytes, uint8_t channels);
 
