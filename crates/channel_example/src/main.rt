@@ -1,9 +1,10 @@
 //! How an emulator's author uses the channel. A day of a small machine: volumes are made in memory; records are written and read by
 //! channel programs; a program asks for an interruption and is changed while it runs; an arm arrives while another drive works; a
-//! write is halted in its middle; a pack is changed; and the images come back. Then stores that fail, and two channels over one storage.
+//! write is halted in its middle; a pack is changed; and the images come back. Then stores that fail, two channels over one storage, and a channel
+//! over an emulator's own memory.
 //!
 //! Only `docs/CALLING.md` was read for it, and nothing here is proved by hand: no call of a channel asks for anything that has to be
-//! shown.
+//! shown, and those of a selector only that the storage has its size.
 #![tactic(auto)]
 
 mod arms;
@@ -11,6 +12,7 @@ mod console;
 mod failures;
 mod halts;
 mod interruptions;
+mod own_memory;
 mod packs;
 mod pair;
 mod programs;
@@ -27,7 +29,8 @@ fn main(rt: HostRuntime) -> Result<()> {
     packs::give_back(&rt, channel)?;
     failures::fail_at_the_end(&rt)?;
     failures::fail_at_a_reset(&rt)?;
-    pair::read_and_write_at_once(&rt)
+    pair::read_and_write_at_once(&rt)?;
+    own_memory::lend_it(&rt)
 }
 
 /// The day of the small machine, which has two drives.
