@@ -260,7 +260,7 @@ typedef int32_t use(dasd *d, void *out);
         return call;                          \
     }
 
-static const dasd_bytes good = {image, sizeof image}, cut = {image, sizeof image - 1}, four = {image, 4};
+static const dasd_bytes good = {image, sizeof image}, cut = {image, sizeof image - 1}, four = {image, 4}, bare = {image, 0};
 static const dasd_bytes nine[9] = {
     {image, sizeof image}, {image, 1}, {image, 1}, {image, 1}, {image, 1}, {image, 1}, {image, 1}, {image, 1}, {image, 1}};
 static uint8_t other[512 + 10 * 4096]; /* the same with one byte of its header replaced */
@@ -286,6 +286,7 @@ USE(attach_nowhere, dasd_attach(d, 0x391, &good, 1))
 USE(attach_above, dasd_attach(d, 0x791, &good, 1))
 USE(attach_cut, dasd_attach(d, 0x191, &cut, 1))
 USE(attach_four, dasd_attach(d, 0x191, &four, 1))
+USE(attach_bare, dasd_attach(d, 0x191, &bare, 1))
 USE(attach_other, dasd_attach(d, 0x191, with(0, 'c'), 1))
 USE(attach_compressed, dasd_attach(d, 0x191, with(4, 'C'), 1))
 USE(attach_type, dasd_attach(d, 0x191, with(16, 0x30), 1))
@@ -322,6 +323,7 @@ USE(set_key_high, dasd_set_key(d, 0, 16))
 USE(check_none, dasd_check(nine, 0))
 USE(check_nine, dasd_check(nine, 9))
 USE(check_cut, dasd_check(&cut, 1))
+USE(check_bare, dasd_check(&bare, 1))
 USE(check_two, dasd_check(nine, 2))
 USE(use_attach, dasd_attach(d, 0x190, &good, 1))
 USE(use_new_volume, dasd_attach_new(d, 0x190, 2311, 1))
@@ -358,6 +360,7 @@ static const struct {
     {"a channel above 6", attach_above, DASD_NO_CHANNEL},
     {"an image less its last byte", attach_cut, DASD_LENGTH},
     {"four bytes of an image", attach_four, DASD_LENGTH},
+    {"a file without bytes", attach_bare, DASD_LENGTH},
     {"another file", attach_other, DASD_NOT_CKD_P370},
     {"a compressed image", attach_compressed, DASD_COMPRESSED},
     {"another drive's type", attach_type, DASD_DEVICE_TYPE},
@@ -394,6 +397,7 @@ static const struct {
     {"no file looked at", check_none, DASD_NO_FILES},
     {"nine files looked at", check_nine, DASD_TOO_MANY_FILES},
     {"an image less its last byte looked at", check_cut, DASD_LENGTH},
+    {"a file without bytes looked at", check_bare, DASD_LENGTH},
     {"a file of one byte behind an image", check_two, DASD_LENGTH},
 };
 
