@@ -19,12 +19,13 @@ use Rattle.s360_channel.proofs.Selecting.{is_over, still_selector}
 use Rattle.s360_channels.specs.Adding.{AttachesAt, AttachesTo}
 use Rattle.s360_channels.specs.Channels.{ChannelsState, OnChannel, OnFound, channel_at, selector_at}
 use Rattle.s360_channels.specs.Ending.{Ends, Parts, RemovesAt, RemovesFound}
-use Rattle.s360_channels.specs.Inside.{AllFit, Fits, IsFound, IsPlace}
+use Rattle.s360_channels.specs.Inside.{AllFit, Fits, IsFound, IsPlace, of_parts}
 
 -- Lists of channels.
 
 -- what stands at a place where something was put
-set_at : (cs : List (Option SelectorState)) (n : ℕ) (x : Option SelectorState) (c : SelectorState) → slice_index_or (slice_set cs n x) n None ≡ Some c → x ≡ Some c
+set_at : (cs : List (Option SelectorState)) (n : ℕ) (x : Option SelectorState) (c : SelectorState)
+    → slice_index_or (slice_set cs n x) n None ≡ Some c → x ≡ Some c
 set_at [] n x c e = none_is_some e
 set_at (d ∷ cs) zero x c e = e
 set_at (d ∷ cs) (suc n) x c e = set_at cs n x c e
@@ -38,16 +39,20 @@ pub none_fit : (size : ℕ) → AllFit size (replicate 7 None)
 none_fit size = record { seven = refl; fit = λ n c e. absurd (nobody 7 n c e) }
 
 -- all fit where what is put at a place does
-pub fit_set : (size : ℕ) (cs : List (Option SelectorState)) (n : ℕ) (x : Option SelectorState) → AllFit size cs → ((c : SelectorState) → x ≡ Some c → Fits n size c) → AllFit size (slice_set cs n x)
+pub fit_set : (size : ℕ) (cs : List (Option SelectorState)) (n : ℕ) (x : Option SelectorState) → AllFit size cs
+    → ((c : SelectorState) → x ≡ Some c → Fits n size c) → AllFit size (slice_set cs n x)
 fit_set size cs n x h f = record { seven = length-set cs n x ∙ h.seven; fit = λ k c e. go k c e (cases_eq k n) }
   where
     go : (k : ℕ) (c : SelectorState) → slice_index_or (slice_set cs n x) k None ≡ Some c → (k ≡ n) ⊎ (k ≡ n → ⊥) → Fits k size c
-    go k c e (inl same) = subst (λ k. Fits k size c) (sym same) (f c (set_at cs n x c (subst (λ k. slice_index_or (slice_set cs n x) k None ≡ Some c) same e)))
+    go k c e (inl same) =
+        let at = subst (λ k. slice_index_or (slice_set cs n x) k None ≡ Some c) same e in
+        subst (λ k. Fits k size c) (sym same) (f c (set_at cs n x c at))
     go k c e (inr other) = h.fit k c (sym (get_or-set_other cs n k x None other) ∙ e)
 
 -- The channel with a number.
 
-pub found_at : (number : ℕ) (s : Storage) (a : ℕ) (cs : List (Option SelectorState)) (c : SelectorState) → AllFit (length s.bytes) cs → a ≡ length s.bytes → is_size a ≡ true → length s.keys ≡ a / 2048
+pub found_at : (number : ℕ) (s : Storage) (a : ℕ) (cs : List (Option SelectorState)) (c : SelectorState) → AllFit (length s.bytes) cs
+    → a ≡ length s.bytes → is_size a ≡ true → length s.keys ≡ a / 2048
     → slice_index_or cs number None ≡ Some c → IsFound number c s
 found_at number s a cs c h e z k there =
     let f = h.fit number c there in
@@ -64,12 +69,13 @@ pub record Here (number place : ℕ) (s : Storage) (cs : List (Option SelectorSt
   pub is_there : slice_index_or cs number None ≡ Some c
   pub found : IsFound number c s
 
-pub here : {number place : ℕ} {v : ChannelsState} {s : Storage} {cs : List (Option SelectorState)} {c : SelectorState} (r : Option SelectorState)
-    → record { storage = s; channels = cs } ≡ v
+pub here : {number place : ℕ} {v : ChannelsState} {s : Storage} {cs : List (Option SelectorState)} {c : SelectorState}
+    (r : Option SelectorState) → of_parts s cs ≡ v
     → IsPlace number place v → AllFit (length s.bytes) cs → slice_index_or cs place r ≡ Some c → Here number place s cs c
 here {number} {place} {v} {s} {cs} {c} r view at fit is =
     let p = subst (IsPlace number place) (sym view) at in
-    let there = subst (λ n. slice_index_or cs n None ≡ Some c) p.same (get_or_default cs place None r (subst (λ n. place < n) (sym fit.seven) p.within) ∙ is) in
+    let within = subst (λ n. place < n) (sym fit.seven) p.within in
+    let there = subst (λ n. slice_index_or cs n None ≡ Some c) p.same (get_or_default cs place None r within ∙ is) in
     record { fit = fit; same = p.same; is_there = there; found = p.found c there }
 
 module _ {number place : ℕ} {s : Storage} {cs : List (Option SelectorState)} {c : SelectorState} (h : Here number place s cs c) where
@@ -77,38 +83,57 @@ module _ {number place : ℕ} {s : Storage} {cs : List (Option SelectorState)} {
   has_size = h.found.is_over.size
 
   -- all fit behind a call of it
-  pub fit_behind : {t : Storage} {c' : SelectorState} → KeepsSelector c c' → KeepsStorage s t → IsChannel (over c' t) → AllFit (length t.bytes) (slice_set cs place (Some c'))
+  pub fit_behind : {t : Storage} {c' : SelectorState} → KeepsSelector c c' → KeepsStorage s t → IsChannel (over c' t)
+      → AllFit (length t.bytes) (slice_set cs place (Some c'))
   fit_behind {t} {c'} same keeps is =
       subst (λ n. AllFit n (slice_set cs place (Some c'))) (sym keeps.size)
-      (fit_set (length s.bytes) cs place (Some c') h.fit (λ d e. subst (Fits place (length s.bytes)) (inside c' d e)
-      (record { own_number = same.number ∙ (h.found.own_number ∙ sym h.same); as_large = same.size ∙ sym h.found.is_over.size; is_selector = still_selector c c' s t h.found.is_over same.size keeps is })))
+      (fit_set (length s.bytes) cs place (Some c') h.fit (λ d e. subst (Fits place (length s.bytes)) (inside c' d e) (record {
+        own_number = same.number ∙ (h.found.own_number ∙ sym h.same);
+        as_large = same.size ∙ sym h.found.is_over.size;
+        is_selector = still_selector c c' s t h.found.is_over same.size keeps is;
+      })))
 
   -- which is what it did to the channels
-  pub calls_behind : (How : ChannelState → ChannelState → Type 0) (Missing : Type 0) {v : ChannelsState} {t : Storage} {c' : SelectorState} → record { storage = s; channels = cs } ≡ v
-      → KeepsSelector c c' → KeepsStorage s t → How (over c s) (over c' t) → OnChannel number How Missing v (record { storage = t; channels = slice_set cs place (Some c') })
+  pub calls_behind : (How : ChannelState → ChannelState → Type 0) (Missing : Type 0) {v : ChannelsState} {t : Storage} {c' : SelectorState}
+      → of_parts s cs ≡ v
+      → KeepsSelector c c' → KeepsStorage s t → How (over c s) (over c' t)
+      → OnChannel number How Missing v (of_parts t (slice_set cs place (Some c')))
   calls_behind How Missing {v} {t} {c'} view same keeps how =
-      subst (λ v. OnChannel number How Missing v (record { storage = t; channels = slice_set cs place (Some c') })) view
-      (subst (λ o. OnFound o number How Missing (record { storage = s; channels = cs }) (record { storage = t; channels = slice_set cs place (Some c') })) (sym h.is_there)
-      (record { after = c'; how = how; same = same; others_stay = ap (λ n. slice_set cs n (Some c')) h.same; bytes = keeps.size; keys = ap length keeps.keys }))
+      subst (λ v. OnChannel number How Missing v (of_parts t (slice_set cs place (Some c')))) view
+      (subst (λ o. OnFound o number How Missing (of_parts s cs) (of_parts t (slice_set cs place (Some c')))) (sym h.is_there)
+      (record {
+        after = c';
+        how = how;
+        same = same;
+        others_stay = ap (λ n. slice_set cs n (Some c')) h.same;
+        bytes = keeps.size;
+        keys = ap length keeps.keys;
+      }))
 
   -- what is so of it over the storage is so of the channel with its number
-  pub seen_here : (P : Option ChannelState → Storage → Type 0) {v : ChannelsState} → record { storage = s; channels = cs } ≡ v → P (Some (over c s)) s → P (channel_at number v) v.storage
-  seen_here P {v} view x = subst (λ v. P (channel_at number v) v.storage) view (subst (λ o. P (option_map (λ c. over c s) o) s) (sym h.is_there) x)
+  pub seen_here : (P : Option ChannelState → Storage → Type 0) {v : ChannelsState} → of_parts s cs ≡ v
+      → P (Some (over c s)) s → P (channel_at number v) v.storage
+  seen_here P {v} view x =
+      subst (λ v. P (channel_at number v) v.storage) view (subst (λ o. P (option_map (λ c. over c s) o) s) (sym h.is_there) x)
 
   -- a drive that was attached to it
-  pub attached_behind : (device : ℕ) (image : ImageState) {v : ChannelsState} {c' : SelectorState} → record { storage = s; channels = cs } ≡ v → c' ≡ record c { drives = c.drives ++ new_attached device image ∷ [] }
-      → NotRefused device (over c s) → AttachesAt number device image v (record { storage = s; channels = slice_set cs place (Some c') })
+  pub attached_behind : (device : ℕ) (image : ImageState) {v : ChannelsState} {c' : SelectorState}
+      → of_parts s cs ≡ v → c' ≡ record c { drives = c.drives ++ new_attached device image ∷ [] }
+      → NotRefused device (over c s) → AttachesAt number device image v (of_parts s (slice_set cs place (Some c')))
   attached_behind device image {v} {c'} view is not =
-      subst (λ v. AttachesAt number device image v (record { storage = s; channels = slice_set cs place (Some c') })) view
-      (subst (λ o. AttachesTo o number device image (record { storage = s; channels = cs }) (record { storage = s; channels = slice_set cs place (Some c') })) (sym h.is_there)
+      subst (λ v. AttachesAt number device image v (of_parts s (slice_set cs place (Some c')))) view
+      (subst (λ o. AttachesTo o number device image (of_parts s cs) (of_parts s (slice_set cs place (Some c')))) (sym h.is_there)
       (not, ap (λ n. slice_set cs n (Some c')) h.same ∙ ap (λ c. slice_set cs number (Some c)) is))
 
   -- and it may be taken away
-  pub removed_behind : {parts : Parts} {v : ChannelsState} {x : Option SelectorState} → record { storage = s; channels = cs } ≡ v → x ≡ None → Ends (over c s) parts s
-      → RemovesAt number (Some parts) v (record { storage = s; channels = slice_set cs place x })
+  pub removed_behind : {parts : Parts} {v : ChannelsState} {x : Option SelectorState} → of_parts s cs ≡ v
+      → x ≡ None → Ends (over c s) parts s
+      → RemovesAt number (Some parts) v (of_parts s (slice_set cs place x))
   removed_behind {parts} {v} {x} view none ends =
-      subst (λ v. RemovesAt number (Some parts) v (record { storage = s; channels = slice_set cs place x })) view
-      (subst (λ o. RemovesFound (option_map (λ c. over c s) o) number (Some parts) (record { storage = s; channels = cs }) (record { storage = s; channels = slice_set cs place x })) (sym h.is_there)
+      subst (λ v. RemovesAt number (Some parts) v (of_parts s (slice_set cs place x))) view
+      (subst
+      (λ o. RemovesFound (option_map (λ c. over c s) o) number (Some parts) (of_parts s cs) (of_parts s (slice_set cs place x)))
+      (sym h.is_there)
       (record { ends = ends; others_stay = ap (λ n. slice_set cs n x) h.same ∙ ap (slice_set cs number) none }))
 
 pub none_removed : (number : ℕ) (v : ChannelsState) → selector_at number v ≡ None → RemovesAt number None v v
@@ -119,7 +144,8 @@ none_removed number v e = subst (λ o. RemovesFound (option_map (λ c. over c v.
 few : 0 ≤ 8
 few = omega arith
 
-pub new_fits : (number a : ℕ) (s : Storage) (c : SelectorState) → c ≡ record { number = number; size = a; subchannel = Idle; drives = [] } → number < 7 → a ≡ length s.bytes → length s.keys ≡ a / 2048
+pub new_fits : (number a : ℕ) (s : Storage) (c : SelectorState) → c ≡ record { number = number; size = a; subchannel = Idle; drives = [] }
+    → number < 7 → a ≡ length s.bytes → length s.keys ≡ a / 2048
     → Fits number (length s.bytes) c
 new_fits number a s c is h e k = subst (Fits number (length s.bytes)) (sym is) (record {
   own_number = refl;
@@ -138,7 +164,8 @@ new_fits number a s c is h e k = subst (Fits number (length s.bytes)) (sym is) (
 })
 
 -- What is so of a channel that is lent is so of the one with its number.
-pub shown : (P : Option ChannelState → Type 0) (number : ℕ) (v : ChannelsState) (c : SelectorState) → Some c ≡ selector_at number v → P (Some (over c v.storage)) → P (channel_at number v)
+pub shown : (P : Option ChannelState → Type 0) (number : ℕ) (v : ChannelsState) (c : SelectorState) → Some c ≡ selector_at number v
+    → P (Some (over c v.storage)) → P (channel_at number v)
 shown P number v c e h = subst (λ o. P (option_map (λ c. over c v.storage) o)) e h
 
 -- A call leaves a channel.
@@ -149,8 +176,10 @@ same_storage s = record { size = refl; keys = refl }
 pub keeps_selector : {c c' : SelectorState} {drives : List AttachedState} → c' ≡ record c { drives = drives } → KeepsSelector c c'
 keeps_selector e = record { number = ap (λ (c : SelectorState). c.number) e; size = ap (λ (c : SelectorState). c.size) e }
 
-pub quiet_channel : (e : Event) {answer : Answer} {old new : ChannelState} → IsChannel old → ((m : Machine) → StandsFor old m → DoesQuietly e m answer new) → IsChannel new
+pub quiet_channel : (e : Event) {answer : Answer} {old new : ChannelState} → IsChannel old
+    → ((m : Machine) → StandsFor old m → DoesQuietly e m answer new) → IsChannel new
 quiet_channel e k does = record { machine = (react e None k.machine).1; stands = (does k.machine k.stands).stands }
 
-pub does_channel : (e : Event) {answer : Answer} {old new : ChannelState} → IsChannel old → ((m : Machine) → StandsFor old m → Does e m answer old new) → IsChannel new
+pub does_channel : (e : Event) {answer : Answer} {old new : ChannelState} → IsChannel old
+    → ((m : Machine) → StandsFor old m → Does e m answer old new) → IsChannel new
 does_channel e k does = let d = does k.machine k.stands in record { machine = (react e d.fault k.machine).1; stands = d.stands }

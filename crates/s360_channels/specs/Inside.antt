@@ -4,6 +4,10 @@ use Rattle.s360_words.specs.Storage.{Storage}
 use Rattle.s360_channel.specs.Selector.{IsOver, IsSelector, SelectorState}
 use Rattle.s360_channels.specs.Channels.{ChannelsState, selector_at}
 
+-- these channels over this storage
+abbrev pub of_parts : Storage → List (Option SelectorState) → ChannelsState
+of_parts s cs = record { storage = s; channels = cs }
+
 -- a channel with this number, for a storage of this size, that stands for a machine
 pub record Fits (number size : ℕ) (c : SelectorState) : Type 0 where
   pub own_number : c.number ≡ number
