@@ -12,7 +12,6 @@ import shutil
 import subprocess
 import sys
 import tempfile
-import threading
 import unittest
 from pathlib import Path
 from typing import Callable, Iterator, List, Optional, Sequence, Tuple, Union
@@ -48,8 +47,9 @@ class Calls(unittest.TestCase):
             disks.storage[0x100:0x108] = READ_R0
             self.assertEqual(disks.sio(0x190), 0)
             self.assertEqual((disks.sio(0x190), disks.tio(0x190), disks.tch(0x100)), (2, 2, 2))
-            units, subchannel = disks.run_on(1, 1000)
-            self.assertEqual((units < 1000, subchannel, disks.tch(0x100)), (True, dasd.Subchannel.ENDED, 1))
+            ran = disks.run_on(1, 1000)
+            self.assertEqual((ran.units < 1000, disks.tch(0x100)), (True, 1))
+            self.assertEqual(ran[1:], (dasd.Subchannel.ENDED, 0x90, False))
             self.assertEqual((disks.is_pending(), disks.is_pending(0x80 >> 2), disks.interrupt(0x80 >> 2)), (True, False, None))
             self.assertEqual((disks.interrupt(), disks.interrupt()), (0x190, None))
             self.assertEqual(disks.peek(0x200, 16).hex(), "0000000000000008" + "00" * 8)
@@ -65,7 +65,7 @@ class Calls(unittest.TestCase):
             others.attach(0x001, image)
             self.assertEqual(others.file(0x001), (image, 0))
             self.assertEqual(disks.changes(0x190), changes)
-            self.assertEqual(others.drive(0x001)["model"], 2314)
+            self.assertEqual(others.drive(0x001).model, 2314)
             self.refused("NO_FILE", others.file, 0x001, 1)
             others.detach(0x001)
             self.refused("NO_DRIVE", others.detach, 0x001)
@@ -77,11 +77,10 @@ class Calls(unittest.TestCase):
             self.assertEqual(disks.sio(0x190), 0)
             disks.run_on(1, 1000)
             disks.interrupt()
-            self.assertEqual(disks.drive(0x190), {"model": 2314, "cylinders": 2, "cylinder": 1, "head": 3, "arm": dasd.Arm.IN_MOTION,
-                                                  "sense": bytes(6)})
+            self.assertEqual(disks.drive(0x190), dasd.DriveState(2314, 2, 1, 3, dasd.Arm.IN_MOTION, bytes(6)))
             self.assertEqual((disks.arrive(0x190), disks.arrive(0x190)), (True, False))
             state = disks.channel(1)
-            self.assertEqual((state["subchannel"], state["drives"]), (dasd.Subchannel.AVAILABLE, [(0x90, dasd.Arm.ARRIVED)]))
+            self.assertEqual(state, dasd.ChannelState(dasd.Subchannel.AVAILABLE, 0, False, (dasd.AttachedDrive(0x90, dasd.Arm.ARRIVED),)))
 
     def test_refusals(self) -> None:
         with made() as disks:
@@ -121,20 +120,25 @@ class Calls(unittest.TestCase):
             self.assertIsNone(disks.reset(1))
             self.assertEqual((disks.tch(0x100), disks.tch(0x200)), (0, 2))
 
-    def test_two_threads(self) -> None:
-        def reads(bad: List[bool]) -> None:
-            with made() as disks:
-                disks.storage[0x100:0x108] = READ_R0
-                for _ in range(2000):
-                    bad.append(disks.sio(0x190) != 0 or disks.run_on(1, 1000)[0] >= 1000 or disks.interrupt() != 0x190)
+    def test_an_interruption_that_a_program_asks_for(self) -> None:
+        with made() as disks:
+            # No-Operation with the flag of program-controlled interruption, and Read R0, which it is chained to
+            disks.storage[0x100:0x110] = bytes.fromhex("0300000048000001") + READ_R0
+            self.assertEqual(disks.sio(0x190), 0)
+            self.assertEqual(disks.run_on(1, 3), (3, dasd.Subchannel.WORKING, 0x90, True))
+            self.assertEqual(disks.channel(1).asked, True)
+            self.assertEqual((disks.interrupt(), disks.run_on(1, 0).asked), (0x190, False))
 
-        bad: List[bool] = []
-        threads = [threading.Thread(target=reads, args=[bad]) for _ in range(2)]
-        for it in threads:
-            it.start()
-        for it in threads:
-            it.join()
-        self.assertEqual((len(bad), any(bad)), (4000, False))
+    def test_units_that_are_done_in_pieces(self) -> None:
+        with made() as disks, made() as others:
+            # No-Operation, and Transfer in Channel back to it: a program without an end
+            for it in (disks, others):
+                it.storage[0x100:0x110] = bytes.fromhex("03000000400000010800010000000000")
+                self.assertEqual(it.sio(0x190), 0)
+            self.assertEqual(disks.run_on(1, 2_500_000), (2_500_000, dasd.Subchannel.WORKING, 0x90, False))
+            self.assertEqual(others.step(1, 2_500_000), 2_500_000)
+            self.assertEqual((disks.hio(0x190), others.hio(0x190), disks.tio(0x190), others.tio(0x190)), (2, 2, 1, 1))
+            self.assertEqual(disks.storage, others.storage)
 
 
 class Places(unittest.TestCase):
@@ -253,7 +257,7 @@ def play(disks: dasd.Subsystem, number: int, name: str, words: List[str]) -> str
     if name == "STEP":
         return f"STEP {disks.step(number, at)}"
     if name == "RUN":
-        return f"RUN {disks.run_on(number, at)[0]}"
+        return f"RUN {disks.run_on(number, at).units}"
     if name == "ARRIVE":
         return f"ARRIVE {at:03X} {'YES' if disks.arrive(at) else 'NO'}"
     if name == "INT":
@@ -292,7 +296,7 @@ def whole(disks: dasd.Subsystem, address: int) -> bytes:
     files: List[bytes] = []
     try:
         for place in range(9):
-            files.append(disks.file(address, place)[0])
+            files.append(disks.file(address, place).data)
     except dasd.Fault as fault:
         if fault.name != "NO_FILE":
             raise

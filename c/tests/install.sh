@@ -44,6 +44,7 @@ test -z "$(find "$work/usr" -type f -o -type l)"
 
 install_with install PREFIX=/usr DESTDIR="$work/package"
 test -f "$work/package/usr/include/dasd.h"
+test -f "$work/package/usr/include/dasd.hpp"
 grep -q '^prefix=/usr$' "$work/package/usr/lib/pkgconfig/dasd.pc"
 test ! -e "$work/rt_was_called"
 

@@ -124,11 +124,18 @@ def place() -> str:
     return str(carried) if carried.exists() else name
 
 
-def load() -> ctypes.CDLL:
-    """The library, with its calls declared. An ImportError says where it was looked for, or that it has another interface."""
+def storage_type(size: int) -> Any:
+    """The type of main storage of so many bytes."""
+    return ctypes.c_uint8 * size
+
+
+def load() -> ctypes.PyDLL:
+    """The library, with its calls declared. An ImportError says where it was looked for, or that it has another interface.
+
+    A call keeps the interpreter's lock: none lasts long, and so no other thread of Python stores into main storage while one is made."""
     at = place()
     try:
-        library = ctypes.CDLL(at)
+        library = ctypes.PyDLL(at)
     except OSError as why:
         raise ImportError(f"libdasd is not to be had ({why}): DASD_LIBRARY names its file, or the system's loader has to know it") from why
     for name, arguments in _CALLS.items():

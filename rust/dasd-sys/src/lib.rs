@@ -11,7 +11,7 @@
 //! text for the target, as a published one does for x86-64 and AArch64 Linux, it is assembled by the C compiler (`CC_<target>`,
 //! `TARGET_CC`, `CC`, or `cc`). Else it is the library that pkg-config knows, or that the linker finds.
 #![no_std]
-#![warn(missing_docs)]
+#![deny(missing_docs)]
 #![allow(non_camel_case_types)]
 
 use core::ffi::c_void;

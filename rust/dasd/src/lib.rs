@@ -18,13 +18,15 @@
 //!
 //! The library comes with `dasd-sys`, whose page says how it is linked. What of it is proved stands in its repository; this crate is
 //! tested.
-#![warn(missing_docs)]
+#![deny(missing_docs)]
 
+mod calls;
 mod events;
 mod subsystem;
 mod fault;
 mod words;
 
+pub use crate::calls::Calls;
 pub use crate::subsystem::{check, version, DriveView, File, RunOn, Subsystem, View};
 pub use crate::events::{Answer, Event};
 pub use crate::fault::Fault;

@@ -1,9 +1,10 @@
 //! Channels with their drives, behind a handle that nothing else reaches.
 
-use crate::{Address, Arm, ChannelSet, Condition, Csw, DriveModel, Fault, Status, SubchannelView};
+use crate::{Address, Arm, Calls, ChannelSet, Condition, Csw, DriveModel, Fault, Status, SubchannelView};
 use dasd_sys as sys;
+use std::cell::Cell;
 
-const CSW: usize = 64;
+const CSW: u32 = 64;
 
 /// Main storage, and the channels over it with their drives and the volumes of these. A call for an address or a number is made at that
 /// channel, and every other channel stays.
@@ -89,21 +90,34 @@ fn pairs(files: &[&[u8]]) -> Vec<sys::dasd_bytes> {
 // In each call below: SAFETY: the handle is this value's own and was made by `new`; what else is passed is a value of its type, or bytes
 // with their length, that no other argument overlaps, and that can't lie in storage or in a file, since those are lent by `&mut self`.
 impl Subsystem {
-    /// Main storage of so many zero bytes, and the channels of this set over it, without drives. The set has one to seven of the
-    /// channels 0 to 6.
+    /// Main storage of so many zero bytes, with keys 0, and the channels of this set over it, without drives. The set has one to seven of
+    /// the channels 0 to 6, and the bytes are a multiple of 2,048 from 4,096 to 16,777,216.
+    ///
+    /// # Errors
+    ///
+    /// `BadChannels`, `BadSize`, `NoMemory`.
     pub fn new(storage_bytes: u32, channels: ChannelSet) -> Result<Subsystem, Fault> {
         let mut handle = sys::dasd { stamp: 0, place: std::ptr::null_mut() };
         done(unsafe { sys::dasd_new(&mut handle, storage_bytes, channels.0) })?;
         Ok(Subsystem { handle })
     }
 
-    /// Attaches a drive with the volume that these files, one to eight in their order, hold. They are copied.
+    /// Attaches a drive with the volume that these files, one to eight in their order, hold. They are copied. The arm is at rest at
+    /// cylinder 0 and head 0, and the sense bytes are zero. Also while a program runs.
+    ///
+    /// # Errors
+    ///
+    /// `NoChannel`, what [`check`] answers, `AddressTaken`, `Full`.
     pub fn attach(&mut self, address: Address, files: &[&[u8]]) -> Result<(), Fault> {
         let files = pairs(files);
         done(unsafe { sys::dasd_attach(&mut self.handle, address.0, files.as_ptr(), files.len()) }).map(drop)
     }
 
-    /// Attaches a drive with a new volume.
+    /// Attaches a drive with a new volume of so many cylinders, whose tracks have a home address and record 0.
+    ///
+    /// # Errors
+    ///
+    /// `NoChannel`, `NoCylinders`, `NoMemory`, `AddressTaken`, `Full`.
     pub fn attach_new(&mut self, address: Address, model: DriveModel, cylinders: u16) -> Result<(), Fault> {
         let model = match model {
             DriveModel::D2311 => 2311,
@@ -112,12 +126,20 @@ impl Subsystem {
         done(unsafe { sys::dasd_attach_new(&mut self.handle, address.0, model, cylinders) }).map(drop)
     }
 
-    /// Takes a drive off its channel, and frees its volume.
+    /// Takes a drive off its channel, and frees its volume, so save it first.
+    ///
+    /// # Errors
+    ///
+    /// `NoChannel`, `NoDrive`, `ProgramRuns`, `EndingPends`, `DeviceEndOwed`.
     pub fn detach(&mut self, address: Address) -> Result<(), Fault> {
         done(unsafe { sys::dasd_detach(&mut self.handle, address.0) }).map(drop)
     }
 
     /// A file of a drive's volume, 0 for its first, where no program runs on its channel.
+    ///
+    /// # Errors
+    ///
+    /// `NoChannel`, `ProgramRuns`, `NoDrive`, `NoFile`.
     pub fn file(&mut self, address: Address, place: u8) -> Result<File<'_>, Fault> {
         let mut shown = sys::dasd_file { at: std::ptr::null(), len: 0, changes: 0 };
         done(unsafe { sys::dasd_show_file(&mut self.handle, address.0, place, &mut shown) })?;
@@ -126,7 +148,11 @@ impl Subsystem {
         Ok(File { bytes, changes: shown.changes })
     }
 
-    /// What is known of a drive.
+    /// What is known of a drive without a channel program.
+    ///
+    /// # Errors
+    ///
+    /// `NoChannel`, `NoDrive`.
     pub fn drive(&mut self, address: Address) -> Result<DriveView, Fault> {
         let mut shown = sys::dasd_drive::default();
         done(unsafe { sys::dasd_show_drive(&mut self.handle, address.0, &mut shown) })?;
@@ -140,25 +166,29 @@ impl Subsystem {
         })
     }
 
-    /// Start I/O.
+    /// Start I/O: `Zero`, the program that the channel address word at 72 leads to was accepted, and runs by [`Subsystem::run_on`];
+    /// `Stored`, this status was stored at 68; `Two`, the channel is busy; `Three`, no drive has this address.
     pub fn sio(&mut self, address: Address) -> Condition<Status> {
         let code = unsafe { sys::dasd_sio(&mut self.handle, address.0) };
         self.condition(code, |csw| csw.status)
     }
 
-    /// Test I/O.
+    /// Test I/O: `Zero`, the drive is available; `Stored`, this channel status word was stored at 64; `Two`, the channel is busy; `Three`,
+    /// no drive has this address.
     pub fn tio(&mut self, address: Address) -> Condition<Csw> {
         let code = unsafe { sys::dasd_tio(&mut self.handle, address.0) };
         self.condition(code, |csw| csw)
     }
 
-    /// Halt I/O.
+    /// Halt I/O: `Zero`, a channel status word pends, and stays; `Stored`, nothing ran, and a status of zeros was stored at 68; `Two`, the
+    /// program that ran is cut, and its channel status word pends; `Three`, no drive has this address.
     pub fn hio(&mut self, address: Address) -> Condition<Status> {
         let code = unsafe { sys::dasd_hio(&mut self.handle, address.0) };
         self.condition(code, |csw| csw.status)
     }
 
-    /// Test Channel, of the channel of an address.
+    /// Test Channel, of the channel of an address: `Zero`, it is available; `Stored`, a channel status word pends, and none is stored now;
+    /// `Two`, a program runs; `Three`, there is no such channel.
     pub fn tch(&mut self, address: Address) -> Condition<()> {
         let code = unsafe { sys::dasd_tch(&mut self.handle, address.0) };
         self.condition(code, |_| ())
@@ -176,11 +206,16 @@ impl Subsystem {
     /// The channel status word that stands in storage.
     pub fn csw(&mut self) -> Csw {
         let mut bytes = [0; 8];
-        bytes.copy_from_slice(&self.storage()[CSW..CSW + 8]);
+        self.peek(CSW, &mut bytes).expect("storage has a channel status word");
         Csw::from_bytes(bytes)
     }
 
-    /// Lets the program that runs on a channel do so many units at most; how many it did.
+    /// Lets the program that runs on a channel do so many units at most; how many it did. A unit is a word that is fetched, an index that
+    /// passes, a byte that moves, or an end.
+    ///
+    /// # Errors
+    ///
+    /// `NoChannel`.
     pub fn step(&mut self, channel: u8, units: u32) -> Result<u32, Fault> {
         let mut did = 0;
         done(unsafe { sys::dasd_step(&mut self.handle, channel, units, &mut did) })?;
@@ -188,13 +223,18 @@ impl Subsystem {
     }
 
     /// The same, with the subchannel behind them.
+    ///
+    /// # Errors
+    ///
+    /// `NoChannel`.
     pub fn run_on(&mut self, channel: u8, units: u32) -> Result<RunOn, Fault> {
         let mut ran = sys::dasd_run::default();
         done(unsafe { sys::dasd_run_on(&mut self.handle, channel, units, &mut ran) })?;
         Ok(RunOn { units: ran.units, subchannel: subchannel_of(ran.subchannel, ran.device, ran.asked) })
     }
 
-    /// The arm of the drive at an address arrives; whether it moved.
+    /// The arm of the drive at an address has arrived; whether it moved, so that its device end is to be stored. The caller's clock says
+    /// when.
     pub fn arrive(&mut self, address: Address) -> bool {
         unsafe { sys::dasd_arrive(&mut self.handle, address.0) == 1 }
     }
@@ -212,14 +252,23 @@ impl Subsystem {
         taken.then(|| (Address(address), self.csw()))
     }
 
-    /// Resets a channel and its drives, and no other; address, cylinder and head of a track that could not be saved.
+    /// Resets a channel and its drives, and no other: a program that runs is cut, what pends is lost, arms are at rest, sense bytes are
+    /// zero. Address, cylinder and head of a track that the program had written and that could not be saved.
+    ///
+    /// # Errors
+    ///
+    /// `NoChannel`.
     pub fn reset(&mut self, channel: u8) -> Result<Option<(Address, u16, u16)>, Fault> {
         let mut track = sys::dasd_track::default();
         let code = done(unsafe { sys::dasd_reset(&mut self.handle, channel, &mut track) })?;
         Ok((code == 1).then_some((Address(track.address), track.cylinder, track.head)))
     }
 
-    /// A channel.
+    /// A channel, as it is shown.
+    ///
+    /// # Errors
+    ///
+    /// `NoChannel`.
     pub fn channel(&mut self, number: u8) -> Result<View, Fault> {
         let mut shown = sys::dasd_state::default();
         done(unsafe { sys::dasd_show_channel(&mut self.handle, number, &mut shown) })?;
@@ -230,31 +279,99 @@ impl Subsystem {
         })
     }
 
-    /// Main storage, without a copy: what is stored here the processor stores.
+    /// Main storage, without a copy: what is stored here the processor stores. It borrows this value, so that no call is made while it is
+    /// used; [`Subsystem::lend`] has both side by side.
     pub fn storage(&mut self) -> &mut [u8] {
+        let (at, len) = self.place();
+        // SAFETY: the bytes are the caller's until the next call, which the borrow forbids.
+        unsafe { std::slice::from_raw_parts_mut(at, len) }
+    }
+
+    /// Main storage and the calls, side by side: what a processor keeps that runs beside the channels. Storage is in cells, since a call
+    /// changes it; the two stay in one thread.
+    ///
+    /// ```
+    /// # use dasd::{Address, ChannelSet, Condition, DriveModel, Subsystem};
+    /// let mut disks = Subsystem::new(65536, ChannelSet::of(&[1]))?;
+    /// disks.attach_new(Address(0x190), DriveModel::D2314, 2)?;
+    /// let (storage, mut calls) = disks.lend();
+    /// for (at, byte) in [(0x4A, 1), (0x100, 0x16), (0x102, 2), (0x104, 0x20), (0x107, 16)] {
+    ///     storage[at].set(byte); // the channel address word, and Read R0 to 200
+    /// }
+    /// assert_eq!(calls.sio(Address(0x190)), Condition::Zero);
+    /// calls.run_on(1, 1000)?;
+    /// assert_eq!(storage[0x207].get(), 8);
+    /// # Ok::<(), dasd::Fault>(())
+    /// ```
+    ///
+    /// Storage is used no longer than the subsystem is there:
+    ///
+    /// ```compile_fail,E0505
+    /// # use dasd::{ChannelSet, Subsystem};
+    /// let mut disks = Subsystem::new(65536, ChannelSet::of(&[1])).unwrap();
+    /// let (storage, calls) = disks.lend();
+    /// drop(disks);
+    /// storage[0].set(1);
+    /// ```
+    ///
+    /// Nor are the calls made by another thread meanwhile:
+    ///
+    /// ```compile_fail,E0277
+    /// # use dasd::{ChannelSet, Subsystem};
+    /// let mut disks = Subsystem::new(65536, ChannelSet::of(&[1])).unwrap();
+    /// let (storage, mut calls) = disks.lend();
+    /// std::thread::scope(|threads| {
+    ///     threads.spawn(move || calls.run_on(1, 1000));
+    ///     storage[0].set(1);
+    /// });
+    /// ```
+    pub fn lend(&mut self) -> (&[Cell<u8>], Calls<'_>) {
+        let (at, len) = self.place();
+        // SAFETY: the bytes stay where they are until the handle is freed, which the borrow forbids; nothing but these cells leads to them
+        // meanwhile, but calls of this very thread, since neither part can go to another one.
+        let storage = unsafe { std::slice::from_raw_parts(at.cast::<Cell<u8>>(), len) };
+        (storage, Calls::of(self))
+    }
+
+    fn place(&mut self) -> (*mut u8, usize) {
         let mut shown = sys::dasd_storage { at: std::ptr::null_mut(), len: 0 };
         let code = unsafe { sys::dasd_show_storage(&mut self.handle, &mut shown) };
         assert_eq!(code, sys::DASD_DONE, "a handle that was made holds something");
-        // SAFETY: the bytes are the caller's until the next call, which the borrow forbids.
-        unsafe { std::slice::from_raw_parts_mut(shown.at, shown.len) }
+        (shown.at, shown.len)
     }
 
-    /// Copies bytes of storage from an address on.
+    /// Copies bytes of storage from an address on, as many as there is room for.
+    ///
+    /// # Errors
+    ///
+    /// `OutsideStorage`.
     pub fn peek(&mut self, at: u32, into: &mut [u8]) -> Result<(), Fault> {
         done(unsafe { sys::dasd_peek(&mut self.handle, at, into.as_mut_ptr(), into.len()) }).map(drop)
     }
 
-    /// Stores bytes from an address on.
+    /// Stores bytes from an address on, all or none.
+    ///
+    /// # Errors
+    ///
+    /// `OutsideStorage`.
     pub fn poke(&mut self, at: u32, bytes: &[u8]) -> Result<(), Fault> {
         done(unsafe { sys::dasd_poke(&mut self.handle, at, bytes.as_ptr(), bytes.len()) }).map(drop)
     }
 
-    /// The storage key of the block of 2,048 bytes that has this address.
+    /// The storage key, 0 to 15, of the block of 2,048 bytes that has this address.
+    ///
+    /// # Errors
+    ///
+    /// `OutsideStorage`.
     pub fn key(&mut self, at: u32) -> Result<u8, Fault> {
         done(unsafe { sys::dasd_key(&mut self.handle, at) }).map(|key| key as u8)
     }
 
-    /// Sets it, below 16.
+    /// Sets it.
+    ///
+    /// # Errors
+    ///
+    /// `BadKey`, `OutsideStorage`.
     pub fn set_key(&mut self, at: u32, key: u8) -> Result<(), Fault> {
         done(unsafe { sys::dasd_set_key(&mut self.handle, at, key) }).map(drop)
     }
@@ -266,7 +383,11 @@ impl Drop for Subsystem {
     }
 }
 
-/// Whether these files, in their order, are an image.
+/// Whether these files, one to eight in their order, are an image.
+///
+/// # Errors
+///
+/// `NoFiles`, `TooManyFiles`, `NoMemory`; `NotCkdP370`, `Compressed`, `DeviceType`, `Heads`, `TrackSize`, `Split`, `Length`.
 pub fn check(files: &[&[u8]]) -> Result<(), Fault> {
     let files = pairs(files);
     // SAFETY: pairs of pointers and lengths, which are only read.

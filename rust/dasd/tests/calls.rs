@@ -99,6 +99,30 @@ fn several_channels_share_storage() {
 }
 
 #[test]
+fn storage_and_calls_are_lent_side_by_side() {
+    let mut disks = made();
+    let (storage, mut calls) = disks.lend();
+    let store = |at: usize, bytes: &[u8]| storage[at..].iter().zip(bytes).for_each(|(cell, byte)| cell.set(*byte));
+    assert_eq!((storage.len(), calls.sio(DRIVE), calls.tio(DRIVE)), (65536, Condition::Zero, Condition::Two));
+    store(0x200, &[0xFF; 16]); // while the program runs
+    assert_eq!((calls.step(1, 3), calls.file(DRIVE, 0).err()), (Ok(3), Some(Fault::ProgramRuns)));
+    assert_eq!(calls.run_on(1, 1000).unwrap().subchannel, SubchannelView::Pending(0x90));
+    let read: Vec<u8> = storage[0x200..0x210].iter().map(|cell| cell.get()).collect();
+    assert_eq!(read, [0, 0, 0, 0, 0, 0, 0, 8, 0, 0, 0, 0, 0, 0, 0, 0]);
+    let (from, csw) = calls.interrupt(ChannelSet::ALL).unwrap();
+    assert_eq!((from, csw.status.unit, storage[0x44].get(), calls.csw()), (DRIVE, 0x0C, 0x0C, csw));
+    store(0x100, &[7, 0, 2, 0, 0x20, 0, 0, 6]); // Seek, which the channel finds in storage
+    store(0x200, &[0, 0, 0, 1, 0, 3]);
+    assert_eq!((calls.sio(DRIVE), calls.run_on(1, 1000).is_ok(), calls.interrupt(ChannelSet::ALL).is_some()), (Condition::Zero, true, true));
+    assert_eq!((calls.drive(DRIVE).unwrap().cylinder, calls.arrive(DRIVE), calls.is_pending(ChannelSet::ALL)), (1, true, true));
+    assert_eq!((calls.poke(0x300, &[9]), storage[0x300].get(), calls.set_key(2048, 7), calls.key(4095)), (Ok(()), 9, Ok(()), Ok(7)));
+    let image = calls.file(DRIVE, 0).unwrap().bytes.to_vec();
+    assert_eq!((calls.attach(Address(0x191), &[&image]), calls.detach(Address(0x191))), (Ok(()), Ok(())));
+    assert_eq!((calls.reset(1), calls.channel(1).unwrap().drives.len(), calls.tch(DRIVE)), (Ok(None), 1, Condition::Zero));
+    assert_eq!(disks.storage()[0x300], 9);
+}
+
+#[test]
 fn a_subsystem_goes_to_another_thread() {
     let mut disks = made();
     std::thread::spawn(move || assert_eq!(disks.tio(DRIVE), Condition::Zero)).join().unwrap();

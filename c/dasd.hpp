@@ -1,0 +1,404 @@
+/* dasd.hpp - the calls of dasd.h for C++17 and later: a handle that frees itself, spans, and exceptions.
+ *
+ *     libdasd::Subsystem disks(65536, libdasd::channel_set({1}));
+ *     disks.attach_new(0x190, 2314, 203);
+ *     disks.storage()[0x48] = ...
+ *     if (disks.sio(0x190) == 0) ...
+ *
+ * What a call does, dasd.h says, and its words are used here. All of this header is inline: the library is linked as for C.
+ *
+ * REFUSALS ARE EXCEPTIONS, libdasd::Fault, and not values that carry an answer or a fault, for three reasons. A constructor has no other
+ * way to say that there is no memory. An answer is then a plain number or truth value, and no refusal can be taken for one: a negative
+ * number is true, and has condition code 3 in its last bits. And while an emulator runs, no call is refused: those that may be are made
+ * where volumes are attached, shown and detached, one try block for all of them. A program without exceptions uses dasd.h.
+ * A call that throws has changed nothing.
+ *
+ * A SPAN is std::span where the standard library has it (C++20), and else libdasd::Span, which has as much of it as is needed here. An
+ * empty span may be null, as that of an empty vector is.
+ *
+ * WHAT THE CALLER OWES is what dasd.h asks, but for what this header does: a Subsystem is made, moved and freed by the rules of C++, and
+ * a null pointer with no bytes is allowed. It remains that no bytes that are given to a call lie in main storage or in a file that is
+ * shown; that a Subsystem is in one call at a time, asking calls too, none of which is const therefore; and that a span of what a call
+ * shows is used no longer than that call's text says. */
+#ifndef DASD_HPP
+#define DASD_HPP
+
+#include "dasd.h"
+
+#include <array>
+#include <cstddef>
+#include <cstdint>
+#include <exception>
+#include <initializer_list>
+#include <memory>
+#include <optional>
+#include <type_traits>
+#include <utility>
+
+#if __cplusplus >= 202002L && defined(__has_include)
+#if __has_include(<span>)
+#include <span>
+#endif
+#endif
+
+namespace libdasd {
+
+/* Parts of a program that are compiled for different standards may have both kinds of span: so each has a name of its own. */
+#ifdef __cpp_lib_span
+inline namespace with_std_span {
+
+template <class T> using Span = std::span<T>;
+#else
+inline namespace with_own_span {
+
+namespace detail {
+template <class Container, class T>
+using IfItHas = std::enable_if_t<std::is_convertible_v<std::remove_pointer_t<decltype(std::declval<Container &>().data())> (*)[], T (*)[]> &&
+                                 std::is_convertible_v<decltype(std::declval<Container &>().size()), std::size_t>>;
+}
+
+/* Items that lie in a row, and that another owns. */
+template <class T> class Span {
+  public:
+    constexpr Span() noexcept = default;
+    constexpr Span(T *at, std::size_t count) noexcept : first(at), items(count) {}
+    template <std::size_t N> constexpr Span(T (&array)[N]) noexcept : first(array), items(N) {}
+    template <class Container, class = detail::IfItHas<Container, T>> constexpr Span(Container &held) : first(held.data()), items(held.size()) {}
+    template <class Container, class = detail::IfItHas<const Container, T>>
+    constexpr Span(const Container &held) : first(held.data()), items(held.size()) {}
+
+    constexpr T *data() const noexcept { return first; }
+    constexpr std::size_t size() const noexcept { return items; }
+    constexpr bool empty() const noexcept { return items == 0; }
+    constexpr T *begin() const noexcept { return first; }
+    constexpr T *end() const noexcept { return first + items; }
+    /* The item at a place below size(). */
+    constexpr T &operator[](std::size_t place) const { return first[place]; }
+    /* So many items from a place on, which are all within it. */
+    constexpr Span subspan(std::size_t place, std::size_t count) const { return Span(first + place, count); }
+
+  private:
+    T *first = nullptr;
+    std::size_t items = 0;
+};
+#endif
+
+/* Bytes that are read; and files, whose bytes are. */
+using Bytes = Span<const std::uint8_t>;
+using Files = Span<const Bytes>;
+
+/* --- Faults --- */
+
+namespace detail {
+
+struct Told {
+    dasd_fault code;
+    const char *name;
+    const char *text;
+};
+
+inline constexpr Told faults[] = {
+    {DASD_NOTHING_HELD, "DASD_NOTHING_HELD", "the handle holds nothing: it was not made, or was freed"},
+    {DASD_IN_USE, "DASD_IN_USE", "the handle holds something already"},
+    {DASD_NO_MEMORY, "DASD_NO_MEMORY", "memory was refused"},
+    {DASD_OUTSIDE_STORAGE, "DASD_OUTSIDE_STORAGE", "a byte lies outside main storage"},
+    {DASD_BAD_SIZE, "DASD_BAD_SIZE", "storage has a multiple of 2,048 bytes, from 4,096 to 16,777,216"},
+    {DASD_BAD_CHANNELS, "DASD_BAD_CHANNELS", "the set is not one of the channels 0 to 6"},
+    {DASD_BAD_KEY, "DASD_BAD_KEY", "a storage key is 0 to 15"},
+    {DASD_BAD_MODEL, "DASD_BAD_MODEL", "a drive's model is 2311 or 2314"},
+    {DASD_NO_CYLINDERS, "DASD_NO_CYLINDERS", "a volume has 1 to 65,535 cylinders"},
+    {DASD_NO_CHANNEL, "DASD_NO_CHANNEL", "there is no channel of this number"},
+    {DASD_NO_DRIVE, "DASD_NO_DRIVE", "no drive with this address is attached"},
+    {DASD_ADDRESS_TAKEN, "DASD_ADDRESS_TAKEN", "a drive with this address is attached"},
+    {DASD_FULL, "DASD_FULL", "eight drives are attached to this channel"},
+    {DASD_NO_FILES, "DASD_NO_FILES", "an image has at least one file"},
+    {DASD_TOO_MANY_FILES, "DASD_TOO_MANY_FILES", "an image has at most eight files"},
+    {DASD_NO_FILE, "DASD_NO_FILE", "the drive's image has no such file"},
+    {DASD_PROGRAM_RUNS, "DASD_PROGRAM_RUNS", "a channel program runs"},
+    {DASD_ENDING_PENDS, "DASD_ENDING_PENDS", "the channel status word of this drive's program is not yet stored"},
+    {DASD_DEVICE_END_OWED, "DASD_DEVICE_END_OWED", "this drive's arm moves, or has arrived and has not interrupted"},
+    {DASD_NOT_CKD_P370, "DASD_NOT_CKD_P370", "not a CKD_P370 image"},
+    {DASD_COMPRESSED, "DASD_COMPRESSED", "a compressed image, or a shadow file"},
+    {DASD_DEVICE_TYPE, "DASD_DEVICE_TYPE", "neither a 2311 nor a 2314"},
+    {DASD_HEADS, "DASD_HEADS", "the number of heads is not the drive's"},
+    {DASD_TRACK_SIZE, "DASD_TRACK_SIZE", "a track of the drive may not fit the track size"},
+    {DASD_SPLIT, "DASD_SPLIT", "the files are not those of one image, in order"},
+    {DASD_LENGTH, "DASD_LENGTH", "a file's length is not that of an image"},
+    {DASD_STORE, "DASD_STORE", "a file could not be read or written; no file in memory does so"},
+};
+
+constexpr const Told *told_of(std::int32_t code) noexcept {
+    for (const Told &it : faults)
+        if (it.code == code) return &it;
+    return nullptr;
+}
+
+} // namespace detail
+
+/* The name of a number of enum dasd_fault, and the sentence that says what it means; of DASD_DONE, and of a number that is none of them,
+ * that it is no fault. The texts stay. */
+constexpr const char *fault_name(std::int32_t code) noexcept {
+    const detail::Told *told = detail::told_of(code);
+    return told ? told->name : code == DASD_DONE ? "DASD_DONE" : "?";
+}
+constexpr const char *fault_text(std::int32_t code) noexcept {
+    const detail::Told *told = detail::told_of(code);
+    return told ? told->text : code == DASD_DONE ? "it was done" : "no fault of this library";
+}
+
+/* Why a call was refused. Nothing has changed. */
+class Fault : public std::exception {
+  public:
+    explicit Fault(std::int32_t number) noexcept : refused(number) {}
+    /* The number, of enum dasd_fault. */
+    std::int32_t code() const noexcept { return refused; }
+    /* Its name in dasd.h. */
+    const char *name() const noexcept { return fault_name(refused); }
+    /* The sentence that says what it means. */
+    const char *what() const noexcept override { return fault_text(refused); }
+
+  private:
+    std::int32_t refused;
+};
+
+namespace detail {
+
+/* What a call answers, where it was done. */
+inline std::int32_t done(std::int32_t code) {
+    if (code < 0) throw Fault(code);
+    return code;
+}
+
+inline constexpr std::uint8_t nothing = 0;
+
+/* Where bytes lie, for C, whose pointers are not null. */
+constexpr const std::uint8_t *place_of(Bytes bytes) noexcept { return bytes.empty() ? &nothing : bytes.data(); }
+
+/* The pairs of files for C: nine of more than nine, which are refused as nine are. */
+class Pairs {
+  public:
+    explicit Pairs(Files files) noexcept {
+        for (const Bytes &it : files) {
+            if (count == at.size()) break;
+            at[count++] = {place_of(it), it.size()};
+        }
+    }
+    const dasd_bytes *data() const noexcept { return at.data(); }
+    std::size_t size() const noexcept { return count; }
+
+  private:
+    std::array<dasd_bytes, 9> at{};
+    std::size_t count = 0;
+};
+
+} // namespace detail
+
+/* --- What needs no handle --- */
+
+/* The version of the library, as DASD_VERSION_NUMBER; and the number of its binary interface, DASD_INTERFACE where it fits dasd.h. */
+inline std::uint32_t version() noexcept { return dasd_version(); }
+inline std::uint32_t interface_number() noexcept { return dasd_interface(); }
+
+/* The set of the channels 0 to 6, and the set of these. Throws DASD_BAD_CHANNELS where a number is none of them. */
+inline constexpr std::uint8_t all_channels = 0xFE;
+constexpr std::uint8_t channel_set(std::initializer_list<int> numbers) {
+    unsigned set = 0;
+    for (int it : numbers) {
+        if (it < 0 || it > 6) throw Fault(DASD_BAD_CHANNELS);
+        set |= 0x80U >> it;
+    }
+    return static_cast<std::uint8_t>(set);
+}
+
+/* Whether these files, one to eight in their order, are an image: nothing where they are, and else it throws what Subsystem::attach would.
+ * DASD_NO_FILES, DASD_TOO_MANY_FILES, DASD_NO_MEMORY, DASD_NOT_CKD_P370 to DASD_LENGTH. */
+inline void check(Files files) {
+    const detail::Pairs pairs(files);
+    detail::done(dasd_check(pairs.data(), pairs.size()));
+}
+inline void check(std::initializer_list<Bytes> files) { check(Files(files.begin(), files.size())); }
+inline void check(Bytes file) { check({file}); }
+
+/* A file of a volume, to be saved: `changes` is another number after each write to it, also of bytes that stood there already. */
+struct File {
+    Bytes bytes;
+    std::uint64_t changes;
+};
+
+/* --- The subsystem --- */
+
+/* Main storage, and one to seven channels over it, with their drives and the volumes of these. It is moved, and not copied; what a call
+ * has shown stays where it is when it is moved. One that was made without words, was moved from or was freed holds nothing: each call but
+ * free and get then throws DASD_NOTHING_HELD. Of each call the faults are named that it may throw beside this one. */
+class Subsystem {
+  public:
+    /* Nothing. */
+    Subsystem() noexcept = default;
+
+    /* Main storage of so many bytes, all zero and with keys 0, and the channels of this set over it, without drives.
+     * DASD_BAD_CHANNELS, DASD_BAD_SIZE, DASD_NO_MEMORY; std::bad_alloc. */
+    Subsystem(std::uint32_t storage_bytes, std::uint8_t channels) : handle(new dasd DASD_NOTHING) {
+        detail::done(dasd_new(handle.get(), storage_bytes, channels));
+    }
+
+    Subsystem(const Subsystem &) = delete;
+    Subsystem &operator=(const Subsystem &) = delete;
+    Subsystem(Subsystem &&) noexcept = default;
+    /* Frees what it held before. */
+    Subsystem &operator=(Subsystem &&) noexcept = default;
+    /* Frees all that it holds, its volumes too, whether they were saved or not. */
+    ~Subsystem() = default;
+
+    /* Frees all that it holds. It holds nothing then. */
+    void free() noexcept { handle.reset(); }
+
+    /* Whether it holds something. */
+    explicit operator bool() const noexcept { return handle != nullptr; }
+
+    /* The handle, for calls of dasd.h that do not free it; null where it holds nothing. */
+    dasd *get() noexcept { return handle.get(); }
+
+    /* --- Volumes and drives --- */
+
+    /* Attaches a drive under an address, with the volume that these files, one to eight in their order, hold. They are copied. The arm is at
+     * rest at cylinder 0 and head 0, and the sense bytes are zero. Also while a program runs. DASD_NO_CHANNEL, DASD_NO_FILES,
+     * DASD_TOO_MANY_FILES, DASD_NO_MEMORY, DASD_NOT_CKD_P370 to DASD_LENGTH, DASD_ADDRESS_TAKEN, DASD_FULL. */
+    void attach(std::uint16_t address, Files files) {
+        const detail::Pairs pairs(files);
+        detail::done(dasd_attach(held(), address, pairs.data(), pairs.size()));
+    }
+    void attach(std::uint16_t address, std::initializer_list<Bytes> files) { attach(address, Files(files.begin(), files.size())); }
+    void attach(std::uint16_t address, Bytes file) { attach(address, {file}); }
+
+    /* The same with a new volume in one file: so many cylinders of this model, 2311 or 2314, whose tracks have a home address and record 0.
+     * DASD_BAD_MODEL, DASD_NO_CHANNEL, DASD_NO_CYLINDERS, DASD_NO_MEMORY, DASD_ADDRESS_TAKEN, DASD_FULL. */
+    void attach_new(std::uint16_t address, std::uint16_t model, std::uint16_t cylinders) {
+        detail::done(dasd_attach_new(held(), address, model, cylinders));
+    }
+
+    /* Takes a drive off its channel. Its volume is freed, so save it first. The other drives and the channel stay.
+     * DASD_NO_CHANNEL, DASD_NO_DRIVE, DASD_PROGRAM_RUNS, DASD_ENDING_PENDS, DASD_DEVICE_END_OWED. */
+    void detach(std::uint16_t address) { detail::done(dasd_detach(held(), address)); }
+
+    /* A file of a drive's volume, 0 for its first, where no program runs on the drive's channel. Its bytes stand there until the next step,
+     * run_on, hio or reset of that channel, detach or free. DASD_NO_CHANNEL, DASD_PROGRAM_RUNS, DASD_NO_DRIVE, DASD_NO_FILE. */
+    File file(std::uint16_t address, std::uint8_t place = 0) {
+        dasd_file shown{};
+        detail::done(dasd_show_file(held(), address, place, &shown));
+        return {Bytes(shown.at, shown.len), shown.changes};
+    }
+
+    /* What is known of a drive without a channel program. DASD_NO_CHANNEL, DASD_NO_DRIVE. */
+    dasd_drive drive(std::uint16_t address) {
+        dasd_drive shown{};
+        detail::done(dasd_show_drive(held(), address, &shown));
+        return shown;
+    }
+
+    /* --- The processor's instructions: the condition code, 0 to 3, which is 3 where there is no channel of that number --- */
+
+    /* Start I/O: 0, the program that the channel address word at 72 leads to was accepted, and runs by step or run_on; 1, status was stored
+     * at 68; 2, the channel is busy; 3, no drive has this address. */
+    int sio(std::uint16_t address) { return detail::done(dasd_sio(held(), address)); }
+
+    /* Test I/O: 0, the drive is available; 1, a channel status word was stored at 64; 2, the channel is busy; 3, no drive. */
+    int tio(std::uint16_t address) { return detail::done(dasd_tio(held(), address)); }
+
+    /* Halt I/O: 0, a channel status word pends, and stays; 1, nothing ran, and a status of zeros was stored at 68; 2, the program that ran is
+     * cut, and its channel status word pends; 3, no drive. */
+    int hio(std::uint16_t address) { return detail::done(dasd_hio(held(), address)); }
+
+    /* Test Channel, of the channel of an address: 0, it is available; 1, a channel status word pends; 2, a program runs; 3, no channel. */
+    int tch(std::uint16_t address) { return detail::done(dasd_tch(held(), address)); }
+
+    /* --- What happens beside the processor --- */
+
+    /* Lets the program that runs on a channel do units until it ends, but so many at most: how many it did, fewer where it ended, and none
+     * where none runs. DASD_NO_CHANNEL. */
+    std::uint32_t step(std::uint8_t channel, std::uint32_t units) {
+        std::uint32_t did = 0;
+        detail::done(dasd_step(held(), channel, units, &did));
+        return did;
+    }
+
+    /* The same, with what the channel does behind it. DASD_NO_CHANNEL. */
+    dasd_run run_on(std::uint8_t channel, std::uint32_t units) {
+        dasd_run ran{};
+        detail::done(dasd_run_on(held(), channel, units, &ran));
+        return ran;
+    }
+
+    /* The arm of the drive at an address has arrived: whether it moved, so that its device end is to be stored. The caller's clock says
+     * when. False too, where there is no such drive. */
+    bool arrive(std::uint16_t address) { return detail::done(dasd_arrive(held(), address)) == 1; }
+
+    /* Whether interrupt would take an interruption from one of these channels now. */
+    bool is_pending(std::uint8_t channels = all_channels) { return detail::done(dasd_is_pending(held(), channels)) == 1; }
+
+    /* The processor takes an interruption from the channel with the lowest number, of this set, that has one: its address, and its channel
+     * status word is stored at 64; nothing, where there is none. For the set, give the system mask of the program status word. */
+    std::optional<std::uint16_t> interrupt(std::uint8_t channels = all_channels) {
+        std::uint16_t address = 0;
+        if (detail::done(dasd_interrupt(held(), channels, &address)) == 0) return std::nullopt;
+        return address;
+    }
+
+    /* Resets a channel and its drives, and no other channel: a program that runs is cut, what pends is lost, arms are at rest, sense bytes
+     * are zero. A track that the program had written and that could not be saved; no file in memory refuses to be written.
+     * DASD_NO_CHANNEL. */
+    std::optional<dasd_track> reset(std::uint8_t channel) {
+        dasd_track unsaved{};
+        if (detail::done(dasd_reset(held(), channel, &unsaved)) == 0) return std::nullopt;
+        return unsaved;
+    }
+
+    /* What a channel does, and its drives. DASD_NO_CHANNEL. */
+    dasd_state channel(std::uint8_t number) {
+        dasd_state shown{};
+        detail::done(dasd_show_channel(held(), number, &shown));
+        return shown;
+    }
+
+    /* --- Main storage --- */
+
+    /* Main storage itself. Between two calls its bytes are the caller's to read and to write, also while programs run: each change is one
+     * that the processor makes. They stay where they are until it is freed. */
+    Span<std::uint8_t> storage() {
+        dasd_storage shown{};
+        detail::done(dasd_show_storage(held(), &shown));
+        return {shown.at, shown.len};
+    }
+
+    /* Copies as many bytes of storage as there is room for, from an address on, or stores these, all or none. DASD_OUTSIDE_STORAGE. */
+    void peek(std::uint32_t at, Span<std::uint8_t> into) {
+        std::uint8_t none = 0;
+        detail::done(dasd_peek(held(), at, into.empty() ? &none : into.data(), into.size()));
+    }
+    void poke(std::uint32_t at, Bytes bytes) { detail::done(dasd_poke(held(), at, detail::place_of(bytes), bytes.size())); }
+
+    /* The storage key, 0 to 15, of the block of 2,048 bytes that has this address; and sets it. DASD_OUTSIDE_STORAGE; DASD_BAD_KEY. */
+    std::uint8_t key(std::uint32_t at) { return static_cast<std::uint8_t>(detail::done(dasd_key(held(), at))); }
+    void set_key(std::uint32_t at, std::uint8_t key) { detail::done(dasd_set_key(held(), at, key)); }
+
+  private:
+    struct Freer {
+        void operator()(dasd *held) const noexcept {
+            dasd_free(held);
+            delete held;
+        }
+    };
+
+    dasd *held() const {
+        if (!handle) throw Fault(DASD_NOTHING_HELD);
+        return handle.get();
+    }
+
+    /* Of its own place, so that a move leaves the handle where it is: dasd.h forbids copies of it. */
+    std::unique_ptr<dasd, Freer> handle;
+};
+
+} // namespace with_std_span or with_own_span
+
+} // namespace libdasd
+
+#endif

@@ -1,0 +1,78 @@
+"""A handle of the library, which nothing frees while anything of it is still in use, and which one thread at a time calls."""
+
+from __future__ import annotations
+
+import ctypes
+import threading
+from typing import Tuple
+
+from . import _library
+from ._words import Fault
+
+calls = _library.load()
+
+
+def done(code: int) -> int:
+    """What a call answers, where it was done. A Fault where it was refused."""
+    if code < 0:
+        raise Fault(code)
+    return code
+
+
+class Handle:
+    """What the library holds for a subsystem. It is freed when the last goes that refers to it: the subsystem, until it is closed, and
+    each view of main storage."""
+
+    def __init__(self, storage_bytes: int, channels: int) -> None:
+        self._held = _library.Handle()
+        self._at = ctypes.byref(self._held)
+        self._lock = threading.RLock()
+        self._is_copying = False
+        # another module may be gone before this object, at the end of the interpreter
+        self._free = calls.dasd_free
+        self.call("new", storage_bytes, channels)
+
+    def __del__(self) -> None:
+        if getattr(self, "_free", None) is not None:
+            self._free(self._at)
+
+    def call(self, name: str, *arguments: object) -> int:
+        """Makes a call, alone of all threads; what it answers. A Fault where it is refused. A signal's handler or a finalizer that
+        comes while a file is copied raises a RuntimeError, since what it does may free that file."""
+        with self._lock:
+            if self._is_copying:
+                raise RuntimeError("a call while this thread copies a file of the same subsystem")
+            return done(getattr(calls, "dasd_" + name)(self._at, *arguments))
+
+    def run(self, channel: int, units: int, at_once: int) -> _library.Ran:
+        """So many units, at most so many of them a call: between two of these other threads of Python run, and signals are seen. No
+        other call of this handle comes between."""
+        ran, did = _library.Ran(), 0
+        with self._lock:
+            while True:
+                asked = min(units - did, at_once)
+                self.call("run_on", channel, asked, ctypes.byref(ran))
+                did += ran.units
+                if ran.units < asked or did == units:
+                    break
+        ran.units = did
+        return ran
+
+    def file(self, address: int, place: int) -> Tuple[bytes, int]:
+        """A copy of a file of a volume, and the number of its changes."""
+        shown = _library.File()
+        with self._lock:
+            self.call("show_file", address, place, ctypes.byref(shown))
+            self._is_copying = True
+            try:
+                return ctypes.string_at(shown.at, shown.len), shown.changes
+            finally:
+                self._is_copying = False
+
+    def storage(self) -> memoryview:
+        """Main storage itself, which holds this handle as long as a view of it is there."""
+        place = _library.Storage()
+        self.call("show_storage", ctypes.byref(place))
+        of_all = _library.storage_type(place.len).from_address(place.at)
+        of_all.handle = self
+        return memoryview(of_all).cast("B")

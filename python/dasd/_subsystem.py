@@ -1,0 +1,267 @@
+"""Main storage and channels with drives, as a program in Python has them."""
+
+from __future__ import annotations
+
+import ctypes
+import mmap
+import operator
+from types import TracebackType
+from typing import NoReturn, Optional, Sequence, Tuple, Type, Union
+
+from . import _library
+from ._handle import Handle, calls, done
+from ._words import Arm, AttachedDrive, ChannelState, DriveState, Fault, FaultCode, Run, Subchannel, Track, Version, VolumeFile
+
+#: What a call takes as bytes: all of the object's, whatever its items are. Of other objects with bytes take a memoryview.
+BytesLike = Union[bytes, bytearray, memoryview, mmap.mmap]
+
+#: The channels 0 to 6, as a system mask.
+ALL_CHANNELS = 0xFE
+
+_U8, _U16, _U32 = 0xFF, 0xFFFF, 0xFFFF_FFFF
+# No storage has so many bytes.
+_TOO_MANY = (1 << 24) + 1
+# So many units of a program are some ten milliseconds, for which other threads wait.
+_UNITS_AT_ONCE = 1_000_000
+
+
+def _number(name: str, given: int, most: int) -> int:
+    """A number that the library takes. A ValueError where it is not from 0 to the most."""
+    number = operator.index(given)
+    if not 0 <= number <= most:
+        raise ValueError(f"{name} {number} is not from 0 to {most}")
+    return number
+
+
+def _refusable(given: int, most: int, refused: int) -> int:
+    """A number; in the place of one that C's type can't hold another that the library refuses for the same reason."""
+    number = operator.index(given)
+    return number if 0 <= number <= most else refused
+
+
+def _bytes_of(data: BytesLike) -> bytes:
+    return data if isinstance(data, bytes) else memoryview(data).tobytes()
+
+
+def _pairs(files: Sequence[BytesLike]) -> Tuple[ctypes.Array[_library.Bytes], int]:
+    """The array of pointers and lengths that C takes; it keeps the bytes."""
+    whole = [_bytes_of(it) for it in files]
+    return (_library.Bytes * max(len(whole), 1))(*(_library.Bytes(it, len(it)) for it in whole)), len(whole)
+
+
+def library_version() -> Version:
+    """The version of the library that was loaded."""
+    n: int = calls.dasd_version()
+    return Version(n >> 16, n >> 8 & 255, n & 255)
+
+
+def channel_set(*channels: int) -> int:
+    """The set of these channels, 0 to 6, in the form of a system mask: what is_pending and interrupt take. None are the empty set. A
+    Fault, BAD_CHANNELS, where a number is none of these."""
+    numbers = {operator.index(it) for it in channels}
+    if not numbers <= set(range(7)):
+        raise Fault(FaultCode.BAD_CHANNELS)
+    return sum(0x80 >> it for it in numbers)
+
+
+def check(*files: BytesLike) -> None:
+    """Raises a Fault where these files, in their order, are no image: what attach would find.
+
+    NO_FILES, TOO_MANY_FILES, NO_MEMORY; NOT_CKD_P370, COMPRESSED, DEVICE_TYPE, HEADS, TRACK_SIZE, SPLIT, LENGTH.
+    """
+    done(calls.dasd_check(*_pairs(files)))
+
+
+class Subsystem:
+    """Main storage, and one to seven channels over it, each with up to eight drives and their volumes.
+
+    It is freed by `close`, or by the end of a `with`, or when nothing refers to it; and not before the last view of `storage` is gone.
+    It is not copied or pickled.
+
+    Any thread may call, and may store into `storage`: calls are made one after another, and a store comes before or behind a call. What
+    stores without the interpreter's lock, as `readinto` of a file does, is kept out by the program while it calls.
+
+    A refused call raises a Fault, whose `code` and `name` say why, and has changed nothing; each method names those that it may raise.
+    After `close` every method but `close` raises NOTHING_HELD. A number that no System/360 has in that place is refused for the reason
+    for which any wrong number is; an address, a mask, or a count that is out of range raises a ValueError. None is cut.
+    """
+
+    def __init__(self, storage_bytes: int, *channels: int) -> None:
+        """Main storage of so many zero bytes, with keys 0, and the channels of these numbers, 0 to 6, without drives.
+
+        BAD_CHANNELS; BAD_SIZE, where the bytes are no multiple of 2,048 from 4,096 to 16,777,216; NO_MEMORY.
+        """
+        self._held: Optional[Handle] = None
+        handle = Handle(_refusable(storage_bytes, _U32, 0), channel_set(*channels))
+        self._storage: Optional[memoryview] = handle.storage()
+        self._held = handle
+
+    @property
+    def _handle(self) -> Handle:
+        held = self._held
+        if held is None:
+            raise Fault(FaultCode.NOTHING_HELD)
+        return held
+
+    def _call(self, name: str, *arguments: object) -> int:
+        return self._handle.call(name, *arguments)
+
+    def __enter__(self) -> Subsystem:
+        return self
+
+    def __exit__(self, kind: Optional[Type[BaseException]], raised: Optional[BaseException], trace: Optional[TracebackType]) -> None:
+        self.close()
+
+    def __reduce_ex__(self, protocol: object) -> NoReturn:
+        raise TypeError("a Subsystem is not copied or pickled")
+
+    def close(self) -> None:
+        """Lets go of all of it, unsaved volumes too; a second time does nothing.
+
+        Views of `storage` that are still there stay valid, and the memory is freed with the last of them.
+        """
+        self._storage = None
+        self._held = None
+
+    @property
+    def closed(self) -> bool:
+        """Whether it was closed."""
+        return self._held is None
+
+    @property
+    def storage(self) -> memoryview:
+        """Main storage itself, not a copy, a byte an item: what is stored there between two calls, the processor stores. NOTHING_HELD."""
+        storage = self._storage
+        if storage is None:
+            raise Fault(FaultCode.NOTHING_HELD)
+        return storage[:]
+
+    # Volumes and drives
+
+    def attach(self, address: int, *files: BytesLike) -> None:
+        """Attaches a drive under an address, with the volume that these files, one to eight in their order, hold. They are copied.
+
+        The arm is at rest at cylinder 0 and head 0, and the sense bytes are zero. Also while a program runs. NO_CHANNEL, NO_FILES,
+        TOO_MANY_FILES, NO_MEMORY, what `check` raises, ADDRESS_TAKEN, FULL.
+        """
+        self._call("attach", _number("address", address, _U16), *_pairs(files))
+
+    def attach_new(self, address: int, model: int, cylinders: int) -> None:
+        """The same with a new volume: so many cylinders, 1 to 65,535, of this model, 2311 or 2314, whose tracks are empty.
+
+        BAD_MODEL, NO_CHANNEL, NO_CYLINDERS, NO_MEMORY, ADDRESS_TAKEN, FULL.
+        """
+        self._call("attach_new", _number("address", address, _U16), _refusable(model, _U16, 0), _refusable(cylinders, _U16, 0))
+
+    def detach(self, address: int) -> None:
+        """Takes a drive off its channel, and frees its volume, so save it first.
+
+        NO_CHANNEL, NO_DRIVE, PROGRAM_RUNS, ENDING_PENDS, DEVICE_END_OWED.
+        """
+        self._call("detach", _number("address", address, _U16))
+
+    def file(self, address: int, place: int = 0) -> VolumeFile:
+        """A copy of a file of a drive's volume, 0 for its first, where no program runs on its channel, and the number of its changes.
+
+        NO_CHANNEL, PROGRAM_RUNS, NO_DRIVE, NO_FILE.
+        """
+        return VolumeFile(*self._handle.file(_number("address", address, _U16), _refusable(place, _U8, _U8)))
+
+    def changes(self, address: int, place: int = 0) -> int:
+        """That number alone, without a copy: another after each write to the file. The same Faults as those of `file`."""
+        shown = _library.File()
+        self._call("show_file", _number("address", address, _U16), _refusable(place, _U8, _U8), ctypes.byref(shown))
+        changes: int = shown.changes
+        return changes
+
+    def drive(self, address: int) -> DriveState:
+        """What is known of a drive. NO_CHANNEL, NO_DRIVE."""
+        d = _library.Drive()
+        self._call("show_drive", _number("address", address, _U16), ctypes.byref(d))
+        return DriveState(d.model, d.cylinders, d.cylinder, d.head, Arm(d.arm), bytes(d.sense))
+
+    # The processor's instructions: the condition code, 0 to 3; it is 3 where there is no such channel
+
+    def sio(self, address: int) -> int:
+        """Start I/O: 0, the program that the channel address word at 72 leads to was accepted, and runs by step or run_on; 1, status was
+        stored at 68; 2, the channel is busy; 3, no drive has this address."""
+        return self._call("sio", _number("address", address, _U16))
+
+    def tio(self, address: int) -> int:
+        """Test I/O: 0, the drive is available; 1, a channel status word was stored at 64; 2, the channel is busy; 3, no drive."""
+        return self._call("tio", _number("address", address, _U16))
+
+    def hio(self, address: int) -> int:
+        """Halt I/O: 0, a channel status word pends, and stays; 1, nothing ran, and a status of zeros was stored at 68; 2, the program that
+        ran is cut, and its channel status word pends; 3, no drive."""
+        return self._call("hio", _number("address", address, _U16))
+
+    def tch(self, address: int) -> int:
+        """Test Channel, of the channel of an address: 0, available; 1, a channel status word pends; 2, a program runs; 3, no channel."""
+        return self._call("tch", _number("address", address, _U16))
+
+    # What happens beside the processor
+
+    def step(self, channel: int, units: int) -> int:
+        """Lets the program that runs on a channel do units until it ends, but so many at most, 0 to 4,294,967,295; how many it did.
+
+        A unit is a word that is fetched, an index that passes, a byte that moves, or an end. NO_CHANNEL.
+        """
+        did = ctypes.c_uint32()
+        self._call("step", _refusable(channel, _U8, _U8), _number("units", units, _U32), ctypes.byref(did))
+        return did.value
+
+    def run_on(self, channel: int, units: int) -> Run:
+        """The same, with what the channel does behind them. A long run lets other threads of Python go on. NO_CHANNEL."""
+        ran = self._handle.run(_refusable(channel, _U8, _U8), _number("units", units, _U32), _UNITS_AT_ONCE)
+        return Run(ran.units, Subchannel(ran.subchannel), ran.device, ran.asked == 1)
+
+    def arrive(self, address: int) -> bool:
+        """The arm of a drive has arrived: whether it moved, so that its device end is to be stored. The caller's clock says when."""
+        return self._call("arrive", _number("address", address, _U16)) == 1
+
+    def is_pending(self, mask: int = ALL_CHANNELS) -> bool:
+        """Whether `interrupt` would take an interruption from one of the channels of a system mask now."""
+        return self._call("is_pending", _number("mask", mask, _U8)) == 1
+
+    def interrupt(self, mask: int = ALL_CHANNELS) -> Optional[int]:
+        """Takes an interruption from the channel with the lowest number, of those of a system mask, that has one: its address; its
+        channel status word is stored at 64. None where there is none."""
+        address = ctypes.c_uint16()
+        return address.value if self._call("interrupt", _number("mask", mask, _U8), ctypes.byref(address)) else None
+
+    def reset(self, channel: int) -> Optional[Track]:
+        """Resets a channel and its drives, and no other: a program that runs is cut, what pends is lost, arms are at rest, sense bytes
+        are zero. A track that the program had written and that could not be saved, or None. NO_CHANNEL."""
+        track = _library.Track()
+        is_unsaved = self._call("reset", _refusable(channel, _U8, _U8), ctypes.byref(track))
+        return Track(track.address, track.cylinder, track.head) if is_unsaved else None
+
+    def channel(self, number: int) -> ChannelState:
+        """What a channel does, and its drives. NO_CHANNEL."""
+        s = _library.State()
+        self._call("show_channel", _refusable(number, _U8, _U8), ctypes.byref(s))
+        drives = tuple(AttachedDrive(int(s.units[i]), Arm(s.arms[i])) for i in range(s.drives))
+        return ChannelState(Subchannel(s.subchannel), s.device, s.asked == 1, drives)
+
+    # Main storage, with the bounds looked at
+
+    def peek(self, at: int, count: int) -> bytes:
+        """A copy of so many bytes of storage from an address on. OUTSIDE_STORAGE."""
+        wanted = min(_number("count", count, (1 << 64) - 1), _TOO_MANY)
+        into = ctypes.create_string_buffer(max(wanted, 1))
+        self._call("peek", _refusable(at, _U32, _U32), into, wanted)
+        return into.raw[:wanted]
+
+    def poke(self, at: int, data: BytesLike) -> None:
+        """Stores these bytes from an address on, all or none. OUTSIDE_STORAGE."""
+        held = _bytes_of(data)
+        self._call("poke", _refusable(at, _U32, _U32), held, len(held))
+
+    def key(self, at: int) -> int:
+        """The storage key, 0 to 15, of the block of 2,048 bytes that has this address. OUTSIDE_STORAGE."""
+        return self._call("key", _refusable(at, _U32, _U32))
+
+    def set_key(self, at: int, key: int) -> None:
+        """Sets it. BAD_KEY, OUTSIDE_STORAGE."""
+        self._call("set_key", _refusable(at, _U32, _U32), _refusable(key, _U8, _U8))

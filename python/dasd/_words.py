@@ -1,0 +1,192 @@
+"""What the calls answer, and why they are refused: the numbers, words and records of `dasd.h` in Python's types."""
+
+from __future__ import annotations
+
+import enum
+from typing import NamedTuple, Tuple
+
+
+class FaultCode(enum.IntEnum):
+    """The numbers of `enum dasd_fault`, by their names there without DASD_; fault_text has the sentence of each."""
+
+    NOTHING_HELD = -1
+    IN_USE = -2
+    NO_MEMORY = -3
+    OUTSIDE_STORAGE = -4
+    BAD_SIZE = -5
+    BAD_CHANNELS = -6
+    BAD_KEY = -7
+    BAD_MODEL = -8
+    NO_CYLINDERS = -9
+    NO_CHANNEL = -10
+    NO_DRIVE = -11
+    ADDRESS_TAKEN = -12
+    FULL = -13
+    NO_FILES = -14
+    TOO_MANY_FILES = -15
+    NO_FILE = -16
+    PROGRAM_RUNS = -17
+    ENDING_PENDS = -18
+    DEVICE_END_OWED = -19
+    NOT_CKD_P370 = -32
+    COMPRESSED = -33
+    DEVICE_TYPE = -34
+    HEADS = -35
+    TRACK_SIZE = -36
+    SPLIT = -37
+    LENGTH = -38
+    STORE = -39
+
+
+_TEXTS = {
+    FaultCode.NOTHING_HELD: "the handle holds nothing: it was not made, or was freed",
+    FaultCode.IN_USE: "the handle holds something already",
+    FaultCode.NO_MEMORY: "memory was refused",
+    FaultCode.OUTSIDE_STORAGE: "a byte lies outside main storage",
+    FaultCode.BAD_SIZE: "storage has a multiple of 2,048 bytes, from 4,096 to 16,777,216",
+    FaultCode.BAD_CHANNELS: "the set is not one of the channels 0 to 6",
+    FaultCode.BAD_KEY: "a storage key is 0 to 15",
+    FaultCode.BAD_MODEL: "a drive's model is 2311 or 2314",
+    FaultCode.NO_CYLINDERS: "a volume has 1 to 65,535 cylinders",
+    FaultCode.NO_CHANNEL: "there is no channel of this number",
+    FaultCode.NO_DRIVE: "no drive with this address is attached",
+    FaultCode.ADDRESS_TAKEN: "a drive with this address is attached",
+    FaultCode.FULL: "eight drives are attached to this channel",
+    FaultCode.NO_FILES: "an image has at least one file",
+    FaultCode.TOO_MANY_FILES: "an image has at most eight files",
+    FaultCode.NO_FILE: "the drive's image has no such file",
+    FaultCode.PROGRAM_RUNS: "a channel program runs",
+    FaultCode.ENDING_PENDS: "the channel status word of this drive's program is not yet stored",
+    FaultCode.DEVICE_END_OWED: "this drive's arm moves, or has arrived and has not interrupted",
+    FaultCode.NOT_CKD_P370: "not a CKD_P370 image",
+    FaultCode.COMPRESSED: "a compressed image, or a shadow file",
+    FaultCode.DEVICE_TYPE: "neither a 2311 nor a 2314",
+    FaultCode.HEADS: "the number of heads is not the drive's",
+    FaultCode.TRACK_SIZE: "a track of the drive may not fit the track size",
+    FaultCode.SPLIT: "the files are not those of one image, in order",
+    FaultCode.LENGTH: "a file's length is not that of an image",
+    FaultCode.STORE: "a file could not be read or written; no file in memory does so",
+}
+
+
+def fault_text(code: int) -> str:
+    """What a number of `enum dasd_fault` means, in a sentence; of another number, that it is none of them."""
+    try:
+        return _TEXTS[FaultCode(code)]
+    except ValueError:
+        return f"{code} is no fault of this library"
+
+
+class Fault(Exception):
+    """Why the library refused a call, which has changed nothing.
+
+    `code` is its number, a FaultCode; `name` its name in `dasd.h` without DASD_; `text` the sentence that says what it means.
+    """
+
+    code: int
+    name: str
+    text: str
+
+    def __init__(self, code: int) -> None:
+        super().__init__(code)
+        self.code, self.name, self.text = code, str(code), fault_text(code)
+        if code in _TEXTS:
+            self.code = FaultCode(code)
+            self.name = self.code.name
+
+    def __str__(self) -> str:
+        return f"{self.name}: {self.text}"
+
+
+class Subchannel(enum.IntEnum):
+    """What a channel does: nothing; a program; it ended, and its channel status word is not yet stored."""
+
+    AVAILABLE = 0
+    WORKING = 1
+    ENDED = 2
+
+
+class Arm(enum.IntEnum):
+    """What a drive's arm does between programs: it is at rest; it moves; it has arrived, and its device end is to be stored."""
+
+    AT_REST = 0
+    IN_MOTION = 1
+    ARRIVED = 2
+
+
+class Version(NamedTuple):
+    """The version of the library."""
+
+    major: int
+    minor: int
+    patch: int
+
+
+class Run(NamedTuple):
+    """What came of run_on."""
+
+    #: how many units were done, 0 to as many as were asked for
+    units: int
+    #: what the channel does behind them
+    subchannel: Subchannel
+    #: the low byte of the address whose program runs or has ended; 0 where the channel is available
+    device: int
+    #: whether a word of the program asked for an interruption (PCI) that is not yet taken
+    asked: bool
+
+
+class VolumeFile(NamedTuple):
+    """A file of a drive's volume."""
+
+    #: a copy of all its bytes
+    data: bytes
+    #: another number after each write to the file, also of bytes that stood there already
+    changes: int
+
+
+class DriveState(NamedTuple):
+    """What is known of a drive without a channel program."""
+
+    #: 2311 or 2314
+    model: int
+    #: how many cylinders its volume has, 1 to 65535
+    cylinders: int
+    #: where its arm is or, in motion, goes
+    cylinder: int
+    #: the head that is selected
+    head: int
+    #: what its arm does
+    arm: Arm
+    #: the six sense bytes; they stay
+    sense: bytes
+
+
+class AttachedDrive(NamedTuple):
+    """A drive of a channel."""
+
+    #: the low byte of its address
+    device: int
+    #: what its arm does
+    arm: Arm
+
+
+class ChannelState(NamedTuple):
+    """A channel, as it is shown."""
+
+    #: what it does
+    subchannel: Subchannel
+    #: the low byte of the address whose program runs or has ended; 0 where the channel is available
+    device: int
+    #: whether a word of the program asked for an interruption (PCI) that is not yet taken
+    asked: bool
+    #: its drives, none to eight, in the order of attachment
+    drives: Tuple[AttachedDrive, ...]
+
+
+class Track(NamedTuple):
+    """A track that was written and could not be saved."""
+
+    #: the address of its drive
+    address: int
+    cylinder: int
+    head: int
