@@ -23,7 +23,9 @@ What Hercules' tools can't tell, or tell otherwise, is left out:
 - they know no text in records of variable or undefined length, and none of them reads a data set that is not partitioned and has such
   records or is direct or indexed sequential: these are compared with what was put there alone, by a reading of record formats that shares
   no code with `dasd` (tools/common/record_forms.py);
-- `dasdcat` shows names of members in small letters, which are made large again.
+- `dasdcat` shows names of members in small letters, which are made large again;
+- data sets that share cylinders are runs of tracks to `dasdls` and `dasdseq`, and `dasdseq` ends at a defective track. That is so over the two
+  volumes of tools/gate/real_packs.py, or else it is a difference; what `dasd` takes out is compared with what was put there.
 
 Of a spanned record `dasd` drops the blanks at the end of its last segment alone (docs/DECISIONS.md), and so does that reading."""
 
@@ -36,6 +38,8 @@ from dataclasses import dataclass
 
 from tools.common import hercules_readings as readings
 from tools.common.record_forms import cut, records_of, text_of
+from tools.gate import real_packs as packs
+from tools.gate.real_extracts import raw as cards
 from tools.make import hercules_volumes as volumes
 
 CARD, COLUMNS = 80, 72
@@ -202,6 +206,30 @@ class Extraction:
         self.same("file that was there", taken.read_bytes(), b"mine", "this script")
 
 
+def compare_shared(comparison: readings.Comparison, dasd: str, image: pathlib.Path) -> None:
+    """Two data sets that share cylinders, of which each has some heads."""
+    packs.share(image)
+    listed = {it.name: it.tracks for it in readings.list_by_dasdls(image)[1]}
+    owners = {track: name for name, tracks in (("LEFT", packs.LEFT), ("RIGHT", packs.RIGHT)) for track in tracks}
+    for name, (first, last) in (("LEFT", packs.LEFT_RUN), ("RIGHT", packs.RIGHT_RUN)):
+        tracks = range(first, last + 1)
+        own = cards(*(f"{name} ON {track}" for track in tracks if owners.get(track) == name))
+        comparison.same(f"shared {name}", readings.run(dasd, "extract", image, name).stdout, own, "what was put there")
+        comparison.holds(f"dasdls does not count {name} as one run of tracks", listed[name] == len(tracks))
+        taken = readings.records_by_dasdseq(image, name) or b""
+        run = cards(*(f"{owners[track]} ON {track}" for track in tracks if track in owners))
+        comparison.holds(f"dasdseq does not read {name} as one run of tracks", run.startswith(taken) and not own.startswith(taken))
+
+
+def compare_defective(comparison: readings.Comparison, dasd: str, image: pathlib.Path) -> None:
+    """A data set of three tracks, of which the second is defective."""
+    packs.wear(image)
+    ended = readings.run(dasd, "extract", image, "CARDS")
+    comparison.same("defective CARDS", (ended.returncode, ended.stdout), (1, cards(*packs.CARDS)), "what was put there")
+    taken = readings.records_by_dasdseq(image, "CARDS")
+    comparison.holds("dasdseq does not end at a defective track", taken == cards(packs.CARDS[0]))
+
+
 def main() -> int:
     dasd = readings.program(__doc__)
     comparison = readings.Comparison()
@@ -210,6 +238,8 @@ def main() -> int:
         for plan in volumes.plans():
             plan.make(folder)
             Extraction(comparison, dasd, folder, plan).compare()
+        compare_shared(comparison, dasd, folder / "shared.ckd")
+        compare_defective(comparison, dasd, folder / "defective.ckd")
     return comparison.end()
 
 

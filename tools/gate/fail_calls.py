@@ -3,7 +3,8 @@
     tools/run gate/fail_calls [--built FILE] [--jobs N] [COMMAND..]
 
 A command is run once as it is, and what it printed and left is kept; then once for each of its calls that works with files, and each way in which that call may
-fail, once or from there on (by Debian's `strace --inject`), and once more for each, killed there. Wanted is:
+fail, once or from there on (by Debian's `strace --inject`), and once more for each, killed there; where a command writes files, by each signal that ends
+programs. Wanted is:
 
 - With status 0 the command printed what it prints, and left what it leaves: no failure is told as success, and no byte that the file did not hold is printed.
 - With another status a fault is told on standard error (that of a read, where reads fail from there on), and behind it the host's words for what failed,
@@ -56,6 +57,10 @@ ERRORS = {
     "fchown": ["EPERM"],
     "mkdir": ["EACCES"],
 }
+# The signals by which a command is ended: that of `kill -9`; where it writes files, also those of `kill`, of Ctrl-C, and of a terminal that is gone.
+KILLED = "killed by "
+KILL = ["KILL"]
+SIGNALS = [*KILL, "TERM", "INT", "HUP"]
 CALL = re.compile(r"^(?P<name>\w+)\((?P<words>.*)\)\s+= (?P<answer>-?\d+)")
 PATH = re.compile(r'"((?:[^"\\]|\\.)*)"')
 DRAFT = ".dasd-"
@@ -68,6 +73,11 @@ class Command:
     name: str
     words: list[str]
     given: bytes = b""  # on standard input
+
+    def signals(self) -> list[str]:
+        """The signals by which it is ended at each call."""
+        writes = self.words[0] in ("format", "run") or "--to" in self.words or "--all" in self.words
+        return SIGNALS if writes else KILL
 
 
 def deck_for(unit: str) -> bytes:
@@ -114,9 +124,14 @@ class Failure(NamedTuple):
 
     def words(self) -> list[str]:
         """The words of strace for it."""
+        if self.is_killed():
+            return ["-e", f"inject={self.call}:signal={self.how.removeprefix(KILLED)}:when={self.number}"]
         error, _, on = self.how.partition(" ")
-        way = "signal=KILL" if error == "killed" else f"error={error}"
-        return ["-e", f"inject={self.call}:{way}:when={self.number}{'+' if on else ''}"]
+        return ["-e", f"inject={self.call}:error={error}:when={self.number}{'+' if on else ''}"]
+
+    def is_killed(self) -> bool:
+        """Whether the program is ended there."""
+        return self.how.startswith(KILLED)
 
 
 def fill(folder: Path) -> None:
@@ -171,7 +186,7 @@ def traced(dasd: Path, command: Command) -> tuple[Came, list[str]]:
         return came, Path(trace.name).read_text(encoding="utf-8", errors="replace").splitlines()
 
 
-def failures_of(lines: list[str]) -> list[Failure]:
+def failures_of(lines: list[str], signals: list[str]) -> list[Failure]:
     """Each failure of each call behind those of the loader, whose last one unmaps its list of libraries: the first such call of all."""
     own = 1 + min((at for at, line in enumerate(lines) if line.startswith("munmap(")), default=-1)
     counts: dict[str, int] = {}
@@ -182,7 +197,7 @@ def failures_of(lines: list[str]) -> list[Failure]:
             continue
         number = counts[call["name"]] = counts.get(call["name"], 0) + 1
         if at >= own:
-            found += [Failure(call["name"], number, how) for how in [*ERRORS[call["name"]], "killed"]]
+            found += [Failure(call["name"], number, how) for how in [*ERRORS[call["name"]], *(KILLED + it for it in signals)]]
     return found
 
 
@@ -220,7 +235,7 @@ def untold(failure: Failure, came: Came) -> str | None:
 
 def judge(failure: Failure, came: Came, good: Came, old: dict[str, bytes]) -> str | None:
     """What is wrong with what came of a failure, if anything is."""
-    killed, left = failure.how == "killed", without_first_names(came.files, failure)
+    killed, left = failure.is_killed(), without_first_names(came.files, failure)
     if not killed and came.status == 0:
         if came.printed != good.printed:
             return "it ends as if all were well, and printed something else"
@@ -292,7 +307,7 @@ def try_command(dasd: Path, command: Command, pool: ThreadPoolExecutor) -> tuple
     wrong = [f"{command.name}: {it}" for it in unsynced(lines)]
     if good.status or good.told:
         return 0, [f"{command.name}: status {good.status} where nothing fails: {good.told!r}"]
-    failures = failures_of(lines)
+    failures = failures_of(lines, command.signals())
 
     def tried(failure: Failure) -> str | None:
         came = play(dasd, command, ["-o", "/dev/null", *failure.words()])

@@ -1,13 +1,15 @@
-"""Rows of tools/gate/real_files.py: what is listed and compared of volumes of several cylinders, and a data set of more than three extents."""
+"""Rows of tools/gate/real_files.py: what is listed and compared of volumes of several cylinders, a data set of more than three extents, and what a
+dump of a full volume takes."""
 # pylint: disable=missing-function-docstring  # the name of a row says what it is
 
+import os
 from collections.abc import Iterable
 
-from conformance.suite.volumes import MODELS
+from conformance.suite.volumes import MODELS, Record, Track, Volume, address, new_track
 from tools.common.images import Image, slot_at
 from tools.common.written_labels import DataSet, put_label
 from tools.gate.real_extracts import MODEL
-from tools.gate.scratch_files import Scratch, row, same, volume
+from tools.gate.scratch_files import How, Scratch, row, same, volume
 
 HEADS = MODELS[MODEL].heads
 R0_DATA = 13  # where the data of record 0 begins in a slot: behind the home address and its count area
@@ -76,3 +78,40 @@ def data_set_of_four_extents_has_no_finding(s: Scratch) -> None:
     same((status, told), (0, ""))
     (line,) = [it for it in printed.splitlines() if it.startswith("FOUR")]
     same(line.split()[-3:], ["5", "1", "4"], "tracks, tracks that are used, extents")
+
+
+# Dumps.
+
+# What a dump of a full volume of a 2314 may take of a processor: it takes 0.07 seconds, and took 2.5 before; another machine may be slower.
+MOST_SECONDS = 1.0
+
+
+def filled_track(cylinder: int, head: int) -> Track:
+    """A track with one record that fills most of it."""
+    track = new_track(cylinder, head)
+    track.records.append(Record(address(cylinder, head) + b"\1", b"", bytes(range(256)) * 25))
+    return track
+
+
+def processor_time(s: Scratch, *words: str) -> tuple[int, float]:
+    """The status of a command whose output nobody wants, and the seconds of processor time that it took, with the system's."""
+    with open(os.devnull, "wb") as nowhere:
+        run = s.start(*words, how=How(stdout=nowhere))
+        _, status, use = os.wait4(run.pid, 0)
+    run.returncode = os.waitstatus_to_exitcode(status)
+    assert run.stdin is not None and run.stderr is not None
+    run.stdin.close()
+    run.stderr.close()
+    return run.returncode, use.ru_utime + use.ru_stime
+
+
+@row
+def dump_of_a_full_volume_takes_little_time(s: Scratch) -> None:
+    model = MODELS["2314"]
+    full = Volume.new("2314", 203)
+    for cylinder in range(203):
+        for head in range(model.heads):
+            full.write(cylinder, head, filled_track(cylinder, head))
+    s.put("full.ckd", full.bytes())
+    status, seconds = processor_time(s, "dump", "full.ckd", "0-202", "0-19")
+    same((status, seconds < MOST_SECONDS), (0, True), f"a dump, which took {seconds:.1f} s of processor time")

@@ -210,6 +210,14 @@ def fault_is_an_object_where_objects_are_asked_for(s: Scratch) -> None:
 
 
 @row
+def more_is_told_where_the_word_for_it_stands_first(s: Scratch) -> None:
+    told = fault("read fault\n  none.ckd: No such file or directory")
+    same(s.dasd("list", "none.ckd"), fault("read fault"))
+    same(s.dasd("list", VERBOSE, "none.ckd"), told)
+    same(s.dasd(VERBOSE, "list", "none.ckd"), told)
+
+
+@row
 def waiting_run_has_its_deck_read_to_the_end(s: Scratch) -> None:
     s.put("vol.ckd", volume())
     with waiting_run(s, "90=vol.ckd") as (run, deck):
