@@ -21,8 +21,6 @@ ALL_CHANNELS = 0xFE
 _U8, _U16, _U32 = 0xFF, 0xFFFF, 0xFFFF_FFFF
 # No storage has so many bytes.
 _TOO_MANY = (1 << 24) + 1
-# So many units of a program are some ten milliseconds, for which other threads wait.
-_UNITS_AT_ONCE = 1_000_000
 
 
 def _number(name: str, given: int, most: int) -> int:
@@ -205,16 +203,28 @@ class Subsystem:
     def step(self, channel: int, units: int) -> int:
         """Lets the program that runs on a channel do units until it ends, but so many at most, 0 to 4,294,967,295; how many it did.
 
-        A unit is a word that is fetched, an index that passes, a byte that moves, or an end. NO_CHANNEL.
+        A unit is a word that is fetched, an index that passes, a byte that moves, or an end. A long run lets other threads of Python go
+        on. NO_CHANNEL.
         """
-        did = ctypes.c_uint32()
-        self._call("step", _refusable(channel, _U8, _U8), _number("units", units, _U32), ctypes.byref(did))
-        return did.value
+        handle, number, part = self._handle, _refusable(channel, _U8, _U8), ctypes.c_uint32()
+
+        def some(most: int) -> int:
+            handle.call("step", number, most, ctypes.byref(part))
+            return part.value
+
+        return handle.in_pieces(_number("units", units, _U32), some)
 
     def run_on(self, channel: int, units: int) -> Run:
-        """The same, with what the channel does behind them. A long run lets other threads of Python go on. NO_CHANNEL."""
-        ran = self._handle.run(_refusable(channel, _U8, _U8), _number("units", units, _U32), _UNITS_AT_ONCE)
-        return Run(ran.units, Subchannel(ran.subchannel), ran.device, ran.asked == 1)
+        """The same, with what the channel does behind them. NO_CHANNEL."""
+        handle, number, ran = self._handle, _refusable(channel, _U8, _U8), _library.Ran()
+
+        def some(most: int) -> int:
+            handle.call("run_on", number, most, ctypes.byref(ran))
+            did: int = ran.units
+            return did
+
+        did = handle.in_pieces(_number("units", units, _U32), some)
+        return Run(did, Subchannel(ran.subchannel), ran.device, ran.asked == 1)
 
     def arrive(self, address: int) -> bool:
         """The arm of a drive has arrived: whether it moved, so that its device end is to be stored. The caller's clock says when."""
