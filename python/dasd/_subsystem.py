@@ -79,9 +79,12 @@ class Subsystem:
     Any thread may call, and may store into `storage`: calls are made one after another, and a store comes before or behind a call. What
     stores without the interpreter's lock, as `readinto` of a file does, is kept out by the program while it calls.
 
+    An address is 0 to 65,535, the channel's number in its high byte and the drive's in the low one; `at` is the place of a byte in main
+    storage; a mask is 0 to 255, with 0x80 for channel 0 and 0x02 for channel 6.
+
     A refused call raises a Fault, whose `code` and `name` say why, and has changed nothing; each method names those that it may raise.
-    After `close` every method but `close` raises NOTHING_HELD. A number that no System/360 has in that place is refused for the reason
-    for which any wrong number is; an address, a mask, or a count that is out of range raises a ValueError. None is cut.
+    After `close` every method but `close` raises NOTHING_HELD. A number that C has no place for is refused for the reason for which any
+    wrong number is there; an address, a mask, or a count that is out of range raises a ValueError. None is cut.
     """
 
     def __init__(self, storage_bytes: int, *channels: int) -> None:
@@ -128,7 +131,10 @@ class Subsystem:
 
     @property
     def storage(self) -> memoryview:
-        """Main storage itself, not a copy, a byte an item: what is stored there between two calls, the processor stores. NOTHING_HELD."""
+        """Main storage itself, not a copy, a byte an item: what is stored there between two calls, the processor stores.
+
+        A processor takes it once: it stays where it is. NOTHING_HELD.
+        """
         storage = self._storage
         if storage is None:
             raise Fault(FaultCode.NOTHING_HELD)
