@@ -179,8 +179,10 @@ class Lives(unittest.TestCase):
     def test_no_call_while_a_file_is_copied(self) -> None:
         """What a handler of a signal might do: the file would be freed while it is copied."""
         with made() as disks:
-            with unittest.mock.patch("dasd._handle.ctypes.string_at", lambda at, size: disks.detach(0x190)):
-                self.assertRaises(RuntimeError, disks.file, 0x190)
+            works: Sequence[Call] = (disks.detach, disks.file, disks.changes, disks.drive)
+            for call in works:
+                with unittest.mock.patch("dasd._handle.ctypes.string_at", lambda at, size, call=call: call(0x190)):
+                    self.assertRaises(RuntimeError, disks.file, 0x190)
             self.assertEqual(len(disks.file(0x190).data), 512 + 2 * 20 * 7680)
 
     def test_a_subsystem_in_each_of_two_threads(self) -> None:
@@ -240,6 +242,8 @@ class Lives(unittest.TestCase):
             try:
                 signal.setitimer(signal.ITIMER_REAL, 0.05)
                 self.assertRaises(InterruptedError, disks.run_on, 1, 0xFFFFFFFF)
+                signal.setitimer(signal.ITIMER_REAL, 0.05)
+                self.assertRaises(InterruptedError, disks.step, 1, 0xFFFFFFFF)
             finally:
                 signal.signal(signal.SIGALRM, before)
             self.assertEqual((time.monotonic() - began < 10, disks.tch(0x100), disks.hio(0x190)), (True, 2, 2))

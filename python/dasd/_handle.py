@@ -4,12 +4,15 @@ from __future__ import annotations
 
 import ctypes
 import threading
-from typing import Tuple
+from typing import Callable, Tuple
 
 from . import _library
 from ._words import Fault
 
 calls = _library.load()
+
+# So many units of a program are some ten milliseconds, for which other threads wait.
+UNITS_AT_ONCE = 1_000_000
 
 
 def done(code: int) -> int:
@@ -37,37 +40,39 @@ class Handle:
             self._free(self._at)
 
     def call(self, name: str, *arguments: object) -> int:
-        """Makes a call, alone of all threads; what it answers. A Fault where it is refused. A signal's handler or a finalizer that
-        comes while a file is copied raises a RuntimeError, since what it does may free that file."""
+        """Makes a call, alone of all threads; what it answers. A Fault where it is refused."""
         with self._lock:
-            if self._is_copying:
-                raise RuntimeError("a call while this thread copies a file of the same subsystem")
+            self._refuse_while_copying()
             return done(getattr(calls, "dasd_" + name)(self._at, *arguments))
 
-    def run(self, channel: int, units: int, at_once: int) -> _library.Ran:
-        """So many units, at most so many of them a call: between two of these other threads of Python run, and signals are seen. No
-        other call of this handle comes between."""
-        ran, did = _library.Ran(), 0
+    def in_pieces(self, units: int, some: Callable[[int], int]) -> int:
+        """Has so many units done, or fewer where the program ends, by calls of `some` with a number of them each, which answers how many it
+        did. Between two of these other threads of Python run, and signals are seen, but no other thread's call of this handle comes."""
+        did = 0
         with self._lock:
             while True:
-                asked = min(units - did, at_once)
-                self.call("run_on", channel, asked, ctypes.byref(ran))
-                did += ran.units
-                if ran.units < asked or did == units:
-                    break
-        ran.units = did
-        return ran
+                asked = min(units - did, UNITS_AT_ONCE)
+                part = some(asked)
+                did += part
+                if part < asked or did == units:
+                    return did
 
     def file(self, address: int, place: int) -> Tuple[bytes, int]:
         """A copy of a file of a volume, and the number of its changes."""
         shown = _library.File()
         with self._lock:
-            self.call("show_file", address, place, ctypes.byref(shown))
+            self._refuse_while_copying()
             self._is_copying = True
             try:
+                done(calls.dasd_show_file(self._at, address, place, ctypes.byref(shown)))
                 return ctypes.string_at(shown.at, shown.len), shown.changes
             finally:
                 self._is_copying = False
+
+    def _refuse_while_copying(self) -> None:
+        """Raises a RuntimeError where this very thread copies a file: a signal's handler or a finalizer might else free what is copied."""
+        if self._is_copying:
+            raise RuntimeError("a call of a subsystem while this thread copies a file of it")
 
     def storage(self) -> memoryview:
         """Main storage itself, which holds this handle as long as a view of it is there."""

@@ -21,8 +21,6 @@ ALL_CHANNELS = 0xFE
 _U8, _U16, _U32 = 0xFF, 0xFFFF, 0xFFFF_FFFF
 # No storage has so many bytes.
 _TOO_MANY = (1 << 24) + 1
-# So many units of a program are some ten milliseconds, for which other threads wait.
-_UNITS_AT_ONCE = 1_000_000
 
 
 def _number(name: str, given: int, most: int) -> int:
@@ -81,9 +79,12 @@ class Subsystem:
     Any thread may call, and may store into `storage`: calls are made one after another, and a store comes before or behind a call. What
     stores without the interpreter's lock, as `readinto` of a file does, is kept out by the program while it calls.
 
+    An address is 0 to 65,535, the channel's number in its high byte and the drive's in the low one; `at` is the place of a byte in main
+    storage; a mask is 0 to 255, with 0x80 for channel 0 and 0x02 for channel 6.
+
     A refused call raises a Fault, whose `code` and `name` say why, and has changed nothing; each method names those that it may raise.
-    After `close` every method but `close` raises NOTHING_HELD. A number that no System/360 has in that place is refused for the reason
-    for which any wrong number is; an address, a mask, or a count that is out of range raises a ValueError. None is cut.
+    After `close` every method but `close` raises NOTHING_HELD. A number that C has no place for is refused for the reason for which any
+    wrong number is there; an address, a mask, or a count that is out of range raises a ValueError. None is cut.
     """
 
     def __init__(self, storage_bytes: int, *channels: int) -> None:
@@ -130,7 +131,10 @@ class Subsystem:
 
     @property
     def storage(self) -> memoryview:
-        """Main storage itself, not a copy, a byte an item: what is stored there between two calls, the processor stores. NOTHING_HELD."""
+        """Main storage itself, not a copy, a byte an item: what is stored there between two calls, the processor stores.
+
+        A processor takes it once: it stays where it is. NOTHING_HELD.
+        """
         storage = self._storage
         if storage is None:
             raise Fault(FaultCode.NOTHING_HELD)
@@ -205,16 +209,28 @@ class Subsystem:
     def step(self, channel: int, units: int) -> int:
         """Lets the program that runs on a channel do units until it ends, but so many at most, 0 to 4,294,967,295; how many it did.
 
-        A unit is a word that is fetched, an index that passes, a byte that moves, or an end. NO_CHANNEL.
+        A unit is a word that is fetched, an index that passes, a byte that moves, or an end. A long run lets other threads of Python go
+        on. NO_CHANNEL.
         """
-        did = ctypes.c_uint32()
-        self._call("step", _refusable(channel, _U8, _U8), _number("units", units, _U32), ctypes.byref(did))
-        return did.value
+        handle, number, part = self._handle, _refusable(channel, _U8, _U8), ctypes.c_uint32()
+
+        def some(most: int) -> int:
+            handle.call("step", number, most, ctypes.byref(part))
+            return part.value
+
+        return handle.in_pieces(_number("units", units, _U32), some)
 
     def run_on(self, channel: int, units: int) -> Run:
-        """The same, with what the channel does behind them. A long run lets other threads of Python go on. NO_CHANNEL."""
-        ran = self._handle.run(_refusable(channel, _U8, _U8), _number("units", units, _U32), _UNITS_AT_ONCE)
-        return Run(ran.units, Subchannel(ran.subchannel), ran.device, ran.asked == 1)
+        """The same, with what the channel does behind them. NO_CHANNEL."""
+        handle, number, ran = self._handle, _refusable(channel, _U8, _U8), _library.Ran()
+
+        def some(most: int) -> int:
+            handle.call("run_on", number, most, ctypes.byref(ran))
+            did: int = ran.units
+            return did
+
+        did = handle.in_pieces(_number("units", units, _U32), some)
+        return Run(did, Subchannel(ran.subchannel), ran.device, ran.asked == 1)
 
     def arrive(self, address: int) -> bool:
         """The arm of a drive has arrived: whether it moved, so that its device end is to be stored. The caller's clock says when."""

@@ -188,5 +188,7 @@ class Track(NamedTuple):
 
     #: the address of its drive
     address: int
+    #: its cylinder
     cylinder: int
+    #: its head
     head: int

@@ -1,4 +1,4 @@
-"""Looks at the Python, the shell and the C of this repository with Debian's tools: mypy, pylint, shellcheck, clang-format and clang-tidy.
+"""Looks at the Python, the shell, the C and the C++ of this repository with Debian's tools: mypy, pylint, shellcheck, clang-format, clang-tidy.
 
     tools/run gate/lint [TOOL..]
 
@@ -24,7 +24,8 @@ from pathlib import Path
 from tools import TOP
 
 MOST_LINES, MOST_PARAMETERS = 40, 5
-C_WORDS = ["-std=gnu11", *(f"-I{it}" for it in ("c", "c/tests", "web", "release/tarball/c"))]
+C_WORDS = [f"-I{it}" for it in ("c", "c/tests", "web", "release/tarball/c")]
+STANDARDS = {".c": "-std=gnu11", ".cpp": "-std=gnu++17"}
 AT_ONCE = 2
 
 
@@ -73,7 +74,7 @@ class Files:
         scripts = {it: first_line(it) for it in self.all if "." not in Path(it).name or Path(it).suffix == ".sh"}
         starting = {it: line for it, line in scripts.items() if line.startswith("#!")}
         self.shell = [it for it in scripts if it.endswith(".sh") or starting.get(it, "").rstrip().endswith("sh")]
-        self.c = [it for it in self.all if it.endswith((".c", ".h"))]
+        self.c = [it for it in self.all if it.endswith((".c", ".h", ".cpp", ".hpp"))]
         self.python = [it for it in self.all if it.endswith(".py")] + [it for it in starting if "python" in starting[it]]
         self.trees = TREES
         for it in self.python:
@@ -117,13 +118,15 @@ def by_shellcheck(files: Files) -> list[str]:
 
 
 def by_clang_format(files: Files) -> list[str]:
-    """How C is laid out."""
+    """How C and C++ are laid out."""
     return all_of([partial(ran, ["clang-format", "--dry-run", "-Werror", *files.c])])
 
 
 def by_clang_tidy(files: Files) -> list[str]:
-    """C, file by file."""
-    return all_of([partial(ran, ["clang-tidy", "--quiet", it, "--", *C_WORDS]) for it in files.c if it.endswith(".c")])
+    """C and C++, file by file, and a header of C++ with the file that includes it."""
+    looked = [(it, STANDARDS[Path(it).suffix]) for it in files.c if Path(it).suffix in STANDARDS]
+    words = ["clang-tidy", "--quiet", r"--header-filter=\.hpp$"]
+    return all_of([partial(ran, [*words, it, "--", standard, *C_WORDS]) for it, standard in looked])
 
 
 def by_size(files: Files) -> list[str]:

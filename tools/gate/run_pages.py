@@ -97,7 +97,8 @@ def put_library(folder: Path) -> Path:
     prefix = folder / "prefix"
     for name in ("include", "lib/pkgconfig"):
         (prefix / name).mkdir(parents=True)
-    shutil.copy(TOP / "c/dasd.h", prefix / "include")
+    for header in ("c/dasd.h", "c/dasd.hpp"):
+        shutil.copy(TOP / header, prefix / "include")
     for library in TOP.glob("c/libdasd.[as]*"):
         shutil.copy(library, prefix / "lib")
     if (prefix / "lib/libdasd.so.1").exists() and not (prefix / "lib/libdasd.so").exists():

@@ -43,7 +43,7 @@ macro_rules! faults {
 }
 
 faults! {
-    /// the handle holds nothing
+    /// the handle holds nothing: it was not made, or was freed
     NothingHeld = -1,
     /// the handle holds something already
     InUse = -2,
@@ -53,13 +53,13 @@ faults! {
     OutsideStorage = -4,
     /// storage has a multiple of 2,048 bytes, from 4,096 to 16,777,216
     BadSize = -5,
-    /// the set of channels has none, or one above 6
+    /// the set is not one of the channels 0 to 6
     BadChannels = -6,
     /// a storage key is 0 to 15
     BadKey = -7,
     /// a drive's model is 2311 or 2314
     BadModel = -8,
-    /// a volume has at least one cylinder
+    /// a volume has 1 to 65,535 cylinders
     NoCylinders = -9,
     /// there is no channel of this number
     NoChannel = -10,
@@ -95,8 +95,32 @@ faults! {
     Split = -37,
     /// a file's length is not that of an image
     Length = -38,
-    /// a file could not be read or written
+    /// a file could not be read or written; no file in memory does so
     Store = -39,
 }
 
 impl Error for Fault {}
+
+#[cfg(test)]
+mod tests {
+    use super::Fault;
+    use std::path::Path;
+
+    // A line of `enum dasd_fault`: its number and its text.
+    fn told(line: &str) -> Option<(i32, &str)> {
+        let (number, text) = line.trim().strip_prefix("DASD_")?.split_once(" = ")?.1.split_once("/*")?;
+        Some((number.trim().trim_end_matches(',').parse().ok()?, text.strip_suffix("*/")?.trim()))
+    }
+
+    #[test]
+    fn each_fault_has_the_text_of_the_header() {
+        let header = Path::new(env!("CARGO_MANIFEST_DIR")).join("../../c/dasd.h");
+        let Ok(header) = std::fs::read_to_string(header) else { return }; // a published crate has none
+        let faults: Vec<_> = header.lines().filter_map(told).collect();
+        assert!(faults.len() >= 27);
+        for (code, text) in faults {
+            assert_eq!((Fault::of(code).code(), Fault::of(code).to_string().as_str()), (code, text));
+            assert!(!matches!(Fault::of(code), Fault::Other(_)), "{text}");
+        }
+    }
+}

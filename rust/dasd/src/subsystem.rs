@@ -13,7 +13,8 @@ const CSW: u32 = 64;
 /// one at a time.
 #[derive(Debug)]
 pub struct Subsystem {
-    handle: sys::dasd,
+    // in a place of its own, which a move of this value leaves as it is: dasd.h forbids that the handle is copied
+    handle: Box<sys::dasd>,
 }
 
 // SAFETY: the library proves that what a handle holds may go to another thread; nothing else leads to it.
@@ -97,8 +98,8 @@ impl Subsystem {
     ///
     /// `BadChannels`, `BadSize`, `NoMemory`.
     pub fn new(storage_bytes: u32, channels: ChannelSet) -> Result<Subsystem, Fault> {
-        let mut handle = sys::dasd { stamp: 0, place: std::ptr::null_mut() };
-        done(unsafe { sys::dasd_new(&mut handle, storage_bytes, channels.0) })?;
+        let mut handle = Box::new(sys::dasd { stamp: 0, place: std::ptr::null_mut() });
+        done(unsafe { sys::dasd_new(&mut *handle, storage_bytes, channels.0) })?;
         Ok(Subsystem { handle })
     }
 
@@ -110,7 +111,7 @@ impl Subsystem {
     /// `NoChannel`, what [`check`] answers, `AddressTaken`, `Full`.
     pub fn attach(&mut self, address: Address, files: &[&[u8]]) -> Result<(), Fault> {
         let files = pairs(files);
-        done(unsafe { sys::dasd_attach(&mut self.handle, address.0, files.as_ptr(), files.len()) }).map(drop)
+        done(unsafe { sys::dasd_attach(&mut *self.handle, address.0, files.as_ptr(), files.len()) }).map(drop)
     }
 
     /// Attaches a drive with a new volume of so many cylinders, whose tracks have a home address and record 0.
@@ -123,7 +124,7 @@ impl Subsystem {
             DriveModel::D2311 => 2311,
             DriveModel::D2314 => 2314,
         };
-        done(unsafe { sys::dasd_attach_new(&mut self.handle, address.0, model, cylinders) }).map(drop)
+        done(unsafe { sys::dasd_attach_new(&mut *self.handle, address.0, model, cylinders) }).map(drop)
     }
 
     /// Takes a drive off its channel, and frees its volume, so save it first.
@@ -132,7 +133,7 @@ impl Subsystem {
     ///
     /// `NoChannel`, `NoDrive`, `ProgramRuns`, `EndingPends`, `DeviceEndOwed`.
     pub fn detach(&mut self, address: Address) -> Result<(), Fault> {
-        done(unsafe { sys::dasd_detach(&mut self.handle, address.0) }).map(drop)
+        done(unsafe { sys::dasd_detach(&mut *self.handle, address.0) }).map(drop)
     }
 
     /// A file of a drive's volume, 0 for its first, where no program runs on its channel.
@@ -142,7 +143,7 @@ impl Subsystem {
     /// `NoChannel`, `ProgramRuns`, `NoDrive`, `NoFile`.
     pub fn file(&mut self, address: Address, place: u8) -> Result<File<'_>, Fault> {
         let mut shown = sys::dasd_file { at: std::ptr::null(), len: 0, changes: 0 };
-        done(unsafe { sys::dasd_show_file(&mut self.handle, address.0, place, &mut shown) })?;
+        done(unsafe { sys::dasd_show_file(&mut *self.handle, address.0, place, &mut shown) })?;
         // SAFETY: the bytes stay as they are until the next call, which the borrow forbids.
         let bytes = unsafe { std::slice::from_raw_parts(shown.at, shown.len) };
         Ok(File { bytes, changes: shown.changes })
@@ -155,7 +156,7 @@ impl Subsystem {
     /// `NoChannel`, `NoDrive`.
     pub fn drive(&mut self, address: Address) -> Result<DriveView, Fault> {
         let mut shown = sys::dasd_drive::default();
-        done(unsafe { sys::dasd_show_drive(&mut self.handle, address.0, &mut shown) })?;
+        done(unsafe { sys::dasd_show_drive(&mut *self.handle, address.0, &mut shown) })?;
         Ok(DriveView {
             model: if shown.model == 2311 { DriveModel::D2311 } else { DriveModel::D2314 },
             cylinders: shown.cylinders,
@@ -169,28 +170,28 @@ impl Subsystem {
     /// Start I/O: `Zero`, the program that the channel address word at 72 leads to was accepted, and runs by [`Subsystem::run_on`];
     /// `Stored`, this status was stored at 68; `Two`, the channel is busy; `Three`, no drive has this address.
     pub fn sio(&mut self, address: Address) -> Condition<Status> {
-        let code = unsafe { sys::dasd_sio(&mut self.handle, address.0) };
+        let code = unsafe { sys::dasd_sio(&mut *self.handle, address.0) };
         self.condition(code, |csw| csw.status)
     }
 
     /// Test I/O: `Zero`, the drive is available; `Stored`, this channel status word was stored at 64; `Two`, the channel is busy; `Three`,
     /// no drive has this address.
     pub fn tio(&mut self, address: Address) -> Condition<Csw> {
-        let code = unsafe { sys::dasd_tio(&mut self.handle, address.0) };
+        let code = unsafe { sys::dasd_tio(&mut *self.handle, address.0) };
         self.condition(code, |csw| csw)
     }
 
     /// Halt I/O: `Zero`, a channel status word pends, and stays; `Stored`, nothing ran, and a status of zeros was stored at 68; `Two`, the
     /// program that ran is cut, and its channel status word pends; `Three`, no drive has this address.
     pub fn hio(&mut self, address: Address) -> Condition<Status> {
-        let code = unsafe { sys::dasd_hio(&mut self.handle, address.0) };
+        let code = unsafe { sys::dasd_hio(&mut *self.handle, address.0) };
         self.condition(code, |csw| csw.status)
     }
 
     /// Test Channel, of the channel of an address: `Zero`, it is available; `Stored`, a channel status word pends, and none is stored now;
     /// `Two`, a program runs; `Three`, there is no such channel.
     pub fn tch(&mut self, address: Address) -> Condition<()> {
-        let code = unsafe { sys::dasd_tch(&mut self.handle, address.0) };
+        let code = unsafe { sys::dasd_tch(&mut *self.handle, address.0) };
         self.condition(code, |_| ())
     }
 
@@ -218,7 +219,7 @@ impl Subsystem {
     /// `NoChannel`.
     pub fn step(&mut self, channel: u8, units: u32) -> Result<u32, Fault> {
         let mut did = 0;
-        done(unsafe { sys::dasd_step(&mut self.handle, channel, units, &mut did) })?;
+        done(unsafe { sys::dasd_step(&mut *self.handle, channel, units, &mut did) })?;
         Ok(did)
     }
 
@@ -229,26 +230,26 @@ impl Subsystem {
     /// `NoChannel`.
     pub fn run_on(&mut self, channel: u8, units: u32) -> Result<RunOn, Fault> {
         let mut ran = sys::dasd_run::default();
-        done(unsafe { sys::dasd_run_on(&mut self.handle, channel, units, &mut ran) })?;
+        done(unsafe { sys::dasd_run_on(&mut *self.handle, channel, units, &mut ran) })?;
         Ok(RunOn { units: ran.units, subchannel: subchannel_of(ran.subchannel, ran.device, ran.asked) })
     }
 
     /// The arm of the drive at an address has arrived; whether it moved, so that its device end is to be stored. The caller's clock says
     /// when.
     pub fn arrive(&mut self, address: Address) -> bool {
-        unsafe { sys::dasd_arrive(&mut self.handle, address.0) == 1 }
+        unsafe { sys::dasd_arrive(&mut *self.handle, address.0) == 1 }
     }
 
     /// Whether an interruption would be taken from one of these channels now.
     pub fn is_pending(&mut self, channels: ChannelSet) -> bool {
-        unsafe { sys::dasd_is_pending(&mut self.handle, channels.0) == 1 }
+        unsafe { sys::dasd_is_pending(&mut *self.handle, channels.0) == 1 }
     }
 
     /// Takes an interruption from the first channel, by number, of this set that has one: its address, and the channel status word that is
     /// stored.
     pub fn interrupt(&mut self, channels: ChannelSet) -> Option<(Address, Csw)> {
         let mut address = 0;
-        let taken = unsafe { sys::dasd_interrupt(&mut self.handle, channels.0, &mut address) == 1 };
+        let taken = unsafe { sys::dasd_interrupt(&mut *self.handle, channels.0, &mut address) == 1 };
         taken.then(|| (Address(address), self.csw()))
     }
 
@@ -260,7 +261,7 @@ impl Subsystem {
     /// `NoChannel`.
     pub fn reset(&mut self, channel: u8) -> Result<Option<(Address, u16, u16)>, Fault> {
         let mut track = sys::dasd_track::default();
-        let code = done(unsafe { sys::dasd_reset(&mut self.handle, channel, &mut track) })?;
+        let code = done(unsafe { sys::dasd_reset(&mut *self.handle, channel, &mut track) })?;
         Ok((code == 1).then_some((Address(track.address), track.cylinder, track.head)))
     }
 
@@ -271,7 +272,7 @@ impl Subsystem {
     /// `NoChannel`.
     pub fn channel(&mut self, number: u8) -> Result<View, Fault> {
         let mut shown = sys::dasd_state::default();
-        done(unsafe { sys::dasd_show_channel(&mut self.handle, number, &mut shown) })?;
+        done(unsafe { sys::dasd_show_channel(&mut *self.handle, number, &mut shown) })?;
         let drives = shown.units.iter().zip(shown.arms).take(usize::from(shown.drives));
         Ok(View {
             subchannel: subchannel_of(shown.subchannel, shown.device, shown.asked),
@@ -335,7 +336,7 @@ impl Subsystem {
 
     fn place(&mut self) -> (*mut u8, usize) {
         let mut shown = sys::dasd_storage { at: std::ptr::null_mut(), len: 0 };
-        let code = unsafe { sys::dasd_show_storage(&mut self.handle, &mut shown) };
+        let code = unsafe { sys::dasd_show_storage(&mut *self.handle, &mut shown) };
         assert_eq!(code, sys::DASD_DONE, "a handle that was made holds something");
         (shown.at, shown.len)
     }
@@ -346,7 +347,7 @@ impl Subsystem {
     ///
     /// `OutsideStorage`.
     pub fn peek(&mut self, at: u32, into: &mut [u8]) -> Result<(), Fault> {
-        done(unsafe { sys::dasd_peek(&mut self.handle, at, into.as_mut_ptr(), into.len()) }).map(drop)
+        done(unsafe { sys::dasd_peek(&mut *self.handle, at, into.as_mut_ptr(), into.len()) }).map(drop)
     }
 
     /// Stores bytes from an address on, all or none.
@@ -355,7 +356,7 @@ impl Subsystem {
     ///
     /// `OutsideStorage`.
     pub fn poke(&mut self, at: u32, bytes: &[u8]) -> Result<(), Fault> {
-        done(unsafe { sys::dasd_poke(&mut self.handle, at, bytes.as_ptr(), bytes.len()) }).map(drop)
+        done(unsafe { sys::dasd_poke(&mut *self.handle, at, bytes.as_ptr(), bytes.len()) }).map(drop)
     }
 
     /// The storage key, 0 to 15, of the block of 2,048 bytes that has this address.
@@ -364,7 +365,7 @@ impl Subsystem {
     ///
     /// `OutsideStorage`.
     pub fn key(&mut self, at: u32) -> Result<u8, Fault> {
-        done(unsafe { sys::dasd_key(&mut self.handle, at) }).map(|key| key as u8)
+        done(unsafe { sys::dasd_key(&mut *self.handle, at) }).map(|key| key as u8)
     }
 
     /// Sets it.
@@ -373,13 +374,13 @@ impl Subsystem {
     ///
     /// `BadKey`, `OutsideStorage`.
     pub fn set_key(&mut self, at: u32, key: u8) -> Result<(), Fault> {
-        done(unsafe { sys::dasd_set_key(&mut self.handle, at, key) }).map(drop)
+        done(unsafe { sys::dasd_set_key(&mut *self.handle, at, key) }).map(drop)
     }
 }
 
 impl Drop for Subsystem {
     fn drop(&mut self) {
-        unsafe { sys::dasd_free(&mut self.handle) };
+        unsafe { sys::dasd_free(&mut *self.handle) };
     }
 }
 
