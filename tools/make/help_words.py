@@ -13,6 +13,7 @@ DEFAULT = re.compile(r"\[default: ([^\]]*)\]")
 FILES, FOLDERS, VOLUMES, NOTHING = "files", "folders", "volumes", "nothing"
 KINDS = {
     "PATH": FILES,
+    "WORD": FILES,
     "A": FILES,
     "B": FILES,
     "FILE": FILES,

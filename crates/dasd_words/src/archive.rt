@@ -15,7 +15,7 @@ Numbers are decimal, or hexadecimal behind 0x, as places are printed; records ha
 const STRICT_JSON: &str = "error: --json goes with --strict\n";
 
 /// The name of the words of a dump.
-const DUMP_WORDS: &str = "PATH.. CYLINDER HEAD [RECORD]";
+const DUMP_WORDS: &str = "WORD";
 
 /// All numbers of records, and the last of them.
 const ALL_NUMBERS: &str = "0-255";
@@ -26,6 +26,7 @@ const LAST_RECORD: u16 = 255;
 pub(crate) const CHECK: CommandRow = CommandRow {
     name: "check",
     about: "Prints the tracks of a volume that can't be read",
+    usage: None,
     after_help: "Example: dasd check --strict work.ckd",
     args: &[
         PATHS,
@@ -57,11 +58,12 @@ pub(crate) fn read_check<'a>(
 pub(crate) const DUMP: CommandRow = CommandRow {
     name: "dump",
     about: "Prints the bytes of tracks in hexadecimal and in EBCDIC",
+    usage: Some("dasd dump [OPTIONS] PATH.. CYLINDER HEAD [RECORD]"),
     after_help: "Example: dasd dump work.ckd 0 0-2 1-255",
     args: &[
         ArgRow {
             id: DUMP_WORDS,
-            help: "the files of an image, and numbers or ranges such as 0-2 or 0x14; records by their numbers",
+            help: "the files of an image, and behind them numbers or ranges, such as 0-2 or 0x14; records by their numbers",
             kind: WORDS,
         },
         JSON,
@@ -138,6 +140,7 @@ fn read_hexadecimal(digits: &str) -> Option<u16> {
 pub(crate) const COMPARE: CommandRow = CommandRow {
     name: "compare",
     about: "Prints what differs of two volumes, track by track",
+    usage: None,
     after_help: "Example: dasd compare monday.ckd tuesday.ckd",
     args: &[
         ArgRow {

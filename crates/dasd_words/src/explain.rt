@@ -12,7 +12,7 @@ use std::alloc::Global;
 const NO_NUMBER: &str = "error: no number\n";
 
 const CSW_RULE: &str =
-    "error: csw takes 16 hexadecimal digits, or the 8 of its second half, or the 4 of its status\n";
+    "error: csw takes 16 hexadecimal digits, or the 8 of its second half, or the 4 of its status; explain line takes a line\n";
 
 const SENSE_RULE: &str = "error: sense takes 2 to 12 hexadecimal digits, an even number of them\n";
 
@@ -38,6 +38,7 @@ const MOST_BYTES: usize = 8;
 pub(crate) const COMMAND: CommandRow = CommandRow {
     name: "explain",
     about: "Says in words what status, sense bytes and command words mean",
+    usage: None,
     after_help: NUMBER_TABLE,
     args: &[
         ArgRow {

@@ -8,7 +8,7 @@ use clap::ArgMatches;
 use std::alloc::Global;
 
 /// The name of the words of an extraction.
-const PATHS_AND_NAME: &str = "PATH.. NAME";
+const PATHS_AND_NAME: &str = "WORD";
 
 const NO_NAME: &str =
     "error: no name of a data set behind the paths, as SYS1.MACLIB(OPEN) or PAYROLL\n";
@@ -19,11 +19,14 @@ const ALL_JSON: &str = "error: --json goes with --all\n";
 pub(crate) const COMMAND: CommandRow = CommandRow {
     name: "extract",
     about: "Takes data sets and members of partitioned ones out of a volume",
+    usage: Some(
+        "dasd extract [OPTIONS] PATH.. NAME\n       dasd extract [OPTIONS] --all DIR PATH..",
+    ),
     after_help: "Example: dasd extract pack.ckd 'SYS1.MACLIB(OPEN)' --text --to open.txt",
     args: &[
         ArgRow {
             id: PATHS_AND_NAME,
-            help: "the files of an image, and a data set, as PAYROLL or SYS1.MACLIB(OPEN); with --all no name",
+            help: "the files of an image, and behind them a data set or a member, as PAYROLL or SYS1.MACLIB(OPEN); with --all no name",
             kind: WORDS,
         },
         ArgRow {

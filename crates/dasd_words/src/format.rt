@@ -1,7 +1,7 @@
 //! The words of `dasd format`.
 
 use crate::commands::{NO_PATH, wrong};
-use crate::options::{ArgKind, ArgRow, CommandRow, FILE, Value, WORD};
+use crate::options::{ArgKind, ArgRow, CommandRow, FILE, Value, WORD, not_taken};
 use crate::requests::{NewImage, Request, WordFault};
 use crate::volumes::read_model;
 use ckd_track::DriveModel;
@@ -10,12 +10,15 @@ use clap::builder::ValueParser;
 use std::alloc::Global;
 
 /// The number of cylinders without the word for it.
-const CYLINDERS: u16 = 203;
+const CYLINDERS: &str = "203";
+
+const CYLINDERS_RULE: &str = "a number from 1 to 65535";
 
 /// The command, with its options.
 pub(crate) const COMMAND: CommandRow = CommandRow {
     name: "format",
     about: "Writes a new image",
+    usage: None,
     after_help: "Example: dasd format work.ckd --model 2314 --cylinders 10",
     args: &[
         ArgRow {
@@ -38,8 +41,7 @@ pub(crate) const COMMAND: CommandRow = CommandRow {
             help: "the number of cylinders, 1 to 65535",
             kind: ArgKind::Valued(Value {
                 name: "N",
-                parser: ValueParser::Signed(1, u16::MAX as i64),
-                default: &["203"],
+                default: &[CYLINDERS],
                 ..FILE
             }),
         },
@@ -60,11 +62,19 @@ pub(crate) fn read<'a>(alloc: Global, options: &ArgMatches<'a>) -> Result<Reques
         .get_str("model")
         .and_then(|model| read_model(model))
         .unwrap_or(DriveModel::D2311);
-    let cylinders = options.get_one::<u16>("cylinders").unwrap_or(CYLINDERS);
     Ok(Request::Format(NewImage {
         path,
         model,
-        cylinders,
+        cylinders: read_cylinders(alloc, options)?,
         replaces: !options.get_flag("no-replace"),
     }))
+}
+
+// The number of cylinders.
+fn read_cylinders(alloc: Global, options: &ArgMatches) -> Result<u16, WordFault> {
+    let word = options.get_str("cylinders").unwrap_or(CYLINDERS);
+    match word.parse::<u16>() {
+        Ok(0) | Err(_) => Err(not_taken(alloc, "cylinders", CYLINDERS_RULE, word)),
+        Ok(cylinders) => Ok(cylinders),
+    }
 }

@@ -10,6 +10,7 @@ use std::alloc::Global;
 pub(crate) const COMMAND: CommandRow = CommandRow {
     name: "hash",
     about: "Prints the SHA-256 of what a volume says, without what stands behind end marks",
+    usage: None,
     after_help: "Example: dasd hash pack.ckd",
     args: &[PATHS, JSON],
 };

@@ -1,22 +1,20 @@
 //! The words of `dasd list`.
 
 use crate::archive::read_numbers;
-use crate::commands::wrong;
 use crate::listings::{self, PATHS};
-use crate::options::{ArgKind, ArgRow, CommandRow, FILE, JSON, Value};
+use crate::options::{ArgKind, ArgRow, CommandRow, FILE, JSON, Value, not_taken};
 use crate::requests::{ListedPart, Numbers, Request, WordFault};
 use clap::ArgMatches;
 use std::alloc::Global;
 
-const NO_CYLINDERS: &str = "\
-error: --cylinder wants a number or a range, as 3, 0-2 or 0x14
-Numbers are decimal, or hexadecimal behind 0x, as places are printed.
-";
+const CYLINDERS_RULE: &str =
+    "a number or a range, as 3, 0-2 or 0x14, decimal or hexadecimal behind 0x, as places are printed";
 
 /// The command, with its words.
 pub(crate) const COMMAND: CommandRow = CommandRow {
     name: "list",
     about: "Prints a volume with its tracks and records",
+    usage: None,
     after_help: "Example: dasd list work.ckd",
     args: &[
         PATHS,
@@ -57,6 +55,6 @@ fn read_cylinders(alloc: Global, options: &ArgMatches) -> Result<Option<Numbers>
     };
     match read_numbers(word) {
         Some(numbers) => Ok(Some(numbers)),
-        None => Err(wrong(alloc, NO_CYLINDERS)),
+        None => Err(not_taken(alloc, "cylinder", CYLINDERS_RULE, word)),
     }
 }

@@ -1,5 +1,6 @@
 //! The rows that say which options and words a command has, and the command that `clap` reads by them.
 
+use crate::requests::WordFault;
 use clap::builder::ValueParser;
 use clap::{Arg, ArgAction, Command};
 use std::alloc::{AllocError, Global};
@@ -11,6 +12,8 @@ pub(crate) struct CommandRow {
     pub(crate) name: &'static str,
     /// What it does.
     pub(crate) about: &'static str,
+    /// How its words stand, where those that are no options are of several kinds.
+    pub(crate) usage: Option<&'static str>,
     /// What its help ends with.
     pub(crate) after_help: &'static str,
     /// Its options and words but `--verbose`, in the order of its help.
@@ -82,9 +85,13 @@ pub(crate) const VERBOSE: ArgRow = ArgRow {
 
 /// The command of a row.
 pub(crate) fn command<'a>(alloc: Global, row: &CommandRow) -> Result<Command<'a>, AllocError> {
-    let mut command = Command::new(alloc, row.name)
+    let command = Command::new(alloc, row.name)
         .about(row.about)
         .after_help(row.after_help);
+    let mut command = match row.usage {
+        Some(usage) => command.override_usage(usage),
+        None => command,
+    };
     for arg_row in row.args {
         command = with_arg(alloc, command, arg_row)?;
     }
@@ -130,4 +137,12 @@ fn words<'a>(arg: Arg<'a>, parser: ValueParser<'a>, least: usize, most: usize) -
         .action(action)
         .num_args(least..=most)
         .value_parser(parser)
+}
+
+/// A word behind an option that is none of what it takes, and the text that says so, with a rule of what that is.
+pub(crate) fn not_taken(alloc: Global, id: &str, rule: &str, word: &str) -> WordFault {
+    match format!(in alloc; "error: --{id} takes {rule}, and not {word}\n") {
+        Ok(text) => WordFault::Usage(text),
+        Err(_) => WordFault::OutOfMemory,
+    }
 }

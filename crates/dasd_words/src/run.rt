@@ -1,7 +1,7 @@
 //! The words of `dasd run`.
 
 use crate::decks::DECK_TABLE;
-use crate::options::{ArgKind, ArgRow, CommandRow, FILE, Value, WORDS};
+use crate::options::{ArgKind, ArgRow, CommandRow, FILE, Value, WORDS, not_taken};
 use crate::requests::{AskedTrace, DeckRun, Request, TraceTarget, WordFault};
 use crate::volumes::{Volume, add_volume, read_volume};
 use clap::ArgMatches;
@@ -9,17 +9,24 @@ use clap::builder::ValueParser;
 use std::alloc::Global;
 
 /// What an option is without its word.
-const STORAGE: u32 = 65_536;
+const STORAGE: &str = "65536";
 
-const CHANNEL: u8 = 1;
+const CHANNEL: &str = "1";
+
+const STORAGE_RULE: &str = "a number of bytes from 4096 to 16777216, a multiple of 2048";
+
+const CHANNEL_RULE: &str = "a number from 0 to 6";
+
+const LAST_RULE: &str = "a number of lines from 1 to 100000";
 
 /// The most lines of a trace of which only the last are written.
-const MOST_LINES: i64 = 100_000;
+const MOST_LINES: u32 = 100_000;
 
 /// The command, with its options.
 pub(crate) const COMMAND: CommandRow = CommandRow {
     name: "run",
     about: "Runs a deck of channel instructions, and replaces the images that it changed",
+    usage: None,
     after_help: DECK_TABLE,
     args: &[
         ArgRow {
@@ -27,8 +34,7 @@ pub(crate) const COMMAND: CommandRow = CommandRow {
             help: "the size of main storage in bytes: 4096 to 16777216, a multiple of 2048",
             kind: ArgKind::Valued(Value {
                 name: "N",
-                parser: ValueParser::Signed(0, u32::MAX as i64),
-                default: &["65536"],
+                default: &[STORAGE],
                 ..FILE
             }),
         },
@@ -37,8 +43,7 @@ pub(crate) const COMMAND: CommandRow = CommandRow {
             help: "the number of the channel, 0 to 6",
             kind: ArgKind::Valued(Value {
                 name: "N",
-                parser: ValueParser::Signed(0, u8::MAX as i64),
-                default: &["1"],
+                default: &[CHANNEL],
                 ..FILE
             }),
         },
@@ -72,11 +77,7 @@ pub(crate) const COMMAND: CommandRow = CommandRow {
         ArgRow {
             id: "trace-last",
             help: "writes the last lines of the trace alone, at most so many",
-            kind: ArgKind::Valued(Value {
-                name: "N",
-                parser: ValueParser::Signed(1, MOST_LINES),
-                ..FILE
-            }),
+            kind: ArgKind::Valued(Value { name: "N", ..FILE }),
         },
         ArgRow {
             id: "trace-answers",
@@ -102,18 +103,50 @@ pub(crate) fn read<'a>(alloc: Global, options: &ArgMatches<'a>) -> Result<Reques
         return Err(WordFault::BadVolume);
     };
     Ok(Request::Run(DeckRun {
-        storage: options.get_one::<u32>("storage").unwrap_or(STORAGE),
-        channel: options.get_one::<u8>("channel").unwrap_or(CHANNEL),
+        storage: read_storage(alloc, options)?,
+        channel: read_channel(alloc, options)?,
         deck: options.get_str("deck"),
-        trace: read_trace(options),
+        trace: read_trace(alloc, options)?,
         volumes: read_volumes(alloc, words)?,
     }))
 }
 
+// The size of main storage, which may be none that there is.
+fn read_storage(alloc: Global, options: &ArgMatches) -> Result<u32, WordFault> {
+    let word = options.get_str("storage").unwrap_or(STORAGE);
+    match word.parse::<u32>() {
+        Ok(size) => Ok(size),
+        Err(_) => Err(not_taken(alloc, "storage", STORAGE_RULE, word)),
+    }
+}
+
+// The number of the channel, which may be none that there is.
+fn read_channel(alloc: Global, options: &ArgMatches) -> Result<u8, WordFault> {
+    let word = options.get_str("channel").unwrap_or(CHANNEL);
+    match word.parse::<u8>() {
+        Ok(number) => Ok(number),
+        Err(_) => Err(not_taken(alloc, "channel", CHANNEL_RULE, word)),
+    }
+}
+
+// How many lines of a trace are written, which are the last ones, if not all.
+fn read_last(alloc: Global, options: &ArgMatches) -> Result<Option<u32>, WordFault> {
+    let Some(word) = options.get_str("trace-last") else {
+        return Ok(None);
+    };
+    match word.parse::<u32>() {
+        Ok(lines) if 1 <= lines && lines <= MOST_LINES => Ok(Some(lines)),
+        _ => Err(not_taken(alloc, "trace-last", LAST_RULE, word)),
+    }
+}
+
 // The trace, if one of its words is there; without a file it goes to standard error.
-fn read_trace<'a>(options: &ArgMatches<'a>) -> Option<AskedTrace<'a>> {
+fn read_trace<'a>(
+    alloc: Global,
+    options: &ArgMatches<'a>,
+) -> Result<Option<AskedTrace<'a>>, WordFault> {
     let failing_only = options.get_str("trace-only").is_some();
-    let last = options.get_one::<u32>("trace-last");
+    let last = read_last(alloc, options)?;
     let with_answers = options.get_flag("trace-answers");
     let is_whole = options.get_flag("trace-whole");
     let target = match options.get_str("trace-to") {
@@ -126,13 +159,13 @@ fn read_trace<'a>(options: &ArgMatches<'a>) -> Option<AskedTrace<'a>> {
         || last.is_some()
         || with_answers
         || is_whole;
-    is_asked.then_some(AskedTrace {
+    Ok(is_asked.then_some(AskedTrace {
         target,
         failing_only,
         last,
         with_answers,
         is_whole,
-    })
+    }))
 }
 
 fn read_volumes<'a>(alloc: Global, words: &[&'a str]) -> Result<Vec<Volume<'a>>, WordFault> {

@@ -10,6 +10,7 @@ use std::alloc::Global;
 pub(crate) const COMMAND: CommandRow = CommandRow {
     name: "vtoc",
     about: "Prints the label of a volume, its data sets, and what is wrong with them",
+    usage: None,
     after_help: "Example: dasd vtoc pack.ckd",
     args: &[PATHS, JSON],
 };
