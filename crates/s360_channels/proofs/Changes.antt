@@ -15,5 +15,5 @@ put_size true c s = (changed_size c s).0
 put_size false c s = refl
 
 -- and all channels fit
-pub still_fit : (b : Bool) (c : Change) (s t : Storage) (cs : List (Option SelectorState)) → t ≡ cond b (changed c s) s → AllFit (length s.bytes) cs → AllFit (length t.bytes) cs
-still_fit b c s t cs is h = subst (λ n. AllFit n cs) (sym (ap (λ (s : Storage). length s.bytes) is ∙ put_size b c s)) h
+pub still_fit : (b : Bool) (c : Change) (s t : Storage) (quiet : Bool) (cs : List (Option SelectorState)) → t ≡ cond b (changed c s) s → AllFit (length s.bytes) quiet cs → AllFit (length t.bytes) quiet cs
+still_fit b c s t quiet cs is h = subst (λ n. AllFit n quiet cs) (sym (ap (λ (s : Storage). length s.bytes) is ∙ put_size b c s)) h

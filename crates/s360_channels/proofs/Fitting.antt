@@ -1,5 +1,5 @@
 -- A channel at the place of its number, and the list of channels behind a call of it.
-use Rattle.std.proofs.Common.{◌≡◌, ◌<◌, ◌≤◌, ◌⊎◌, inl, inr, ℕ, zero, suc, refl, sym, ap, ◌∙◌, subst, arith, true, length, ◌++◌, replicate, ◌/◌, List, [], ◌∷◌, Option, Some, None}
+use Rattle.std.proofs.Common.{◌≡◌, ◌<◌, ◌≤◌, ◌⊎◌, inl, inr, ℕ, zero, suc, refl, sym, ap, ◌∙◌, subst, arith, true, false, Bool, length, ◌++◌, replicate, ◌/◌, List, [], ◌∷◌, Option, Some, None}
 use Rattle.std.proofs.lemmas.Bool.{cases_eq}
 use Rattle.std.proofs.lemmas.List.{get_or_default, get_or_past, get_or-set_other, length-set}
 use Rattle.std.specs.Prelude.{option_map, slice_index_or, slice_set}
@@ -19,7 +19,7 @@ use Rattle.s360_channel.proofs.Selecting.{is_over, still_selector}
 use Rattle.s360_channels.specs.Adding.{AttachesAt, AttachesTo}
 use Rattle.s360_channels.specs.Channels.{ChannelsState, OnChannel, OnFound, channel_at, selector_at}
 use Rattle.s360_channels.specs.Ending.{Ends, Parts, RemovesAt, RemovesFound}
-use Rattle.s360_channels.specs.Inside.{AllFit, Fits, IsFound, IsPlace}
+use Rattle.s360_channels.specs.Inside.{AllFit, Fits, IsFound, IsPlace, PendsNot}
 
 -- Lists of channels.
 
@@ -34,54 +34,67 @@ nobody zero k c e = none_is_some e
 nobody (suc n) zero c e = none_is_some e
 nobody (suc n) (suc k) c e = nobody n k c e
 
-pub none_fit : (size : ℕ) → AllFit size (replicate 7 None)
-none_fit size = record { seven = refl; fit = λ n c e. absurd (nobody 7 n c e) }
+pub none_fit : (size : ℕ) (quiet : Bool) → AllFit size quiet (replicate 7 None)
+none_fit size quiet = record { seven = refl; fit = λ n c e. absurd (nobody 7 n c e) }
 
 -- all fit where what is put at a place does
-pub fit_set : (size : ℕ) (cs : List (Option SelectorState)) (n : ℕ) (x : Option SelectorState) → AllFit size cs → ((c : SelectorState) → x ≡ Some c → Fits n size c) → AllFit size (slice_set cs n x)
-fit_set size cs n x h f = record { seven = length-set cs n x ∙ h.seven; fit = λ k c e. go k c e (cases_eq k n) }
+pub fit_set : (size : ℕ) (was quiet : Bool) (cs : List (Option SelectorState)) (n : ℕ) (x : Option SelectorState) → AllFit size was cs → (quiet ≡ true → was ≡ true)
+    → ((c : SelectorState) → x ≡ Some c → Fits n size quiet c) → AllFit size quiet (slice_set cs n x)
+fit_set size was quiet cs n x h still f = record { seven = length-set cs n x ∙ h.seven; fit = λ k c e. go k c e (cases_eq k n) }
   where
-    go : (k : ℕ) (c : SelectorState) → slice_index_or (slice_set cs n x) k None ≡ Some c → (k ≡ n) ⊎ (k ≡ n → ⊥) → Fits k size c
-    go k c e (inl same) = subst (λ k. Fits k size c) (sym same) (f c (set_at cs n x c (subst (λ k. slice_index_or (slice_set cs n x) k None ≡ Some c) same e)))
-    go k c e (inr other) = h.fit k c (sym (get_or-set_other cs n k x None other) ∙ e)
+    go : (k : ℕ) (c : SelectorState) → slice_index_or (slice_set cs n x) k None ≡ Some c → (k ≡ n) ⊎ (k ≡ n → ⊥) → Fits k size quiet c
+    go k c e (inl same) = subst (λ k. Fits k size quiet c) (sym same) (f c (set_at cs n x c (subst (λ k. slice_index_or (slice_set cs n x) k None ≡ Some c) same e)))
+    go k c e (inr other) =
+        let d = h.fit k c (sym (get_or-set_other cs n k x None other) ∙ e) in
+        record { own_number = d.own_number; as_large = d.as_large; is_selector = d.is_selector; silent = λ q. d.silent (still q) }
+
+-- it is not known of them that nothing pends
+pub loud : {A : Type 0} → false ≡ true → A
+loud e = absurd (cc)
 
 -- The channel with a number.
 
-pub found_at : (number : ℕ) (s : Storage) (a : ℕ) (cs : List (Option SelectorState)) (c : SelectorState) → AllFit (length s.bytes) cs → a ≡ length s.bytes → is_size a ≡ true → length s.keys ≡ a / 2048
+pub found_at : {quiet : Bool} (number : ℕ) (s : Storage) (a : ℕ) (cs : List (Option SelectorState)) (c : SelectorState) → AllFit (length s.bytes) quiet cs → a ≡ length s.bytes → is_size a ≡ true → length s.keys ≡ a / 2048
     → slice_index_or cs number None ≡ Some c → IsFound number c s
-found_at number s a cs c h e z k there =
+found_at {quiet} number s a cs c h e z k there =
     let f = h.fit number c there in
     record { own_number = f.own_number; is_over = is_over c s a f.is_selector e z k (sym f.as_large) }
 
 -- none stands past the seven
-pub none_beyond : (size number : ℕ) (cs : List (Option SelectorState)) → AllFit size cs → 7 ≤ number → slice_index_or cs number None ≡ None
-none_beyond size number cs h few = get_or_past cs number None (subst (λ n. n ≤ number) (sym h.seven) few)
+pub none_beyond : {quiet : Bool} (size number : ℕ) (cs : List (Option SelectorState)) → AllFit size quiet cs → 7 ≤ number → slice_index_or cs number None ≡ None
+none_beyond {quiet} size number cs h few = get_or_past cs number None (subst (λ n. n ≤ number) (sym h.seven) few)
 
 -- A channel that a call has found in the list.
-pub record Here (number place : ℕ) (s : Storage) (cs : List (Option SelectorState)) (c : SelectorState) : Type 0 where
-  pub fit : AllFit (length s.bytes) cs
+pub record Here (number place : ℕ) (s : Storage) (quiet : Bool) (cs : List (Option SelectorState)) (c : SelectorState) : Type 0 where
+  pub fit : AllFit (length s.bytes) quiet cs
   pub same : place ≡ number
   pub is_there : slice_index_or cs number None ≡ Some c
   pub found : IsFound number c s
 
-pub here : {number place : ℕ} {v : ChannelsState} {s : Storage} {cs : List (Option SelectorState)} {c : SelectorState} (r : Option SelectorState)
+pub here : {number place : ℕ} {v : ChannelsState} {s : Storage} {quiet : Bool} {cs : List (Option SelectorState)} {c : SelectorState} (r : Option SelectorState)
     → record { storage = s; channels = cs } ≡ v
-    → IsPlace number place v → AllFit (length s.bytes) cs → slice_index_or cs place r ≡ Some c → Here number place s cs c
-here {number} {place} {v} {s} {cs} {c} r view at fit is =
+    → IsPlace number place v → AllFit (length s.bytes) quiet cs → slice_index_or cs place r ≡ Some c → Here number place s quiet cs c
+here {number} {place} {v} {s} {quiet} {cs} {c} r view at fit is =
     let p = subst (IsPlace number place) (sym view) at in
     let there = subst (λ n. slice_index_or cs n None ≡ Some c) p.same (get_or_default cs place None r (subst (λ n. place < n) (sym fit.seven) p.within) ∙ is) in
     record { fit = fit; same = p.same; is_there = there; found = p.found c there }
 
-module _ {number place : ℕ} {s : Storage} {cs : List (Option SelectorState)} {c : SelectorState} (h : Here number place s cs c) where
+module _ {number place : ℕ} {s : Storage} {was : Bool} {cs : List (Option SelectorState)} {c : SelectorState} (h : Here number place s was cs c) where
   pub has_size : length s.bytes ≡ c.size
   has_size = h.found.is_over.size
 
   -- all fit behind a call of it
-  pub fit_behind : {t : Storage} {c' : SelectorState} → KeepsSelector c c' → KeepsStorage s t → IsChannel (over c' t) → AllFit (length t.bytes) (slice_set cs place (Some c'))
-  fit_behind {t} {c'} same keeps is =
-      subst (λ n. AllFit n (slice_set cs place (Some c'))) (sym keeps.size)
-      (fit_set (length s.bytes) cs place (Some c') h.fit (λ d e. subst (Fits place (length s.bytes)) (inside c' d e)
-      (record { own_number = same.number ∙ (h.found.own_number ∙ sym h.same); as_large = same.size ∙ sym h.found.is_over.size; is_selector = still_selector c c' s t h.found.is_over same.size keeps is })))
+  pub fit_behind : {t : Storage} {c' : SelectorState} {quiet : Bool} → KeepsSelector c c' → KeepsStorage s t → IsChannel (over c' t)
+      → (quiet ≡ true → was ≡ true) → (quiet ≡ true → PendsNot c') → AllFit (length t.bytes) quiet (slice_set cs place (Some c'))
+  fit_behind {t} {c'} {quiet} same keeps is still silent =
+      subst (λ n. AllFit n quiet (slice_set cs place (Some c'))) (sym keeps.size)
+      (fit_set (length s.bytes) was quiet cs place (Some c') h.fit still (λ d e. subst (Fits place (length s.bytes) quiet) (inside c' d e)
+      (record {
+        own_number = same.number ∙ (h.found.own_number ∙ sym h.same);
+        as_large = same.size ∙ sym h.found.is_over.size;
+        is_selector = still_selector c c' s t h.found.is_over same.size keeps is;
+        silent = silent;
+      })))
 
   -- which is what it did to the channels
   pub calls_behind : (How : ChannelState → ChannelState → Type 0) (Missing : Type 0) {v : ChannelsState} {t : Storage} {c' : SelectorState} → record { storage = s; channels = cs } ≡ v
@@ -120,8 +133,8 @@ few : 0 ≤ 8
 few = omega arith
 
 pub new_fits : (number a : ℕ) (s : Storage) (c : SelectorState) → c ≡ record { number = number; size = a; subchannel = Idle; drives = [] } → number < 7 → a ≡ length s.bytes → length s.keys ≡ a / 2048
-    → Fits number (length s.bytes) c
-new_fits number a s c is h e k = subst (Fits number (length s.bytes)) (sym is) (record {
+    → Fits number (length s.bytes) false c
+new_fits number a s c is h e k = subst (Fits number (length s.bytes) false) (sym is) (record {
   own_number = refl;
   as_large = e;
   is_selector = record {
@@ -135,6 +148,7 @@ new_fits number a s c is h e k = subst (Fits number (length s.bytes)) (sym is) (
       };
     };
   };
+  silent = loud;
 })
 
 -- What is so of a channel that is lent is so of the one with its number.

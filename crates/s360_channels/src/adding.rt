@@ -33,6 +33,7 @@ impl<S: ImageStore> Channels<S> {
         let Ok(selector) = Selector::new(number, self.storage.size()) else {
             return Err(AddFault::BadNumber);
         };
+        self.quiet = false;
         self.list[place] = Some(selector);
         Ok(())
     }
@@ -62,6 +63,7 @@ impl<S: ImageStore> Channels<S> {
             return Err((AttachFault::NoChannel, image));
         };
         let Err((fault, image)) = selector.attach(alloc, (address % 256) as u8, image) else {
+            self.quiet = false;
             return Ok(());
         };
         Err((AttachFault::Refused(fault), image))

@@ -8,6 +8,7 @@ ghost use Rattle.s360_events.specs.declared.conditions.Condition.TheVariants.{Th
 ghost use Rattle.s360_channels.specs.Asked.{TestsAt, is_attached};
 ghost use Rattle.s360_channels.specs.Channels.{OnChannel, Quietly, AtMost, channel_at};
 
+use crate::interrupting::still_quiet;
 use ckd_image::ImageStore;
 use s360_channel::Selector;
 use s360_events::{Condition, Status};
@@ -23,6 +24,8 @@ use std::marker::Model;
 pub struct Channels<S: ImageStore> {
     pub(crate) storage: Storage,
     pub(crate) list: [Option<Selector<S>>; 7],
+    // It is known that no interruption pends at any channel: so a poll need not ask each. A call that may bring one takes that back.
+    pub(crate) quiet: bool,
 }
 
 impl<S: ImageStore> Model for Channels<S> {
@@ -34,7 +37,7 @@ impl<S: ImageStore> Model for Channels<S> {
 
     ghost view = { λ c. record { storage = c.storage; channels = c.list } };
 
-    ghost invariant = { λ c. AllFit (length c.storage.bytes) c.list };
+    ghost invariant = { λ c. AllFit (length c.storage.bytes) c.quiet c.list };
 }
 
 impl<S: ImageStore> Channels<S> {
@@ -45,6 +48,7 @@ impl<S: ImageStore> Channels<S> {
         Channels {
             storage,
             list: [None, None, None, None, None, None, None],
+            quiet: true,
         }
     }
 
@@ -58,10 +62,12 @@ impl<S: ImageStore> Channels<S> {
         let Some(place) = self.place((address / 256) as u8) else {
             return Condition::Three;
         };
-        match &mut self.list[place] {
-            Some(selector) => selector.sio(&mut self.storage, address),
-            None => Condition::Three,
-        }
+        let Some(selector) = &mut self.list[place] else {
+            return Condition::Three;
+        };
+        let condition = selector.sio(&mut self.storage, address);
+        self.quiet = still_quiet(self.quiet, selector);
+        condition
     }
 
     /// Test I/O at an input/output address, at the channel of its high byte; 3 where there is none. It makes no call of a store
@@ -74,10 +80,12 @@ impl<S: ImageStore> Channels<S> {
         let Some(place) = self.place((address / 256) as u8) else {
             return Condition::Three;
         };
-        match &mut self.list[place] {
-            Some(selector) => selector.tio(&mut self.storage, address),
-            None => Condition::Three,
-        }
+        let Some(selector) = &mut self.list[place] else {
+            return Condition::Three;
+        };
+        let condition = selector.tio(&mut self.storage, address);
+        self.quiet = still_quiet(self.quiet, selector);
+        condition
     }
 
     /// Halt I/O at an input/output address, at the channel of its high byte; 3 where there is none. It makes at most one call of
@@ -90,10 +98,12 @@ impl<S: ImageStore> Channels<S> {
         let Some(place) = self.place((address / 256) as u8) else {
             return Condition::Three;
         };
-        match &mut self.list[place] {
-            Some(selector) => selector.hio(&mut self.storage, address),
-            None => Condition::Three,
-        }
+        let Some(selector) = &mut self.list[place] else {
+            return Condition::Three;
+        };
+        let condition = selector.hio(&mut self.storage, address);
+        self.quiet = still_quiet(self.quiet, selector);
+        condition
     }
 
     /// Test Channel, at the channel of the high byte of an address; 3 where there is none ('Test Channel').

@@ -50,7 +50,11 @@ impl<S: ImageStore> Channels<S> {
             self.remove(5),
             self.remove(6),
         ];
-        let Channels { storage, list: _ } = self;
+        let Channels {
+            storage,
+            list: _,
+            quiet: _,
+        } = self;
         (storage, channels)
     }
 }

@@ -32,6 +32,7 @@ impl<S: ImageStore> Channels<S> {
             Ok(image) => image,
             Err(fault) => return Err(DetachFault::Refused(fault)),
         };
+        self.quiet = false;
         Ok(taken)
     }
 
@@ -63,6 +64,7 @@ impl<S: ImageStore> Channels<S> {
             Ok(before) => before,
             Err((fault, image)) => return Err((ExchangeFault::Refused(fault), image)),
         };
+        self.quiet = false;
         Ok(before)
     }
 }

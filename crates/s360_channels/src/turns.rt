@@ -7,6 +7,7 @@ ghost use Rattle.s360_channels.specs.Channels.{OnChannel, Quietly, ResetsTo, Run
 ghost use Rattle.s360_channels.specs.Turns.{EachFrom, StepsTo};
 
 use crate::channels::Channels;
+use crate::interrupting::still_quiet;
 use ckd_image::ImageStore;
 use s360_channel::{Reset, RunOn};
 
@@ -17,10 +18,12 @@ impl<S: ImageStore> Channels<S> {
         ensures { OnChannel number (StepsTo units result) (result ≡ None) self.old self.new }
     {
         let place = self.place(number)?;
-        match &mut self.list[place] {
-            Some(selector) => Some(selector.step(&mut self.storage, units)),
-            None => None,
-        }
+        let Some(selector) = &mut self.list[place] else {
+            return None;
+        };
+        let done = selector.step(&mut self.storage, units);
+        self.quiet = still_quiet(self.quiet, selector);
+        Some(done)
     }
 
     /// Lets the program of the channel with this number do units until it ends, so many at most; none where there is no such
@@ -30,10 +33,12 @@ impl<S: ImageStore> Channels<S> {
         ensures { OnChannel number (RunsTo units result) (result ≡ None) self.old self.new }
     {
         let place = self.place(number)?;
-        match &mut self.list[place] {
-            Some(selector) => Some(selector.run_on(&mut self.storage, units)),
-            None => None,
-        }
+        let Some(selector) = &mut self.list[place] else {
+            return None;
+        };
+        let ran = selector.run_on(&mut self.storage, units);
+        self.quiet = still_quiet(self.quiet, selector);
+        Some(ran)
     }
 
     /// The arm of the drive at an input/output address arrives, if it moves. It makes no call of a store.
@@ -47,7 +52,9 @@ impl<S: ImageStore> Channels<S> {
         let Some(selector) = &mut self.list[place] else {
             return false;
         };
-        selector.arrive(address)
+        let arrived = selector.arrive(address);
+        self.quiet = still_quiet(self.quiet, selector);
+        arrived
     }
 
     /// Resets the channel with this number and its drives; none where there is no such channel. It makes at most one call of a
@@ -59,7 +66,9 @@ impl<S: ImageStore> Channels<S> {
         let Some(selector) = &mut self.list[place] else {
             return None;
         };
-        Some(selector.reset())
+        let reset = selector.reset();
+        self.quiet = still_quiet(self.quiet, selector);
+        Some(reset)
     }
 
     /// Lets each channel's program do so many units, in order of the channels' numbers, and answers by number as `step` does:

@@ -1,7 +1,7 @@
-use Rattle.std.proofs.Common.{◌<◌, subst, sym, length}
+use Rattle.std.proofs.Common.{◌<◌, subst, sym, length, false}
 use Rattle.s360_channel.proofs.Places.{inside}
 use Rattle.s360_channels.specs.Inside.{Fits}
-use Rattle.s360_channels.proofs.Fitting.{fit_set, new_fits}
+use Rattle.s360_channels.proofs.Fitting.{fit_set, loud, new_fits}
 use Rattle.s360_channels.proofs.channels.Channels.add.Goals as goal
 
 pub returns-in_default-clause-refused : goal.returns-in_default-clause-refused
@@ -14,6 +14,6 @@ invariant_of-self g c =
     let z = c.size.ensures in
     let small = subst (λ n. n < 7) p.same p.within in
     let fits = new_fits c.args.number c.size.result s c.in-Ok.selector c.in-Ok.ensures.ok small z.size z.keys in
-    fit_set (length s.bytes) c.self.inside.list c.in-Some.place _ c.self.invariant
-    (λ d e. subst (Fits c.in-Some.place (length s.bytes)) (inside c.in-Ok.selector d e)
-    (subst (λ n. Fits n (length s.bytes) c.in-Ok.selector) (sym p.same) fits))
+    fit_set (length s.bytes) _ _ c.self.inside.list c.in-Some.place _ c.self.invariant loud
+    (λ d e. subst (Fits c.in-Some.place (length s.bytes) false) (inside c.in-Ok.selector d e)
+    (subst (λ n. Fits n (length s.bytes) false c.in-Ok.selector) (sym p.same) fits))

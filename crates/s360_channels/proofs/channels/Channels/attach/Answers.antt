@@ -2,7 +2,7 @@ use Rattle.std.proofs.Common.{◌%◌}
 use Rattle.s360_channel.specs.Channel.{attached}
 use Rattle.s360_channels.specs.Adding.{WhyNot}
 use Rattle.s360_channels.specs.declared.faults.AttachFault.TheVariants as fault
-use Rattle.s360_channels.proofs.Fitting.{attached_behind, fit_behind, here, keeps_selector, same_storage, seen_here}
+use Rattle.s360_channels.proofs.Fitting.{loud, attached_behind, fit_behind, here, keeps_selector, same_storage, seen_here}
 use Rattle.s360_channels.proofs.channels.Channels.attach.Goals as goal
 
 pub invariant_of-self-in_default-attach : goal.invariant_of-self-in_default-attach
@@ -12,7 +12,7 @@ invariant_of-self-in_default-attach g c =
     let k = h.found.is_over.channel in
     let d = c.in_default-attach.ensures in
     fit_behind h (keeps_selector d.attached) (same_storage s)
-    (record { machine = attached (c.args.address % 256) c.args.image k.machine; stands = d.stands s k.machine k.stands })
+    (record { machine = attached (c.args.address % 256) c.args.image k.machine; stands = d.stands s k.machine k.stands }) loud loud
 
 pub returns-in_default-attach-clause-attached : goal.returns-in_default-attach-clause-attached
 returns-in_default-attach-clause-attached g c =

@@ -2,7 +2,7 @@ use Rattle.std.proofs.Common.{◌%◌}
 use Rattle.s360_channel.specs.Packs.{without_device}
 use Rattle.s360_channels.specs.Packs.{RefusedDetach}
 use Rattle.s360_channels.specs.declared.faults.DetachFault.TheVariants as fault
-use Rattle.s360_channels.proofs.Fitting.{calls_behind, fit_behind, here, same_storage, seen_here}
+use Rattle.s360_channels.proofs.Fitting.{loud, calls_behind, fit_behind, here, same_storage, seen_here}
 use Rattle.s360_channels.proofs.channels.Channels.detach.Goals as goal
 
 pub returns-in-Err-clause-refused : goal.returns-in-Err-clause-refused
@@ -18,7 +18,7 @@ invariant_of-self-2 g c =
     let k = h.found.is_over.channel in
     let d = c.in-Ok.ensures in
     fit_behind h d.same (same_storage s)
-    (record { machine = without_device (c.args.address % 256) k.machine; stands = (d.detached s k.machine k.stands).stands })
+    (record { machine = without_device (c.args.address % 256) k.machine; stands = (d.detached s k.machine k.stands).stands }) loud loud
 
 pub returns-clause-detached : goal.returns-clause-detached
 returns-clause-detached g c =

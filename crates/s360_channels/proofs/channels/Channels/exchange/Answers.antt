@@ -2,7 +2,7 @@ use Rattle.std.proofs.Common.{◌%◌}
 use Rattle.s360_channel.specs.Packs.{with_pack}
 use Rattle.s360_channels.specs.Packs.{RefusedExchange}
 use Rattle.s360_channels.specs.declared.faults.ExchangeFault.TheVariants as fault
-use Rattle.s360_channels.proofs.Fitting.{calls_behind, fit_behind, here, same_storage, seen_here}
+use Rattle.s360_channels.proofs.Fitting.{loud, calls_behind, fit_behind, here, same_storage, seen_here}
 use Rattle.s360_channels.proofs.channels.Channels.exchange.Goals as goal
 
 pub returns-in-Err-clause-refused : goal.returns-in-Err-clause-refused
@@ -18,7 +18,7 @@ invariant_of-self-2 g c =
     let k = h.found.is_over.channel in
     let d = c.in-Ok.ensures in
     fit_behind h d.same (same_storage s)
-    (record { machine = with_pack (c.args.address % 256) c.args.image k.machine; stands = (d.exchanged s k.machine k.stands).stands })
+    (record { machine = with_pack (c.args.address % 256) c.args.image k.machine; stands = (d.exchanged s k.machine k.stands).stands }) loud loud
 
 pub returns-clause-exchanged : goal.returns-clause-exchanged
 returns-clause-exchanged g c =

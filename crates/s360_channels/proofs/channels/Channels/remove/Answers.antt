@@ -8,7 +8,7 @@ returns-in_default g c = none_removed c.args.number c.args.self.now (c.place.ens
 
 pub invariant_of-self-2 : goal.invariant_of-self-2
 invariant_of-self-2 g c =
-    fit_set _ c.self.inside.list c.in-Some.place _ c.self.invariant (λ d e. none_is_some (sym c.take.ensures.after ∙ e))
+    fit_set _ _ _ c.self.inside.list c.in-Some.place _ c.self.invariant (λ q. q) (λ d e. none_is_some (sym c.take.ensures.after ∙ e))
 
 pub returns : goal.returns
 returns g c =

@@ -3,4 +3,4 @@ use Rattle.s360_channels.proofs.Changes.{still_fit}
 use Rattle.s360_channels.proofs.channels.Channels.set_key.Goals as goal
 
 pub invariant_of-self : goal.invariant_of-self
-invariant_of-self g c = still_fit c.set_key.result (KeyOf c.args.at c.args.key) _ _ _ c.set_key.ensures.change c.self.invariant
+invariant_of-self g c = still_fit c.set_key.result (KeyOf c.args.at c.args.key) _ _ _ _ c.set_key.ensures.change c.self.invariant
