@@ -62,6 +62,7 @@ impl<R: Read> Read for Counted<R> {
         ensures bound { ReadsAtMost result into.new }
         ensures bytes { ReadConsumes (R.remaining self.old.inner) (R.remaining self.new.inner) result into.new }
         ensures passed { PassesTaken self.old.passed.bytes self.new.passed.bytes result into.new }
+        ensures flushed { self.new.flushed.bytes ≡ self.old.flushed.bytes }
         ensures counted { CountsCall self.old.failures self.new.failures result }
     {
         let read = self.inner.read(into);

@@ -2,7 +2,7 @@
 
 ghost use Rattle.std.specs.Prelude.{◌≡◌, ◌≢◌, ◌+◌, ◌<◌, ◌≤◌, true, false, nat_lt, length, replicate, slice_range, is_ok, IsOk, IfOk};
 ghost use Rattle.ckd_image.specs.Store.{overwritten};
-ghost use Rattle.dasd_files.specs.Files.{file_of, has_room_in, Writes};
+ghost use Rattle.dasd_files.specs.Files.{file_of, has_room_in, next_number, Writes};
 
 use ckd_image::{ImageStore, StoreFault};
 use ghost_data::{Count, Trace};
@@ -89,8 +89,8 @@ impl VolumeFile {
         self.held.as_ptr()
     }
 
-    /// A number: 0 before the first write that changes a byte, and another after each. Where all writes are counted it is another
-    /// after each of them.
+    /// A number: 0 before the first write that changes a byte, and the next one after each, so none that was seen comes back. Where all
+    /// writes are counted it moves on with each of them.
     pub fn changes(&self) -> u64
         ensures { result ≡ self.now.changes }
     {
@@ -158,6 +158,7 @@ impl ImageStore for VolumeFile {
 fn another(number: u64) -> u64
     ensures other { result ≢ number }
     ensures not_zero { 0 < result }
+    ensures next { result ≡ next_number number }
 {
     if number == u64::MAX { 1 } else { number + 1 }
 }
