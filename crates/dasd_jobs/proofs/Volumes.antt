@@ -1,13 +1,15 @@
 -- Volumes in files that were opened.
-use Rattle.std.proofs.Common.{◌≡◌, ◌∙◌, ℕ, zero, suc, ◌+◌, ◌-◌, ◌*◌, ◌/◌, ◌<◌, ◌≤◌, ◌^◌, List, [], ◌∷◌, ◌++◌, length, take, drop, map, replicate, get_or, set, slice_range, Option, Some, None, IsSome, Ok, option_map, refl, sym, ap, subst, arith, length-append, add-one, append_assoc, append-nil}
+use Rattle.std.proofs.Common.{◌≡◌, ◌∙◌, ℕ, zero, suc, ◌+◌, ◌-◌, ◌*◌, ◌/◌, ◌<◌, ◌≤◌, ◌^◌, List, [], ◌∷◌, ◌++◌, length, take, drop, map, replicate, get_or, set, slice_range, nat_lt, true, Option, Some, None, IsSome, Result, Ok, Err, option_map, ◌⊎◌, inl, inr, refl, sym, ap, subst, arith, length-append, add-one, append_assoc, append-nil}
 use Rattle.std.specs.List.{AllZip, AllByRecursion}
+use Rattle.std.proofs.lemmas.Bool.{cases_lt, lt-ltb}
 use Rattle.std.proofs.lemmas.List.{take_at, take_all, take_more, length-take-le, length-replicate, length-set, map-append, map-set, set-get_or, get_or-map}
 use Rattle.std.proofs.Math.Seq.{take-append-add}
 use Rattle.std.proofs.Math.Nat.{mul-div_cancel}
 use Rattle.ckd_track.specs.declared.geometries.Geometry.{Geometry}
 use Rattle.ckd_track.specs.Geometry.{tracks_of}
 use Rattle.ckd_image.specs.Header as mounting
-use Rattle.ckd_image.specs.Header.{head_of, accepted, mount_of}
+use Rattle.ckd_image.specs.Header.{head_of, header_of, headers_of, then_with, volume_of, mount_of}
+use Rattle.ckd_image.specs.declared.fault.MountFault.{MountFault}
 use Rattle.ckd_image.specs.Slots.{slots_in}
 use Rattle.ckd_image.specs.Files.{each, held, file_at, place_in, slot_bytes, HoldTracks, HoldsWhole}
 use Rattle.ckd_image.proofs.MountLemmas.{mount_fits}
@@ -16,7 +18,7 @@ use Rattle.ckd_image.proofs.Writes.{range_is}
 use Rattle.ckd_image.proofs.ImageLemmas.{tracks_held, slot_is, slots_of}
 use Rattle.dasd_volumes.specs.Reading.{IsSlotOf}
 use Rattle.dasd_jobs.specs.declared.reasons.Head.{Head}
-use Rattle.dasd_jobs.specs.Sources.{Content, SourceFile, IsLength, StandsIn, IsWhole, OpensPaths, Mounts, sources, known, volume_in}
+use Rattle.dasd_jobs.specs.Sources.{Content, SourceFile, IsLength, StandsIn, IsWhole, OpensPaths, Mounts, NotMounted, sources, known, volume_in}
 use Rattle.dasd_jobs.specs.Opening.{IsHeadOf, AreTracks, AddsFile, Lies, alone}
 
 -- Lists.
@@ -84,14 +86,35 @@ same_head file head is enough =
 len_whole : (size : ℕ) (head : Head) (w : HoldsWhole size (alone head)) → head.len ≡ 512 + w.tracks * size
 len_whole size head w = sym (length_alone head) ∙ w.is_length
 
-heads_same : (size : ℕ) (files : List (List ℕ)) (heads : List Head) → AllZip IsHeadOf (map Some files) heads → AllByRecursion (HoldsWhole size) (map alone heads) → map head_of files ≡ map head_of (map alone heads)
-heads_same size [] [] are whole = refl
-heads_same size [] (head ∷ heads) are whole = absurd are
-heads_same size (file ∷ files) [] are whole = absurd are
-heads_same size (file ∷ files) (head ∷ heads) are whole =
-    let len = len_whole size head whole.0 in
-    ap (λ (h : mounting.Head). h ∷ map head_of files) (same_head file head are.0 (omega (arith, len)))
-    ∙ ap (λ (hs : List mounting.Head). head_of (alone head) ∷ hs) (heads_same size files heads are.1 whole.1)
+-- so it breaks the same rule on one file, or none; of one that is too short the header is not looked at
+same_header : (file : List ℕ) (head : Head) → IsHeadOf (Some file) head → header_of (head_of file) ≡ header_of (head_of (alone head))
+same_header file head is = by (cases_lt (length file) 512)
+  where
+    by : (length file < 512) ⊎ (512 ≤ length file) → header_of (head_of file) ≡ header_of (head_of (alone head))
+    by (inl short) =
+        let long = (is file refl).0 in
+        let all = length_alone head in
+        let one : nat_lt (length file) 512 ≡ true = lt-ltb (length file) 512 short in
+        let other : nat_lt (length (alone head)) 512 ≡ true = lt-ltb (length (alone head)) 512 (omega (arith, long, all, short)) in
+        rw (one, other) refl
+    by (inr enough) = let long = (is file refl).0 in ap header_of (same_head file head is (omega (arith, long, enough)))
+
+then_same : {A B : Type 0} (r : Result A MountFault) (f g : A → Result B MountFault) → ((a : A) → f a ≡ g a) → then_with r f ≡ then_with r g
+then_same (Ok a) f g same = same a
+then_same (Err fault) f g same = refl
+
+headers_same : (read : List _) (files : List (List ℕ)) (heads : List Head) → AllZip IsHeadOf (map Some files) heads → headers_of read (map head_of files) ≡ headers_of read (map head_of (map alone heads))
+headers_same read [] [] are = refl
+headers_same read [] (head ∷ heads) are = absurd are
+headers_same read (file ∷ files) [] are = absurd are
+headers_same read (file ∷ files) (head ∷ heads) are =
+    ap (λ r. then_with r (λ h. headers_of (read ++ h ∷ []) (map head_of files))) (same_header file head are.0)
+    ∙ then_same (header_of (head_of (alone head))) (λ h. headers_of (read ++ h ∷ []) (map head_of files)) (λ h. headers_of (read ++ h ∷ []) (map head_of (map alone heads)))
+    (λ h. headers_same (read ++ h ∷ []) files heads are.1)
+
+-- files are mounted as their headers are
+pub mount_same : (files : List (List ℕ)) (heads : List Head) → AllZip IsHeadOf (map Some files) heads → mount_of files ≡ mount_of (map alone heads)
+mount_same files heads are = ap (λ r. then_with r volume_of) (headers_same [] files heads are)
 
 -- the tracks that were counted of one file
 one_held : (size : ℕ) (file : List ℕ) (head : Head) (n : ℕ) → IsHeadOf (Some file) head → AreTracks size head n → HoldsWhole size (alone head) → length file ≡ 512 + n * size
@@ -111,9 +134,14 @@ hold size (file ∷ files) (head ∷ heads) (n ∷ tracks) are counts whole =
 pub mounted_files : (g : Geometry) (contents : List Content) (heads : List Head) → AllZip IsHeadOf contents heads → mount_of (map alone heads) ≡ Ok g → Mounts contents g
 mounted_files g contents heads are mounts files is =
     let those = subst (λ (l : List Content). AllZip IsHeadOf l heads) (all_known contents files is) are in
-    ap accepted (heads_same g.track_size files heads those (mount_fits (map alone heads) g mounts).whole) ∙ mounts
+    mount_same files heads those ∙ mounts
 
--- and as many tracks as were counted
+-- and those whose headers are not are no image
+pub broken_files : (broken : MountFault) (contents : List Content) (heads : List Head) → AllZip IsHeadOf contents heads → mount_of (map alone heads) ≡ Err broken → NotMounted contents broken
+broken_files broken contents heads are breaks files is =
+    mount_same files heads (subst (λ (l : List Content). AllZip IsHeadOf l heads) (all_known contents files is) are) ∙ breaks
+
+-- a volume has as many tracks as were counted
 pub lies : (g : Geometry) (contents : List Content) (heads : List Head) (tracks : List ℕ) → AllZip IsHeadOf contents heads → AllZip (AreTracks g.track_size) heads tracks → mount_of (map alone heads) ≡ Ok g → Lies g contents tracks
 lies g contents heads tracks are counts mounts files is =
     let those = subst (λ (l : List Content). AllZip IsHeadOf l heads) (all_known contents files is) are in

@@ -1,4 +1,6 @@
 -- Which fault of a job comes of which fault of a file or a volume.
+use Rattle.ckd_image.specs.declared.fault.MountFault.{MountFault}
+use Rattle.ckd_image.specs.declared.fault.MountFault.TheVariants as mount
 use Rattle.dasd_volumes.specs.declared.fault.VolumeFault.{VolumeFault}
 use Rattle.dasd_volumes.specs.declared.fault.VolumeFault.TheVariants as volume
 use Rattle.dasd_jobs.specs.declared.files.FileFault.{FileFault}
@@ -27,3 +29,8 @@ abbrev pub volume_fault : VolumeFault → JobFault
 volume_fault volume.OutOfMemory = job.OutOfMemory
 volume_fault volume.Store = job.Read
 volume_fault volume.Write = job.Write
+
+-- of files that are mounted: where a header can't be read, its file can't be
+abbrev pub mounting_fault : MountFault → JobFault
+mounting_fault mount.StoreFault = job.Read
+mounting_fault broken = job.Mount broken

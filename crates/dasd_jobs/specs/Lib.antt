@@ -3,5 +3,6 @@ pub mod Causes
 pub mod Lines
 pub mod Sources
 pub mod Opening
+pub mod Unopened
 pub mod Written
 pub mod Printed

@@ -1,10 +1,15 @@
 -- How files are opened one after another, and what is known of their headers. No contract above cites this.
-use Rattle.std.specs.Prelude.{◌≡◌, ℕ, ◌+◌, ◌*◌, ◌<◌, ◌≤◌, ◌^◌, List, [], ◌∷◌, ◌++◌, length, take, map, replicate, Some, Ok}
+use Rattle.std.specs.Prelude.{◌≡◌, ℕ, ◌+◌, ◌*◌, ◌<◌, ◌≤◌, ◌^◌, List, [], ◌∷◌, ◌++◌, length, take, map, replicate, Some, Ok, Err}
 use Rattle.ckd_track.specs.declared.geometries.Geometry.{Geometry}
 use Rattle.ckd_image.specs.Header.{mount_of}
 use Rattle.ckd_image.specs.Files.{HoldTracks}
+use Rattle.ckd_image.specs.declared.fault.MountFault.{MountFault}
+use Rattle.ckd_image.specs.declared.fault.MountFault.TheVariants.{Split, StoreFault}
+use Rattle.dasd_jobs.specs.Causes.{mounting_fault}
+use Rattle.dasd_jobs.specs.declared.faults.JobFault.{JobFault}
+use Rattle.dasd_jobs.specs.declared.faults.JobFault.TheVariants.{OutOfMemory, Mount, Read, Write, Store, InUse, Exists}
 use Rattle.dasd_jobs.specs.declared.reasons.Head.{Head}
-use Rattle.dasd_jobs.specs.Sources.{Content, SourceFile, with_source, known}
+use Rattle.dasd_jobs.specs.Sources.{Content, SourceFile, OpensMaybe, with_source, known}
 
 -- this is the header and the length of a file; of one that is shorter than a header only the length
 abbrev pub IsHeadOf : Content → Head → Type 0
@@ -35,3 +40,26 @@ pub record AddsFile (path : List ℕ) (contents_before contents : List Content) 
   pub content : Content
   pub opened : now ≡ with_source before path content
   pub adds : AddsHead content contents_before contents heads_before heads
+
+-- why no file more stands behind others: it is not opened, or its header can't be read, or there is no memory for it
+abbrev pub NotAdded : JobFault → (path : List ℕ) → (before now : List SourceFile) → Type 0
+NotAdded (Mount broken) path before now = ⊥
+NotAdded Write path before now = ⊥
+NotAdded Store path before now = ⊥
+NotAdded InUse path before now = now ≡ before
+NotAdded Exists path before now = now ≡ before
+NotAdded f path before now = OpensMaybe path before now
+
+-- or it was locked before, with others in front of it
+abbrev pub NotLocked : JobFault → (in_front : ℕ) → (path : List ℕ) → (before now : List SourceFile) → Type 0
+NotLocked (Mount broken) in_front path before now = (broken ≡ Split) × (0 < in_front) × (now ≡ before)
+NotLocked f in_front path before now = NotAdded f path before now
+
+-- why these files are not mounted: the first rule that they break, where their headers were read
+abbrev pub IsBroken : MountFault → (files : List (List ℕ)) → Type 0
+IsBroken StoreFault files = Unit {0}
+IsBroken broken files = mount_of files ≡ Err broken
+
+-- and what that is to a job
+abbrev pub IsNoImage : JobFault → (files : List (List ℕ)) → Type 0
+IsNoImage f files = (broken : MountFault) × (f ≡ mounting_fault broken) × IsBroken broken files

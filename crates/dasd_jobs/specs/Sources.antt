@@ -1,10 +1,11 @@
 -- Files that were opened to be read, and the volumes that they hold.
-use Rattle.std.specs.Prelude.{◌≡◌, ℕ, ◌+◌, ◌≤◌, List, [], ◌∷◌, ◌++◌, length, take, slice_range}
+use Rattle.std.specs.Prelude.{◌≡◌, ◌⊎◌, ℕ, ◌+◌, ◌≤◌, List, [], ◌∷◌, ◌++◌, length, take, slice_range}
 use Rattle.std.specs.Prelude.{Option, Some, None, option_map, Result, Ok, Err}
 use Rattle.std.specs.List.{AllZip}
 use Rattle.ckd_track.specs.declared.geometries.Geometry.{Geometry}
 use Rattle.ckd_track.specs.Geometry.{tracks_of}
 use Rattle.ckd_image.specs.Header.{mount_of}
+use Rattle.ckd_image.specs.declared.fault.MountFault.{MountFault}
 use Rattle.ckd_image.specs.Slots.{slots_in}
 use Rattle.ckd_image.specs.Files.{slot_bytes}
 use Rattle.dasd_volumes.specs.Reading.{KnownVolume}
@@ -39,6 +40,10 @@ abbrev pub OpensFile : {A E : Type 0} → Result A E → (content : A → Conten
 OpensFile (Ok file) content path before now = now ≡ with_source before path (content file)
 OpensFile (Err _) content path before now = now ≡ before
 
+-- a file was opened by this path, or none was
+abbrev pub OpensMaybe : (path : List ℕ) → (before now : List SourceFile) → Type 0
+OpensMaybe path before now = (now ≡ before) ⊎ ((content : Content) × (now ≡ with_source before path content))
+
 -- The file at this path was opened, and these are its first bytes: so many of them, or all where it has no more.
 pub record ReadsFront (path : List ℕ) (most : ℕ) (read : List ℕ) (before now : List SourceFile) : Type 0 where
   pub content : Content
@@ -63,6 +68,12 @@ pub record OpensPaths (paths : List (List ℕ)) (contents : List Content) (befor
   pub opened : now ≡ before ++ sources paths contents
   pub count : length contents ≡ length paths
 
+-- The first so many of the files at these paths were opened, in their order, and no other file was.
+pub record OpensFirst (number : ℕ) (paths : List (List ℕ)) (before now : List SourceFile) : Type 0 where
+  pub contents : List Content
+  pub few : number ≤ length paths
+  pub opens : OpensPaths (take number paths) contents before now
+
 -- The files at these paths were read whole, and no other file was opened: these are all the bytes of each.
 pub record ReadsWhole (paths bytes : List (List ℕ)) (before now : List SourceFile) : Type 0 where
   pub contents : List Content
@@ -72,6 +83,10 @@ pub record ReadsWhole (paths bytes : List (List ℕ)) (before now : List SourceF
 -- Files hold the volume of this geometry: their headers and lengths keep the rules of a mount.
 abbrev pub Mounts : List Content → Geometry → Type 0
 Mounts contents g = (files : List (List ℕ)) → known contents ≡ Some files → mount_of files ≡ Ok g
+
+-- Files hold no image: this is the first rule of a mount that they break, where all is known that they hold.
+abbrev pub NotMounted : List Content → MountFault → Type 0
+NotMounted contents broken = (files : List (List ℕ)) → known contents ≡ Some files → mount_of files ≡ Err broken
 
 -- the volume of this geometry in files: its slots are the bytes behind their headers, in their order
 abbrev pub volume_in : Geometry → List Content → KnownVolume

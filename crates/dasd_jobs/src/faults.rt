@@ -1,7 +1,7 @@
 //! Why a job was not done.
 
 ghost use Rattle.std.specs.Prelude.{◌≡◌};
-ghost use Rattle.dasd_jobs.specs.Causes.{reading_fault, writing_fault};
+ghost use Rattle.dasd_jobs.specs.Causes.{reading_fault, writing_fault, mounting_fault};
 
 use crate::files::FileFault;
 use ckd_image::MountFault;
@@ -55,6 +55,16 @@ pub(crate) fn of_write(fault: FileFault) -> JobFault
         FileFault::Refused => JobFault::Write,
         FileFault::InUse | FileFault::Twice => JobFault::InUse,
         FileFault::Exists => JobFault::Exists,
+    }
+}
+
+/// What a fault of a mount is to a job: where a header can't be read, its file can't be.
+pub(crate) fn of_mount(fault: MountFault) -> JobFault
+    ensures { result ≡ mounting_fault fault }
+{
+    match fault {
+        MountFault::StoreFault => JobFault::Read,
+        broken => JobFault::Mount(broken),
     }
 }
 

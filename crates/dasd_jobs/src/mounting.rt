@@ -1,18 +1,19 @@
 //! Images in memory, and the files that hold them.
 
-ghost use Rattle.std.specs.Prelude.{◌≡◌, ◌+◌, ◌<◌, ◌≤◌, [], ◌∷◌, ◌++◌, vec_len, length, map, replicate, slice_index_or, None, All, IsSome, IfOk, OnOk};
+ghost use Rattle.std.specs.Prelude.{◌≡◌, ◌⊎◌, ◌+◌, ◌<◌, ◌≤◌, [], ◌∷◌, ◌++◌, vec_len, length, map, replicate, slice_index_or, None, All, IsSome, IfOk, IfErr, OnOk};
 ghost use Rattle.std.specs.List.{AllZip};
 ghost use Rattle.arrayvec.specs.ArrayVec.{array_vec_len};
 ghost use Rattle.ckd_image.specs.Files.{each};
 ghost use Rattle.dasd_jobs.specs.Sources.{StandsIn, IsWhole, OpensPaths, ReadsWhole};
-ghost use Rattle.dasd_jobs.specs.Opening.{IsHeadOf, AddsFile};
+ghost use Rattle.dasd_jobs.specs.Opening.{IsHeadOf, AddsFile, NotLocked, IsNoImage};
+ghost use Rattle.dasd_jobs.specs.Unopened.{NotRead, NotFormatted};
 ghost use Rattle.dasd_jobs.specs.Written.{WritesFile};
 ghost use Rattle.ckd_track.specs.Geometry.{new_geometry};
 ghost use Rattle.ckd_image.specs.Layout.{image_length};
 ghost use Rattle.ckd_image.specs.Image.{HoldsImage, new_image};
 ghost use Rattle.dasd_jobs.specs.Back.{AreAsMade, WritesBack, WritesStores, WritesChanged};
 
-use crate::faults::{JobFault, of_read, of_write};
+use crate::faults::{JobFault, of_mount, of_read, of_write};
 use crate::files::{FileFault, ImageFiles, OpenedFile};
 use crate::opened::{add_head, mounted, read_from};
 use crate::reasons::{Head, remark_on};
@@ -27,8 +28,8 @@ use std::alloc::Global;
 ///
 /// # Errors
 ///
-/// The first file that can't be locked or whose header can't be read; or why the files hold no image; or the first that can't be read
-/// whole; or no memory.
+/// The first file that can't be locked or whose header can't be read; or why the files hold no image, all of which are opened then; or the
+/// first that can't be read whole; or no memory. Of more files than an image has none is opened, and none behind one that is named again.
 pub fn read_image<F: ImageFiles>(
     alloc: Global,
     files: &mut F,
@@ -37,6 +38,7 @@ pub fn read_image<F: ImageFiles>(
     ensures kept { F.written files.new ≡ F.written files.old }
     ensures as_read { IfOk result (λ i. HoldsImage i.lasting.origins i) }
     ensures whole { IfOk result (λ i. ReadsWhole (map (λ path. path.now) paths.now) i.lasting.origins (F.opened files.old) (F.opened files.new)) }
+    ensures not_read { IfErr result (λ e. NotRead e (map (λ path. path.now) paths.now) (F.opened files.old) (F.opened files.new)) }
 {
     if paths.len() > MOST_FILES {
         return Err(JobFault::Mount(MountFault::Split));
@@ -46,7 +48,7 @@ pub fn read_image<F: ImageFiles>(
     let heads = heads.as_slice();
     if let Err(fault) = mounted(heads) {
         remark_on(files, paths, heads, fault);
-        return Err(JobFault::Mount(fault));
+        return Err(of_mount(fault));
     }
     let stores = read_files(alloc, &mut locked, heads)?;
     mount(stores)
@@ -58,10 +60,11 @@ fn mount(stores: ArrayVec<Option<VolumeFile>, MOST_FILES>) -> Result<Image<Volum
     requires as_made { AreAsMade stores.items }
     ensures as_read { IfOk result (λ i. HoldsImage i.lasting.origins i) }
     ensures same { IfOk result (λ i. i.lasting.origins ≡ each (λ s. s.content) stores.items) }
+    ensures not_mounted { IfErr result (λ e. IsNoImage e (each (λ s. s.content) stores.items)) }
 {
     match Image::mount_files(stores) {
         Ok(image) => Ok(image),
-        Err((fault, _)) => Err(JobFault::Mount(fault)),
+        Err((fault, _)) => Err(of_mount(fault)),
     }
 }
 
@@ -77,6 +80,7 @@ fn lock_files<F: ImageFiles>(
     ensures opens { IfOk result (λ locked. OpensPaths (map (λ path. path.now) paths.now) (map F.Opened.content locked.items)
         (F.opened files.old) (F.opened files.new)) }
     ensures heads { IfOk result (λ locked. AllZip IsHeadOf (map F.Opened.content locked.items) heads.new.items) }
+    ensures not_locked { IfErr result (λ e. NotRead e (map (λ path. path.now) paths.now) (F.opened files.old) (F.opened files.new)) }
 {
     let mut locked = Vec::new(alloc);
     for path in paths {
@@ -96,6 +100,7 @@ fn lock_file<F: ImageFiles>(
     ensures kept { F.written files.new ≡ F.written files.old }
     ensures adds { OnOk result (AddsFile path.now (map F.Opened.content locked.old.items) (map F.Opened.content locked.new.items)
         heads.old.items heads.new.items (F.opened files.old) (F.opened files.new)) }
+    ensures not_locked { IfErr result (λ e. NotLocked e (length heads.old.items) path.now (F.opened files.old) (F.opened files.new)) }
 {
     let file = match files.lock(alloc, path) {
         Ok(file) => file,
@@ -118,6 +123,7 @@ fn read_files<O: OpenedFile>(
     ensures there { IfOk result (λ stores. All IsSome stores.items) }
     ensures as_made { IfOk result (λ stores. AreAsMade stores.items) }
     ensures whole { IfOk result (λ stores. AllZip IsWhole (map O.content locked.old.items) (each (λ s. s.content) stores.items)) }
+    ensures fault { IfErr result (λ e. (e ≡ JobFault.Read) ⊎ (e ≡ JobFault.OutOfMemory)) }
 {
     let mut stores = ArrayVec::new();
     for (i, head) in heads.iter().enumerate() {
@@ -150,6 +156,7 @@ fn read_bytes<O: OpenedFile>(
     ensures read { IfOk result (λ bytes. StandsIn (slice_index_or (map O.content locked.old.items) place None) 0 bytes.items) }
     ensures count { IfOk result (λ bytes. length bytes.items ≡ len) }
     ensures kept { map O.content locked.new.items ≡ map O.content locked.old.items }
+    ensures fault { IfErr result (λ e. (e ≡ JobFault.Read) ⊎ (e ≡ JobFault.OutOfMemory)) }
 {
     let Ok(mut bytes) = vec![in alloc; 0u8; len as usize] else {
         return Err(JobFault::OutOfMemory);
@@ -164,13 +171,14 @@ fn read_bytes<O: OpenedFile>(
 ///
 /// # Errors
 ///
-/// There is no memory for it.
+/// There is no memory for it, or it would have no cylinders.
 pub fn new_image(
     alloc: Global,
     model: DriveModel,
     cylinders: u16,
 ) -> Result<Image<VolumeFile>, JobFault>
-    ensures { IfOk result (λ i. i ≡ new_image model cylinders (replicate (image_length (new_geometry model cylinders)) 0) 0) }
+    ensures image { IfOk result (λ i. i ≡ new_image model cylinders (replicate (image_length (new_geometry model cylinders)) 0) 0) }
+    ensures not_formatted { IfErr result (λ e. NotFormatted e cylinders) }
 {
     let length = image_len(model, cylinders) as usize;
     let bytes = vec![in alloc; 0u8; length].map_err(|_| JobFault::OutOfMemory)?;

@@ -1,15 +1,16 @@
 //! The volume in files that are read in place.
 
-ghost use Rattle.std.specs.Prelude.{◌≡◌, ◌≢◌, ◌+◌, ◌*◌, ◌<◌, ◌≤◌, ◌++◌, ◌∷◌, vec_len, length, map, slice_index_or, All, IsSome, [], None, Ok, IfOk, IfErr, IfSome, OnOk};
+ghost use Rattle.std.specs.Prelude.{◌≡◌, ◌≢◌, ◌⊎◌, ◌+◌, ◌*◌, ◌<◌, ◌≤◌, ◌++◌, ◌∷◌, vec_len, length, map, slice_index_or, All, IsSome, [], None, Ok, IfOk, IfErr, IfSome, OnOk};
 ghost use Rattle.std.specs.List.{AllZip};
 ghost use Rattle.arrayvec.specs.ArrayVec.{array_vec_len};
 ghost use Rattle.ckd_track.specs.Geometry.{IsGeometry};
 ghost use Rattle.ckd_image.specs.Header.{mount_of};
 ghost use Rattle.ckd_image.specs.Files.{each, place_in};
 ghost use Rattle.dasd_jobs.specs.Sources.{StandsIn, OpensPaths, Mounts};
-ghost use Rattle.dasd_jobs.specs.Opening.{IsHeadOf, AreTracks, AddsFile, AddsHead, alone};
+ghost use Rattle.dasd_jobs.specs.Unopened.{NotOpened};
+ghost use Rattle.dasd_jobs.specs.Opening.{IsHeadOf, AreTracks, AddsFile, AddsHead, NotAdded, IsBroken, alone};
 
-use crate::faults::{JobFault, of_read};
+use crate::faults::{JobFault, of_mount, of_read};
 use crate::files::{ImageFiles, OpenedFile};
 use crate::headers::{HEADER, HeaderStore};
 use crate::reasons::{Head, remark_on};
@@ -135,7 +136,8 @@ pub(crate) fn read_from<O: OpenedFile>(
 ///
 /// # Errors
 ///
-/// The first file that can't be opened or whose header can't be read; or why the files hold no image; or no memory.
+/// The first file that can't be opened or whose header can't be read; or why the files hold no image, all of which are opened then; or no
+/// memory. Of more files than an image has none is opened.
 pub fn open_volume<F: ImageFiles>(
     alloc: Global,
     files: &mut F,
@@ -145,6 +147,7 @@ pub fn open_volume<F: ImageFiles>(
     ensures fault { IfErr result (λ e. e ≢ JobFault.Write) }
     ensures opens { IfOk result (λ v. OpensPaths (map (λ path. path.now) paths.now) v.contents (F.opened files.old) (F.opened files.new)) }
     ensures mounts { IfOk result (λ v. Mounts v.contents v.geometry) }
+    ensures not_opened { IfErr result (λ e. NotOpened e (map (λ path. path.now) paths.now) (F.opened files.old) (F.opened files.new)) }
 {
     if paths.len() > MOST_FILES {
         return Err(JobFault::Mount(MountFault::Split));
@@ -159,7 +162,7 @@ pub fn open_volume<F: ImageFiles>(
         Ok(geometry) => Ok(volume_of(opened, heads, geometry)),
         Err(fault) => {
             remark_on(files, paths, heads, fault);
-            Err(JobFault::Mount(fault))
+            Err(of_mount(fault))
         }
     }
 }
@@ -176,6 +179,7 @@ fn add_file<F: ImageFiles>(
     ensures fault { IfErr result (λ e. e ≢ JobFault.Write) }
     ensures adds { OnOk result (AddsFile path.now (map F.Opened.content opened.old.items) (map F.Opened.content opened.new.items)
         heads.old.items heads.new.items (F.opened files.old) (F.opened files.new)) }
+    ensures not_added { IfErr result (λ e. NotAdded e path.now (F.opened files.old) (F.opened files.new)) }
 {
     match files.open(alloc, path) {
         Ok(file) => add_head(file, opened, heads),
@@ -194,7 +198,7 @@ pub(crate) fn add_head<O: OpenedFile>(
     heads: &mut Vec<Head>,
 ) -> Result<(), JobFault>
     ensures adds { OnOk result (AddsHead (O.content file) (map O.content opened.old.items) (map O.content opened.new.items) heads.old.items heads.new.items) }
-    ensures fault { IfErr result (λ e. e ≢ JobFault.Write) }
+    ensures fault { IfErr result (λ e. (e ≡ JobFault.Read) ⊎ (e ≡ JobFault.OutOfMemory)) }
 {
     let head = read_head(&mut file)?;
     push(heads, head)?;
@@ -234,6 +238,7 @@ fn read_head<O: OpenedFile>(file: &mut O) -> Result<Head, JobFault>
 pub(crate) fn mounted(heads: &[Head]) -> Result<Geometry, MountFault>
     ensures valid { IfOk result IsGeometry }
     ensures mounts { IfOk result (λ g. mount_of (map alone heads.now) ≡ Ok g) }
+    ensures not_mounted { IfErr result (λ e. length heads.now ≤ 8 → IsBroken e (map alone heads.now)) }
 {
     let mut stores = ArrayVec::new();
     for head in heads {
@@ -253,6 +258,7 @@ fn append(stores: &mut ArrayVec<Option<HeaderStore>, MOST_FILES>, store: HeaderS
     requires room { array_vec_len stores.old < 8 }
     requires there { All IsSome stores.old.items }
     ensures there { All IsSome stores.new.items }
+    ensures count { array_vec_len stores.new ≡ array_vec_len stores.old + 1 }
     ensures content { each (λ s. s.content) stores.new.items ≡ each (λ s. s.content) stores.old.items ++ store.content ∷ [] }
 {
     stores.push(Some(store));

@@ -115,7 +115,8 @@ pub(crate) fn remark_on<F: ImageFiles>(
     heads: &[Head],
     fault: MountFault,
 )
-    ensures { F.written files.new ≡ F.written files.old }
+    ensures kept { F.written files.new ≡ F.written files.old }
+    ensures same { F.opened files.new ≡ F.opened files.old }
 {
     if let Some(remark) = remark_of(paths, heads, fault) {
         files.remark(&remark);

@@ -17,6 +17,7 @@ use Rattle.dasd_extract.specs.Written.{Written}
 use Rattle.dasd_extract.specs.Walk.{Wanted, wanted, source_written}
 use Rattle.dasd_extract.specs.Members.{directory}
 use Rattle.dasd_jobs.specs.Sources.{SourceFile, OfVolume}
+use Rattle.dasd_jobs.specs.Unopened.{NotOpened}
 use Rattle.dasd_jobs.specs.Written.{Replaced}
 use Rattle.dasd_jobs.specs.declared.faults.JobFault.TheVariants as job
 use Rattle.dasd_unload.specs.declared.fault.UnloadFault.{UnloadFault}
@@ -181,8 +182,14 @@ UnloadsAll (Err fault) u before now =
 abbrev pub UnloadsKnown : Result ℕ UnloadFault → KnownVolume → Plan → (before now : Outcome) → Type 0
 UnloadsKnown r v p before now = (slots : List (List ℕ)) → v.slots ≡ Some slots → UnloadsAll r (unloading v slots p) before now
 
--- The volume in the files at these paths was unloaded, if its slots are known; or nothing came, with a fault.
+-- the volume in the files at these paths is not opened, for this fault
+abbrev pub IsUnopened : UnloadFault → (paths : List (List ℕ)) → (opened_before opened : List SourceFile) → Type 0
+IsUnopened (Job f) paths opened_before opened = NotOpened f paths opened_before opened
+IsUnopened fault paths opened_before opened = ⊥
+
+-- The volume in the files at these paths was unloaded, if its slots are known; or it is not opened, and nothing came.
 abbrev pub UnloadsVolume : Result ℕ UnloadFault → (paths : List (List ℕ)) → Plan → (opened_before opened : List SourceFile) → (before now : Outcome) → Type 0
 UnloadsVolume (Ok n) paths p opened_before opened before now = OfVolume paths opened_before opened (λ v. UnloadsKnown (Ok n) v p before now)
 UnloadsVolume (Err fault) paths p opened_before opened before now =
-    (now ≡ before) ⊎ OfVolume paths opened_before opened (λ v. UnloadsKnown (Err fault) v p before now)
+    (IsUnopened fault paths opened_before opened × (now ≡ before))
+    ⊎ OfVolume paths opened_before opened (λ v. UnloadsKnown (Err fault) v p before now)

@@ -1,5 +1,15 @@
-use Rattle.std.proofs.Common.{◌≡◌, ◌∙◌, ◌∷◌, [], map, arith, length-append}
+use Rattle.std.proofs.Common.{◌≡◌, ◌∙◌, ◌≤◌, ◌∷◌, [], ℕ, List, map, take, length, sym, ap, subst, arith, rules, tests, length-append}
+use Rattle.std.specs.List.{AllZip}
+use Rattle.std.proofs.lemmas.List.{take_all}
+use Rattle.std.proofs.lemmas.Result.{err_from_is_err_and}
+use Rattle.dasd_jobs.specs.declared.faults.JobFault.{JobFault}
+use Rattle.dasd_jobs.specs.declared.reasons.Head.{Head}
+use Rattle.dasd_jobs.specs.Causes.{mounting_fault}
+use Rattle.dasd_jobs.specs.Sources.{SourceFile, OpensPaths}
+use Rattle.dasd_jobs.specs.Unopened.{NotOpened}
+use Rattle.dasd_jobs.specs.Opening.{IsHeadOf}
 use Rattle.dasd_jobs.proofs.Volumes.{next_opened}
+use Rattle.dasd_jobs.proofs.Unopened.{stopped, not_mounted}
 use Rattle.dasd_jobs.proofs.opened.open_volume.Goals as goal
 
 pub loop-path-preserved : goal.loop-path-preserved
@@ -14,3 +24,29 @@ loop-path-preserved g c =
       heads = next.are;
       count = rw c.in_ok-add_file.ensures.adds.adds.headed (let long = length-append c.loop-path.heads.items (c.in_ok-add_file.ensures.adds.adds.head ∷ []) in let so_far = i.count in omega (arith, long, so_far));
     }
+
+-- the next file is not opened
+pub returns-in_err-add_file-clause-not_opened : goal.returns-in_err-add_file-clause-not_opened
+returns-in_err-add_file-clause-not_opened g c =
+    let opened = g.F.ImageFiles.opened in
+    let p = err_from_is_err_and c.from_residual.result c.from_residual.ensures.1 in
+    rw (p.1, p.2) (
+    stopped (λ path. path.now) c.args.paths.now (opened c.args.files.now) c.in_err-add_file.field-0.0 c.loop-path.path-index _ (map g.F.Opened.OpenedFile.content c.loop-path.opened.items)
+    (opened c.loop-path.files) (opened c.add_file.new.files) c.loop-path-test.true c.loop-path.invariant.opens c.in_err-add_file.ensures.not_added)
+
+-- all were, and they are no image
+pub returns-in-Err-clause-not_opened : goal.returns-in-Err-clause-not_opened
+returns-in-Err-clause-not_opened g c =
+    let opened = g.F.ImageFiles.opened in
+    let content = g.F.Opened.OpenedFile.content in
+    let before = opened c.args.files.now in
+    let contents = map content c.loop-path.opened.items in
+    let paths = map (λ path. path.now) c.args.paths.now in
+    let heads = c.as_slice-heads.result.now in
+    let few : length heads ≤ 8 = search (rules, tests) in
+    let all = take_all c.loop-path.path-index c.args.paths.now (let past = c.loop-path-test.false in omega (arith, past)) in
+    let opens = subst (λ ps. OpensPaths (map (λ path. path.now) ps) contents before (opened c.loop-path.files)) all c.loop-path.invariant.opens in
+    let are = subst (λ (hs : List Head). AllZip IsHeadOf contents hs) (sym c.as_slice-heads.ensures.value) c.loop-path.invariant.heads in
+    subst (λ (f : JobFault). NotOpened f paths before (opened c.remark_on.new.files)) (sym c.of_mount.ensures)
+    (subst (λ (l : List SourceFile). NotOpened (mounting_fault c.in-Err.fault) paths before l) (sym c.remark_on.ensures.same)
+    (not_mounted c.in-Err.fault paths contents heads before (opened c.loop-path.files) opens are (c.in-Err.ensures.not_mounted few)))
