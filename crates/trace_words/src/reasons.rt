@@ -137,7 +137,7 @@ pub fn of_word(at: u32, word: Option<Ccw>) -> &'static str {
         return "the word is outside storage";
     };
     if ccw.is_transfer() {
-        return "a Transfer In Channel may not stand here";
+        return "a Transfer In Channel may not come first, or right behind another";
     }
     if ccw.count == 0 {
         return "the count of the word is zero";
