@@ -11,9 +11,11 @@ use Rattle.s360_channels.specs.Channels.{ChannelsState, selector_at}
 abbrev pub Pends : Bool → SelectorState → Type 0
 Pends answer c = (s : Storage) (m : Machine) → StandsFor (over c s) m → answer ≡ interrupts m
 
+-- it does not
 abbrev pub PendsNot : SelectorState → Type 0
 PendsNot c = Pends false c
 
+-- the same of the place of a channel; where there is none, none pends
 abbrev pub PendsAt : Bool → Option SelectorState → Type 0
 PendsAt answer None = answer ≡ false
 PendsAt answer (Some c) = Pends answer c
