@@ -1,6 +1,6 @@
 -- A search that fails at once, on the track at hand.
 use Rattle.std.proofs.Common.{◌≡◌, ◌∙◌, ap, sym, refl, ℕ, List, Bool, true, false, Option, Some, None, length}
-use Rattle.std.specs.Prelude.{◌&&◌, ◌+◌, nat_lt, slice_range}
+use Rattle.std.specs.Prelude.{◌&&◌, ◌+◌, nat_lt, slice_range, IfSome}
 use Rattle.std.proofs.lemmas.Option.{cond_some}
 use Rattle.std.proofs.Math.Bool.{and-false}
 use Rattle.ckd_track.specs.Track.{track_of, track_or_none}
@@ -14,6 +14,7 @@ use Rattle.ckd_position.specs.Contents.{Sighted, is_readable, bytes_of}
 use Rattle.ckd_sense.specs.Commands.{decoded}
 use Rattle.ckd_sense.specs.Masks.{permit_of, inhibits_write, inhibits_seek}
 use Rattle.ckd_sense.specs.declared.commands.Command.{Command}
+use Rattle.ckd_sense.specs.declared.commands.CommandCode.{CommandCode}
 use Rattle.ckd_sense.specs.declared.commands.Command.TheVariants as command
 use Rattle.ckd_sense.specs.declared.masks.FileMask.{FileMask}
 use Rattle.ckd_sense.specs.declared.masks.Permit.TheVariants.{Yes}
@@ -62,6 +63,20 @@ is_unlike h c k wanted slot a w at whole comes lies long fails =
       long = rw (← own) (lies.size ∙ long);
       fails = rw (← own) (ap (λ b. is_satisfied (comparison c) b wanted) (sym lies.here) ∙ fails);
     }
+
+-- the same, by the code of the search; what the code says of each is a premise of its own
+pub unlike_by : (h : HalfDone) (code : ℕ) (wanted : List ℕ) (read : CommandCode) (k : Kind) (x : Option Area) → Some read ≡ decoded code → Next k ≡ aim read.command → action.Search ≡ action_of read.command
+    → IfSome x (IsUnlike h read.command k wanted) → IfSome x (IsUnlikeBy h code wanted)
+unlike_by h code wanted read k None decodes aimed searches u = tt
+unlike_by h code wanted read k (Some a) decodes aimed searches u = record {
+  command = read.command;
+  multi_track = read.multi_track;
+  decodes = sym decodes;
+  kind = k;
+  aimed = sym aimed;
+  searches = sym searches;
+  unlike = u;
+}
 
 -- Every mask allows a search.
 

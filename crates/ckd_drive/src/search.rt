@@ -12,7 +12,7 @@ ghost use Rattle.ckd_drive.specs.Work.{PassesBy, is_idle};
 use crate::answers::Stage;
 use crate::drive::Drive;
 use crate::job::Job;
-use ckd_command::tables;
+use ckd_command::{Action, Aim, tables};
 use ckd_image::ImageStore;
 use ckd_position::{Area, Kind, Next, Position, verdict};
 use ckd_sense::{Command, Sense};
@@ -46,6 +46,24 @@ impl<S: ImageStore> Job<S> {
         Some(area)
     }
 
+    // The same, of the search of a code that is not the commonest.
+    #[inline(never)]
+    fn unlike_elsewhere(&self, code: u8, wanted: &[u8]) -> Option<Area>
+        requires arm { IsAtTrack self.now.cache.image.geometry self.now.registers }
+        ensures { IfSome result (IsUnlikeBy (half_done self.now) code wanted.now) }
+    {
+        let Some(read) = Command::decode(code) else {
+            return None;
+        };
+        let Aim::Next(kind) = tables::aim_of(read.command) else {
+            return None;
+        };
+        let Action::Search = tables::action_of(read.command) else {
+            return None;
+        };
+        self.unlike(read.command, kind, wanted)
+    }
+
     // The same, of the search of this code.
     #[inline(always)]
     fn unlike_by(&self, code: u8, wanted: &[u8]) -> Option<Area>
@@ -54,7 +72,7 @@ impl<S: ImageStore> Job<S> {
     {
         match code {
             0x31 | 0xB1 => self.unlike(Command::SearchIdEqual, Kind::AnyCount, wanted),
-            _ => None,
+            _ => self.unlike_elsewhere(code, wanted),
         }
     }
 }
