@@ -1,6 +1,6 @@
 -- A search that fails at once, on the track at hand.
 use Rattle.std.proofs.Common.{◌≡◌, ◌∙◌, ap, sym, refl, ℕ, List, Bool, true, false, Option, Some, None, length}
-use Rattle.std.specs.Prelude.{◌&&◌, ◌+◌, nat_lt, slice_range, IfSome}
+use Rattle.std.specs.Prelude.{◌+◌, nat_lt, slice_range, IfSome}
 use Rattle.std.proofs.lemmas.Option.{cond_some}
 use Rattle.std.proofs.Math.Bool.{and-false}
 use Rattle.ckd_track.specs.Track.{track_of, track_or_none}
@@ -22,14 +22,12 @@ use Rattle.ckd_sense.specs.declared.masks.WritePermission.{WritePermission}
 use Rattle.ckd_sense.specs.declared.masks.WritePermission.TheVariants as writes
 use Rattle.ckd_sense.specs.declared.masks.SeekPermission.{SeekPermission}
 use Rattle.ckd_sense.specs.declared.masks.SeekPermission.TheVariants as seeks
-use Rattle.ckd_command.specs.declared.begin.Opened.{Opened}
-use Rattle.ckd_command.specs.declared.registers.Registers.{Registers}
 use Rattle.ckd_command.specs.declared.registers.Mark.{Mark}
 use Rattle.ckd_command.specs.declared.tables.Action.TheVariants as action
 use Rattle.ckd_command.specs.declared.tables.Aim.TheVariants.{Next}
 use Rattle.ckd_command.specs.Answers.{Found}
 use Rattle.ckd_command.specs.Commands.{beginning, closing, ends, ending_status, sight}
-use Rattle.ckd_command.specs.Drive.{State, Open, Started, Ready, Closed, begin, look, close, length_of, with_registers, no_sense}
+use Rattle.ckd_command.specs.Drive.{State, Open, Started, Ready, begin, look, close, length_of, with_registers, no_sense}
 use Rattle.ckd_command.specs.Tables.{aim, action_of, extent_of, area_left, comparison}
 use Rattle.ckd_command.proofs.Closings.{area_by, closing_by}
 use Rattle.ckd_command.proofs.Lengths.{length_by}
