@@ -11,3 +11,4 @@ pub mod Takes
 pub mod Standing
 pub mod Looks
 pub mod Wholes
+pub mod Searches

@@ -35,7 +35,7 @@ use Rattle.ckd_drive.specs.Invariant.{HalfDone, own_slot, own_track, parts_of, s
 use Rattle.ckd_drive.specs.Work.{GivesWhole, gives_at_once, is_lent_whole, is_ready, open_at}
 use Rattle.ckd_drive.proofs.Standing.{slot_is}
 
-held_of : (held : Option ℕ) (n : ℕ) → holds held n ≡ true → held ≡ Some n
+pub held_of : (held : Option ℕ) (n : ℕ) → holds held n ≡ true → held ≡ Some n
 held_of None n e = absurd cc
 held_of (Some t) n e = ap (λ (k : ℕ). Some k) (eqb-true t n e)
 

@@ -1,6 +1,17 @@
 -- What a drive works with, and what the parts of a call make of it.
-use Rattle.std.specs.Prelude.{◌≡◌, ℕ, List, Bool, ◌&&◌}
-use Rattle.ckd_track.specs.Track.{track_of}
+use Rattle.std.specs.Prelude.{◌≡◌, ℕ, List, Bool, true, false, ◌&&◌, Some, length}
+use Rattle.ckd_track.specs.Track.{track_of, track_or_none}
+use Rattle.ckd_position.specs.Areas.{next_of_kind}
+use Rattle.ckd_position.specs.Comparisons.{is_satisfied}
+use Rattle.ckd_position.specs.Contents.{is_readable, bytes_of}
+use Rattle.ckd_position.specs.declared.areas.Area.{Area}
+use Rattle.ckd_position.specs.declared.areas.Kind.{Kind}
+use Rattle.ckd_position.specs.declared.areas.Next.TheVariants as next
+use Rattle.ckd_sense.specs.Commands.{decoded}
+use Rattle.ckd_sense.specs.declared.commands.Command.{Command}
+use Rattle.ckd_command.specs.declared.tables.Action.TheVariants.{Search}
+use Rattle.ckd_command.specs.declared.tables.Aim.TheVariants.{Next}
+use Rattle.ckd_command.specs.Tables.{aim, action_of, comparison, extent_of}
 use Rattle.ckd_command.specs.declared.registers.Mark.{Mark}
 use Rattle.ckd_command.specs.declared.look.Seen.{Seen}
 use Rattle.ckd_command.specs.declared.close.Closed.{Closed}
@@ -79,3 +90,22 @@ pub record ClosesTo {S : Type 0} (old : Job S) (closed : Closed) (new : Job S) :
 -- command is a read that is lent whole and finds its area with its next look
 abbrev pub lends : {S : Type 0} → Job S → Mark → Bool
 lends j m = holds j.cache.held (own_track (half_done j)) && gives_at_once (state_of (parts_held j m stage.Looking))
+
+-- A search that fails at once.
+
+-- the next area of this kind on the track under the arm, which reads whole, is as long as these bytes, and does not satisfy this search
+pub record IsUnlike (h : HalfDone) (c : Command) (k : Kind) (wanted : List ℕ) (a : Area) : Type 0 where
+  pub readable : is_readable (track_of (own_slot h)) ≡ true
+  pub comes : next.Found a ≡ next_of_kind (track_or_none (track_of (own_slot h))) h.registers.position k
+  pub long : length (bytes_of (extent_of c) (track_of (own_slot h)) a) ≡ length wanted
+  pub fails : is_satisfied (comparison c) (bytes_of (extent_of c) (track_of (own_slot h)) a) wanted ≡ false
+
+-- the same, of the search of a code
+pub record IsUnlikeBy (h : HalfDone) (code : ℕ) (wanted : List ℕ) (a : Area) : Type 0 where
+  pub command : Command
+  pub multi_track : Bool
+  pub decodes : decoded code ≡ Some (record { command = command; multi_track = multi_track })
+  pub kind : Kind
+  pub aimed : aim command ≡ Next kind
+  pub searches : action_of command ≡ Search
+  pub unlike : IsUnlike h command kind wanted a

@@ -11,6 +11,7 @@ use Rattle.ckd_command.specs.declared.begin.Opened.{Opened}
 use Rattle.ckd_command.specs.Tables.{aim, action_of, is_giving}
 use Rattle.ckd_sense.specs.declared.commands.Command.{Command}
 use Rattle.ckd_sense.specs.declared.commands.Command.TheVariants.{ReadData, ReadCountKeyAndData}
+use Rattle.ckd_position.specs.declared.areas.Area.{Area}
 use Rattle.ckd_position.specs.declared.areas.Area.TheVariants.{Of}
 use Rattle.ckd_position.specs.declared.areas.Part.TheVariants.{Data}
 use Rattle.ckd_position.specs.declared.areas.Position.TheVariants.{At}
@@ -349,6 +350,26 @@ pub record GivesWhole (d : DriveState) (bytes : List ℕ) (read : WholeRead) : T
   pub ends : close None (open_at d opened) bytes
       ≡ record { state = state_behind d.state read; unit = (whole_ending read).unit; motion = false }
   pub keeps : end_saves_of d (Passing opened bytes 0) ≡ false
+
+-- A search that fails at once.
+
+-- the state once this area has passed: there is neither sense nor credit, and the arm's track stands behind the area
+abbrev pub state_past : State → Area → State
+state_past s a = with_registers s (record s.registers { sense = no_sense; credit = None; position = At a })
+
+-- A search of this code begins on an idle drive, finds this area on the track under the arm with its next look, and takes these
+-- bytes, which are as many as it wants; with them it ends by channel end and device end alone. Nothing but the state changes, and
+-- no call of the store is made.
+pub record PassesBy (code : ℕ) (bytes : List ℕ) (area : Area) (old new : DriveState) : Type 0 where
+  pub idle : old.work ≡ Idle
+  pub asked : Open
+  pub found : Open
+  pub begins : begin None code old.state ≡ Started asked
+  pub finds : look None asked ≡ Ready found
+  pub takes : is_giving (action_of found.opened.command) ≡ false
+  pub wants : (b : List ℕ) → length_of found b ≡ length bytes
+  pub ends : close None found bytes ≡ record { state = new.state; unit = record { 0 = ending_status }; motion = false }
+  pub stays : new ≡ record old { state = state_past old.state area }
 
 -- A new drive.
 

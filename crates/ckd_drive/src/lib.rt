@@ -9,6 +9,7 @@ mod drive;
 mod job;
 mod laws;
 mod look;
+mod search;
 mod transfer;
 mod view;
 mod whole;

@@ -12,4 +12,5 @@ pub mod Advancing
 pub mod Cutting
 pub mod Quiet
 pub mod Stepping
+pub mod GoingRound
 pub mod Wholes

@@ -300,6 +300,18 @@ pub record PassesWhole (r : Run) (most : ℕ) (s : Storage) (d : DriveState) (by
   pub stores : skips r.ccw ≡ false
   pub may : (i : ℕ) → i < r.place.residual → IsTrue (may_store s r.key (r.ccw.address + i))
 
+-- Rounds: a search that fails, and the transfer in channel behind it that leads back to it.
+
+-- what units of whole rounds leave: the program where it stood, the drive without a call of its store, and no more units than were
+-- asked for
+pub record GoesRound (r : Run) (s : Storage) (most n : ℕ) (old new : DriveState) : Type 0 where
+  pub few : n ≤ most
+  pub goes : walk (units n) r.key (phase_in (run_of r) s old) ≡ StandsIn (phase_in (run_of r) s new)
+  pub image : new.image ≡ old.image
+  pub fits : Fits r new
+  pub no_check : GainsNoCheck (drive_of old.state) (drive_of new.state)
+  pub none : n ≡ 0 → new ≡ old
+
 -- whether the count is spent, and the next word has a further area of the same command
 abbrev pub chains_by : Stage → Bool
 chains_by (stage.Moving ccw address) = chains_data ccw

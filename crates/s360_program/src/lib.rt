@@ -9,6 +9,7 @@ pub mod main_storage;
 mod moving;
 mod place;
 pub mod program;
+mod rounds;
 mod run;
 mod starting;
 mod units;

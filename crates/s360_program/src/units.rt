@@ -96,7 +96,7 @@ impl Run {
         ensures calls { CallsAtMost 2 drive.old drive.new }
     {
         match self.comes {
-            Comes::NextCommand => return self.next_command(storage, drive),
+            Comes::NextCommand => return self.next(most, storage, drive),
             Comes::Look => {
                 if let Some(step) = self.look(most, storage, drive) {
                     return step;
@@ -105,6 +105,27 @@ impl Run {
             Comes::Bytes => {}
         }
         self.transfer(most, storage, drive)
+    }
+
+    // Whole rounds of a search that fails, if the next word is one that a transfer in channel leads back to; else the fetch of that word.
+    #[inline(always)]
+    fn next<S: ImageStore, M: MainStorage>(
+        &mut self,
+        most: u32,
+        storage: &M,
+        drive: &mut Drive<S>,
+    ) -> Step
+        requires some { 0 < most }
+        requires fits { Fits self.old drive.old }
+        requires stage { self.old.comes ≡ Comes.NextCommand }
+        ensures step { IsStep self.old (M.holds storage.now) drive.old most result self.new (M.holds storage.now) drive.new }
+        ensures calls { CallsAtMost 2 drive.old drive.new }
+    {
+        let n = self.pass_rounds(most, storage, drive);
+        if n > 0 {
+            return Step::Units(n);
+        }
+        self.next_command(storage, drive)
     }
 
     // The fetch of a word that begins a command.

@@ -2,6 +2,7 @@ pub mod Walks
 pub mod Units
 pub mod Standing
 pub mod AtOnce
+pub mod Rounds
 pub mod DriveFacts
 pub mod EndStatus
 pub mod FaultsMet

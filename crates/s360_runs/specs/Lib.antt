@@ -9,6 +9,7 @@ pub mod Starts
 pub mod Units
 pub mod StoreCalls
 pub mod Laws
+pub mod Rounds
 pub mod Faults
 pub mod Unsaved
 pub mod Writes

@@ -2,6 +2,7 @@
 //! `specs/`, which speak of every start, every script and every fault of the store.
 
 ghost use Rattle.s360_runs.specs.Laws.{RunIsWalk, WalkGoesOn, WalkEndsAtUnit, EndedStays, StandsAtStart, StandsSomewhere, StandsAfterWalk, EndsAfterWalk, EndingIsEnd, CutIsEnd, FirstIsUnit, MoveAtOnce};
+ghost use Rattle.s360_runs.specs.Rounds.{RoundIsUnits};
 ghost use Rattle.s360_runs.specs.Unsaved.{WritesByCommands, UnsavedWasWritten, NoFaultNothingTold};
 ghost use Rattle.s360_runs.specs.Writes.{WritesUnderArm, RunKeeps, MarkIsOfScript, KeepsSize};
 ghost use Rattle.s360_runs.specs.Faults.{FaultEndsUnit, FailedLoad, FaultEndsPhase, FaultEndsProgram, FaultEndsCut, GoesOnWithoutFaults};
@@ -69,6 +70,12 @@ pub fn cut_is_end()
 #[tactic(auto, using(crate::proofs::AtOnce::at_once))]
 pub fn bytes_move_at_once()
     ensures { MoveAtOnce }
+{}
+
+/// A search that fails, and the transfer in channel behind it that leads back to it, are three units and one for each byte of the
+/// search; behind them the program stands where it stood, and only the drive's position has changed.
+pub fn round_is_units()
+    ensures { RoundIsUnits }
 {}
 
 /// A fault of the store that a unit meets ends the program in that unit.
