@@ -3,3 +3,5 @@ pub mod Quiet
 pub mod Changes
 pub mod Missing
 pub mod Several
+pub mod Faces
+pub mod Available

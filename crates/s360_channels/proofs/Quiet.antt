@@ -1,33 +1,44 @@
 -- That no interruption pends, and what is known of it.
 use Rattle.std.proofs.Common.{◌≡◌, ◌<◌, ℕ, zero, suc, refl, subst, arith, Bool, true, false, length, List, [], ◌∷◌, Option, Some, None}
-use Rattle.std.specs.Prelude.{not, option_map, slice_index_or}
+use Rattle.std.proofs.lemmas.Bool.{ltb-true}
+use Rattle.std.specs.Prelude.{◌&&◌, nat_lt, not, option_map, slice_index_or}
 use Rattle.s360_words.specs.Storage.{Storage}
 use Rattle.s360_channel.specs.Selector.{SelectorState, over}
 use Rattle.s360_channel.proofs.Places.{none_is_some}
 use Rattle.s360_channels.specs.Asked.{InterruptsAt}
-use Rattle.s360_channels.specs.Channels.{ChannelsState, channel_at, selector_at}
+use Rattle.s360_channels.specs.Channels.{channel_at, numbered}
 use Rattle.s360_channels.specs.Inside.{AllFit, NonePends, PendsAt}
-use Rattle.s360_channels.specs.Interrupting.{FirstPending}
+use Rattle.s360_channels.specs.Interrupting.{FirstPending, is_open}
+use Rattle.s360_channels.specs.Selectors.{SelectorsState, across}
 
 -- What is so of a channel whatever the storage is, is so over the shared one.
-pub pends_here : (answer : Bool) (number : ℕ) (v : ChannelsState) → PendsAt answer (selector_at number v) → InterruptsAt answer v.storage (channel_at number v)
-pends_here answer number v h = go (selector_at number v) h
+pub pends_here : (answer : Bool) (number : ℕ) (v : SelectorsState) (s : Storage) → PendsAt answer (numbered number v.channels) → InterruptsAt answer s (channel_at number (across v s))
+pends_here answer number v s h = go (numbered number v.channels) h
   where
-    go : (o : Option SelectorState) → PendsAt answer o → InterruptsAt answer v.storage (option_map (λ c. over c v.storage) o)
+    go : (o : Option SelectorState) → PendsAt answer o → InterruptsAt answer s (option_map (λ c. over c s) o)
     go None h = h
-    go (Some c) h = h v.storage
+    go (Some c) h = h s
 
 -- what is seen of a channel that does not pend
 pub not_pending : (pending : Bool) → not pending ≡ true → false ≡ pending
 not_pending true h = absurd (cc)
 not_pending false h = refl
 
--- Where it is known of all channels that nothing pends, none is the first one
-pub none_first : {quiet : Bool} {s : Storage} {cs : List (Option SelectorState)} {v : ChannelsState} (mask : ℕ) → record { storage = s; channels = cs } ≡ v
-    → AllFit (length s.bytes) quiet cs → quiet ≡ true → FirstPending mask v None
-none_first {quiet} {s} {cs} {v} mask view h q = subst (λ v. FirstPending mask v None) view (λ number asked. pends_here false number (record { storage = s; channels = cs }) (go number (slice_index_or cs number None) refl))
+-- the mask is open for channels alone
+pub open_below : (mask number : ℕ) → is_open mask number ≡ true → number < 7
+open_below mask number h = ltb-true number 7 (first_of (nat_lt number 7) _ h)
   where
-    go : (number : ℕ) (o : Option SelectorState) → slice_index_or cs number None ≡ o → PendsAt false o
+    first_of : (a b : Bool) → (a && b) ≡ true → a ≡ true
+    first_of true b h = refl
+    first_of false b h = absurd (cc)
+
+-- Where it is known of all channels that nothing pends, none is the first one
+pub none_first : {size : ℕ} {quiet : Bool} {cs : List (Option SelectorState)} {v : SelectorsState} (mask : ℕ) (s : Storage) → record { size = size; channels = cs } ≡ v
+    → AllFit size quiet cs → quiet ≡ true → FirstPending mask (across v s) None
+none_first {size} {quiet} {cs} {v} mask s view h q =
+    subst (λ v. FirstPending mask (across v s) None) view (λ number asked. pends_here false number (record { size = size; channels = cs }) s (go number (numbered number cs) refl))
+  where
+    go : (number : ℕ) (o : Option SelectorState) → numbered number cs ≡ o → PendsAt false o
     go number None e = refl
     go number (Some c) e = (h.fit number c e).silent q
 

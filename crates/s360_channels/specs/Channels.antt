@@ -17,8 +17,11 @@ pub record ChannelsState : Type 0 where
   pub channels : List (Option SelectorState)
 
 -- the channel with a number, without a storage, if there is one
+abbrev pub numbered : (number : ℕ) → List (Option SelectorState) → Option SelectorState
+numbered number cs = slice_index_or cs number None
+
 abbrev pub selector_at : (number : ℕ) → ChannelsState → Option SelectorState
-selector_at number s = slice_index_or s.channels number None
+selector_at number s = numbered number s.channels
 
 -- and over the shared storage
 abbrev pub channel_at : (number : ℕ) → ChannelsState → Option ChannelState

@@ -1,11 +1,11 @@
 -- What holds between calls, and what is known of a channel that is found.
-use Rattle.std.specs.Prelude.{◌≡◌, ◌<◌, ℕ, Bool, true, false, length, List, Option, Some, None, slice_index_or}
+use Rattle.std.specs.Prelude.{◌≡◌, ◌<◌, ℕ, Bool, true, false, length, List, Option, Some, None}
 use Rattle.s360_words.specs.Storage.{Storage}
 use Rattle.s360_laws.specs.Machine.{Machine}
 use Rattle.s360_channel.specs.Channel.{StandsFor}
 use Rattle.s360_channel.specs.Selector.{IsOver, IsSelector, SelectorState, over}
 use Rattle.s360_channel.specs.Views.{interrupts}
-use Rattle.s360_channels.specs.Channels.{ChannelsState, selector_at}
+use Rattle.s360_channels.specs.Channels.{numbered}
 
 -- whether an interruption of a channel pends: storage has no part in it
 abbrev pub Pends : Bool → SelectorState → Type 0
@@ -22,7 +22,7 @@ PendsAt answer (Some c) = Pends answer c
 
 -- none pends at any channel
 abbrev pub NonePends : List (Option SelectorState) → Type 0
-NonePends cs = (number : ℕ) → number < 7 → PendsAt false (slice_index_or cs number None)
+NonePends cs = (number : ℕ) → number < 7 → PendsAt false (numbered number cs)
 
 -- a channel with this number, for a storage of this size, that stands for a machine; no interruption of it pends where it is known of
 -- all channels that none does
@@ -35,15 +35,14 @@ pub record Fits (number size : ℕ) (quiet : Bool) (c : SelectorState) : Type 0 
 -- There are seven places, and the channel at each has its number, and fits.
 pub record AllFit (size : ℕ) (quiet : Bool) (cs : List (Option SelectorState)) : Type 0 where
   pub seven : length cs ≡ 7
-  pub fit : (number : ℕ) (c : SelectorState) → slice_index_or cs number None ≡ Some c → Fits number size quiet c
+  pub fit : (number : ℕ) (c : SelectorState) → numbered number cs ≡ Some c → Fits number size quiet c
 
 -- what is known of a channel with a number that is found over a storage
 pub record IsFound (number : ℕ) (c : SelectorState) (s : Storage) : Type 0 where
   pub own_number : c.number ≡ number
   pub is_over : IsOver c s
 
--- the place of a number, and what is known of a channel there
-pub record IsPlace (number place : ℕ) (s : ChannelsState) : Type 0 where
+-- the place of a number
+pub record IsPlace (number place : ℕ) : Type 0 where
   pub same : place ≡ number
   pub within : place < 7
-  pub found : (c : SelectorState) → selector_at number s ≡ Some c → IsFound number c s.storage

@@ -1,5 +1,6 @@
 pub mod Channels
 pub mod Inside
+pub mod Selectors
 pub mod Adding
 pub mod Asked
 pub mod Interrupting

@@ -1,16 +1,18 @@
 //! Channels that are added, and drives that are attached to one of them.
 
-ghost use Rattle.std.specs.Prelude.{◌≡◌, ◌/◌, ◌%◌, Some, length, slice_set, OnOk, OnErr, IfErr};
+ghost use Rattle.std.specs.Prelude.{◌≡◌, ◌/◌, ◌%◌, Some, slice_set, OnOk, OnErr, IfErr};
+ghost use Rattle.s360_words.specs.Storage.{Storage as StorageState};
 ghost use Rattle.s360_channels.specs.Adding.{AttachesAt, IsFree, RefusedAs, WhyNot, new_channel};
 ghost use Rattle.s360_channels.specs.Channels.{channel_at};
+ghost use Rattle.s360_channels.specs.Selectors.{across};
 
-use crate::channels::Channels;
 use crate::faults::{AddFault, AttachFault};
+use crate::selectors::Selectors;
 use ckd_image::{Image, ImageStore};
 use s360_channel::Selector;
 use std::alloc::Global;
 
-impl<S: ImageStore> Channels<S> {
+impl<S: ImageStore> Selectors<S> {
     /// Adds a channel with this number and no drives. It takes no memory.
     ///
     /// # Errors
@@ -18,10 +20,11 @@ impl<S: ImageStore> Channels<S> {
     /// `BadNumber` and `NumberTaken`, in this order; nothing has changed.
     pub fn add(&mut self, number: u8) -> Result<(), AddFault>
         ensures added { OnOk result (self.new ≡ record self.old {
-          channels = slice_set self.old.channels number (Some (new_channel number (length self.old.storage.bytes)));
+          channels = slice_set self.old.channels number (Some (new_channel number self.old.size));
         }) }
         ensures free { OnOk result (IsFree number self.old.channels) }
         ensures refused { IfErr result (λ e. RefusedAs number self.old.channels e) }
+        ensures same { self.new.size ≡ self.old.size }
         ensures stays { OnErr result (self.new ≡ self.old) }
     {
         let Some(place) = self.place(number) else {
@@ -30,7 +33,7 @@ impl<S: ImageStore> Channels<S> {
         if self.list[place].is_some() {
             return Err(AddFault::NumberTaken);
         }
-        let Ok(selector) = Selector::new(number, self.storage.size()) else {
+        let Ok(selector) = Selector::new(number, self.size) else {
             return Err(AddFault::BadNumber);
         };
         self.quiet = false;
@@ -50,11 +53,11 @@ impl<S: ImageStore> Channels<S> {
         address: u16,
         image: Image<S>,
     ) -> Result<(), (AttachFault, Image<S>)>
-        ensures attached { OnOk result (AttachesAt (address / 256) (address % 256) image self.old self.new) }
-        ensures storage { self.new.storage ≡ self.old.storage }
-        ensures refused { IfErr result (λ e. WhyNot (channel_at (address / 256) self.old) (address % 256) e.0) }
+        ensures attached { (s : StorageState) → OnOk result (AttachesAt (address / 256) (address % 256) image (across self.old s) (across self.new s)) }
+        ensures refused { (s : StorageState) → IfErr result (λ e. WhyNot (channel_at (address / 256) (across self.old s)) (address % 256) e.0) }
         ensures handed_back { IfErr result (λ e. e.1 ≡ image) }
         ensures stays { OnErr result (self.new ≡ self.old) }
+        ensures same { self.new.size ≡ self.old.size }
     {
         let Some(place) = self.place((address / 256) as u8) else {
             return Err((AttachFault::NoChannel, image));

@@ -8,9 +8,8 @@ ghost use Rattle.s360_events.specs.declared.conditions.Condition.TheVariants.{Th
 ghost use Rattle.s360_channels.specs.Asked.{TestsAt, is_attached};
 ghost use Rattle.s360_channels.specs.Channels.{OnChannel, Quietly, AtMost, channel_at};
 
-use crate::interrupting::still_quiet;
+use crate::selectors::Selectors;
 use ckd_image::ImageStore;
-use s360_channel::Selector;
 use s360_events::{Condition, Status};
 use s360_words::{Csw, Storage};
 use std::marker::Model;
@@ -22,22 +21,20 @@ use std::marker::Model;
 /// others and the processor store is a change from outside between two of its units.
 #[derive(Drop)]
 pub struct Channels<S: ImageStore> {
+    pub(crate) selectors: Selectors<S>,
     pub(crate) storage: Storage,
-    pub(crate) list: [Option<Selector<S>>; 7],
-    // It is known that no interruption pends at any channel: so a poll need not ask each. A call that may bring one takes that back.
-    pub(crate) quiet: bool,
 }
 
 impl<S: ImageStore> Model for Channels<S> {
-    ghost use Rattle.std.specs.Prelude.{length};
+    ghost use Rattle.std.specs.Prelude.{◌≡◌, length};
     ghost use Rattle.s360_channels.specs.Channels.{ChannelsState};
-    ghost use Rattle.s360_channels.specs.Inside.{AllFit};
+    ghost use Rattle.s360_channels.specs.Selectors.{across};
 
     ghost Value = { ChannelsState };
 
-    ghost view = { λ c. record { storage = c.storage; channels = c.list } };
+    ghost view = { λ c. across c.selectors c.storage };
 
-    ghost invariant = { λ c. AllFit (length c.storage.bytes) c.quiet c.list };
+    ghost invariant = { λ c. length c.storage.bytes ≡ c.selectors.size };
 }
 
 impl<S: ImageStore> Channels<S> {
@@ -46,9 +43,8 @@ impl<S: ImageStore> Channels<S> {
         ensures { result ≡ record { storage = storage; channels = replicate 7 None } }
     {
         Channels {
+            selectors: Selectors::new(storage.size()),
             storage,
-            list: [None, None, None, None, None, None, None],
-            quiet: true,
         }
     }
 
@@ -59,15 +55,7 @@ impl<S: ImageStore> Channels<S> {
             (result ≡ Three) self.old self.new }
         ensures missing { result ≡ Three → is_attached address self.old ≡ false }
     {
-        let Some(place) = self.place((address / 256) as u8) else {
-            return Condition::Three;
-        };
-        let Some(selector) = &mut self.list[place] else {
-            return Condition::Three;
-        };
-        let condition = selector.sio(&mut self.storage, address);
-        self.quiet = still_quiet(self.quiet, selector);
-        condition
+        self.selectors.sio(&mut self.storage, address)
     }
 
     /// Test I/O at an input/output address, at the channel of its high byte; 3 where there is none. It makes no call of a store
@@ -77,15 +65,7 @@ impl<S: ImageStore> Channels<S> {
             (result ≡ Three) self.old self.new }
         ensures missing { result ≡ Three → is_attached address self.old ≡ false }
     {
-        let Some(place) = self.place((address / 256) as u8) else {
-            return Condition::Three;
-        };
-        let Some(selector) = &mut self.list[place] else {
-            return Condition::Three;
-        };
-        let condition = selector.tio(&mut self.storage, address);
-        self.quiet = still_quiet(self.quiet, selector);
-        condition
+        self.selectors.tio(&mut self.storage, address)
     }
 
     /// Halt I/O at an input/output address, at the channel of its high byte; 3 where there is none. It makes at most one call of
@@ -95,24 +75,13 @@ impl<S: ImageStore> Channels<S> {
             (result ≡ Three) self.old self.new }
         ensures missing { result ≡ Three → is_attached address self.old ≡ false }
     {
-        let Some(place) = self.place((address / 256) as u8) else {
-            return Condition::Three;
-        };
-        let Some(selector) = &mut self.list[place] else {
-            return Condition::Three;
-        };
-        let condition = selector.hio(&mut self.storage, address);
-        self.quiet = still_quiet(self.quiet, selector);
-        condition
+        self.selectors.hio(&mut self.storage, address)
     }
 
     /// Test Channel, at the channel of the high byte of an address; 3 where there is none ('Test Channel').
     pub fn tch(&self, address: u16) -> Condition<()>
         ensures { TestsAt (answer_seen (answer.Tch result)) self.now.storage (channel_at (address / 256) self.now) }
     {
-        match self.selector((address / 256) as u8) {
-            Some(selector) => selector.tch(),
-            None => Condition::Three,
-        }
+        self.selectors.tch(address)
     }
 }

@@ -1,14 +1,14 @@
 //! Channels that are taken apart.
 
-ghost use Rattle.std.specs.Prelude.{map, option_map};
+ghost use Rattle.std.specs.Prelude.{◌≡◌, map, option_map};
 ghost use Rattle.s360_words.specs.Storage.{Storage as StorageState};
 ghost use Rattle.s360_channel.specs.Selector.{over};
 ghost use Rattle.s360_channels.specs.Ending.{Ends, FinishesAll, RemovesAt};
+ghost use Rattle.s360_channels.specs.Selectors.{across};
 
-use crate::channels::Channels;
+use crate::selectors::Selectors;
 use ckd_image::{Image, ImageStore};
 use s360_channel::{Reset, Selector};
-use s360_words::Storage;
 
 /// What a channel was made of, after its last reset.
 #[derive(Drop)]
@@ -19,12 +19,13 @@ pub struct Removed<S: ImageStore> {
     pub reset: Reset,
 }
 
-impl<S: ImageStore> Channels<S> {
+impl<S: ImageStore> Selectors<S> {
     /// Resets the channel with this number, takes it away, and gives back the images of its drives; none where there is no such
     /// channel. It makes at most one call of a store, which saves a track that was written.
     pub fn remove(&mut self, number: u8) -> Option<Removed<S>>
-        ensures { RemovesAt number (option_map (λ c. record { images = c.images; unsaved = c.reset.unsaved }) result)
-            self.old self.new }
+        ensures does { (s : StorageState) → RemovesAt number (option_map (λ c. record { images = c.images; unsaved = c.reset.unsaved }) result)
+            (across self.old s) (across self.new s) }
+        ensures same { self.new.size ≡ self.old.size }
     {
         let Some(place) = self.place(number) else {
             return None;
@@ -33,15 +34,13 @@ impl<S: ImageStore> Channels<S> {
         Some(end(selector))
     }
 
-    /// Resets each channel, in order of the channels' numbers, and gives back the storage that they shared, and by their numbers
-    /// what each was made of, as `remove` does. It makes at most one call of a store for each channel, which saves a track that
-    /// was written.
-    // A pair, since of a struct around the array each call within would have to show that it fits memory, whatever the stores.
-    pub fn finish(mut self) -> (Storage, [Option<Removed<S>>; 7])
-        ensures { FinishesAll self result.0 (map
-            (option_map (λ c. record { images = c.images; unsaved = c.reset.unsaved })) result.1) }
+    /// Resets each channel, in order of the channels' numbers, and gives back by their numbers what each was made of, as `remove`
+    /// does. It makes at most one call of a store for each channel, which saves a track that was written.
+    pub fn finish(mut self) -> [Option<Removed<S>>; 7]
+        ensures { (s : StorageState) → FinishesAll (across self s) s (map
+            (option_map (λ c. record { images = c.images; unsaved = c.reset.unsaved })) result) }
     {
-        let channels = [
+        [
             self.remove(0),
             self.remove(1),
             self.remove(2),
@@ -49,13 +48,7 @@ impl<S: ImageStore> Channels<S> {
             self.remove(4),
             self.remove(5),
             self.remove(6),
-        ];
-        let Channels {
-            storage,
-            list: _,
-            quiet: _,
-        } = self;
-        (storage, channels)
+        ]
     }
 }
 

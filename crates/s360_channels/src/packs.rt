@@ -1,14 +1,16 @@
 //! Drives that are taken off, and packs that are changed.
 
 ghost use Rattle.std.specs.Prelude.{◌≡◌, ◌/◌, ◌%◌, IfOk, IfErr, OnErr};
+ghost use Rattle.s360_words.specs.Storage.{Storage as StorageState};
 ghost use Rattle.s360_channels.specs.Channels.{OnChannel, channel_at};
 ghost use Rattle.s360_channels.specs.Packs.{ChangesPack, RefusedDetach, RefusedExchange, TakesOff};
+ghost use Rattle.s360_channels.specs.Selectors.{across};
 
-use crate::channels::Channels;
 use crate::faults::{DetachFault, ExchangeFault};
+use crate::selectors::Selectors;
 use ckd_image::{Image, ImageStore};
 
-impl<S: ImageStore> Channels<S> {
+impl<S: ImageStore> Selectors<S> {
     /// Takes the drive at an address off the channel of its high byte, and gives its image back, which holds the drive's volume, as
     /// `Channel::detach` does. It makes no call of a store and takes no memory.
     ///
@@ -16,11 +18,12 @@ impl<S: ImageStore> Channels<S> {
     ///
     /// `NoChannel`, and what the channel refuses; nothing has changed.
     pub fn detach(&mut self, address: u16) -> Result<Image<S>, DetachFault>
-        ensures detached { IfOk result (λ image. OnChannel (address / 256) (TakesOff (address % 256) image) ⊥ self.old
-            self.new) }
-        ensures refused { IfErr result (λ e. RefusedDetach (channel_at (address / 256) self.old) self.old.storage
+        ensures detached { (s : StorageState) → IfOk result (λ image. OnChannel (address / 256) (TakesOff (address % 256) image) ⊥ (across self.old s)
+            (across self.new s)) }
+        ensures refused { (s : StorageState) → IfErr result (λ e. RefusedDetach (channel_at (address / 256) (across self.old s)) s
             (address % 256) e) }
         ensures stays { OnErr result (self.new ≡ self.old) }
+        ensures same { self.new.size ≡ self.old.size }
     {
         let Some(place) = self.place((address / 256) as u8) else {
             return Err(DetachFault::NoChannel);
@@ -47,12 +50,13 @@ impl<S: ImageStore> Channels<S> {
         address: u16,
         image: Image<S>,
     ) -> Result<Image<S>, (ExchangeFault, Image<S>)>
-        ensures exchanged { IfOk result (λ before. OnChannel (address / 256) (ChangesPack (address % 256) image before)
-            ⊥ self.old self.new) }
-        ensures refused { IfErr result (λ e. RefusedExchange (channel_at (address / 256) self.old) self.old.storage
+        ensures exchanged { (s : StorageState) → IfOk result (λ before. OnChannel (address / 256) (ChangesPack (address % 256) image before)
+            ⊥ (across self.old s) (across self.new s)) }
+        ensures refused { (s : StorageState) → IfErr result (λ e. RefusedExchange (channel_at (address / 256) (across self.old s)) s
             (address % 256) image e.0) }
         ensures handed_back { IfErr result (λ e. e.1 ≡ image) }
         ensures stays { OnErr result (self.new ≡ self.old) }
+        ensures same { self.new.size ≡ self.old.size }
     {
         let Some(place) = self.place((address / 256) as u8) else {
             return Err((ExchangeFault::NoChannel, image));

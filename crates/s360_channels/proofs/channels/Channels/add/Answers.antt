@@ -1,19 +1,22 @@
-use Rattle.std.proofs.Common.{◌<◌, subst, sym, length, false}
-use Rattle.s360_channel.proofs.Places.{inside}
-use Rattle.s360_channels.specs.Inside.{Fits}
-use Rattle.s360_channels.proofs.Fitting.{fit_set, loud, new_fits}
+use Rattle.std.proofs.Common.{◌∙◌, ap, sym}
+use Rattle.s360_channels.specs.Selectors.{across}
+use Rattle.s360_channels.proofs.Faces.{added_across, on_err, on_ok}
 use Rattle.s360_channels.proofs.channels.Channels.add.Goals as goal
 
-pub returns-in_default-clause-refused : goal.returns-in_default-clause-refused
-returns-in_default-clause-refused g c = c.place.ensures.beyond c.in_default.is
-
 pub invariant_of-self : goal.invariant_of-self
-invariant_of-self g c =
-    let p = c.in-Some.ensures.there in
+invariant_of-self g c = c.self.invariant ∙ sym c.add.ensures.same
+
+pub returns-clause-added : goal.returns-clause-added
+returns-clause-added g c =
     let s = c.self.inside.storage in
-    let z = c.size.ensures in
-    let small = subst (λ n. n < 7) p.same p.within in
-    let fits = new_fits c.args.number c.size.result s c.in-Ok.selector c.in-Ok.ensures.ok small z.size z.keys in
-    fit_set (length s.bytes) _ _ c.self.inside.list c.in-Some.place _ c.self.invariant loud
-    (λ d e. subst (Fits c.in-Some.place (length s.bytes) false) (inside c.in-Ok.selector d e)
-    (subst (λ n. Fits n (length s.bytes) false c.in-Ok.selector) (sym p.same) fits))
+    let cs = c.self.inside.selectors in
+    rw (← c.self.view_is) (on_ok c.add.result (λ e. added_across c.args.number s cs c.add.new.self e c.self.invariant) c.add.ensures.added)
+
+pub returns-clause-free : goal.returns-clause-free
+returns-clause-free g c = rw (← c.self.view_is) c.add.ensures.free
+
+pub returns-clause-refused : goal.returns-clause-refused
+returns-clause-refused g c = rw (← c.self.view_is) c.add.ensures.refused
+
+pub returns-clause-stays : goal.returns-clause-stays
+returns-clause-stays g c = on_err c.add.result (λ e. ap (λ v. across v c.self.inside.storage) e ∙ c.self.view_is) c.add.ensures.stays

@@ -1,28 +1,16 @@
-use Rattle.std.proofs.Common.{◌%◌}
-use Rattle.s360_channel.specs.Packs.{without_device}
-use Rattle.s360_channels.specs.Packs.{RefusedDetach}
-use Rattle.s360_channels.specs.declared.faults.DetachFault.TheVariants as fault
-use Rattle.s360_channels.proofs.Fitting.{loud, calls_behind, fit_behind, here, same_storage, seen_here}
+use Rattle.std.proofs.Common.{◌∙◌, ap, sym}
+use Rattle.s360_channels.specs.Selectors.{across}
+use Rattle.s360_channels.proofs.Faces.{on_err}
 use Rattle.s360_channels.proofs.channels.Channels.detach.Goals as goal
 
-pub returns-in-Err-clause-refused : goal.returns-in-Err-clause-refused
-returns-in-Err-clause-refused g c =
-    let h = here _ c.self.view_is c.in-Some.ensures.there c.self.invariant c.in-Some-list.is in
-    seen_here h (λ o s. RefusedDetach o s (c.args.address % 256) (fault.Refused c.in-Err.fault)) c.self.view_is
-    (c.in-Err.ensures.refused c.self.inside.storage)
-
-pub invariant_of-self-2 : goal.invariant_of-self-2
-invariant_of-self-2 g c =
-    let s = c.self.inside.storage in
-    let h = here _ c.self.view_is c.in-Some.ensures.there c.self.invariant c.in-Some-list.is in
-    let k = h.found.is_over.channel in
-    let d = c.in-Ok.ensures in
-    fit_behind h d.same (same_storage s)
-    (record { machine = without_device (c.args.address % 256) k.machine; stands = (d.detached s k.machine k.stands).stands }) loud loud
+pub invariant_of-self : goal.invariant_of-self
+invariant_of-self g c = c.self.invariant ∙ sym c.detach.ensures.same
 
 pub returns-clause-detached : goal.returns-clause-detached
-returns-clause-detached g c =
-    let s = c.self.inside.storage in
-    let d = c.in-Ok.ensures in
-    let h = here _ c.self.view_is c.in-Some.ensures.there c.self.invariant c.in-Some-list.is in
-    calls_behind h _ _ c.self.view_is d.same (same_storage s) (d.detached s)
+returns-clause-detached g c = rw (← c.self.view_is) (c.detach.ensures.detached c.self.inside.storage)
+
+pub returns-clause-refused : goal.returns-clause-refused
+returns-clause-refused g c = rw (← c.self.view_is) (c.detach.ensures.refused c.self.inside.storage)
+
+pub returns-clause-stays : goal.returns-clause-stays
+returns-clause-stays g c = on_err c.detach.result (λ e. ap (λ v. across v c.self.inside.storage) e ∙ c.self.view_is) c.detach.ensures.stays

@@ -1,10 +1,4 @@
-use Rattle.std.specs.Prelude.{option_map}
-use Rattle.s360_channels.specs.Asked.{ShowsDriveAtWorkAt}
-use Rattle.s360_channels.proofs.Fitting.{shown}
 use Rattle.s360_channels.proofs.channels.Channels.drive_at_work.Goals as goal
 
 pub returns : goal.returns
-returns g c =
-    let s = c.args.self.now.storage in
-    shown (ShowsDriveAtWorkAt (option_map (λ d. d.now) c.drive_at_work.result) s) c.args.number c.args.self.now _
-    c.in_ok-selector.ensures (c.drive_at_work.ensures s)
+returns g c = rw (← c.self.view_is) (c.drive_at_work.ensures c.self.inside.storage)

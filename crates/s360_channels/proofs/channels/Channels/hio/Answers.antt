@@ -1,34 +1,11 @@
-use Rattle.std.proofs.Common.{arith, ◌≡◌, ap, false, ◌%◌}
-use Rattle.s360_events.specs.Seen.{answer_seen}
-use Rattle.s360_events.specs.declared.answers.Answer.TheVariants as answer
-use Rattle.s360_laws.specs.Events.{Hio}
-use Rattle.s360_channels.specs.Asked.{has_drive}
-use Rattle.s360_channels.proofs.Fitting.{calls_behind, fit_behind, has_size, here, does_channel, seen_here}
-use Rattle.s360_channels.proofs.Missing.{halt_asks}
+use Rattle.std.proofs.Common.{◌∙◌, sym}
 use Rattle.s360_channels.proofs.channels.Channels.hio.Goals as goal
 
-pub hio-condition-requires : goal.hio-condition-requires
-hio-condition-requires g c = (omega arith, has_size (here _ c.self.view_is c.in-Some.ensures.there c.self.invariant c.in-Some-list.is))
-
-pub invariant_of-self-2 : goal.invariant_of-self-2
-invariant_of-self-2 g c =
-    let h = here _ c.self.view_is c.in-Some.ensures.there c.self.invariant c.in-Some-list.is in
-    let d = c.hio-condition.ensures in
-    fit_behind h d.same d.keeps (does_channel (Hio c.args.address) h.found.is_over.channel d.does)
-    c.still_quiet-self-inside.ensures.before c.still_quiet-self-inside.ensures.here
+pub invariant_of-self : goal.invariant_of-self
+invariant_of-self g c = let e = c.hio.ensures in e.keeps.size ∙ (c.self.invariant ∙ sym e.same)
 
 pub returns-clause-does : goal.returns-clause-does
-returns-clause-does g c =
-    let d = c.hio-condition.ensures in
-    let h = here _ c.self.view_is c.in-Some.ensures.there c.self.invariant c.in-Some-list.is in
-    calls_behind h _ _ c.self.view_is d.same d.keeps (record { does = d.does; calls = d.calls })
+returns-clause-does g c = rw (← c.self.view_is) c.hio.ensures.does
 
 pub returns-clause-missing : goal.returns-clause-missing
-returns-clause-missing g c = λ three.
-    let h = here _ c.self.view_is c.in-Some.ensures.there c.self.invariant c.in-Some-list.is in
-    let k = h.found.is_over.channel in
-    let told = c.hio-condition.ensures.does k.machine k.stands in
-    seen_here h (λ o s. has_drive (c.args.address % 256) o ≡ false) c.self.view_is
-    (halt_asks c.args.address _ k.machine k.stands h.found.own_number told.fault _
-    (ap (λ r. answer_seen (answer.Hio c.args.address r)) three)
-    told.answers)
+returns-clause-missing g c = rw (← c.self.view_is) c.hio.ensures.missing

@@ -1,21 +1,8 @@
-use Rattle.std.proofs.Common.{refl}
+use Rattle.std.proofs.Common.{◌∙◌, sym}
 use Rattle.s360_channels.proofs.channels.Channels.reset_all.Goals as goal
 
+pub invariant_of-self : goal.invariant_of-self
+invariant_of-self g c = c.self.invariant ∙ sym c.reset_all.ensures.same
+
 pub returns : goal.returns
-returns g c = (
-  _,
-  c.reset.ensures,
-  (
-    _,
-    c.reset-2.ensures,
-    (
-      _,
-      c.reset-3.ensures,
-      (
-        _,
-        c.reset-4.ensures,
-        (_, c.reset-5.ensures, (_, c.reset-6.ensures, (_, c.reset-7.ensures, refl))),
-      ),
-    ),
-  ),
-)
+returns g c = rw (← c.self.view_is) (c.reset_all.ensures.does c.self.inside.storage)

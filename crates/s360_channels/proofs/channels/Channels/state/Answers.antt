@@ -1,9 +1,4 @@
-use Rattle.std.proofs.Common.{Some}
-use Rattle.s360_channels.specs.Asked.{ShowsAt}
-use Rattle.s360_channels.proofs.Fitting.{shown}
 use Rattle.s360_channels.proofs.channels.Channels.state.Goals as goal
 
 pub returns : goal.returns
-returns g c =
-    let s = c.args.self.now.storage in
-    shown (ShowsAt (Some c.state.result) s) c.args.number c.args.self.now _ c.in_ok-selector.ensures (c.state.ensures s)
+returns g c = rw (← c.self.view_is) (c.state.ensures c.self.inside.storage)

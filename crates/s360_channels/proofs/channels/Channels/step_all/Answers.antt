@@ -1,21 +1,8 @@
-use Rattle.std.proofs.Common.{refl}
+use Rattle.std.proofs.Common.{◌∙◌, sym}
 use Rattle.s360_channels.proofs.channels.Channels.step_all.Goals as goal
 
+pub invariant_of-self : goal.invariant_of-self
+invariant_of-self g c = let e = c.step_all.ensures in e.keeps.size ∙ (c.self.invariant ∙ sym e.same)
+
 pub returns : goal.returns
-returns g c = (
-  _,
-  c.step.ensures,
-  (
-    _,
-    c.step-2.ensures,
-    (
-      _,
-      c.step-3.ensures,
-      (
-        _,
-        c.step-4.ensures,
-        (_, c.step-5.ensures, (_, c.step-6.ensures, (_, c.step-7.ensures, refl))),
-      ),
-    ),
-  ),
-)
+returns g c = rw (← c.self.view_is) c.step_all.ensures.does

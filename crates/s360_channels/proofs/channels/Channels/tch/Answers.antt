@@ -1,11 +1,4 @@
-use Rattle.std.proofs.Common.{◌/◌}
-use Rattle.s360_events.specs.Seen.{answer_seen}
-use Rattle.s360_events.specs.declared.answers.Answer.TheVariants as answer
-use Rattle.s360_channels.specs.Asked.{TestsAt}
-use Rattle.s360_channels.proofs.Fitting.{shown}
 use Rattle.s360_channels.proofs.channels.Channels.tch.Goals as goal
 
-pub returns-in-Some : goal.returns-in-Some
-returns-in-Some g c =
-    let s = c.args.self.now.storage in
-    shown (TestsAt (answer_seen (answer.Tch c.tch.result)) s) (c.args.address / 256) c.args.self.now _ c.in-Some.ensures (c.tch.ensures s)
+pub returns : goal.returns
+returns g c = rw (← c.self.view_is) (c.tch.ensures c.self.inside.storage)
