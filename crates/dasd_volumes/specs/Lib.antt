@@ -3,3 +3,4 @@ pub mod Lines
 pub mod Reading
 pub mod Printing
 pub mod Volumes
+pub mod Stages

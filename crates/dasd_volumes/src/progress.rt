@@ -1,7 +1,8 @@
 //! How far a long job has come.
 
-ghost use Rattle.std.specs.Prelude.{◌≡◌, Bool, false};
+ghost use Rattle.std.specs.Prelude.{◌≡◌, Bool, false, Some};
 ghost use Rattle.dasd_volumes.specs.Sizes.{takes_long};
+ghost use Rattle.dasd_volumes.specs.Stages.{stage_text};
 
 use ckd_track::Geometry;
 use std::fmt;
@@ -21,6 +22,8 @@ pub enum Stage {
 }
 
 impl fmt::Display for Stage {
+    ghost output = { λ s. Some (stage_text s) };
+
     fn fmt<W: fmt::Write>(&self, f: &mut fmt::Formatter<W>) -> fmt::Result {
         match self {
             Stage::Formatting(cylinders) => write!(f, "formatting {cylinders} cylinders"),
