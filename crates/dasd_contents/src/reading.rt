@@ -52,6 +52,7 @@ pub struct Found {
 /// There is no memory for a slot or for the blocks in use; or a read fails.
 pub fn read_contents<V: SlotReader>(alloc: Global, volume: &mut V) -> Result<Contents, VolumeFault>
     ensures contents { IfOk result (IsContents (V.volume volume.old)) }
+    ensures fault { IfErr result (λ e. e ≢ VolumeFault.Write) }
     ensures volume { IsRead result (V.volume volume.old) (V.volume volume.new) (V.failures volume.old) (V.failures volume.new) }
 {
     let geometry = volume.geometry();
@@ -113,6 +114,7 @@ fn read_label<V: SlotReader>(
     requires exists { 0 < tracks_of (V.volume volume.old).geometry }
     ensures label { IfOk result (IsOfSlots (V.volume volume.old) label_on) }
     ensures memory { IfErr result (λ e. e ≢ VolumeFault.OutOfMemory) }
+    ensures fault { IfErr result (λ e. e ≢ VolumeFault.Write) }
     ensures volume { IsRead result (V.volume volume.old) (V.volume volume.new) (V.failures volume.old) (V.failures volume.new) }
     ensures size { length slot.new ≡ length slot.old }
 {
@@ -144,6 +146,7 @@ fn read_table<V: SlotReader>(
 ) -> Result<Option<ContentsBlock>, VolumeFault>
     requires size { length slot.old ≡ (V.volume volume.old).geometry.track_size }
     ensures table { IfOk result (IsOfSlots (V.volume volume.old) (table_on address)) }
+    ensures fault { IfErr result (λ e. e ≢ VolumeFault.Write) }
     ensures exists { IfOk result (λ table. IfSome table (λ _. exists_on (V.volume volume.old).geometry address.track ≡ true)) }
     ensures volume { IsRead result (V.volume volume.old) (V.volume volume.new) (V.failures volume.old) (V.failures volume.new) }
     ensures size { length slot.new ≡ length slot.old }
@@ -188,6 +191,7 @@ fn read_blocks<V: SlotReader>(
     requires size { length slot.old ≡ (V.volume volume.old).geometry.track_size }
     requires exists { exists_on (V.volume volume.old).geometry label.contents.track ≡ true }
     ensures contents { IfOk result (SaysOfSlots (V.volume volume.old) (said_with label table)) }
+    ensures fault { IfErr result (λ e. e ≢ VolumeFault.Write) }
     ensures volume { IsRead result (V.volume volume.old) (V.volume volume.new) (V.failures volume.old) (V.failures volume.new) }
 {
     let geometry = volume.geometry();
@@ -241,6 +245,7 @@ fn read_tracks<V: SlotReader>(
     requires exist { tracks.first + tracks.tracks ≤ tracks_of (V.volume volume.old).geometry }
     requires few { tracks.first + tracks.tracks < 2 ^ 32 }
     ensures blocks { OnOk result (AddsOfSlots (V.volume volume.old) tracks found.old found.new) }
+    ensures fault { IfErr result (λ e. e ≢ VolumeFault.Write) }
     ensures volume { IsRead result (V.volume volume.old) (V.volume volume.new) (V.failures volume.old) (V.failures volume.new) }
 {
     for i in 0..tracks.tracks {
@@ -261,6 +266,7 @@ fn read_one<V: SlotReader>(
     requires size { length slot.old ≡ (V.volume volume.old).geometry.track_size }
     requires exists { track < tracks_of (V.volume volume.old).geometry }
     ensures blocks { OnOk result (AddsOfTrack (V.volume volume.old) track found.old found.new) }
+    ensures fault { IfErr result (λ e. e ≢ VolumeFault.Write) }
     ensures volume { IsRead result (V.volume volume.old) (V.volume volume.new) (V.failures volume.old) (V.failures volume.new) }
     ensures size { length slot.new ≡ length slot.old }
 {

@@ -89,8 +89,8 @@ impl VolumeFile {
         self.held.as_ptr()
     }
 
-    /// A number: 0 before the first write that changes a byte, and another after each. Where all writes are counted it is another
-    /// after each of them.
+    /// A number: 0 before the first write that changes a byte, and the next one after each, so none that was seen comes back. Where all
+    /// writes are counted it moves on with each of them.
     pub fn changes(&self) -> u64
         ensures { result ≡ self.now.changes }
     {
