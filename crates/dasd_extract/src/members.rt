@@ -1,6 +1,6 @@
 //! The members of a partitioned data set.
 
-ghost use Rattle.std.specs.Prelude.{◌≡◌, find, bytes_eq, IfOk};
+ghost use Rattle.std.specs.Prelude.{◌≡◌, ◌≢◌, find, bytes_eq, IfOk, IfErr};
 ghost use Rattle.dasd_volumes.specs.Reading.{IsRead};
 ghost use Rattle.dasd_extract.specs.Members.{MembersOf};
 
@@ -72,6 +72,7 @@ pub fn read_members<V: SlotReader>(
     extents: &[Extent],
 ) -> Result<Members, VolumeFault>
     ensures members { IfOk result (MembersOf extents.now (V.volume volume.old)) }
+    ensures fault { IfErr result (λ e. e ≢ VolumeFault.Write) }
     ensures volume { IsRead result (V.volume volume.old) (V.volume volume.new) (V.failures volume.old) (V.failures volume.new) }
 {
     let mut blocks = Counted::new(Vec::new(alloc));
