@@ -14,6 +14,11 @@ module _ {S A B : Type 0} (out : S → A → List B) (next : S → A → S) (all
       ∙ ap (λ l. found ++ all s l) (sym (drop_more xs i d inside))
       ∙ known
 
+  -- what is found of those that are left begins with what is found of the first of them
+  pub rest_begins : (s : S) (xs : List A) (i : ℕ) (d : A) → i < length xs
+      → all s (drop i xs) ≡ out s (get_or xs i d) ++ all (next s (get_or xs i d)) (drop (i + 1) xs)
+  rest_begins s xs i d inside = ap (all s) (drop_more xs i d inside) ∙ more s (get_or xs i d) (drop (i + 1) xs)
+
   -- all were found
   pub all_found : (found total : List B) (s : S) (xs : List A) (i : ℕ) → length xs ≤ i → found ++ all s (drop i xs) ≡ total → found ≡ total
   all_found found total s xs i passed known =

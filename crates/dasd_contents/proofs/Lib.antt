@@ -7,3 +7,4 @@ pub mod Columns
 pub mod Written
 pub mod InTurn
 pub mod Checked
+pub mod Fronts

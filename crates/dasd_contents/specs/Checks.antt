@@ -1,5 +1,5 @@
 -- What is wrong with data sets and free tracks: each extent, and then all free tracks, against those that claim tracks before it.
-use Rattle.std.specs.Prelude.{ℕ, ◌+◌, ◌-◌, ◌==◌, Bool, ◌||◌, nat_lt, if◌then◌else◌, List, [], ◌∷◌, ◌++◌, length, replicate, count_by, fold, Option, Some, None}
+use Rattle.std.specs.Prelude.{◌≡◌, ℕ, ◌+◌, ◌-◌, ◌==◌, Bool, ◌||◌, nat_lt, if◌then◌else◌, List, [], ◌∷◌, ◌++◌, length, replicate, count_by, fold, Option, Some, None}
 use Rattle.ckd_track.specs.declared.geometries.Geometry.{Geometry}
 use Rattle.ckd_track.specs.Geometry.{tracks_of}
 use Rattle.volume_labels.specs.declared.fields.Extent.{Extent}
@@ -115,3 +115,10 @@ abbrev pub findings_of : Geometry → Option ContentsBlock → (blocks : List Bl
 findings_of g None blocks = []
 findings_of g (Some t) blocks =
     sets_findings g blocks (claimed_first g t) blocks ++ free_findings g blocks (claimed_by_sets g blocks (claimed_first g t) blocks)
+
+-- only the first of these findings were added, perhaps none, perhaps all
+pub record AddsFront (before now found : List Finding) : Type 0 where
+  pub front : List Finding
+  pub rest : List Finding
+  pub whole : found ≡ front ++ rest
+  pub added : now ≡ before ++ front

@@ -1,6 +1,6 @@
 //! The control blocks of one track.
 
-ghost use Rattle.std.specs.Prelude.{◌≡◌, ◌<◌, ◌++◌, ◌∷◌, [], ◌==◌, length, slice_index, IfOk};
+ghost use Rattle.std.specs.Prelude.{◌≡◌, ◌<◌, ◌++◌, ◌∷◌, [], ◌==◌, length, slice_index, IfOk, OnErr};
 ghost use Rattle.std.specs.List.{position};
 ghost use Rattle.ckd_track.specs.Track.{track_of, record_in};
 ghost use Rattle.dasd_volumes.specs.Volumes.{of_each};
@@ -184,7 +184,8 @@ fn add_block(found: &mut Found, block: Block) -> Result<(), AllocError>
 
 /// One finding more.
 pub(crate) fn add_finding(findings: &mut Vec<Finding>, finding: Finding) -> Result<(), AllocError>
-    ensures { IfOk result (λ _. findings.new.items ≡ findings.old.items ++ finding ∷ []) }
+    ensures added { IfOk result (λ _. findings.new.items ≡ findings.old.items ++ finding ∷ []) }
+    ensures kept { OnErr result (findings.new.items ≡ findings.old.items) }
 {
     match findings.push(finding) {
         Ok(()) => Ok(()),

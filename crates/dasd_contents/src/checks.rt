@@ -1,8 +1,8 @@
 //! What is wrong with data sets, their extents and free tracks.
 
-ghost use Rattle.std.specs.Prelude.{◌≡◌, ◌<◌, ◌++◌, length, IfOk, OnOk};
+ghost use Rattle.std.specs.Prelude.{◌≡◌, ◌<◌, ◌++◌, length, IfOk, OnOk, OnErr};
 ghost use Rattle.ckd_track.specs.Geometry.{tracks_of};
-ghost use Rattle.dasd_contents.specs.Checks.{is_for_labels, is_number, found_at, chain_findings, number_findings, extent_findings, claimed_behind, block_findings, claimed_by_block, sets_findings, claimed_by_sets, free_claim_of, claimed_by_free, piece_findings, free_findings, findings_of};
+ghost use Rattle.dasd_contents.specs.Checks.{is_for_labels, is_number, found_at, chain_findings, number_findings, extent_findings, claimed_behind, block_findings, claimed_by_block, sets_findings, claimed_by_sets, free_claim_of, claimed_by_free, piece_findings, free_findings, findings_of, AddsFront};
 ghost use Rattle.dasd_contents.specs.Sets.{number_of_free};
 
 use crate::blocks::{Block, add_finding};
@@ -33,7 +33,8 @@ struct Volume<'a> {
 ///
 /// # Errors
 ///
-/// There is no memory for a mark of each track, or for the findings.
+/// There is no memory for a mark of each track, or for the findings: only the first of these may be added, and the rest of the contents
+/// stays.
 pub fn check_contents(
     alloc: Global,
     geometry: Geometry,
@@ -41,6 +42,8 @@ pub fn check_contents(
 ) -> Result<(), AllocError>
     ensures findings { OnOk result (contents.new.found.findings.items
         ≡ contents.old.found.findings.items ++ findings_of geometry contents.old.table contents.old.found.blocks.items) }
+    ensures front { OnErr result (AddsFront contents.old.found.findings.items contents.new.found.findings.items
+        (findings_of geometry contents.old.table contents.old.found.blocks.items)) }
     ensures label { contents.new.label ≡ contents.old.label }
     ensures table { contents.new.table ≡ contents.old.table }
     ensures blocks { contents.new.found.blocks ≡ contents.old.found.blocks }
@@ -68,6 +71,8 @@ fn check_sets(
     requires { length marks.old ≡ tracks_of volume.geometry }
     ensures findings { OnOk result (findings.new.items
         ≡ findings.old.items ++ sets_findings volume.entry.geometry volume.entry.blocks.now marks.old volume.entry.blocks.now) }
+    ensures front { OnErr result (AddsFront findings.old.items findings.new.items
+        (sets_findings volume.entry.geometry volume.entry.blocks.now marks.old volume.entry.blocks.now)) }
     ensures marks { OnOk result (marks.new ≡ claimed_by_sets volume.entry.geometry volume.entry.blocks.now marks.old volume.entry.blocks.now) }
     ensures size { length marks.new ≡ length marks.old }
 {
@@ -88,6 +93,8 @@ fn check_block(
     requires { length marks.old ≡ tracks_of volume.geometry }
     ensures findings { OnOk result (findings.new.items
         ≡ findings.old.items ++ block_findings volume.entry.geometry volume.entry.blocks.now marks.old block.now) }
+    ensures front { OnErr result (AddsFront findings.old.items findings.new.items
+        (block_findings volume.entry.geometry volume.entry.blocks.now marks.old block.now)) }
     ensures marks { OnOk result (marks.new ≡ claimed_by_block volume.entry.geometry volume.entry.blocks.now marks.old block.now) }
     ensures size { length marks.new ≡ length marks.old }
 {
@@ -110,6 +117,10 @@ fn check_set(
         ++ (chain_findings set.now.address set.now.fault
         ++ (number_findings set.now.address set.now.extents.items set.now.block.extents
         ++ extent_findings geometry set.now.address marks.old set.now.extents.items))) }
+    ensures front { OnErr result (AddsFront findings.old.items findings.new.items
+        (chain_findings set.now.address set.now.fault
+        ++ (number_findings set.now.address set.now.extents.items set.now.block.extents
+        ++ extent_findings geometry set.now.address marks.old set.now.extents.items))) }
     ensures marks { OnOk result (marks.new ≡ claimed_behind geometry marks.old set.now.extents.items) }
     ensures size { length marks.new ≡ length marks.old }
 {
@@ -126,7 +137,8 @@ fn add_chain(
     place: RecordAddress,
     fault: Option<ChainFault>,
 ) -> Result<(), AllocError>
-    ensures { OnOk result (findings.new.items ≡ findings.old.items ++ chain_findings place fault) }
+    ensures added { OnOk result (findings.new.items ≡ findings.old.items ++ chain_findings place fault) }
+    ensures kept { OnErr result (findings.new.items ≡ findings.old.items) }
 {
     add_problem(findings, place, fault.map(Problem::Chain))
 }
@@ -137,7 +149,8 @@ fn add_problem(
     place: RecordAddress,
     problem: Option<Problem>,
 ) -> Result<(), AllocError>
-    ensures { OnOk result (findings.new.items ≡ findings.old.items ++ found_at place problem) }
+    ensures added { OnOk result (findings.new.items ≡ findings.old.items ++ found_at place problem) }
+    ensures kept { OnErr result (findings.new.items ≡ findings.old.items) }
 {
     match problem {
         Some(problem) => add_finding(findings, Finding { place, problem }),
@@ -152,7 +165,8 @@ fn add_number(
     extents: &[Extent],
     said: u8,
 ) -> Result<(), AllocError>
-    ensures { OnOk result (findings.new.items ≡ findings.old.items ++ number_findings place extents.now said) }
+    ensures added { OnOk result (findings.new.items ≡ findings.old.items ++ number_findings place extents.now said) }
+    ensures kept { OnErr result (findings.new.items ≡ findings.old.items) }
 {
     if is_number(extents, said) {
         return Ok(());
@@ -187,6 +201,7 @@ fn check_extents(
 ) -> Result<(), AllocError>
     requires { length marks.old ≡ tracks_of geometry }
     ensures findings { OnOk result (findings.new.items ≡ findings.old.items ++ extent_findings geometry place marks.old extents.now) }
+    ensures front { OnErr result (AddsFront findings.old.items findings.new.items (extent_findings geometry place marks.old extents.now)) }
     ensures marks { OnOk result (marks.new ≡ claimed_behind geometry marks.old extents.now) }
     ensures size { length marks.new ≡ length marks.old }
 {
@@ -205,8 +220,10 @@ fn check_free(
     volume: Volume,
 ) -> Result<(), AllocError>
     requires { length marks.old ≡ tracks_of volume.geometry }
-    ensures { OnOk result (findings.new.items
+    ensures findings { OnOk result (findings.new.items
         ≡ findings.old.items ++ free_findings volume.entry.geometry volume.entry.blocks.now marks.old) }
+    ensures front { OnErr result (AddsFront findings.old.items findings.new.items
+        (free_findings volume.entry.geometry volume.entry.blocks.now marks.old)) }
 {
     let free = free_tracks(alloc, volume.blocks)?;
     let Some(place) = free.address else {
@@ -231,7 +248,8 @@ fn check_pieces(
     pieces: &[FreeTracks],
 ) -> Result<(), AllocError>
     requires { length marks.old ≡ tracks_of geometry }
-    ensures { OnOk result (findings.new.items ≡ findings.old.items ++ piece_findings geometry place marks.old pieces.now) }
+    ensures findings { OnOk result (findings.new.items ≡ findings.old.items ++ piece_findings geometry place marks.old pieces.now) }
+    ensures front { OnErr result (AddsFront findings.old.items findings.new.items (piece_findings geometry place marks.old pieces.now)) }
 {
     for piece in pieces {
         let problem = claim_free(marks, geometry, *piece);

@@ -42,6 +42,7 @@ pub fn print_hash<V: SlotReader, W: Write>(
         (seen_by W.contents writer.old) (seen_by W.contents writer.new) }
     ensures writes { CountsWrites result (seen_by W.contents writer.old) (seen_by W.contents writer.new) }
     ensures none { IfErr result (λ e. e ≡ VolumeFault.OutOfMemory → writer.new ≡ writer.old) }
+    ensures unread { IfErr result (λ e. e ≡ VolumeFault.Store → writer.new ≡ writer.old) }
     ensures volume { IsRead result (V.volume volume.old) (V.volume volume.new) (V.failures volume.old) (V.failures volume.new) }
     ensures flushed { OnOk result (IsFlushed (seen_by W.contents writer.new)) }
 {
