@@ -1,4 +1,4 @@
-use Rattle.std.proofs.Common.{◌≡◌, ◌∙◌, ◌≤◌, ◌∷◌, [], ℕ, List, map, take, length, sym, ap, subst, arith, rules, tests, length-append}
+use Rattle.std.proofs.Common.{◌∙◌, ◌≤◌, ◌∷◌, [], List, map, length, sym, subst, arith, rules, tests, length-append}
 use Rattle.std.specs.List.{AllZip}
 use Rattle.std.proofs.lemmas.List.{take_all}
 use Rattle.std.proofs.lemmas.Result.{err_from_is_err_and}
