@@ -1,5 +1,6 @@
 -- Why the volume in files is not opened.
-use Rattle.std.proofs.Common.{◌≡◌, ◌∙◌, ◌⊎◌, inl, inr, ℕ, ◌+◌, ◌<◌, ◌≤◌, List, [], ◌∷◌, ◌++◌, length, take, map, get_or, Some, refl, sym, ap, subst, arith}
+use Rattle.std.proofs.Common.{◌≡◌, ◌∙◌, ◌⊎◌, inl, inr, ℕ, ◌+◌, ◌<◌, ◌≤◌, List, [], ◌∷◌, ◌++◌, length, take, map, get_or, Some, refl}
+use Rattle.std.proofs.Common.{sym, ap, subst, arith}
 use Rattle.std.specs.List.{AllZip}
 use Rattle.std.proofs.lemmas.List.{take_all, take_more, take-map, length-map, length-take-le, map-append}
 use Rattle.ckd_image.specs.declared.fault.MountFault.{MountFault}
@@ -10,14 +11,15 @@ use Rattle.dasd_jobs.specs.declared.faults.JobFault.TheVariants.{OutOfMemory, Mo
 use Rattle.dasd_jobs.specs.declared.reasons.Head.{Head}
 use Rattle.dasd_jobs.specs.Causes.{mounting_fault}
 use Rattle.dasd_jobs.specs.Sources.{Content, SourceFile, IsWhole, OpensMaybe, OpensPaths, OpensFirst}
-use Rattle.dasd_jobs.specs.Unopened.{HoldNone, OpensSome, OpensBut, NotOpened, NotRead}
+use Rattle.dasd_jobs.specs.Unopened.{OpensSome, OpensBut, NotOpened, NotRead}
 use Rattle.dasd_jobs.specs.Opening.{IsHeadOf, NotAdded, NotLocked, IsBroken, IsNoImage, alone}
 use Rattle.dasd_jobs.proofs.Volumes.{all_known, both_long, broken_files, one_more_opened}
 
 -- The first files.
 
 -- all of them
-pub opens_all : (paths : List (List ℕ)) (contents : List Content) (before now : List SourceFile) → OpensPaths paths contents before now → OpensSome paths before now
+pub opens_all : (paths : List (List ℕ)) (contents : List Content) (before now : List SourceFile) → OpensPaths paths contents before now
+    → OpensSome paths before now
 opens_all paths contents before now opens = (
   length paths,
   record {
@@ -29,7 +31,8 @@ opens_all paths contents before now opens = (
 
 module _ {P : Type 0} (path : P → List ℕ) (paths : List P) (before : List SourceFile) where
   -- those in front of a place
-  pub in_front : (i : ℕ) (contents : List Content) (now : List SourceFile) → i ≤ length paths → OpensPaths (map path (take i paths)) contents before now → OpensFirst i (map path paths) before now
+  pub in_front : (i : ℕ) (contents : List Content) (now : List SourceFile) → i ≤ length paths
+      → OpensPaths (map path (take i paths)) contents before now → OpensFirst i (map path paths) before now
   in_front i contents now inside opens = record {
     contents = contents;
     few = let long = length-map paths path in omega (arith, long, inside);
@@ -37,11 +40,16 @@ module _ {P : Type 0} (path : P → List ℕ) (paths : List P) (before : List So
   }
 
   -- those, and the one at the place, or not
-  pub up_to : (i : ℕ) (d : P) (contents : List Content) (between now : List SourceFile) → i < length paths → OpensPaths (map path (take i paths)) contents before between → OpensMaybe (path (get_or paths i d)) between now → OpensSome (map path paths) before now
-  up_to i d contents between now inside opens (inl same) = (i, in_front i contents now (omega arith) (subst (λ (l : List SourceFile). OpensPaths (map path (take i paths)) contents before l) (sym same) opens))
+  pub up_to : (i : ℕ) (d : P) (contents : List Content) (between now : List SourceFile) → i < length paths
+      → OpensPaths (map path (take i paths)) contents before between → OpensMaybe (path (get_or paths i d)) between now
+      → OpensSome (map path paths) before now
+  up_to i d contents between now inside opens (inl same) =
+      let so_far = subst (λ (l : List SourceFile). OpensPaths (map path (take i paths)) contents before l) (sym same) opens in
+      (i, in_front i contents now (omega arith) so_far)
   up_to i d contents between now inside opens (inr (content, one)) =
       let p = path (get_or paths i d) in
-      let more : map path (take (i + 1) paths) ≡ map path (take i paths) ++ p ∷ [] = ap (map path) (take_more paths i d inside) ∙ map-append path (take i paths) (get_or paths i d ∷ []) in (
+      let more : map path (take (i + 1) paths) ≡ map path (take i paths) ++ p ∷ [] =
+      ap (map path) (take_more paths i d inside) ∙ map-append path (take i paths) (get_or paths i d ∷ []) in (
         i + 1,
         in_front (i + 1) (contents ++ content ∷ []) now (omega arith)
             (subst (λ (ps : List (List ℕ)). OpensPaths ps (contents ++ content ∷ []) before now) (sym more)
@@ -49,12 +57,17 @@ module _ {P : Type 0} (path : P → List ℕ) (paths : List P) (before : List So
       )
 
   -- those, and not the one at the place
-  but : (i : ℕ) (contents : List Content) (between now : List SourceFile) → i < length paths → OpensPaths (map path (take i paths)) contents before between → now ≡ between → OpensBut (map path paths) before now
+  but : (i : ℕ) (contents : List Content) (between now : List SourceFile) → i < length paths
+      → OpensPaths (map path (take i paths)) contents before between → now ≡ between → OpensBut (map path paths) before now
   but i contents between now inside opens same =
-      (i, (let long = length-map paths path in omega (arith, long, inside)), in_front i contents now (omega arith) (subst (λ (l : List SourceFile). OpensPaths (map path (take i paths)) contents before l) (sym same) opens))
+      let long = length-map paths path in
+      let so_far = subst (λ (l : List SourceFile). OpensPaths (map path (take i paths)) contents before l) (sym same) opens in
+      (i, omega (arith, long, inside), in_front i contents now (omega arith) so_far)
 
   -- the next is not opened
-  pub stopped : (f : JobFault) (i : ℕ) (d : P) (contents : List Content) (between now : List SourceFile) → i < length paths → OpensPaths (map path (take i paths)) contents before between → NotAdded f (path (get_or paths i d)) between now → NotOpened f (map path paths) before now
+  pub stopped : (f : JobFault) (i : ℕ) (d : P) (contents : List Content) (between now : List SourceFile) → i < length paths
+      → OpensPaths (map path (take i paths)) contents before between → NotAdded f (path (get_or paths i d)) between now
+      → NotOpened f (map path paths) before now
   stopped (Mount broken) i d contents between now inside opens not = absurd not
   stopped Write i d contents between now inside opens not = absurd not
   stopped Store i d contents between now inside opens not = absurd not
@@ -63,7 +76,9 @@ module _ {P : Type 0} (path : P → List ℕ) (paths : List P) (before : List So
   stopped f i d contents between now inside opens not = up_to i d contents between now inside opens not
 
   -- or not locked
-  pub stopped_locking : (f : JobFault) (i : ℕ) (d : P) (contents : List Content) (heads : List Head) (between now : List SourceFile) → i < length paths → OpensPaths (map path (take i paths)) contents before between → AllZip IsHeadOf contents heads → NotLocked f (length heads) (path (get_or paths i d)) between now → NotRead f (map path paths) before now
+  pub stopped_locking : (f : JobFault) (i : ℕ) (d : P) (contents : List Content) (heads : List Head) (between now : List SourceFile)
+      → i < length paths → OpensPaths (map path (take i paths)) contents before between → AllZip IsHeadOf contents heads
+      → NotLocked f (length heads) (path (get_or paths i d)) between now → NotRead f (map path paths) before now
   stopped_locking (Mount broken) i d contents heads between now inside opens are not =
       let both = both_long IsHeadOf contents heads are in
       let count = opens.count in
@@ -83,29 +98,40 @@ module _ {P : Type 0} (path : P → List ℕ) (paths : List P) (before : List So
 
 -- Files that were opened, and are no image.
 
-pub not_mounted : (broken : MountFault) (paths : List (List ℕ)) (contents : List Content) (heads : List Head) (before now : List SourceFile) → OpensPaths paths contents before now → AllZip IsHeadOf contents heads → IsBroken broken (map alone heads) → NotOpened (mounting_fault broken) paths before now
+pub not_mounted : (broken : MountFault) (paths : List (List ℕ)) (contents : List Content) (heads : List Head) (before now : List SourceFile)
+    → OpensPaths paths contents before now → AllZip IsHeadOf contents heads → IsBroken broken (map alone heads)
+    → NotOpened (mounting_fault broken) paths before now
 not_mounted StoreFault paths contents heads before now opens are is = opens_all paths contents before now opens
-not_mounted broken paths contents heads before now opens are is = inr (record { contents = contents; opens = opens; breaks = broken_files broken contents heads are is })
+not_mounted broken paths contents heads before now opens are is =
+    inr (record { contents = contents; opens = opens; breaks = broken_files broken contents heads are is })
 
 -- what was read of files that are known is what they hold
 read_whole : (files bytes : List (List ℕ)) → AllZip IsWhole (map Some files) bytes → bytes ≡ files
 read_whole [] [] are = refl
 read_whole [] (b ∷ bytes) are = absurd are
 read_whole (file ∷ files) [] are = absurd are
-read_whole (file ∷ files) (b ∷ bytes) are = ap (λ (x : List ℕ). x ∷ bytes) (are.0 file refl) ∙ ap (λ (l : List (List ℕ)). file ∷ l) (read_whole files bytes are.1)
+read_whole (file ∷ files) (b ∷ bytes) are =
+    ap (λ (x : List ℕ). x ∷ bytes) (are.0 file refl) ∙ ap (λ (l : List (List ℕ)). file ∷ l) (read_whole files bytes are.1)
 
-pub not_an_image : (f : JobFault) (paths : List (List ℕ)) (contents : List Content) (bytes : List (List ℕ)) (before now : List SourceFile) → OpensPaths paths contents before now → AllZip IsWhole contents bytes → IsNoImage f bytes → NotOpened f paths before now
-not_an_image f paths contents bytes before now opens are (broken, told, is) = subst (λ (g : JobFault). NotOpened g paths before now) (sym told) (by broken is)
+pub not_an_image : (f : JobFault) (paths : List (List ℕ)) (contents : List Content) (bytes : List (List ℕ)) (before now : List SourceFile)
+    → OpensPaths paths contents before now → AllZip IsWhole contents bytes → IsNoImage f bytes → NotOpened f paths before now
+not_an_image f paths contents bytes before now opens are (broken, told, is) =
+    subst (λ (g : JobFault). NotOpened g paths before now) (sym told) (by broken is)
   where
     by : (m : MountFault) → IsBroken m bytes → NotOpened (mounting_fault m) paths before now
     by StoreFault rule = opens_all paths contents before now opens
     by m rule = inr (record {
       contents = contents;
       opens = opens;
-      breaks = λ files all. ap mount_of (sym (read_whole files bytes (subst (λ (l : List Content). AllZip IsWhole l bytes) (all_known contents files all) are))) ∙ rule;
+      breaks = λ files all.
+          let whole = subst (λ (l : List Content). AllZip IsWhole l bytes) (all_known contents files all) are in
+          ap mount_of (sym (read_whole files bytes whole)) ∙ rule;
     })
 
 -- files that were opened are not read, or there is no memory
-pub not_read : (f : JobFault) (paths : List (List ℕ)) (contents : List Content) (before now : List SourceFile) → OpensPaths paths contents before now → (f ≡ Read) ⊎ (f ≡ OutOfMemory) → NotOpened f paths before now
-not_read f paths contents before now opens (inl read) = subst (λ (g : JobFault). NotOpened g paths before now) (sym read) (opens_all paths contents before now opens)
-not_read f paths contents before now opens (inr none) = subst (λ (g : JobFault). NotOpened g paths before now) (sym none) (opens_all paths contents before now opens)
+pub not_read : (f : JobFault) (paths : List (List ℕ)) (contents : List Content) (before now : List SourceFile)
+    → OpensPaths paths contents before now → (f ≡ Read) ⊎ (f ≡ OutOfMemory) → NotOpened f paths before now
+not_read f paths contents before now opens (inl read) =
+    subst (λ (g : JobFault). NotOpened g paths before now) (sym read) (opens_all paths contents before now opens)
+not_read f paths contents before now opens (inr none) =
+    subst (λ (g : JobFault). NotOpened g paths before now) (sym none) (opens_all paths contents before now opens)

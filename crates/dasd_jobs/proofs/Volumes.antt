@@ -103,17 +103,20 @@ then_same : {A B : Type 0} (r : Result A MountFault) (f g : A → Result B Mount
 then_same (Ok a) f g same = same a
 then_same (Err fault) f g same = refl
 
-headers_same : (read : List _) (files : List (List ℕ)) (heads : List Head) → AllZip IsHeadOf (map Some files) heads → headers_of read (map head_of files) ≡ headers_of read (map head_of (map alone heads))
+headers_same : (read : List _) (files : List (List ℕ)) (heads : List Head) → AllZip IsHeadOf (map Some files) heads
+    → headers_of read (map head_of files) ≡ headers_of read (map head_of (map alone heads))
 headers_same read [] [] are = refl
 headers_same read [] (head ∷ heads) are = absurd are
 headers_same read (file ∷ files) [] are = absurd are
 headers_same read (file ∷ files) (head ∷ heads) are =
     ap (λ r. then_with r (λ h. headers_of (read ++ h ∷ []) (map head_of files))) (same_header file head are.0)
-    ∙ then_same (header_of (head_of (alone head))) (λ h. headers_of (read ++ h ∷ []) (map head_of files)) (λ h. headers_of (read ++ h ∷ []) (map head_of (map alone heads)))
+    ∙ then_same (header_of (head_of (alone head))) (λ h. headers_of (read ++ h ∷ []) (map head_of files))
+    (λ h. headers_of (read ++ h ∷ []) (map head_of (map alone heads)))
     (λ h. headers_same (read ++ h ∷ []) files heads are.1)
 
 -- files are mounted as their headers are
-pub mount_same : (files : List (List ℕ)) (heads : List Head) → AllZip IsHeadOf (map Some files) heads → mount_of files ≡ mount_of (map alone heads)
+pub mount_same : (files : List (List ℕ)) (heads : List Head) → AllZip IsHeadOf (map Some files) heads
+    → mount_of files ≡ mount_of (map alone heads)
 mount_same files heads are = ap (λ r. then_with r volume_of) (headers_same [] files heads are)
 
 -- the tracks that were counted of one file
@@ -137,7 +140,8 @@ mounted_files g contents heads are mounts files is =
     mount_same files heads those ∙ mounts
 
 -- and those whose headers are not are no image
-pub broken_files : (broken : MountFault) (contents : List Content) (heads : List Head) → AllZip IsHeadOf contents heads → mount_of (map alone heads) ≡ Err broken → NotMounted contents broken
+pub broken_files : (broken : MountFault) (contents : List Content) (heads : List Head) → AllZip IsHeadOf contents heads
+    → mount_of (map alone heads) ≡ Err broken → NotMounted contents broken
 broken_files broken contents heads are breaks files is =
     mount_same files heads (subst (λ (l : List Content). AllZip IsHeadOf l heads) (all_known contents files is) are) ∙ breaks
 

@@ -7,7 +7,7 @@ use Rattle.ckd_image.specs.declared.fault.MountFault.{MountFault}
 use Rattle.ckd_image.specs.declared.fault.MountFault.TheVariants.{Split, StoreFault}
 use Rattle.dasd_jobs.specs.Causes.{mounting_fault}
 use Rattle.dasd_jobs.specs.declared.faults.JobFault.{JobFault}
-use Rattle.dasd_jobs.specs.declared.faults.JobFault.TheVariants.{OutOfMemory, Mount, Read, Write, Store, InUse, Exists}
+use Rattle.dasd_jobs.specs.declared.faults.JobFault.TheVariants.{Mount, Write, Store, InUse, Exists}
 use Rattle.dasd_jobs.specs.declared.reasons.Head.{Head}
 use Rattle.dasd_jobs.specs.Sources.{Content, SourceFile, OpensMaybe, with_source, known}
 

@@ -4,7 +4,7 @@ use Rattle.ckd_image.specs.declared.fault.MountFault.{MountFault}
 use Rattle.ckd_image.specs.declared.fault.MountFault.TheVariants.{Split, Length, StoreFault}
 use Rattle.dasd_jobs.specs.Sources.{Content, SourceFile, OpensPaths, OpensFirst, NotMounted}
 use Rattle.dasd_jobs.specs.declared.faults.JobFault.{JobFault}
-use Rattle.dasd_jobs.specs.declared.faults.JobFault.TheVariants.{OutOfMemory, Mount, Read, Write, Store, InUse, Exists}
+use Rattle.dasd_jobs.specs.declared.faults.JobFault.TheVariants.{OutOfMemory, Mount, Write, Store, InUse, Exists}
 
 -- The files at these paths were opened, and they hold no image: they break this rule of a mount first.
 pub record HoldNone (broken : MountFault) (paths : List (List ℕ)) (before now : List SourceFile) : Type 0 where

@@ -1,5 +1,5 @@
 -- Drives that are attached one after another.
-use Rattle.std.proofs.Common.{◌≡◌, ◌∙◌, ◌+◌, ◌<◌, ◌==◌, ℕ, suc, Bool, true, false, List, [], ◌∷◌, ◌++◌, take, drop, length, get_or, position, is_some, inr, add-one, take-append-drop, ap, sym, subst, refl, arith}
+use Rattle.std.proofs.Common.{◌≡◌, ◌∙◌, ◌+◌, ◌<◌, ◌==◌, ℕ, suc, Bool, true, false, List, [], ◌∷◌, ◌++◌, take, drop, length, get_or, position, is_some, inl, inr, add-one, take-append-drop, ap, sym, subst, refl, arith}
 use Rattle.std.specs.List.{AllZip, position_or_len}
 use Rattle.std.proofs.Math.Seq.{take-suc, drop-cons}
 use Rattle.std.proofs.lemmas.Bool.Decides.{nat_tests}
@@ -14,8 +14,7 @@ use Rattle.dasd_jobs.specs.declared.faults.JobFault.{JobFault}
 use Rattle.dasd_jobs.specs.declared.faults.JobFault.TheVariants as job
 use Rattle.dasd_run.specs.declared.fault.ProgramFault.{ProgramFault}
 use Rattle.dasd_run.specs.Faults.{attach_fault, volume_fault}
-use Rattle.dasd_run.specs.Runs.{IsDriveOf, OpensVolumes, AttachesOne}
-use Rattle.dasd_run.specs.Built.{IsNewChannel, is_addressed, has_address, HasAddressOf, NotAttached, NotBuilt}
+use Rattle.dasd_run.specs.Built.{IsNewChannel, IsDriveOf, HasImage, OpensVolumes, AttachesOne, HasNoImage, is_addressed, has_address, HasAddressOf, NotAttached, NotBuilt}
 
 -- one volume more: its drive stands behind the others, and its files were opened behind theirs
 opens_more : (vs : List Volume) (us : List AttachedState) (v : Volume) (u : AttachedState) (before between now : List SourceFile)
@@ -37,7 +36,8 @@ opens_next vs us zs i v u before between now inside is more so_far one =
     (opens_more (take i vs) us v u before between now so_far one))
 
 -- the drives have the addresses of their volumes
-pub addressed : (vs : List Volume) (us : List AttachedState) (before now : List SourceFile) → OpensVolumes vs us before now → AllZip HasAddressOf vs us
+pub addressed : (vs : List Volume) (us : List AttachedState) (before now : List SourceFile) → OpensVolumes vs us before now
+    → AllZip HasAddressOf vs us
 addressed [] [] before now all = tt
 addressed [] (u ∷ us) before now all = absurd all
 addressed (v ∷ vs) [] before now all = absurd all
@@ -57,8 +57,10 @@ parted : {A : Type 0} (xs : List A) (i : ℕ) (x : A) → i < length xs → x �
 parted {A} xs i x inside is = sym (take-append-drop i xs) ∙ ap (λ l. take i xs ++ l) (drop-cons xs i x inside ∙ ap (λ (y : A). y ∷ drop (suc i) xs) (sym is))
 
 -- the volume at a place gets no drive
-pub stops_at : (f : ProgramFault) (size number : ℕ) (vs before : List Volume) (i : ℕ) (v : Volume) → before ≡ take i vs → i < length vs → v ≡ get_or vs i v → (is_size size ≡ true) × (number < 7) → NotAttached f before v → NotBuilt f size number vs
-stops_at f size number vs before i v is inside there sound why = inr (
+pub stops_at : (f : ProgramFault) (size number : ℕ) (vs before : List Volume) (i : ℕ) (v : Volume) (us : List AttachedState) (opened_before between opened : List SourceFile)
+    → before ≡ take i vs → i < length vs → v ≡ get_or vs i v → (is_size size ≡ true) × (number < 7) → OpensVolumes (take i vs) us opened_before between → NotAttached f before v between opened
+    → NotBuilt f size number vs opened_before opened
+stops_at f size number vs before i v us opened_before between opened is inside there sound opens why = inr (
   sound.0,
   sound.1,
   record {
@@ -66,6 +68,8 @@ stops_at f size number vs before i v is inside there sound why = inr (
     volume = v;
     behind = drop (suc i) vs;
     are_all = rw is (parted vs i v inside there);
+    between = between;
+    opens = (us, subst (λ (l : List Volume). OpensVolumes l us opened_before between) (sym is) opens);
     why = why;
   },
 )
@@ -99,17 +103,22 @@ is_eight : (n : ℕ) → (n == 8) ≡ true → n ≡ 8
 is_eight n is = grind (arith, nat_tests)
 
 -- a drive is not attached
-pub is_refused : (f : AttachFault) (vs : List Volume) (c : ChannelState) (v : Volume) → AllZip HasAddressOf vs c.drives → RefusedAs v.device c f
-    → NotAttached (attach_fault f) vs v
-is_refused UnitTaken vs c v all r = sym (same_addresses v.device vs c.drives all) ∙ r
-is_refused Full vs c v all r = (sym (same_addresses v.device vs c.drives all) ∙ r.0, sym (same_count vs c.drives all) ∙ is_eight (length c.drives) r.1)
-is_refused (OutOfMemory e) vs c v all r = sym (same_addresses v.device vs c.drives all) ∙ r.0
+pub is_refused : (f : AttachFault) (vs : List Volume) (c : ChannelState) (v : Volume) (before now : List SourceFile)
+    → AllZip HasAddressOf vs c.drives → HasImage v.source before now → RefusedAs v.device c f
+    → NotAttached (attach_fault f) vs v before now
+is_refused UnitTaken vs c v before now all image r = (sym (same_addresses v.device vs c.drives all) ∙ r, inr image)
+is_refused Full vs c v before now all image r =
+    (sym (same_addresses v.device vs c.drives all) ∙ r.0, sym (same_count vs c.drives all) ∙ is_eight (length c.drives) r.1, image)
+is_refused (OutOfMemory e) vs c v before now all image r = (sym (same_addresses v.device vs c.drives all) ∙ r.0, image)
 
 -- a volume is not opened
-not_opened : (f : JobFault) (is_taken : Bool) (vs : List Volume) (v : Volume) → has_address v.device vs ≡ is_taken → NotAttached (volume_fault f is_taken) vs v
-not_opened job.InUse true vs v is = is
-not_opened job.InUse false vs v is = is
-not_opened f is_taken vs v is = tt
+not_opened : (f : JobFault) (is_taken : Bool) (vs : List Volume) (v : Volume) (before now : List SourceFile)
+    → has_address v.device vs ≡ is_taken → HasNoImage f v.source before now
+    → NotAttached (volume_fault f is_taken) vs v before now
+not_opened job.InUse true vs v before now is none = (is, inl none)
+not_opened job.InUse false vs v before now is none = (is, none)
+not_opened f is_taken vs v before now is none = none
 
-pub is_not_opened : (f : JobFault) (vs : List Volume) (v : Volume) → NotAttached (volume_fault f (has_address v.device vs)) vs v
-is_not_opened f vs v = not_opened f (has_address v.device vs) vs v refl
+pub is_not_opened : (f : JobFault) (vs : List Volume) (v : Volume) (before now : List SourceFile) → HasNoImage f v.source before now
+    → NotAttached (volume_fault f (has_address v.device vs)) vs v before now
+is_not_opened f vs v before now none = not_opened f (has_address v.device vs) vs v before now refl none

@@ -1,12 +1,17 @@
 -- Headers of files that were opened.
-use Rattle.std.proofs.Common.{◌≡◌, ◌∙◌, ℕ, ◌+◌, ◌<◌, List, [], ◌∷◌, ◌++◌, length, take, map, get_or, refl, ap, sym, subst, arith, append_assoc, append-nil, length-append}
+use Rattle.std.proofs.Common.{◌≡◌, ◌∙◌, ◌⊎◌, ℕ, ◌+◌, ◌<◌, List, [], ◌∷◌, ◌++◌, length, take, map, get_or, refl, ap, sym, subst, arith, append_assoc, append-nil, length-append}
 use Rattle.std.specs.List.{AllZip}
 use Rattle.std.proofs.lemmas.List.{take_more, map-append}
-use Rattle.dasd_jobs.specs.Sources.{Content, SourceFile, OpensPaths, sources, with_source}
-use Rattle.dasd_run.specs.Strict.{IsHead, OpensHead, ReadsHeads}
+use Rattle.dasd_jobs.specs.Sources.{Content, SourceFile, OpensMaybe, OpensPaths, sources, with_source}
+use Rattle.dasd_jobs.specs.declared.faults.JobFault.TheVariants.{Read}
+use Rattle.dasd_jobs.proofs.Unopened.{up_to}
+use Rattle.dasd_run.specs.declared.fault.ProgramFault.{ProgramFault}
+use Rattle.dasd_run.specs.declared.fault.ProgramFault.TheVariants as fault
+use Rattle.dasd_run.specs.Strict.{IsHead, OpensHead, ReadsHeads, AreUnread}
 
 -- one more item of two lists that go together
-and_both : {A B : Type 0} (R : A → B → Type 0) (xs : List A) (ys : List B) (x : A) (y : B) → AllZip R xs ys → R x y → AllZip R (xs ++ x ∷ []) (ys ++ y ∷ [])
+and_both : {A B : Type 0} (R : A → B → Type 0) (xs : List A) (ys : List B) (x : A) (y : B) → AllZip R xs ys → R x y
+    → AllZip R (xs ++ x ∷ []) (ys ++ y ∷ [])
 and_both R [] [] x y all one = (one, tt)
 and_both R [] (b ∷ ys) x y all one = absurd all
 and_both R (a ∷ xs) [] x y all one = absurd all
@@ -49,3 +54,9 @@ one_more_head path paths i d heads more head before between now inside so_far on
       opens = one_more_opened (map path (take i paths)) so_far.contents p one.content before between now so_far.opens one.opened;
       are_heads = and_both IsHead so_far.contents heads one.content head so_far.are_heads one.is_head;
     }))
+
+-- the header at a place can't be read, or there is no memory for it
+pub heads_stop : {P : Type 0} (f : ProgramFault) (path : P → List ℕ) (paths : List P) (i : ℕ) (d : P) (heads : List (List ℕ)) (before between now : List SourceFile)
+    → i < length paths → ReadsHeads (map path (take i paths)) heads before between → OpensMaybe (path (get_or paths i d)) between now → (f ≡ fault.Job Read) ⊎ (f ≡ fault.OutOfMemory)
+    → AreUnread f (map path paths) before now
+heads_stop f path paths i d heads before between now inside so_far maybe told = (told, up_to path paths before i d so_far.contents between now inside so_far.opens maybe)

@@ -56,14 +56,14 @@ ChecksVolume result paths opened_before opened printed_before printed =
 -- this part of the volume in the files that are named is dumped
 abbrev pub DumpsPart : Result Ending ProgramFault → PrintedVolume → DumpedPart → (opened_before opened : List SourceFile) → (before now : Stream) → Type 0
 DumpsPart result asked part opened_before opened before now =
-    IsUnopened result before now
+    IsUnopened result (paths_of asked) opened_before opened before now
     ⊎ OfVolume (paths_of asked) opened_before opened
     (λ v. PrintsPart result (IsPartOf (asked_part part)) (dump_text (style_of asked.json) (quoted_paths (paths_of asked)) (asked_part part)) v before now)
 
 -- some of its cylinders are listed
 abbrev pub ListsPart : Result Ending ProgramFault → PrintedVolume → ListedPart → (opened_before opened : List SourceFile) → (before now : Stream) → Type 0
 ListsPart result asked part opened_before opened before now =
-    IsUnopened result before now
+    IsUnopened result (paths_of asked) opened_before opened before now
     ⊎ OfVolume (paths_of asked) opened_before opened
     (λ v. PrintsPart result (HasCylinders part.cylinders) (asked_list (style_of asked.json) (quoted_paths (paths_of asked)) part) v before now)
 
@@ -74,7 +74,7 @@ hashed_path asked = if asked.json then quoted_paths (paths_of asked) else joined
 -- its hash is printed, and it has findings where there are tracks that can't be read
 abbrev pub HashesVolume : Result Ending ProgramFault → PrintedVolume → (opened_before opened : List SourceFile) → (before now : Stream) → Type 0
 HashesVolume result asked opened_before opened before now =
-    IsUnopened result before now
+    IsUnopened result (paths_of asked) opened_before opened before now
     ⊎ OfVolume (paths_of asked) opened_before opened (λ v. HashesWhole result (hashed_path asked) asked.json v before now)
 
 -- no file is written, and nothing is read of the reader

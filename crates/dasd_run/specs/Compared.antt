@@ -63,9 +63,16 @@ pub record OfVolumes (paths other_paths : List (List ℕ)) (before now : List So
   pub between : List SourceFile
   pub so : OfVolume paths before between (λ v. OfVolume other_paths between now (λ w. P v w))
 
--- the volumes of two lists of files are compared; or they are not opened, and nothing is printed
+-- The first is not opened; or it is, and the other is not; and nothing is printed.
+abbrev pub NotBothOpened : Result Ending ProgramFault → ComparedVolumes → (opened_before opened : List SourceFile) → (before now : Stream) → Type 0
+NotBothOpened result asked opened_before opened before now =
+    IsUnopened result (one_of asked) opened_before opened before now
+    ⊎ ((between : List SourceFile) × OfVolume (one_of asked) opened_before between (λ v. Unit {0})
+    × IsUnopened result (other_of asked) between opened before now)
+
+-- the volumes of two lists of files are compared; or they are not opened
 abbrev pub ComparesFiles : Result Ending ProgramFault → ComparedVolumes → (opened_before opened : List SourceFile) → (before now : Stream) → Type 0
 ComparesFiles result asked opened_before opened before now =
-    IsUnopened result before now
+    NotBothOpened result asked opened_before opened before now
     ⊎ OfVolumes (one_of asked) (other_of asked) opened_before opened
     (λ v w. ComparesVolumes result (style_of asked.json) (quoted_paths (one_of asked)) (quoted_paths (other_of asked)) asked.lists v w before now)

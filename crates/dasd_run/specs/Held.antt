@@ -17,7 +17,7 @@ use Rattle.dasd_run.specs.declared.commands.Ending.{Ending}
 use Rattle.dasd_run.specs.declared.fault.ProgramFault.{ProgramFault}
 use Rattle.dasd_run.specs.declared.fault.ProgramFault.TheVariants as fault
 use Rattle.dasd_run.specs.Paths.{quoted_paths}
-use Rattle.dasd_run.specs.Printed.{paths_of, ending_of}
+use Rattle.dasd_run.specs.Printed.{paths_of, ending_of, WhyUnopened}
 
 -- all that is wrong: with the label and the control blocks, and with the data sets and the free tracks
 abbrev pub all_findings : Geometry → Said → List Finding
@@ -66,11 +66,11 @@ PrintsHeld (Err f) json v before now =
 abbrev pub json_path : PrintedVolume → Option (List ℕ)
 json_path asked = if asked.json then Some (quoted_paths (paths_of asked)) else None
 
--- The volume in the files at the paths that were named was printed so, and no other file was opened; or they could not be opened, or hold no
--- volume, or there was no memory, and nothing was printed.
+-- The volume in the files at the paths that were named was printed so, and no other file was opened; or it was not opened, and nothing was
+-- printed.
 abbrev pub ListsContents : Result Ending ProgramFault → PrintedVolume → (opened_before opened : List SourceFile) → (before now : Stream) → Type 0
 ListsContents (Ok ending) asked opened_before opened before now =
     OfVolume (paths_of asked) opened_before opened (λ v. PrintsHeld (Ok ending) (json_path asked) v before now)
 ListsContents (Err f) asked opened_before opened before now =
-    ((f ≢ fault.Job job.Write) × (now ≡ before))
+    (WhyUnopened f (paths_of asked) opened_before opened × (now ≡ before))
     ⊎ OfVolume (paths_of asked) opened_before opened (λ v. PrintsHeld (Err f) (json_path asked) v before now)

@@ -18,6 +18,8 @@ use Rattle.dasd_words.specs.declared.requests.ListedPart.{ListedPart}
 use Rattle.dasd_words.specs.declared.requests.DumpedPart.{DumpedPart}
 use Rattle.dasd_words.specs.declared.requests.PrintedVolume.{PrintedVolume}
 use Rattle.dasd_jobs.specs.declared.faults.JobFault.TheVariants as job
+use Rattle.dasd_jobs.specs.Sources.{SourceFile}
+use Rattle.dasd_jobs.specs.Unopened.{NotOpened}
 use Rattle.dasd_run.specs.declared.commands.Ending.{Ending}
 use Rattle.dasd_run.specs.declared.commands.Ending.TheVariants.{Done, Findings}
 use Rattle.dasd_run.specs.declared.fault.ProgramFault.{ProgramFault}
@@ -53,17 +55,17 @@ HasCylinders asked g =
 abbrev pub asked_list : Style → (path : List ℕ) → ListedPart → Geometry → (slots : List (List ℕ)) → List ℕ
 asked_list style path part g slots = list_text style path part.used_only (asked_cylinders part.cylinders g) g slots
 
--- there is no memory, or files can't be opened or read or hold no volume
-abbrev pub is_unopened : ProgramFault → Bool
-is_unopened fault.OutOfMemory = true
-is_unopened (fault.Job job.Write) = false
-is_unopened (fault.Job _) = true
-is_unopened _ = false
+-- Why the volume in the files at these paths is not opened: there is no memory for the paths as they are printed, and no file was opened;
+-- or its job's fault says why.
+abbrev pub WhyUnopened : ProgramFault → (paths : List (List ℕ)) → (opened_before opened : List SourceFile) → Type 0
+WhyUnopened fault.OutOfMemory paths opened_before opened = opened ≡ opened_before
+WhyUnopened (fault.Job f) paths opened_before opened = NotOpened f paths opened_before opened
+WhyUnopened f paths opened_before opened = ⊥
 
--- a command ended with such a fault, and nothing was printed
-abbrev pub IsUnopened : Result Ending ProgramFault → (before now : Stream) → Type 0
-IsUnopened (Ok ending) before now = ⊥
-IsUnopened (Err f) before now = (is_unopened f ≡ true) × (now ≡ before)
+-- it is not opened, and nothing is printed
+abbrev pub IsUnopened : Result Ending ProgramFault → (paths : List (List ℕ)) → (opened_before opened : List SourceFile) → (before now : Stream) → Type 0
+IsUnopened (Ok ending) paths opened_before opened before now = ⊥
+IsUnopened (Err f) paths opened_before opened before now = WhyUnopened f paths opened_before opened × (now ≡ before)
 
 -- a check or a comparison has findings where it counts some
 abbrev pub ending_of : ℕ → Ending

@@ -1,5 +1,5 @@
 -- What a strict check of the volume of files prints: what is found of the headers, and of the volume.
-use Rattle.std.specs.Prelude.{◌≡◌, ◌⊎◌, ◌+◌, ◌==◌, ℕ, min, if◌then◌else◌, List, [], ◌++◌, length, slice_index_or, Result, IfOk}
+use Rattle.std.specs.Prelude.{◌≡◌, ◌⊎◌, ◌+◌, ◌==◌, ℕ, min, if◌then◌else◌, List, [], ◌++◌, length, slice_index_or, Result, Ok, Err, IfOk}
 use Rattle.std.specs.List.{AllZip}
 use Rattle.counted_io.specs.Streams.{Stream}
 use Rattle.ckd_track.specs.declared.geometries.Geometry.{Geometry}
@@ -13,9 +13,12 @@ use Rattle.dasd_archive.specs.Reports.{finding_lines}
 use Rattle.dasd_archive.specs.Strict.{findings_in_header, strict_text, Adds}
 use Rattle.dasd_words.specs.declared.requests.PrintedVolume.{PrintedVolume}
 use Rattle.dasd_jobs.specs.Sources.{Content, SourceFile, StandsIn, OpensPaths, OfVolume, with_source}
+use Rattle.dasd_jobs.specs.Unopened.{OpensSome}
+use Rattle.dasd_jobs.specs.declared.faults.JobFault.TheVariants.{Read}
 use Rattle.dasd_run.specs.declared.commands.Ending.{Ending}
 use Rattle.dasd_run.specs.declared.commands.Ending.TheVariants.{Done, Findings}
 use Rattle.dasd_run.specs.declared.fault.ProgramFault.{ProgramFault}
+use Rattle.dasd_run.specs.declared.fault.ProgramFault.TheVariants as fault
 use Rattle.dasd_run.specs.Paths.{quoted_paths}
 use Rattle.dasd_run.specs.Printed.{style_of, paths_of, IsUnopened, printed_ending, PrintsWhole}
 
@@ -61,9 +64,20 @@ pub record OfHeads (paths : List (List ℕ)) (before now : List SourceFile) (P :
   pub reads : ReadsHeads paths heads between now
   pub so : OfVolume paths before between (λ v. P v heads)
 
+-- Why there are no headers of the files at these paths: one can't be read, or there is no memory. The files up to there were opened.
+abbrev pub AreUnread : ProgramFault → (paths : List (List ℕ)) → (before now : List SourceFile) → Type 0
+AreUnread f paths before now = ((f ≡ fault.Job Read) ⊎ (f ≡ fault.OutOfMemory)) × OpensSome paths before now
+
+-- the volume was opened, and has no headers, and nothing is printed
+abbrev pub HasNoHeads : Result Ending ProgramFault → (paths : List (List ℕ)) → (opened_before opened : List SourceFile) → (before now : Stream) → Type 0
+HasNoHeads (Ok ending) paths opened_before opened before now = ⊥
+HasNoHeads (Err f) paths opened_before opened before now =
+    ((between : List SourceFile) × OfVolume paths opened_before between (λ v. Unit {0}) × AreUnread f paths between opened) × (now ≡ before)
+
 -- the volume in the files that are named is checked; or they are not opened, and nothing is printed
 abbrev pub ChecksStrictly : Result Ending ProgramFault → PrintedVolume → (opened_before opened : List SourceFile) → (before now : Stream) → Type 0
 ChecksStrictly result asked opened_before opened before now =
-    IsUnopened result before now
+    IsUnopened result (paths_of asked) opened_before opened before now
+    ⊎ HasNoHeads result (paths_of asked) opened_before opened before now
     ⊎ OfHeads (paths_of asked) opened_before opened
     (λ v heads. ChecksWhole result (style_of asked.json) (quoted_paths (paths_of asked)) heads v before now)

@@ -1,10 +1,9 @@
 -- Data sets that are taken out of a volume.
-use Rattle.std.specs.Prelude.{◌≡◌, ◌≢◌, ◌⊎◌, ℕ, List, map, Result, Ok, Err, OnOk}
+use Rattle.std.specs.Prelude.{◌≡◌, ◌⊎◌, ℕ, List, map, Result, Ok, Err, OnOk}
 use Rattle.std.specs.Option.{option_copied}
 use Rattle.counted_io.specs.Streams.{IsFlushed}
 use Rattle.dasd_words.specs.declared.requests.ExtractedSet.{ExtractedSet}
 use Rattle.dasd_words.specs.declared.requests.ExtractedVolume.{ExtractedVolume}
-use Rattle.dasd_jobs.specs.declared.faults.JobFault.TheVariants as job
 use Rattle.dasd_jobs.specs.Sources.{SourceFile, OfVolume}
 use Rattle.dasd_unload.specs.declared.fault.UnloadFault.{UnloadFault}
 use Rattle.dasd_unload.specs.Unloads.{Outcome}
@@ -16,17 +15,17 @@ use Rattle.dasd_run.specs.declared.commands.Ending.TheVariants.{Done}
 use Rattle.dasd_run.specs.declared.fault.ProgramFault.{ProgramFault}
 use Rattle.dasd_run.specs.declared.fault.ProgramFault.TheVariants as fault
 use Rattle.dasd_run.specs.Paths.{quoted_paths}
-use Rattle.dasd_run.specs.Printed.{ending_of}
+use Rattle.dasd_run.specs.Printed.{ending_of, WhyUnopened}
 
 -- how the program ends with what was unloaded: so, where that is done; and else its fault is the program's
 abbrev pub unload_ending : {A : Type 0} → (A → Ending) → Result A UnloadFault → Result Ending ProgramFault
 unload_ending ending (Ok done) = Ok (ending done)
 unload_ending ending (Err f) = Err (fault.Unload f)
 
--- nothing came, and nothing was printed: there is no memory, or the files that were named can't be opened, or hold no volume
-abbrev pub NothingCame : Result Ending ProgramFault → (before now : Outcome) → Type 0
-NothingCame (Ok ending) before now = ⊥
-NothingCame (Err f) before now = (f ≢ fault.Job job.Write) × (now ≡ before)
+-- the volume in the files at these paths is not opened, or there is no memory; and nothing came, and nothing was printed
+abbrev pub NothingCame : Result Ending ProgramFault → (paths : List (List ℕ)) → (opened_before opened : List SourceFile) → (before now : Outcome) → Type 0
+NothingCame (Ok ending) paths opened_before opened before now = ⊥
+NothingCame (Err f) paths opened_before opened before now = WhyUnopened f paths opened_before opened × (now ≡ before)
 
 -- the data set that is asked for, or the member of one
 abbrev pub asked_set : ExtractedSet → AskedSet
@@ -41,7 +40,8 @@ pub record TakesSet (result : Result Ending ProgramFault) (e : ExtractedSet) (op
   pub writes : CountsSet unloading (option_copied e.target) before.printed now.printed
 
 abbrev pub ExtractsSet : Result Ending ProgramFault → ExtractedSet → (opened_before opened : List SourceFile) → (before now : Outcome) → Type 0
-ExtractsSet result e opened_before opened before now = NothingCame result before now ⊎ TakesSet result e opened_before opened before now
+ExtractsSet result e opened_before opened before now =
+    NothingCame result (map (λ path. path.now) e.paths.items) opened_before opened before now ⊎ TakesSet result e opened_before opened before now
 
 -- where all data sets go, and how what is told of them is printed
 abbrev pub asked_plan : ExtractedVolume → Plan
@@ -57,4 +57,5 @@ pub record TakesAll (result : Result Ending ProgramFault) (e : ExtractedVolume) 
   pub flushed : OnOk unloading (IsFlushed now.printed)
 
 abbrev pub ExtractsVolume : Result Ending ProgramFault → ExtractedVolume → (opened_before opened : List SourceFile) → (before now : Outcome) → Type 0
-ExtractsVolume result e opened_before opened before now = NothingCame result before now ⊎ TakesAll result e opened_before opened before now
+ExtractsVolume result e opened_before opened before now =
+    NothingCame result (map (λ path. path.now) e.paths.items) opened_before opened before now ⊎ TakesAll result e opened_before opened before now

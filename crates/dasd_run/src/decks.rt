@@ -1,6 +1,6 @@
 //! A deck is read and run, and its faults are told in more words.
 
-ghost use Rattle.std.specs.Prelude.{◌≡◌, IfOk, IfErr, OnOk, option_map};
+ghost use Rattle.std.specs.Prelude.{◌≡◌, IfOk, IfErr, OnOk, OnErr, option_map};
 ghost use Rattle.counted_io.specs.Streams.{seen_by, IsFlushed};
 ghost use Rattle.s360_deck.specs.Runs.{StaysUnlessRun};
 ghost use Rattle.s360_deck.specs.Texts.{RunsText};
@@ -36,6 +36,7 @@ pub(crate) fn read_deck<F: ImageFiles, R: Read>(
         (seen_by R.remaining reader.old) (seen_by R.remaining reader.new) text.items (F.opened files.old) (F.opened files.new)) }
     ensures not_read { IfErr result (λ fault. NotRead fault (option_map (λ path. path.now) deck.entry)
         (seen_by R.remaining reader.old) (seen_by R.remaining reader.new)) }
+    ensures none { OnErr result (F.opened files.new ≡ F.opened files.old) }
 {
     let Some(path) = deck else {
         return read_input(alloc, files, reader);
@@ -58,6 +59,7 @@ fn read_input<F: ImageFiles, R: Read>(
         (seen_by R.remaining reader.old) (seen_by R.remaining reader.new) text.items (F.opened files.old) (F.opened files.new)) }
     ensures not_read { IfErr result (λ fault. NotRead fault None
         (seen_by R.remaining reader.old) (seen_by R.remaining reader.new)) }
+    ensures none { OnErr result (F.opened files.new ≡ F.opened files.old) }
 {
     match read_text(alloc, reader) {
         Ok(text) => Ok(text),

@@ -3,9 +3,8 @@
 ghost use Rattle.std.specs.Prelude.{◌≡◌, ◌<◌, [], true, false, position, IfOk, IfErr, OnOk};
 ghost use Rattle.std.specs.List.{AllZip};
 ghost use Rattle.s360_words.specs.Storage.{is_size};
-ghost use Rattle.dasd_run.specs.Built.{IsNewChannel, NotMade, is_addressed, HasAddressOf, NotAttached, NotBuilt};
+ghost use Rattle.dasd_run.specs.Built.{IsNewChannel, NotMade, Opens, OpensVolumes, AttachesOne, HasNoImage, is_addressed, HasAddressOf, NotAttached, NotBuilt};
 ghost use Rattle.dasd_run.specs.Faults.{keeps_files};
-ghost use Rattle.dasd_run.specs.Runs.{Opens, OpensVolumes, AttachesOne};
 ghost use Rattle.dasd_run.specs.Saves.{SavesRun};
 
 use crate::fault::{ProgramFault, of_attach, of_volume};
@@ -28,7 +27,7 @@ pub type Disks = Channel<VolumeFile>;
 /// # Errors
 ///
 /// The first of these: the size, the number, and what is wrong with the first faulty volume, which is not read, holds no
-/// image, or is not attached.
+/// image, or is not attached. The files of those before it were opened then, and none of those behind it.
 pub fn build<F: ImageFiles>(
     alloc: Global,
     files: &mut F,
@@ -39,7 +38,7 @@ pub fn build<F: ImageFiles>(
     ensures kept { F.written files.new ≡ F.written files.old }
     ensures is_new { IfOk result (λ c. IsNewChannel storage number c) }
     ensures drives { IfOk result (λ c. OpensVolumes volumes.now c.drives (F.opened files.old) (F.opened files.new)) }
-    ensures not_built { IfErr result (λ e. NotBuilt e storage number volumes.now) }
+    ensures not_built { IfErr result (λ e. NotBuilt e storage number volumes.now (F.opened files.old) (F.opened files.new)) }
 {
     let mut channel = new_channel(alloc, storage, number)?;
     for i in 0..volumes.len() {
@@ -77,7 +76,7 @@ fn attach<F: ImageFiles>(
     requires { AllZip HasAddressOf before.now channel.old.drives }
     ensures kept { F.written files.new ≡ F.written files.old }
     ensures drive { OnOk result (AttachesOne volume.now channel.old channel.new (F.opened files.old) (F.opened files.new)) }
-    ensures not_attached { IfErr result (λ e. NotAttached e before.now volume.now) }
+    ensures not_attached { IfErr result (λ e. NotAttached e before.now volume.now (F.opened files.old) (F.opened files.new)) }
 {
     let image = match open(alloc, files, &volume.source) {
         Ok(image) => image,
@@ -111,6 +110,7 @@ fn open<F: ImageFiles>(
 ) -> Result<Image<VolumeFile>, JobFault>
     ensures kept { F.written files.new ≡ F.written files.old }
     ensures opens { IfOk result (λ image. Opens source.now image (F.opened files.old) (F.opened files.new)) }
+    ensures not_opened { IfErr result (λ e. HasNoImage e source.now (F.opened files.old) (F.opened files.new)) }
 {
     match source {
         VolumeSource::Files(paths) => read_image(alloc, files, paths.as_slice()),

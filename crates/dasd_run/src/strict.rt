@@ -1,11 +1,11 @@
 //! A strict check of the volume of files.
 
-ghost use Rattle.std.specs.Prelude.{◌≡◌, true, map, IfOk, IfErr};
+ghost use Rattle.std.specs.Prelude.{◌≡◌, map, IfOk, IfErr, OnErr};
 ghost use Rattle.counted_io.specs.Streams.{seen_by};
 ghost use Rattle.dasd_volumes.specs.Printing.{CountsWrites};
 ghost use Rattle.dasd_archive.specs.Reports.{PrintsFindings};
-ghost use Rattle.dasd_run.specs.Printed.{is_unopened};
-ghost use Rattle.dasd_run.specs.Strict.{OpensHead, ReadsHeads, found_in, checked_ending, ChecksWhole, ChecksStrictly};
+ghost use Rattle.dasd_jobs.specs.Sources.{OpensMaybe};
+ghost use Rattle.dasd_run.specs.Strict.{OpensHead, ReadsHeads, AreUnread, found_in, checked_ending, ChecksWhole, ChecksStrictly};
 
 use crate::archive::style;
 use crate::commands::Ending;
@@ -65,7 +65,7 @@ fn read_headers<F: ImageFiles>(
 ) -> Result<Vec<[u8; HEADER]>, ProgramFault>
     ensures kept { F.written files.new ≡ F.written files.old }
     ensures heads { IfOk result (λ heads. ReadsHeads (map (λ path. path.now) paths.now) heads.items (F.opened files.old) (F.opened files.new)) }
-    ensures fault { IfErr result (λ e. is_unopened e ≡ true) }
+    ensures not_read { IfErr result (λ e. AreUnread e (map (λ path. path.now) paths.now) (F.opened files.old) (F.opened files.new)) }
 {
     let mut heads = Vec::new(alloc);
     for path in paths {
@@ -89,6 +89,7 @@ fn read_header<F: ImageFiles>(
     ensures kept { F.written files.new ≡ F.written files.old }
     ensures head { IfOk result (OpensHead path.now (F.opened files.old) (F.opened files.new)) }
     ensures fault { IfErr result (λ e. e ≡ ProgramFault.Job JobFault.Read) }
+    ensures not_read { OnErr result (OpensMaybe path.now (F.opened files.old) (F.opened files.new)) }
 {
     let Ok(mut file) = files.open(alloc, path) else {
         return Err(ProgramFault::Job(JobFault::Read));

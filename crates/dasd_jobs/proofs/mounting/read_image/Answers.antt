@@ -53,7 +53,8 @@ pub returns-in_err-stores-clause-not_read : goal.returns-in_err-stores-clause-no
 returns-in_err-stores-clause-not_read g c =
     let opened = g.F.ImageFiles.opened in
     let p = err_from_is_err_and c.from_residual-in_err-stores.result c.from_residual-in_err-stores.ensures.1 in
-    rw (p.1, p.2) (inl (not_read c.in_err-stores.field-0.0 (map (λ path. path.now) c.args.paths.now) (map g.F.Opened.OpenedFile.content c.in_ok-locked.locked.items)
+    rw (p.1, p.2) (inl (not_read c.in_err-stores.field-0.0 (map (λ path. path.now) c.args.paths.now)
+    (map g.F.Opened.OpenedFile.content c.in_ok-locked.locked.items)
     (opened c.args.files.now) (opened c.lock_files.new.files) c.in_ok-locked.ensures.opens c.in_err-stores.ensures.fault))
 
 -- or what was read is no image

@@ -1,4 +1,4 @@
-use Rattle.std.proofs.Common.{◌≡◌, ◌∙◌, ◌≤◌, List, ℕ, Ok, length, map, ap, sym, arith, rules, tests}
+use Rattle.std.proofs.Common.{◌∙◌, ◌≤◌, Ok, length, map, ap, sym, arith, rules, tests}
 use Rattle.std.proofs.lemmas.List.{take_all}
 use Rattle.ckd_image.specs.Header.{mount_of}
 use Rattle.dasd_jobs.specs.Opening.{alone}

@@ -1,4 +1,4 @@
-use Rattle.std.proofs.Common.{◌≡◌, ◌∙◌, ◌≤◌, ◌∷◌, [], ℕ, List, map, take, length, sym, ap, subst, arith, rules, tests, length-append}
+use Rattle.std.proofs.Common.{◌∙◌, ◌≤◌, ◌∷◌, [], List, map, length, sym, subst, arith, rules, tests, length-append}
 use Rattle.std.specs.List.{AllZip}
 use Rattle.std.proofs.lemmas.List.{take_all}
 use Rattle.std.proofs.lemmas.Result.{err_from_is_err_and}
@@ -31,8 +31,10 @@ returns-in_err-add_file-clause-not_opened g c =
     let opened = g.F.ImageFiles.opened in
     let p = err_from_is_err_and c.from_residual.result c.from_residual.ensures.1 in
     rw (p.1, p.2) (
-    stopped (λ path. path.now) c.args.paths.now (opened c.args.files.now) c.in_err-add_file.field-0.0 c.loop-path.path-index _ (map g.F.Opened.OpenedFile.content c.loop-path.opened.items)
-    (opened c.loop-path.files) (opened c.add_file.new.files) c.loop-path-test.true c.loop-path.invariant.opens c.in_err-add_file.ensures.not_added)
+    stopped (λ path. path.now) c.args.paths.now (opened c.args.files.now) c.in_err-add_file.field-0.0 c.loop-path.path-index _
+    (map g.F.Opened.OpenedFile.content c.loop-path.opened.items)
+    (opened c.loop-path.files) (opened c.add_file.new.files) c.loop-path-test.true c.loop-path.invariant.opens
+    c.in_err-add_file.ensures.not_added)
 
 -- all were, and they are no image
 pub returns-in-Err-clause-not_opened : goal.returns-in-Err-clause-not_opened
@@ -45,7 +47,8 @@ returns-in-Err-clause-not_opened g c =
     let heads = c.as_slice-heads.result.now in
     let few : length heads ≤ 8 = search (rules, tests) in
     let all = take_all c.loop-path.path-index c.args.paths.now (let past = c.loop-path-test.false in omega (arith, past)) in
-    let opens = subst (λ ps. OpensPaths (map (λ path. path.now) ps) contents before (opened c.loop-path.files)) all c.loop-path.invariant.opens in
+    let those = c.loop-path.invariant.opens in
+    let opens = subst (λ ps. OpensPaths (map (λ path. path.now) ps) contents before (opened c.loop-path.files)) all those in
     let are = subst (λ (hs : List Head). AllZip IsHeadOf contents hs) (sym c.as_slice-heads.ensures.value) c.loop-path.invariant.heads in
     subst (λ (f : JobFault). NotOpened f paths before (opened c.remark_on.new.files)) (sym c.of_mount.ensures)
     (subst (λ (l : List SourceFile). NotOpened (mounting_fault c.in-Err.fault) paths before l) (sym c.remark_on.ensures.same)

@@ -1,7 +1,8 @@
-use Rattle.std.proofs.Common.{◌≡◌, ◌∙◌, ℕ, List, map, inr, ap, subst}
+use Rattle.std.proofs.Common.{◌≡◌, ◌∙◌, ℕ, List, map, inl, inr, refl, ap, subst}
 use Rattle.counted_io.specs.Streams.{seen_by}
 use Rattle.dasd_archive.specs.declared.reports.Style.{Style}
 use Rattle.dasd_jobs.specs.Sources.{SourceFile, OpenedState, OpensPaths, volume_in}
+use Rattle.dasd_jobs.specs.Unopened.{NotOpened}
 use Rattle.dasd_run.specs.Compared.{one_of, other_of, ComparesVolumes}
 use Rattle.dasd_run.specs.Paths.{quoted_paths}
 use Rattle.dasd_run.specs.Printed.{style_of}
@@ -56,3 +57,26 @@ returns-in-Ok-open_volume-2-clause-compares g c = inr (record {
         subst (Compares (style_of c.args.asked.now.json) (quoted_paths (one_of c.args.asked.now))) other_is
         (subst (λ path. Compares (style_of c.args.asked.now.json) path c.as_str-2.result.now) path_is
         (subst (λ style. Compares style c.as_str.result.now c.as_str-2.result.now) c.style.ensures c.compare_opened.ensures))
+
+-- the other volume is not opened
+pub returns-clause-compares : goal.returns-clause-compares
+returns-clause-compares g c =
+    let opened = g.F.ImageFiles.opened in
+    let before = opened c.args.files.now in
+    let between = opened c.open_volume.new.files in
+    let now = opened c.open_volume-2.new.files in
+    let v = c.in-Ok-open_volume.volume in
+    let one_is = ap (map (λ path. path.now)) c.as_slice-3.ensures.value in
+    let other_is = ap (map (λ path. path.now)) c.as_slice-4.ensures.value in
+    let f = c.in-Err-open_volume-2.fault in
+    inl (inr (
+      between,
+      record {
+        geometry = v.geometry;
+        contents = v.contents;
+        opens = subst (λ paths. OpensPaths paths v.contents before between) one_is c.in-Ok-open_volume.ensures.opens;
+        mounts = c.in-Ok-open_volume.ensures.mounts;
+        so = tt;
+      },
+      (subst (λ paths. NotOpened f paths between now) other_is c.in-Err-open_volume-2.ensures.not_opened, refl),
+    ))

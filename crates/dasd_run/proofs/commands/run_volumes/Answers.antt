@@ -6,10 +6,9 @@ use Rattle.counted_io.specs.Streams.{seen_by}
 use Rattle.dasd_jobs.specs.Sources.{SourceFile}
 use Rattle.dasd_jobs.specs.Written.{Replaced}
 use Rattle.dasd_run.specs.declared.commands.Ending.TheVariants.{Done}
-use Rattle.dasd_run.specs.Built.{NotBuilt}
+use Rattle.dasd_run.specs.Built.{OpensVolumes, NotBuilt}
 use Rattle.dasd_run.specs.Faults.{keeps_files}
 use Rattle.dasd_run.specs.Decks.{deck_path, ReadsDeck}
-use Rattle.dasd_run.specs.Runs.{OpensVolumes}
 use Rattle.dasd_run.specs.Saves.{Concludes}
 use Rattle.dasd_run.proofs.Told.{stays_seen, kept_if_told}
 use Rattle.dasd_run.proofs.commands.run_volumes.Goals as goal
@@ -18,17 +17,29 @@ use Rattle.dasd_run.proofs.commands.run_volumes.Goals as goal
 pub returns-in_err-tracer-clause-runs : goal.returns-in_err-tracer-clause-runs
 returns-in_err-tracer-clause-runs g c =
     let p = err_from_is_err_and c.from_residual.result c.from_residual.ensures.1 in
-    rw (p.1, p.2) (inr (inl (inl c.in_err-tracer.ensures.no_trace, refl), c.begin_trace.ensures.kept, refl))
+    rw (p.1, p.2) (inr (inl (c.in_err-tracer.ensures.no_trace, c.begin_trace.ensures.same, refl), c.begin_trace.ensures.kept, refl))
 
 pub returns-in_err-channel-clause-runs : goal.returns-in_err-channel-clause-runs
 returns-in_err-channel-clause-runs g c =
     let p = err_from_is_err_and c.from_residual-in_err-channel.result c.from_residual-in_err-channel.ensures.1 in
     let f = c.in_err-channel.field-0.0 in
-    let not_built = subst (λ (vs : List Volume). NotBuilt f c.args.asked.storage c.args.asked.channel vs) c.as_slice-volumes.ensures.value c.in_err-channel.ensures.not_built in
-    rw (p.1, p.2) (inr (inl (inr not_built, refl), c.build.ensures.kept ∙ c.begin_trace.ensures.kept, refl))
+    let opened = g.F.ImageFiles.opened in
+    let now = opened c.build.new.files in
+    let not_built =
+    subst (λ (vs : List Volume). NotBuilt f c.args.asked.storage c.args.asked.channel vs (opened c.args.files.now) now) c.as_slice-volumes.ensures.value
+    (subst (λ (l : List SourceFile). NotBuilt f c.args.asked.storage c.args.asked.channel c.as_slice-volumes.result.now l now) c.begin_trace.ensures.same c.in_err-channel.ensures.not_built) in
+    rw (p.1, p.2) (inr (inr (inl (not_built, refl)), c.build.ensures.kept ∙ c.begin_trace.ensures.kept, refl))
 
 pub returns-in-Err-clause-runs : goal.returns-in-Err-clause-runs
-returns-in-Err-clause-runs g c = inr (inr c.in-Err.ensures.not_read, c.read_deck.ensures.kept ∙ c.build.ensures.kept ∙ c.begin_trace.ensures.kept, refl)
+returns-in-Err-clause-runs g c =
+    let opened = g.F.ImageFiles.opened in
+    let built = c.in_ok-channel.channel in
+    let now = opened c.read_deck.new.files in
+    let opens =
+    subst (λ (vs : List Volume). OpensVolumes vs built.drives (opened c.args.files.now) now) c.as_slice-volumes.ensures.value
+    (subst (λ (l : List SourceFile). OpensVolumes c.as_slice-volumes.result.now built.drives l now) c.begin_trace.ensures.same
+    (subst (λ (l : List SourceFile). OpensVolumes c.as_slice-volumes.result.now built.drives (opened c.begin_trace.new.files) l) (sym c.in-Err.ensures.none) c.in_ok-channel.ensures.drives)) in
+    inr (inr (inr ((built.drives, opens), c.in-Err.ensures.not_read)), c.read_deck.ensures.kept ∙ c.build.ensures.kept ∙ c.begin_trace.ensures.kept, refl)
 
 -- a fault of the files is told first, and that of the trace last
 pub returns-clause-runs : goal.returns-clause-runs

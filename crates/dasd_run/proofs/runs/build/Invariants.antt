@@ -1,7 +1,6 @@
 use Rattle.std.proofs.Common.{◌≡◌, take}
 use Rattle.std.specs.List.{AllZip}
-use Rattle.dasd_run.specs.Built.{IsNewChannel, HasAddressOf}
-use Rattle.dasd_run.specs.Runs.{OpensVolumes}
+use Rattle.dasd_run.specs.Built.{IsNewChannel, OpensVolumes, HasAddressOf}
 use Rattle.dasd_run.proofs.runs.build.Given as goal
 
 -- no file was replaced so far; each volume so far has its drive, for which its files were opened, at its address
