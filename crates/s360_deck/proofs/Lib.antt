@@ -7,4 +7,5 @@ pub mod Ran
 pub mod ReadWhole
 pub mod SerialParts
 pub mod TextLines
+pub mod Told
 pub mod Written

@@ -3,6 +3,7 @@ pub mod Deck
 pub mod Lines
 pub mod Serial
 pub mod Texts
+pub mod Watched
 pub mod Runs
 pub mod CountedRuns
 pub mod Laws

@@ -1,10 +1,13 @@
 //! A deck is run as ever, and watched.
 
 ghost use Rattle.std.specs.Prelude.{OnOk};
+ghost use Rattle.s360_laws.specs.Machine.{Machine};
+ghost use Rattle.s360_channel.specs.Channel.{StandsFor};
 ghost use Rattle.counted_io.specs.Streams.{seen_by, IsFlushed};
 ghost use Rattle.s360_deck.specs.CountedRuns.{CountedRuns};
 ghost use Rattle.s360_deck.specs.Runs.{StaysUnlessRun};
 ghost use Rattle.s360_deck.specs.Texts.{RunsText};
+ghost use Rattle.s360_deck.specs.Watched.{WatchesRun, WatchesText};
 
 use crate::counted_reading::read_text;
 use crate::counted_writing::write_counted;
@@ -25,6 +28,7 @@ use std::io::{Read, Write};
 /// # Errors
 ///
 /// Those of `run_counted`.
+#[tactic(auto, using(crate::proofs::CountedRan::is_unread, crate::proofs::CountedRan::is_read_whole))]
 pub fn run_watched<R: Read, W: Write, S: ImageStore, V: Watcher>(
     alloc: Global,
     reader: &mut Counted<R>,
@@ -37,6 +41,9 @@ pub fn run_watched<R: Read, W: Write, S: ImageStore, V: Watcher>(
         (seen_by W.contents writer.old) (seen_by W.contents writer.new) }
     ensures no_event { StaysUnlessRun result channel.old channel.new }
     ensures nothing_written { StaysUnlessRun result writer.old writer.new }
+    ensures watched { (m : Machine) → StandsFor channel.old m
+        → WatchesRun V.sees result (seen_by R.remaining reader.old) (seen_by R.remaining reader.new) channel.old channel.new
+        watcher.old watcher.new }
     ensures flushed { OnOk result (IsFlushed (seen_by W.contents writer.new)) }
 {
     match read_text(alloc, reader) {
@@ -61,6 +68,8 @@ pub fn run_text_watched<W: Write, S: ImageStore, V: Watcher>(
         (seen_by W.contents writer.old) (seen_by W.contents writer.new) }
     ensures no_event { StaysUnlessRun result channel.old channel.new }
     ensures nothing_written { StaysUnlessRun result writer.old writer.new }
+    ensures watched { (m : Machine) → StandsFor channel.old m
+        → WatchesText V.sees result text.now channel.old channel.new watcher.old watcher.new }
     ensures flushed { OnOk result (IsFlushed (seen_by W.contents writer.new)) }
 {
     if text.len() > DECK_LENGTH {

@@ -1,13 +1,14 @@
 //! A list of events at a channel, with looks between its units.
 
-ghost use Rattle.std.specs.Prelude.{◌≡◌, ◌<◌, ◌≤◌, ◌+◌, ◌++◌, ◌∷◌, [], map, IfOk, OnErr, vec_len, vec_capacity};
+ghost use Rattle.std.specs.Prelude.{◌≡◌, ◌<◌, ◌≤◌, ◌+◌, ◌++◌, ◌∷◌, [], map, true, IfOk, OnErr, vec_len, vec_capacity};
 ghost use Rattle.s360_laws.specs.Events as machine;
 ghost use Rattle.s360_laws.specs.Machine.{Machine, is_working};
 ghost use Rattle.s360_events.specs.Seen.{event_seen, answer_seen};
 ghost use Rattle.s360_events.specs.Answered.{AllAnswered, IsAnswered};
-ghost use Rattle.s360_channel.specs.Channel.{StandsFor};
+ghost use Rattle.s360_channel.specs.Channel.{ChannelState, StandsFor};
 ghost use Rattle.s360_channel.specs.Lists.{Follows};
 ghost use Rattle.s360_trace.specs.Happens.{Happens};
+ghost use Rattle.s360_trace.specs.Looks.{Look, AllWatched, SeesUnits, SeesWithin, look_at};
 
 use ckd_image::ImageStore;
 use s360_channel::{Channel, SubchannelView};
@@ -27,8 +28,13 @@ pub enum Moment<'a> {
 
 /// Who watches a channel. It is lent the channel as it stands, and can change nothing of it.
 pub trait Watcher {
+    /// What a look makes of it: the watcher before, when it looks, the channel as it stands, and the watcher behind the look. One that
+    /// says nothing of this is told all the same.
+    ghost sees: { Self → Look → ChannelState → Self → Type 0 } = { λ _ _ _ _. Unit {0} };
+
     /// Looks at a channel.
-    fn look<S: ImageStore>(&mut self, moment: Moment, channel: &Channel<S>);
+    fn look<S: ImageStore>(&mut self, moment: Moment, channel: &Channel<S>)
+        ensures { sees self.old (look_at moment.entry) channel.now self.new };
 }
 
 /// Drives a channel through a list of events, and answers each, as `s360_channel::drive` does; the watcher looks before each
@@ -49,7 +55,10 @@ pub fn drive<S: ImageStore, W: Watcher>(
     ensures follows { (m : Machine) → StandsFor channel.old m
         → IfOk result (λ answers. Follows m (map event_seen events.now) (map answer_seen answers.items) channel.old channel.new) }
     ensures answered { IfOk result (λ answers. AllAnswered events.now answers.items) }
+    ensures watched { (m : Machine) → StandsFor channel.old m
+        → IfOk result (λ answers. AllWatched W.sees events.now answers.items channel.old channel.new watcher.old watcher.new) }
     ensures refused { OnErr result (channel.new ≡ channel.old) }
+    ensures unseen { OnErr result (watcher.new ≡ watcher.old) }
 {
     let mut answers = Vec::with_capacity(alloc, events.len())?;
     for event in events {
@@ -69,6 +78,8 @@ fn react<S: ImageStore, W: Watcher>(
 ) -> Answer
     ensures happens { (m : Machine) → StandsFor channel.old m
         → Happens (event_seen event.now) m (answer_seen result) channel.old channel.new }
+    ensures within { (m : Machine) → StandsFor channel.old m
+        → SeesWithin W.sees (event_seen event.now) (answer_seen result) channel.old channel.new watcher.old watcher.new }
     ensures answered { IsAnswered event.now result }
 {
     match event {
@@ -82,6 +93,8 @@ fn react<S: ImageStore, W: Watcher>(
 fn step<S: ImageStore, W: Watcher>(channel: &mut Channel<S>, units: u32, watcher: &mut W) -> u32
     ensures happens { (m : Machine) → StandsFor channel.old m
         → Happens (machine.StepBy units) m (machine.Stepped result) channel.old channel.new }
+    ensures within { (m : Machine) → StandsFor channel.old m
+        → SeesUnits W.sees result channel.old channel.new watcher.old watcher.new }
     ensures most { result ≤ units }
 {
     let mut done = 0;
@@ -99,6 +112,7 @@ fn step<S: ImageStore, W: Watcher>(channel: &mut Channel<S>, units: u32, watcher
 fn unit<S: ImageStore>(channel: &mut Channel<S>) -> u32
     ensures happens { (m : Machine) → StandsFor channel.old m
         → Happens (machine.StepBy 1) m (machine.Stepped result) channel.old channel.new }
+    ensures one { (m : Machine) → StandsFor channel.old m → is_working m.subchannel ≡ true → result ≡ 1 }
     ensures most { result ≤ 1 }
 {
     u32::from(channel.step(1))

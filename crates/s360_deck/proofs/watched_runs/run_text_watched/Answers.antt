@@ -1,4 +1,4 @@
-use Rattle.std.proofs.Common.{arith}
+use Rattle.std.proofs.Common.{◌∙◌, Ok, ap, sym, arith}
 use Rattle.std.proofs.lemmas.Result.{err_from_is_err_and}
 use Rattle.counted_io.specs.Streams.{seen_by}
 use Rattle.s360_deck.proofs.Ran.{same_stays}
@@ -16,3 +16,19 @@ returns-in_err-events-clause-no_event g c = same_stays c.from_residual.result c.
 
 pub returns-in_err-events-clause-nothing_written : goal.returns-in_err-events-clause-nothing_written
 returns-in_err-events-clause-nothing_written g c = same_stays c.from_residual.result c.args.writer.now
+
+pub returns-in-Ok-write_counted-clause-watched : goal.returns-in-Ok-write_counted-clause-watched
+returns-in-Ok-write_counted-clause-watched g c m stands = record {
+  events = c.as_slice.result.now;
+  are_these = c.in_ok-events.ensures ∙ ap Ok (sym c.as_slice.ensures.value);
+  answers = c.in-Ok.answers.items;
+  watched = c.in-Ok.ensures.watched m stands;
+}
+
+pub returns-clause-watched : goal.returns-clause-watched
+returns-clause-watched g c m stands = record {
+  events = c.as_slice.result.now;
+  are_these = c.in_ok-events.ensures ∙ ap Ok (sym c.as_slice.ensures.value);
+  answers = c.in-Ok.answers.items;
+  watched = c.in-Ok.ensures.watched m stands;
+}

@@ -1,10 +1,12 @@
-use Rattle.std.proofs.Common.{rules, tests, subst, map}
+use Rattle.std.proofs.Common.{rules, tests, refl, subst, map}
 use Rattle.std.proofs.lemmas.List.{take_more}
 use Rattle.s360_events.specs.Answered.{IsAnswered, AllAnswered}
 use Rattle.s360_events.specs.Seen.{event_seen, answer_seen}
 use Rattle.s360_channel.specs.Calls.{CallsAtMost, Does, most_calls}
 use Rattle.s360_channel.proofs.AllAnswered.{all_answered_one_more}
 use Rattle.s360_channel.proofs.OneMore.{Drove, drove_none, goes_on, drove_follows, room_for_one, room_for_others, take_past}
+use Rattle.s360_trace.specs.Looks.{AllWatched, IsWatched}
+use Rattle.s360_trace.proofs.Watches.{watched_one_more}
 use Rattle.s360_trace.proofs.watching.drive.Goals as goal
 
 pub loop-event-init : goal.loop-event-init
@@ -12,6 +14,7 @@ loop-event-init g c = record {
   room = search (rules, tests);
   answered = search (rules, tests);
   driven = λ m stands. rw c.in_ok-answers.ensures.items (drove_none m c.args.channel.now stands);
+  watched = λ m stands. rw c.in_ok-answers.ensures.items (refl, refl);
 }
 
 pub push-requires : goal.push-requires
@@ -30,6 +33,23 @@ loop-event-preserved g c = record {
       (λ now is. subst (λ e. Does (event_seen e) now (answer_seen c.react-answer.result) c.loop-event.channel c.react-answer.new.channel) c.event-item.is (c.react-answer.ensures.happens now is).does)
       (subst (λ e. CallsAtMost (most_calls (event_seen e) (answer_seen c.react-answer.result)) c.loop-event.channel c.react-answer.new.channel) c.event-item.is (c.react-answer.ensures.happens _ drove.stands).calls)
       drove);
+  watched = λ m stands.
+      let now = (c.loop-event.invariant.driven m stands).stands in
+      let new = c.react-answer.new in
+      let behind = c.look-in-loop-event.new.self in
+      rw (c.push.ensures.items, take_more c.args.events.now c.loop-event.event-index c.event-item.result c.loop-event-test.true)
+      (watched_one_more g.W.Watcher.sees _ _ _ _ _ _
+      (subst (λ e. IsWatched g.W.Watcher.sees e c.react-answer.result c.loop-event.channel new.channel c.loop-event.watcher behind)
+      c.event-item.is
+      (record {
+        happens = λ now is. c.react-answer.ensures.happens now is;
+        begun = c.look.new.self;
+        before = c.look.ensures;
+        told = new.watcher;
+        within = c.react-answer.ensures.within _ now;
+        behind = c.look-in-loop-event.ensures;
+      }))
+      _ _ _ _ (c.loop-event.invariant.watched m stands));
 }
 
 pub returns-clause-follows : goal.returns-clause-follows
@@ -37,6 +57,13 @@ returns-clause-follows g c m stands =
     drove_follows m _ _ _ _ stands
     (subst (λ es. Drove m (map event_seen es) (map answer_seen c.loop-event.answers.items) c.args.channel.now c.loop-event.channel)
     (take_past c.loop-event.event-index c.args.events.now c.loop-event-test.false) (c.loop-event.invariant.driven m stands))
+
+pub returns-clause-watched : goal.returns-clause-watched
+returns-clause-watched g c m stands =
+    let told = c.loop-event.answers.items in
+    let all = take_past c.loop-event.event-index c.args.events.now c.loop-event-test.false in
+    subst (λ es. AllWatched g.W.Watcher.sees es told c.args.channel.now c.loop-event.channel c.args.watcher.now c.loop-event.watcher)
+    all (c.loop-event.invariant.watched m stands)
 
 pub returns-clause-answered : goal.returns-clause-answered
 returns-clause-answered g c =
