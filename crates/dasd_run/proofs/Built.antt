@@ -14,7 +14,8 @@ use Rattle.dasd_jobs.specs.declared.faults.JobFault.{JobFault}
 use Rattle.dasd_jobs.specs.declared.faults.JobFault.TheVariants as job
 use Rattle.dasd_run.specs.declared.fault.ProgramFault.{ProgramFault}
 use Rattle.dasd_run.specs.Faults.{attach_fault, volume_fault}
-use Rattle.dasd_run.specs.Built.{IsNewChannel, IsDriveOf, HasImage, OpensVolumes, AttachesOne, HasNoImage, is_addressed, has_address, HasAddressOf, NotAttached, NotBuilt}
+use Rattle.dasd_run.specs.Built.{IsNewChannel, IsDriveOf, HasImage, OpensVolumes, AttachesOne}
+use Rattle.dasd_run.specs.Built.{HasNoImage, is_addressed, has_address, HasAddressOf, NotAttached, NotBuilt}
 
 -- one volume more: its drive stands behind the others, and its files were opened behind theirs
 opens_more : (vs : List Volume) (us : List AttachedState) (v : Volume) (u : AttachedState) (before between now : List SourceFile)
@@ -57,8 +58,10 @@ parted : {A : Type 0} (xs : List A) (i : ℕ) (x : A) → i < length xs → x �
 parted {A} xs i x inside is = sym (take-append-drop i xs) ∙ ap (λ l. take i xs ++ l) (drop-cons xs i x inside ∙ ap (λ (y : A). y ∷ drop (suc i) xs) (sym is))
 
 -- the volume at a place gets no drive
-pub stops_at : (f : ProgramFault) (size number : ℕ) (vs before : List Volume) (i : ℕ) (v : Volume) (us : List AttachedState) (opened_before between opened : List SourceFile)
-    → before ≡ take i vs → i < length vs → v ≡ get_or vs i v → (is_size size ≡ true) × (number < 7) → OpensVolumes (take i vs) us opened_before between → NotAttached f before v between opened
+pub stops_at : (f : ProgramFault) (size number : ℕ) (vs before : List Volume) (i : ℕ) (v : Volume) (us : List AttachedState)
+    (opened_before between opened : List SourceFile)
+    → before ≡ take i vs → i < length vs → v ≡ get_or vs i v → (is_size size ≡ true) × (number < 7)
+    → OpensVolumes (take i vs) us opened_before between → NotAttached f before v between opened
     → NotBuilt f size number vs opened_before opened
 stops_at f size number vs before i v us opened_before between opened is inside there sound opens why = inr (
   sound.0,

@@ -56,7 +56,10 @@ one_more_head path paths i d heads more head before between now inside so_far on
     }))
 
 -- the header at a place can't be read, or there is no memory for it
-pub heads_stop : {P : Type 0} (f : ProgramFault) (path : P → List ℕ) (paths : List P) (i : ℕ) (d : P) (heads : List (List ℕ)) (before between now : List SourceFile)
-    → i < length paths → ReadsHeads (map path (take i paths)) heads before between → OpensMaybe (path (get_or paths i d)) between now → (f ≡ fault.Job Read) ⊎ (f ≡ fault.OutOfMemory)
+pub heads_stop : {P : Type 0} (f : ProgramFault) (path : P → List ℕ) (paths : List P) (i : ℕ) (d : P) (heads : List (List ℕ))
+    (before between now : List SourceFile)
+    → i < length paths → ReadsHeads (map path (take i paths)) heads before between → OpensMaybe (path (get_or paths i d)) between now
+    → (f ≡ fault.Job Read) ⊎ (f ≡ fault.OutOfMemory)
     → AreUnread f (map path paths) before now
-heads_stop f path paths i d heads before between now inside so_far maybe told = (told, up_to path paths before i d so_far.contents between now inside so_far.opens maybe)
+heads_stop f path paths i d heads before between now inside so_far maybe told =
+    (told, up_to path paths before i d so_far.contents between now inside so_far.opens maybe)

@@ -25,9 +25,12 @@ returns-in_err-channel-clause-runs g c =
     let f = c.in_err-channel.field-0.0 in
     let opened = g.F.ImageFiles.opened in
     let now = opened c.build.new.files in
+    let size = c.args.asked.storage in
+    let number = c.args.asked.channel in
     let not_built =
-    subst (λ (vs : List Volume). NotBuilt f c.args.asked.storage c.args.asked.channel vs (opened c.args.files.now) now) c.as_slice-volumes.ensures.value
-    (subst (λ (l : List SourceFile). NotBuilt f c.args.asked.storage c.args.asked.channel c.as_slice-volumes.result.now l now) c.begin_trace.ensures.same c.in_err-channel.ensures.not_built) in
+    subst (λ (vs : List Volume). NotBuilt f size number vs (opened c.args.files.now) now) c.as_slice-volumes.ensures.value
+    (subst (λ (l : List SourceFile). NotBuilt f size number c.as_slice-volumes.result.now l now) c.begin_trace.ensures.same
+    c.in_err-channel.ensures.not_built) in
     rw (p.1, p.2) (inr (inr (inl (not_built, refl)), c.build.ensures.kept ∙ c.begin_trace.ensures.kept, refl))
 
 pub returns-in-Err-clause-runs : goal.returns-in-Err-clause-runs
@@ -38,8 +41,10 @@ returns-in-Err-clause-runs g c =
     let opens =
     subst (λ (vs : List Volume). OpensVolumes vs built.drives (opened c.args.files.now) now) c.as_slice-volumes.ensures.value
     (subst (λ (l : List SourceFile). OpensVolumes c.as_slice-volumes.result.now built.drives l now) c.begin_trace.ensures.same
-    (subst (λ (l : List SourceFile). OpensVolumes c.as_slice-volumes.result.now built.drives (opened c.begin_trace.new.files) l) (sym c.in-Err.ensures.none) c.in_ok-channel.ensures.drives)) in
-    inr (inr (inr ((built.drives, opens), c.in-Err.ensures.not_read)), c.read_deck.ensures.kept ∙ c.build.ensures.kept ∙ c.begin_trace.ensures.kept, refl)
+    (subst (λ (l : List SourceFile). OpensVolumes c.as_slice-volumes.result.now built.drives (opened c.begin_trace.new.files) l)
+    (sym c.in-Err.ensures.none) c.in_ok-channel.ensures.drives)) in
+    let kept = c.read_deck.ensures.kept ∙ c.build.ensures.kept ∙ c.begin_trace.ensures.kept in
+    inr (inr (inr ((built.drives, opens), c.in-Err.ensures.not_read)), kept, refl)
 
 -- a fault of the files is told first, and that of the trace last
 pub returns-clause-runs : goal.returns-clause-runs

@@ -30,4 +30,6 @@ returns-in_err-attach-clause-not_built g c =
     let p = err_from_is_err_and c.from_residual-in_err-attach.result c.from_residual-in_err-attach.ensures.1 in
     let why = c.in_err-attach.ensures.not_attached in
     rw (p.1, p.2) (
-    stops_at c.in_err-attach.field-0.0 c.args.storage c.args.number c.args.volumes.now _ c.loop-i.i c.index-volumes-i.result c.loop-i.channel.drives _ _ _ (grind arith) c.loop-i-test.true c.index-volumes-i.is c.in_ok-channel.ensures.sound c.loop-i.invariant.drives why)
+    stops_at c.in_err-attach.field-0.0 c.args.storage c.args.number c.args.volumes.now _ c.loop-i.i c.index-volumes-i.result
+    c.loop-i.channel.drives _ _ _ (grind arith) c.loop-i-test.true c.index-volumes-i.is c.in_ok-channel.ensures.sound
+    c.loop-i.invariant.drives why)

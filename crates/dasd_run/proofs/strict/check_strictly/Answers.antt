@@ -12,14 +12,17 @@ returns-clause-checks g c =
     let now = opened c.read_headers.new.files in
     let v = c.in-Ok-open_volume.volume in
     let same_paths = ap (map (λ path. path.now)) c.as_slice-paths.ensures.value in
-    inr (inl ((
-      between,
-      record {
-        geometry = v.geometry;
-        contents = v.contents;
-        opens = subst (λ paths. OpensPaths paths v.contents before between) same_paths c.in-Ok-open_volume.ensures.opens;
-        mounts = c.in-Ok-open_volume.ensures.mounts;
-        so = tt;
-      },
-      subst (λ paths. AreUnread c.in-Err-read_headers.fault paths between now) same_paths c.in-Err-read_headers.ensures.not_read,
-    ), refl))
+    inr (inl (
+      (
+        between,
+        record {
+          geometry = v.geometry;
+          contents = v.contents;
+          opens = subst (λ paths. OpensPaths paths v.contents before between) same_paths c.in-Ok-open_volume.ensures.opens;
+          mounts = c.in-Ok-open_volume.ensures.mounts;
+          so = tt;
+        },
+        subst (λ paths. AreUnread c.in-Err-read_headers.fault paths between now) same_paths c.in-Err-read_headers.ensures.not_read,
+      ),
+      refl,
+    ))
