@@ -11,6 +11,7 @@ use crate::place::{Fetched, Place};
 use crate::run::{Comes, Run};
 use ckd_drive::Drive;
 use ckd_image::ImageStore;
+use ckd_position::{Area, Position};
 use s360_words::Ccw;
 
 // The word of a search at this place, if a transfer in channel behind it leads back to it.
@@ -38,6 +39,15 @@ fn leads_back<M: MainStorage>(place: &Place, storage: &M) -> Option<Ccw>
     Some(ccw)
 }
 
+// Whether more than the first record of the track has passed: most searches that fail once fail at that one, and find theirs behind it.
+#[inline(always)]
+fn is_behind_first<S: ImageStore>(drive: &Drive<S>) -> bool {
+    match drive.registers().position {
+        Position::At(Area::Of(_, i)) => i > 0,
+        _ => false,
+    }
+}
+
 impl Run {
     /// Goes round as often as the search of the next word fails at once, and as so many units allow, where that word was reached by
     /// a transfer in channel behind it. Answers how many units that were.
@@ -54,6 +64,9 @@ impl Run {
     {
         // asked first, since few words are reached so
         if self.place.may_transfer || self.place.last != self.place.next + 8 {
+            return 0;
+        }
+        if !is_behind_first(drive) {
             return 0;
         }
         self.go_round(most, storage, drive)
