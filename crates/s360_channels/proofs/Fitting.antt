@@ -55,9 +55,9 @@ loud e = absurd (cc)
 
 -- The channel with a number.
 
-pub found_at : {quiet : Bool} (number size : ℕ) (s : Storage) (a : ℕ) (cs : List (Option SelectorState)) (c : SelectorState) → AllFit size quiet cs → a ≡ length s.bytes → is_size a ≡ true
-    → length s.keys ≡ a / 2048 → length s.bytes ≡ size → numbered number cs ≡ Some c → IsFound number c s
-found_at {quiet} number size s a cs c h e z k large there =
+pub found_at : {quiet : Bool} (number size : ℕ) (s : Storage) (a : ℕ) (cs : List (Option SelectorState)) (c : SelectorState) → AllFit size quiet cs → a ≡ length s.bytes
+    → (is_size a ≡ true) × (length s.keys ≡ a / 2048) → length s.bytes ≡ size → numbered number cs ≡ Some c → IsFound number c s
+found_at {quiet} number size s a cs c h e (z, k) large there =
     let f = h.fit number c there in
     record { own_number = f.own_number; is_over = is_over c s a f.is_selector e z k (large ∙ sym f.as_large) }
 
