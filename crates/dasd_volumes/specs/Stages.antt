@@ -1,5 +1,5 @@
 -- What is shown of a long job.
-use Rattle.std.specs.Prelude.{List, [], ◌∷◌, codes}
+use Rattle.std.specs.Prelude.{ℕ, List, [], ◌∷◌, codes}
 use Rattle.std.specs.List.{concat}
 use Rattle.std.specs.Fmt.{decimal}
 use Rattle.dasd_volumes.specs.declared.progress.Stage.{Stage}
