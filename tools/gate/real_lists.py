@@ -82,8 +82,8 @@ def data_set_of_four_extents_has_no_finding(s: Scratch) -> None:
 
 # Dumps.
 
-# What a dump of a full volume of a 2314 may take of a processor: it takes 0.07 seconds, and took 2.5 before; another machine may be slower.
-MOST_SECONDS = 1.0
+# What a dump of a full volume of a 2314 may take of a processor: it takes 0.07 seconds, and took 2.5 before, or 1.0 as objects; another machine may be slower.
+MOST_SECONDS = 0.5
 
 
 def filled_track(cylinder: int, head: int) -> Track:
@@ -113,5 +113,7 @@ def dump_of_a_full_volume_takes_little_time(s: Scratch) -> None:
         for head in range(model.heads):
             full.write(cylinder, head, filled_track(cylinder, head))
     s.put("full.ckd", full.bytes())
-    status, seconds = processor_time(s, "dump", "full.ckd", "0-202", "0-19")
-    same((status, seconds < MOST_SECONDS), (0, True), f"a dump, which took {seconds:.1f} s of processor time")
+    dump = ["dump", "full.ckd", "0-202", "0-19"]
+    for words in (dump, [*dump, "--json"]):
+        status, seconds = processor_time(s, *words)
+        same((status, seconds < MOST_SECONDS), (0, True), f"{' '.join(words)}, which took {seconds:.2f} s of processor time")

@@ -1,10 +1,16 @@
 //! Numbers and bytes as the lines print them.
 
-ghost use Rattle.std.specs.Prelude.{◌≡◌, Some};
+ghost use Rattle.std.specs.Prelude.{◌≡◌, ◌≤◌, Some, length};
+ghost use Rattle.std.specs.Fmt.{WritesOnOk};
 ghost use Rattle.dasd_volumes.specs.Lines.{bytes_text, address_text, fault_text, model_number_of};
 
+use arrayvec::ArrayString;
 use ckd_track::{DriveModel, SlotFault};
 use std::fmt;
+use text_lines::put_bytes;
+
+/// So many bytes are spelled at once.
+const PIECE: usize = 32;
 
 /// Bytes in hexadecimal digits, in capitals.
 #[derive(Clone, Copy)]
@@ -14,12 +20,24 @@ impl fmt::Display for Hexadecimal<'_> {
     ghost output = { λ h. Some (bytes_text h.0.now) };
 
     fn fmt<W: fmt::Write>(&self, f: &mut fmt::Formatter<W>) -> fmt::Result {
-        for byte in self.0 {
-            let byte = *byte;
-            write!(f, "{byte:02X}")?;
+        let bytes = self.0;
+        for i in 0..bytes.len().div_ceil(PIECE) {
+            let from = PIECE * i;
+            let to = from + PIECE.min(bytes.len() - from);
+            write_digits(f, &bytes[from..to])?;
         }
         Ok(())
     }
+}
+
+// Writes the digits of a piece at once: a write for each byte takes several times as long.
+fn write_digits<W: fmt::Write>(f: &mut fmt::Formatter<W>, piece: &[u8]) -> fmt::Result
+    requires { length piece.now ≤ 32 }
+    ensures { WritesOnOk W.write_str_gives f.old result (bytes_text piece.now) f.new }
+{
+    let mut digits: ArrayString<64> = ArrayString::new();
+    put_bytes(&mut digits, piece);
+    f.write_str(digits.as_str())
 }
 
 /// Cylinder and head of a track, four hexadecimal digits each.

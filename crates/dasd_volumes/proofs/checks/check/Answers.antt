@@ -1,4 +1,4 @@
-use Rattle.std.proofs.Common.{◌++◌, ◌≡◌, ℕ, subst}
+use Rattle.std.proofs.Common.{◌++◌, ℕ, subst}
 use Rattle.counted_io.specs.Streams.{seen_by, TakesFront}
 use Rattle.dasd_volumes.specs.Volumes.{lines_in, number_line}
 use Rattle.dasd_volumes.proofs.Fronts.{front_behind}
