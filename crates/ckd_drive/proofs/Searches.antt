@@ -52,8 +52,8 @@ slot_there h slot at =
 -- by what each call of the code says of the area and its bytes, which makes its premises many
 pub is_unlike : (h : HalfDone) (c : Command) (k : Kind) (wanted slot : List ℕ) (a : Area) (w : Window) → Some slot ≡ slot_at_hand h.cache (own_track h) → is_readable (track_of slot) ≡ true
     → next.Found a ≡ next_of_kind (track_or_none (track_of slot)) h.registers.position k → Lies slot w (bytes_of (extent_of c) (track_of slot) a)
-    → w.len ≡ length wanted → is_satisfied (comparison c) (slice_range slot w.start (w.start + w.len)) wanted ≡ false → IsUnlike h c k wanted a
-is_unlike h c k wanted slot a w at whole comes lies long fails =
+    → (w.len ≡ length wanted) × (is_satisfied (comparison c) (slice_range slot w.start (w.start + w.len)) wanted ≡ false) → IsUnlike h c k wanted a
+is_unlike h c k wanted slot a w at whole comes lies (long, fails) =
     let own = slot_there h slot at in
     record {
       readable = rw (← own) whole;

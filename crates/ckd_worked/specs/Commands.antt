@@ -18,9 +18,11 @@ pub record Asked : Type 0 where
   pub bytes : List ℕ
   pub fault : Option Fault
 
+-- a command, with its bytes, over a store that does not fail
 abbrev pub asks : (code : ℕ) → (bytes : List ℕ) → Asked
 asks code bytes = record { code = code; bytes = bytes; fault = None }
 
+-- the same, over a store that fails
 abbrev pub failing : Fault → Asked → Asked
 failing fault a = record a { fault = Some fault }
 
@@ -39,12 +41,15 @@ pub record Done : Type 0 where
   pub wanted : ℕ
   pub state : State
 
+-- a command that moved none
 abbrev pub without_bytes : Told → State → Done
 without_bytes told s = record { told = told; gave = []; wanted = 0; state = s }
 
+-- a command at its end
 abbrev pub ended : (gave : List ℕ) → (wanted : ℕ) → Closed → Done
 ended gave wanted c = record { told = Ends c.unit.0 c.motion; gave = gave; wanted = wanted; state = c.state }
 
+-- the bytes of a command that was begun: those that the drive gives, or those that come
 abbrev pub moves : Asked → Open → Done
 moves a o =
     if gives o then ended (given o) (length_of o (given o)) (close a.fault o (given o))
@@ -57,11 +62,13 @@ looks most a (Failed s) = without_bytes FindsNone s
 looks zero a (Passed o) = without_bytes FindsNone o.state
 looks (suc most) a (Passed o) = looks most a (look a.fault o)
 
+-- a command, by how it begins
 abbrev pub begins : Asked → AfterBegin → Done
 begins a (Rejected s) = without_bytes IsRejected s
 begins a (Immediate s motion) = without_bytes (IsOver motion) s
 begins a (Started o) = looks 3 a (look a.fault o)
 
+-- a command, from its begin to its end
 abbrev pub does : Asked → State → Done
 does a s = begins a (begin a.fault a.code s)
 
@@ -80,9 +87,11 @@ pub record Seen : Type 0 where
   pub position : Position
   pub credit : Option Credit
 
+-- what is looked at of a command
 abbrev pub seen : Done → Seen
 seen d = record { told = d.told; sense = d.state.registers.sense.0; position = d.state.registers.position; credit = d.state.registers.credit }
 
+-- a look of these parts
 abbrev pub saw : Told → (sense : ℕ) → Position → Option Credit → Seen
 saw told sense position credit = record { told = told; sense = sense; position = position; credit = credit }
 
@@ -98,11 +107,13 @@ track d = (track_under d.state, d.state.mark)
 abbrev pub moved : Done → List ℕ × ℕ
 moved d = (d.gave, d.wanted)
 
+-- the file mask behind a command
 abbrev pub mask : Done → FileMask
 mask d = d.state.registers.file_mask
 
 -- Of several commands, each alone, for which no byte comes.
 
+-- sense bytes 0 and 1 behind each
 abbrev pub senses_of : (codes : List ℕ) → State → List ℕ
 senses_of codes s = map (λ code. (does (asks code []) s).state.registers.sense.0) codes
 
@@ -111,6 +122,7 @@ abbrev pub unit_told : Told → ℕ
 unit_told (Ends unit motion) = unit
 unit_told told = 0
 
+-- the unit status of each
 abbrev pub units_of : (codes : List ℕ) → State → List ℕ
 units_of codes s = map (λ code. unit_told (does (asks code []) s).told) codes
 
@@ -119,6 +131,7 @@ abbrev pub is_begun : Told → Bool
 is_begun IsRejected = false
 is_begun told = true
 
+-- for each of these credits whether the command is begun
 abbrev pub begun_with : (code : ℕ) → List (Option Credit) → State → List Bool
 begun_with code credits s =
     map (λ credit. is_begun (does (asks code []) (record s { registers = record s.registers { credit = credit } })).told) credits

@@ -29,12 +29,15 @@ usual_r0 head = record_of head 0 [] (replicate 8 0)
 -- Head 0: behind R0 a record with key A1 A5 and four bytes C1; one with neither key nor data; and one with key B1 B5 and four
 -- bytes C3.
 
+-- record 1, with a key of two bytes
 abbrev pub first_record : Record
 first_record = record_of 0 1 (0xA1 ∷ 0xA5 ∷ []) (replicate 4 0xC1)
 
+-- record 2, with no key and no data
 abbrev pub second_record : Record
 second_record = record_of 0 2 [] []
 
+-- record 3, with a key of two bytes
 abbrev pub third_record : Record
 third_record = record_of 0 3 (0xB1 ∷ 0xB5 ∷ []) (replicate 4 0xC3)
 
@@ -42,19 +45,23 @@ third_record = record_of 0 3 (0xB1 ∷ 0xB5 ∷ []) (replicate 4 0xC3)
 abbrev pub track_0_with : Record → Track
 track_0_with first = track_of_head 0 (usual_r0 0 ∷ first ∷ second_record ∷ third_record ∷ [])
 
+-- the track at head 0
 abbrev pub track_0 : Track
 track_0 = track_0_with first_record
 
 -- Head 1: an R0 with key E0 and no data; and a record with key E1 and no data.
 
+-- the track at head 1
 abbrev pub track_1 : Track
 track_1 = track_of_head 1 (record_of 1 0 (0xE0 ∷ []) [] ∷ record_of 1 1 (0xE1 ∷ []) [] ∷ [])
 
 -- Head 9, the last of the cylinder: R0 alone.
 
+-- the track at head 9
 abbrev pub track_9 : Track
 track_9 = track_of_head 9 (usual_r0 9 ∷ [])
 
+-- the slot that spells a track
 abbrev pub slot : Track → List ℕ
 slot t = slot_of slot_size t
 
@@ -63,6 +70,7 @@ slot t = slot_of slot_size t
 abbrev pub slots_with : (first : List ℕ) → List (List ℕ)
 slots_with first = first ∷ slot track_1 ∷ replicate 7 [] ++ slot track_9 ∷ replicate 10 []
 
+-- the volume whose first slot this is
 abbrev pub volume_with : (first : List ℕ) → Volume
 volume_with first = record { geometry = record { model = D2311; cylinders = 2; track_size = slot_size }; slots = slots_with first }
 
@@ -71,15 +79,19 @@ abbrev pub drive_over : (first : List ℕ) → (cylinder head : ℕ) → State
 drive_over first cylinder head =
     begin_program (record { volume = volume_with first; cylinder = cylinder; head = head; sense = no_sense })
 
+-- the drive over a volume with this first track, at cylinder 0 and head 0
 abbrev pub drive_with : (first : Track) → State
 drive_with first = drive_over (slot first) 0 0
 
+-- the drive at this cylinder and head
 abbrev pub at_track : (cylinder head : ℕ) → State
 at_track cylinder head = drive_over (slot track_0) cylinder head
 
+-- the drive at this head of cylinder 0
 abbrev pub at_head : (head : ℕ) → State
 at_head head = at_track 0 head
 
+-- the drive at head 0
 abbrev pub drive : State
 drive = at_head 0
 
@@ -114,5 +126,6 @@ on_second_turn s = record s { registers = record s.registers { lap = Second } }
 abbrev pub written : State → State
 written s = record s { mark = Written }
 
+-- a track that could not be saved
 abbrev pub lost_track : State → State
 lost_track s = record s { mark = Lost }

@@ -84,6 +84,7 @@ pub record IsChannel (c : ChannelState) : Type 0 where
 abbrev pub new_attached : (device : ℕ) → ImageState → AttachedState
 new_attached device image = record { device = device; arm = AtRest; drive = new_drive image }
 
+-- the machine with one device more, behind the others
 abbrev pub attached : (device : ℕ) → ImageState → Machine → Machine
 attached device image m = record m {
   devices = m.devices ++ record {
@@ -101,5 +102,6 @@ is_at device u = u.device == device
 abbrev pub failures_of : ChannelState → ℕ
 failures_of c = sum_by (λ u. u.drive.image.failures) c.drives
 
+-- the loads and saves of all images
 abbrev pub store_calls_of : ChannelState → ℕ
 store_calls_of c = sum_by (λ u. u.drive.image.loads + u.drive.image.saves) c.drives

@@ -37,10 +37,12 @@ pub record DriveIs (place : ℕ) (Is : DriveState → Type 0) (drives : List Att
   pub is_there : slice_get drives place ≡ Some attached
   pub holds : Is attached.drive
 
+-- how the first command of a program finds its drive and leaves it
 abbrev pub Starts : (caw : ℕ) → Storage → Start → DriveState → DriveState → Type 0
 Starts caw s answer old new =
     IsFirst (record { caw = caw; storage = s; drive = drive_of old.state }) answer old new × StartsQuietly old new
 
+-- The running program does up to so many units at its drive.
 pub record AdvancesAt (r : RunningState) (s : Storage) (asked : ℕ) (a : Ran) (r' : RunningState) (s' : Storage)
     (old new : DriveState) : Type 0 where
   pub advances : RunsOn r.key (phase_in r s old) asked a r' s' old new
@@ -48,6 +50,7 @@ pub record AdvancesAt (r : RunningState) (s : Storage) (asked : ℕ) (a : Ran) (
   pub calls : CallsAtMost (2 * a.done) old new
   pub tells : TellsOf a.ending old new
 
+-- The running program is cut: what is told of it, and how its drive is left.
 pub record CutsAt (r : RunningState) (told : Csw × Bool × Option (ℕ × ℕ)) (old new : DriveState) : Type 0 where
   pub cut : (s : Storage) → Cuts r.key (phase_in r s old) told old new
   pub calls : (s : Storage) → CallsStore false (has_written (phase_in r s old)) old new
@@ -91,6 +94,7 @@ MayExchange size d = Rests d × (size ≡ d.image.geometry.track_size)
 abbrev pub at_rest_attached : AttachedState → AttachedState
 at_rest_attached u = record u { arm = AtRest; drive = record u.drive { state = without_sense u.drive.state } }
 
+-- the drive at a place is at rest
 pub record RestsAt (place : ℕ) (old new : List AttachedState) : Type 0 where
   pub attached : AttachedState
   pub was : slice_get old place ≡ Some attached

@@ -14,6 +14,7 @@ use Rattle.s360_channel.specs.DriveCalls.{DriveChanges, DriveIs, CutsAt}
 use Rattle.s360_channel.specs.declared.subchannel.Subchannel.{Subchannel}
 use Rattle.s360_channel.specs.declared.subchannel.Subchannel.TheVariants.{Working, Pending}
 
+-- whether the arm moves behind a program that ended so
 abbrev pub arm_told : (motion : Bool) → Arm
 arm_told motion = if motion then InMotion else AtRest
 
@@ -39,6 +40,7 @@ pub record IsCut (place : ℕ) (r : RunningState) (old new : List AttachedState)
   pub cut : DriveChanges place (CutsAt r told) old between
   pub over : IsOver place told.0 told.1 between new subchannel
 
+-- the program that runs, if one does, is cut; its channel status word pends
 abbrev pub CutsProgram : Subchannel → (old new : List AttachedState) → Subchannel → Type 0
 CutsProgram (Working place r) old new subchannel = IsCut place r old new subchannel
 CutsProgram s old new subchannel = (new ≡ old) × (subchannel ≡ s)
@@ -52,6 +54,7 @@ pub record IsLost (place : ℕ) (r : RunningState) (number : ℕ) (old new : Lis
   pub cut : DriveChanges place (CutsAt r told) old new
   pub tells : unsaved ≡ option_map (λ t. (256 * number + attached.device, t.0, t.1)) told.2
 
+-- the program that runs, if one does, is cut and forgotten
 abbrev pub LosesProgram : Subchannel → (number : ℕ) → (old new : List AttachedState) → (unsaved : Option (ℕ × ℕ × ℕ))
     → Type 0
 LosesProgram (Working place r) number old new unsaved = IsLost place r number old new unsaved
@@ -59,9 +62,11 @@ LosesProgram s number old new unsaved = (new ≡ old) × (unsaved ≡ None)
 
 -- Halt I/O while the channel is available.
 
+-- what is answered: zeros are stored where the device is there
 abbrev pub halted_idle : (is_there : Bool) → Condition Status
 halted_idle is_there = if is_there then Stored (record { unit = no_unit_status; channel = no_channel_status })
     else Three
 
+-- and storage then
 abbrev pub storage_halted : (is_there : Bool) → Storage → Storage
 storage_halted is_there s = if is_there then changed (status_stored no_unit_status.0 no_channel_status.0) s else s

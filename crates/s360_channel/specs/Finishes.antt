@@ -7,6 +7,7 @@ use Rattle.s360_laws.specs.Machine.{Machine}
 use Rattle.s360_channel.specs.Calls.{Does, CallsAtMost}
 use Rattle.s360_channel.specs.Channel.{ChannelState, AttachedState}
 
+-- each drive's address and image, in their order, and no more
 abbrev pub images_of : List AttachedState → List (Option (ℕ × ImageState))
 images_of drives = map (λ u. Some (u.device, u.drive.image)) drives ++ replicate (8 - length drives) None
 

@@ -19,6 +19,7 @@ pub record ShowsNext (r : Answer × Machine) (answer : Answer) (new : ChannelSta
   pub answers : answer ≡ r.0
   pub shows : Shows new r.1 new.subchannel
 
+-- a channel of these parts
 abbrev pub of_parts : (number : ℕ) → Storage → Subchannel → List AttachedState → ChannelState
 of_parts number s sub us = record { number = number; storage = s; subchannel = sub; drives = us }
 

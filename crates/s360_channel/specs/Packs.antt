@@ -23,10 +23,12 @@ abbrev pub runs_at : (device : ℕ) → machine.Subchannel → Bool
 runs_at device (machine.Working d script) = d == device
 runs_at device s = false
 
+-- the channel status word that pends is that of a device's program
 abbrev pub pends_for : (device : ℕ) → machine.Subchannel → Bool
 pends_for device (machine.Pending d csw) = d == device
 pends_for device s = false
 
+-- the arm neither moves nor owes a device end
 abbrev pub is_at_rest : Arm → Bool
 is_at_rest AtRest = true
 is_at_rest arm = false
@@ -40,6 +42,7 @@ why_of device s (Some d) =
     else (if pends_for device s then Some EndingPends
     else (if is_at_rest d.arm then None else Some DeviceEndOwed))
 
+-- why the device of a machine may not be taken off, if it may not
 abbrev pub why_stays : (device : ℕ) → Machine → Option DetachFault
 why_stays device m = why_of device m.subchannel (device_at m device)
 
@@ -64,6 +67,7 @@ abbrev pub moved_up : (place : ℕ) → Subchannel → Subchannel
 moved_up place (Working p r) = Working (if nat_lt place p then p - 1 else p) r
 moved_up place s = s
 
+-- the channel without the drive at a place
 abbrev pub without_place : (place : ℕ) → ChannelState → ChannelState
 without_place place c = record c { subchannel = moved_up place c.subchannel; drives = remove c.drives place }
 
@@ -72,6 +76,7 @@ abbrev pub works_at : (place : ℕ) → Subchannel → Bool
 works_at place (Working p r) = p == place
 works_at place s = false
 
+-- the channel status word that pends is that of a drive's program
 abbrev pub waits_for : (device : ℕ) → Subchannel → Bool
 waits_for device (Pending d csw) = d == device
 waits_for device s = false
@@ -98,6 +103,7 @@ pub record Detaches (device : ℕ) (m : Machine) (image : ImageState) (old new :
 
 -- Packs that are changed.
 
+-- two drives are of one model
 abbrev pub is_same_model : DriveModel → DriveModel → Bool
 is_same_model D2311 D2311 = true
 is_same_model D2314 D2314 = true
@@ -107,6 +113,7 @@ is_same_model a b = false
 abbrev pub fits_drive : Geometry → Geometry → Bool
 fits_drive held other = is_same_model held.model other.model && (held.track_size == other.track_size)
 
+-- the same of a machine's device, if there is one with this address
 abbrev pub fits_at : (device : ℕ) → ImageState → Machine → Option Bool
 fits_at device image m = option_map (λ d. fits_drive d.drive.volume.geometry image.geometry) (device_at m device)
 

@@ -18,6 +18,7 @@ all_stored s = Store 0 s.bytes ∷ keys_set 0 s.keys
 abbrev pub finding : Storage → Machine → Machine
 finding s m = after_all (plain (all_stored s)) m
 
+-- the channel over another storage
 abbrev pub with_storage : ChannelState → Storage → ChannelState
 with_storage c s = record c { storage = s }
 

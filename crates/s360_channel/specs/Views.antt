@@ -14,6 +14,7 @@ use Rattle.s360_channel.specs.declared.view.SubchannelView.TheVariants.{Idle, Wo
 use Rattle.s360_channel.specs.declared.view.View.{View}
 use Rattle.s360_channel.specs.declared.view.DriveView.{DriveView}
 
+-- the subchannel as it is shown: whether a program-controlled interruption is asked for, and the word that pends
 abbrev pub subchannel_seen : Machine → machine.Subchannel → SubchannelView
 subchannel_seen m machine.Idle = Idle
 subchannel_seen m (machine.Working device script) = Working device (is_some (asked_by (run_of m device script)))
@@ -35,6 +36,7 @@ abbrev pub attached_in : Option ℕ → List AttachedState → Option AttachedSt
 attached_in None us = None
 attached_in (Some place) us = slice_get us place
 
+-- the drive that is attached with this address, if there is one
 abbrev pub attached_with : (device : ℕ) → List AttachedState → Option AttachedState
 attached_with device us = attached_in (position (is_at device) us) us
 
@@ -42,6 +44,7 @@ attached_with device us = attached_in (position (is_at device) us) us
 abbrev pub ShowsDrive : (device : ℕ) → Machine → Option DriveView → Type 0
 ShowsDrive device m seen = runs_at device m.subchannel ≡ false → seen ≡ option_map drive_seen (device_at m device)
 
+-- an image holds the volume of a device whose program does not run
 abbrev pub ShowsVolume : (device : ℕ) → Machine → Option ImageState → Type 0
 ShowsVolume device m image =
     runs_at device m.subchannel ≡ false
@@ -56,11 +59,14 @@ abbrev pub is_interruption : Answer → Bool
 is_interruption (Interrupted (Some told)) = true
 is_interruption answer = false
 
+-- the machine's answer to an interruption is one that is taken
 abbrev pub interrupts : Machine → Bool
 interrupts m = is_interruption (react Interrupt None m).0
 
+-- addresses and arms of the drives, in their order, in eight places
 abbrev pub drives_seen : List Device → List (Option (ℕ × Arm))
 drives_seen ds = map (λ d. Some (d.device, d.arm)) ds ++ replicate (8 - length ds) None
 
+-- all that a machine shows of itself
 abbrev pub view_of : Machine → View
 view_of m = record { subchannel = subchannel_seen m m.subchannel; drives = drives_seen m.devices }

@@ -35,6 +35,7 @@ pub record SeesProgram (m : Machine) (seen : Watched) : Type 0 where
   pub stands : StandsInPhase m seen.device key phase
   pub program : seen.program ≡ seen_in key phase
 
+-- the program that runs, or that none does
 abbrev pub ShowsProgram : Machine → Option Watched → Type 0
 ShowsProgram m None = is_working m.subchannel ≡ false
 ShowsProgram m (Some seen) = SeesProgram m seen
@@ -49,6 +50,7 @@ pub record SeesDrive (m : Machine) (d : DriveState) : Type 0 where
   pub command : command_of d.work ≡ command_in phase
   pub moved : passed_of d.work ≡ moved_in phase
 
+-- the drive at its command, or that no program runs
 abbrev pub ShowsDriveAtWork : Machine → Option DriveState → Type 0
 ShowsDriveAtWork m None = is_working m.subchannel ≡ false
 ShowsDriveAtWork m (Some d) = SeesDrive m d

@@ -15,9 +15,11 @@ use Rattle.s360_channels.specs.declared.faults.AddFault.TheVariants.{BadNumber, 
 abbrev pub new_channel : (number size : ℕ) → SelectorState
 new_channel number size = record { number = number; size = size; subchannel = Idle; drives = [] }
 
+-- there is a channel with this number
 abbrev pub is_taken : (number : ℕ) → List (Option SelectorState) → Bool
 is_taken number cs = is_some (slice_index_or cs number None)
 
+-- a channel with this number can be added
 abbrev pub IsFree : (number : ℕ) → List (Option SelectorState) → Type 0
 IsFree number cs = (nat_le 7 number ≡ false) × (is_taken number cs ≡ false)
 
@@ -33,6 +35,7 @@ AttachesTo (Some c) number device image old new =
     channel.NotRefused device (over c old.storage) × (new.channels
     ≡ slice_set old.channels number (Some (record c { drives = c.drives ++ new_attached device image ∷ [] })))
 
+-- the same, at the channel with this number, if there is one
 abbrev pub AttachesAt : (number device : ℕ) → ImageState → (old new : ChannelsState) → Type 0
 AttachesAt number device image old new = AttachesTo (selector_at number old) number device image old new
 

@@ -27,6 +27,7 @@ has_drive device (Some c) = is_taken device c
 abbrev pub is_attached : (address : ℕ) → ChannelsState → Bool
 is_attached address s = has_drive (address % 256) (channel_at (address / 256) s)
 
+-- Test Channel, asked of a channel over the shared storage
 abbrev pub Tests : Answer → Storage → ChannelState → Type 0
 Tests answer s c = (m : Machine) → StandsFor (with_storage c s) m → DoesQuietly Tch m answer (with_storage c s)
 
@@ -35,9 +36,11 @@ abbrev pub TestsAt : Answer → Storage → Option ChannelState → Type 0
 TestsAt answer s None = answer ≡ WithCode Three
 TestsAt answer s (Some c) = Tests answer s c
 
+-- whether an interruption pends, asked of a channel over the shared storage
 abbrev pub Interrupts : Bool → Storage → ChannelState → Type 0
 Interrupts answer s c = (m : Machine) → StandsFor (with_storage c s) m → answer ≡ interrupts m
 
+-- the same where there may be no channel
 abbrev pub InterruptsAt : Bool → Storage → Option ChannelState → Type 0
 InterruptsAt answer s None = answer ≡ false
 InterruptsAt answer s (Some c) = Interrupts answer s c
@@ -46,6 +49,7 @@ InterruptsAt answer s (Some c) = Interrupts answer s c
 abbrev pub Shows : View → Storage → ChannelState → Type 0
 Shows view s c = (m : Machine) → StandsFor (with_storage c s) m → view ≡ view_of m
 
+-- the same where there may be no channel
 abbrev pub ShowsAt : Option View → Storage → Option ChannelState → Type 0
 ShowsAt None s None = Unit {0}
 ShowsAt (Some view) s (Some c) = Shows view s c

@@ -20,6 +20,7 @@ pub record ChannelsState : Type 0 where
 abbrev pub numbered : (number : ℕ) → List (Option SelectorState) → Option SelectorState
 numbered number cs = slice_index_or cs number None
 
+-- the same, of several channels with their storage
 abbrev pub selector_at : (number : ℕ) → ChannelsState → Option SelectorState
 selector_at number s = numbered number s.channels
 
@@ -38,11 +39,13 @@ pub record Calls (number : ℕ) (How : ChannelState → ChannelState → Type 0)
   pub bytes : length new.storage.bytes ≡ length old.storage.bytes
   pub keys : length new.storage.keys ≡ length old.storage.keys
 
+-- of the channel that was found, or of none
 abbrev pub OnFound : Option SelectorState → (number : ℕ) → (How : ChannelState → ChannelState → Type 0)
     → (Missing : Type 0) → (old new : ChannelsState) → Type 0
 OnFound None number How Missing old new = Missing × (new ≡ old)
 OnFound (Some before) number How Missing old new = Calls number How before old new
 
+-- of the channel with a number
 abbrev pub OnChannel : (number : ℕ) → (How : ChannelState → ChannelState → Type 0) → (Missing : Type 0)
     → (old new : ChannelsState) → Type 0
 OnChannel number How Missing old new = OnFound (selector_at number old) number How Missing old new
@@ -52,6 +55,7 @@ pub record Quietly (e : Event) (answer : Answer) (old new : ChannelState) : Type
   pub does : (m : Machine) → StandsFor old m → DoesQuietly e m answer new
   pub calls : CallsNoStore old new
 
+-- the machine's event, with so many calls of a store
 pub record AtMost (most : ℕ) (e : Event) (answer : Answer) (old new : ChannelState) : Type 0 where
   pub does : (m : Machine) → StandsFor old m → Does e m answer old new
   pub calls : CallsAtMost most old new
@@ -62,10 +66,12 @@ pub record Runs (units : ℕ) (ran : RunOn) (old new : ChannelState) : Type 0 wh
   pub behind : (m : Machine) → StandsFor new m → ran.subchannel ≡ subchannel_seen m m.subchannel
   pub most : ran.units ≤ units
 
+-- and what is answered of that channel
 abbrev pub RunsTo : (units : ℕ) → Option RunOn → (old new : ChannelState) → Type 0
 RunsTo units None old new = ⊥
 RunsTo units (Some ran) old new = Runs units ran old new
 
+-- a reset, and what is answered of that channel
 abbrev pub ResetsTo : Option Reset → (old new : ChannelState) → Type 0
 ResetsTo None old new = ⊥
 ResetsTo (Some reset) old new = AtMost 1 machine.Reset (WasReset reset.unsaved) old new
@@ -74,5 +80,6 @@ ResetsTo (Some reset) old new = AtMost 1 machine.Reset (WasReset reset.unsaved) 
 abbrev pub Puts : Change → (is_kept : Bool) → (old new : Storage) → Type 0
 Puts change is_kept old new = (is_kept ≡ is_within change old) × (new ≡ (if is_kept then changed change old else old))
 
+-- the storage is changed, where it is kept within, and no channel is
 abbrev pub Stores : Change → (is_kept : Bool) → (old new : ChannelsState) → Type 0
 Stores change is_kept old new = Puts change is_kept old.storage new.storage × (new.channels ≡ old.channels)

@@ -28,6 +28,7 @@ RemovesFound None number parts old new = (parts ≡ None) × (new ≡ old)
 RemovesFound (Some c) number None old new = ⊥
 RemovesFound (Some c) number (Some parts) old new = Removes number c parts old new
 
+-- the same of the channel with a number
 abbrev pub RemovesAt : (number : ℕ) → Option Parts → (old new : ChannelsState) → Type 0
 RemovesAt number parts old new = RemovesFound (channel_at number old) number parts old new
 

@@ -40,6 +40,7 @@ abbrev pub TakesOf : (first : Option ℕ) → Option (ℕ × Csw) → (old new :
 TakesOf None taken old new = (taken ≡ None) × (new ≡ old)
 TakesOf (Some number) taken old new = OnChannel number (Quietly Interrupt (Interrupted taken)) (taken ≡ None) old new
 
+-- The first channel under the mask whose interruption pends has it taken.
 pub record TakesFirst (mask : ℕ) (taken : Option (ℕ × Csw)) (old new : ChannelsState) : Type 0 where
   pub first : Option ℕ
   pub is_first : FirstPending mask old first

@@ -25,6 +25,7 @@ ChangesPack device image before old new = (m : Machine) → StandsFor old m → 
 abbrev pub Keeps : (device : ℕ) → WhyStays → ChannelState → Type 0
 Keeps device why c = (m : Machine) → StandsFor c m → why_stays device m ≡ Some why
 
+-- the drive of a channel keeps its pack, for this reason
 abbrev pub KeepsPack : (device : ℕ) → ImageState → WhyStaysIn → ChannelState → Type 0
 KeepsPack device image why c = (m : Machine) → StandsFor c m → WhyHeld device image m why
 
@@ -35,6 +36,7 @@ RefusedDetach None s device (detach.Refused why) = ⊥
 RefusedDetach (Some c) s device detach.NoChannel = ⊥
 RefusedDetach (Some c) s device (detach.Refused why) = Keeps device why (with_storage c s)
 
+-- which refusal is answered when
 abbrev pub RefusedExchange : Option ChannelState → Storage → (device : ℕ) → ImageState → ExchangeFault → Type 0
 RefusedExchange None s device image exchange.NoChannel = Unit {0}
 RefusedExchange None s device image (exchange.Refused why) = ⊥

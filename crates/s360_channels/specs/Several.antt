@@ -23,6 +23,7 @@ pub data Call : Type 0 where
 abbrev pub Happens : Event → Answer → (old new : ChannelState) → Type 0
 Happens e answer old new = Quietly e answer old new ⊎ ((most : ℕ) × AtMost most e answer old new)
 
+-- a call is made: at one channel, or by the processor
 abbrev pub IsMade : Call → (old new : ChannelsState) → Type 0
 IsMade (AtChannel number e answer) old new =
     (is_store e ≡ false) × OnChannel number (Happens e answer) (Unit {0}) old new
@@ -32,6 +33,7 @@ IsMade (ByProcessor change) old new = (new.channels ≡ old.channels) × (new.st
 abbrev pub Course : Type 0
 Course = List (Call × ChannelsState)
 
+-- each call is made, in the state that the one before left
 abbrev pub AllMade : (old : ChannelsState) → Course → Type 0
 AllMade old [] = Unit {0}
 AllMade old (c ∷ calls) = IsMade c.0 old c.1 × AllMade c.1 calls
@@ -53,6 +55,7 @@ own_call number s (AtChannel n e answer) =
     if n == number then Some (record { storage = s; event = e; answer = answer }) else None
 own_call number s (ByProcessor change) = None
 
+-- a call more, where it is one
 abbrev pub add_call : Option OwnCall → List OwnCall → List OwnCall
 add_call None calls = calls
 add_call (Some one) calls = one ∷ calls
@@ -74,6 +77,7 @@ abbrev pub told : List Exchange → List (Event × Answer)
 told [] = []
 told ((e, x, answer) ∷ es) = if is_store e then told es else (e, answer) ∷ told es
 
+-- the events of these calls, with their answers
 abbrev pub asked : List OwnCall → List (Event × Answer)
 asked [] = []
 asked (one ∷ calls) = (one.event, one.answer) ∷ asked calls

@@ -9,6 +9,7 @@ pub record Steps (units done : ℕ) (old new : ChannelState) : Type 0 where
   pub steps : AtMost (2 * done) (StepBy units) (Stepped done) old new
   pub most : done ≤ units
 
+-- and what is answered of that channel
 abbrev pub StepsTo : (units : ℕ) → Option ℕ → (old new : ChannelState) → Type 0
 StepsTo units None old new = ⊥
 StepsTo units (Some done) old new = Steps units done old new

@@ -31,14 +31,17 @@ without_return line =
 abbrev pub is_blank : ℕ → Bool
 is_blank byte = byte == 32 || byte == 9
 
+-- a word has no characters
 abbrev pub is_empty : List ℕ → Bool
 is_empty text = length text == 0
 
+-- the words of a line
 abbrev pub words_of : List ℕ → List (List ℕ)
 words_of text = filter (λ word. not (is_empty word)) (slice_split is_blank text)
 
 -- Events.
 
+-- the event that a word names, if it names one
 abbrev pub name_of : List ℕ → Option EventName
 name_of word =
     if bytes_eq word (codes "ARRIVE") then Some name.Arrive
@@ -59,17 +62,21 @@ name_of word =
 abbrev pub without_operand : List (List ℕ) → Event → Option Event
 without_operand words e = if length words == 0 then Some e else None
 
+-- the word of one alone
 abbrev pub only : List (List ℕ) → Option (List ℕ)
 only (word ∷ []) = Some word
 only words = None
 
+-- the event of two words
 abbrev pub two_of : (List ℕ → List ℕ → Option Event) → List (List ℕ) → Option Event
 two_of f (first ∷ second ∷ []) = f first second
 two_of f words = None
 
+-- the address of a device, as the one operand
 abbrev pub device_address_in : List (List ℕ) → Option ℕ
 device_address_in words = option_and_then device_address_of (only words)
 
+-- a number of units, as the one operand
 abbrev pub units_in : List (List ℕ) → Option ℕ
 units_in words = option_and_then (count_within 0 65535) (only words)
 
@@ -78,6 +85,7 @@ abbrev pub run_units_in : List (List ℕ) → Option ℕ
 run_units_in [] = Some 16777216
 run_units_in words = option_and_then run_units_of (only words)
 
+-- words without the spaces between them
 abbrev pub joined : List (List ℕ) → List ℕ
 joined words = flat_map (λ word. word) words
 
@@ -88,9 +96,11 @@ store_of (address ∷ words) =
     option_and_then (λ at. option_map (λ bytes. event.Store at (record { items = bytes }))
     (stored_bytes_of (joined words))) (storage_address_of address)
 
+-- a storage address and a key
 abbrev pub set_key_of : List ℕ → List ℕ → Option Event
 set_key_of address key = option_and_then (λ at. option_map (event.Key at) (key_of key)) (storage_address_of address)
 
+-- a storage address and a number of bytes
 abbrev pub show_of : List ℕ → List ℕ → Option Event
 show_of address count = option_and_then (λ at. option_map (event.Show at) (count_within 1 32 count))
     (storage_address_of address)
@@ -110,10 +120,12 @@ event_of name.Store words = store_of words
 event_of name.Key words = two_of set_key_of words
 event_of name.Show words = two_of show_of words
 
+-- an event that its operands spell; or they are wrong
 abbrev pub spelled : Option Event → Result (Option Event) LineFault
 spelled (Some e) = Ok (Some e)
 spelled None = Err line.Operand
 
+-- an event that its name and operands spell; or there is none of this name
 abbrev pub named : Option EventName → List (List ℕ) → Result (Option Event) LineFault
 named None operands = Err line.Unknown
 named (Some n) operands = spelled (event_of n operands)
@@ -128,6 +140,7 @@ abbrev pub words_read : List (List ℕ) → Result (Option Event) LineFault
 words_read [] = Ok None
 words_read (first ∷ operands) = if is_comment first then Ok None else named (name_of first) operands
 
+-- the event of a line, if it has one, or what is wrong with it
 abbrev pub line_read : List ℕ → Result (Option Event) LineFault
 line_read text =
     let body = without_return text in
@@ -135,16 +148,19 @@ line_read text =
 
 -- Decks.
 
+-- what is wrong with a deck: the line with this number
 abbrev pub fault_at : ℕ → LineFault → DeckFault
 fault_at number line.TooLong = fault.LineTooLong number
 fault_at number line.Unknown = fault.Unknown number
 fault_at number line.Operand = fault.Operand number
 fault_at number line.OutOfMemory = fault.OutOfMemory
 
+-- the events so far, and that of one line more
 abbrev pub appended : List Event → Option Event → List Event
 appended events None = events
 appended events (Some e) = events ++ e ∷ []
 
+-- what comes behind a line, where nothing is wrong with it
 abbrev pub on_line : (number : ℕ) → Result (Option Event) LineFault → (Option Event → Result (List Event) DeckFault)
     → Result (List Event) DeckFault
 on_line number (Ok e) behind = behind e

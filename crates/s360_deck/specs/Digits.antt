@@ -31,6 +31,7 @@ storage_address_of word = number_of 16 1 6 word
 abbrev pub key_of : List ℕ → Option ℕ
 key_of word = number_of 16 1 1 word
 
+-- a number, if it is within limits
 abbrev pub within : (least most : ℕ) → ℕ → Option ℕ
 within least most n = if nat_le least n && nat_le n most then Some n else None
 

@@ -11,6 +11,7 @@ use Rattle.s360_events.specs.declared.conditions.Condition.TheVariants as condit
 use Rattle.s360_events.specs.declared.answers.Answer.{Answer}
 use Rattle.s360_events.specs.declared.answers.Answer.TheVariants.{Sio, Tio, Hio, Tch, Step, Run, Arrive, Interrupt, Reset, Store, Key, Show}
 
+-- unit and channel status, in four digits
 abbrev pub status_text : Status → List ℕ
 status_text status = bytes_text (status.unit.0 ∷ status.channel.0 ∷ [])
 
@@ -25,9 +26,11 @@ condition_text text (condition.Stored stored) = codes " CC 1" ++ text stored
 condition_text text condition.Two = codes " CC 2"
 condition_text text condition.Three = codes " CC 3"
 
+-- a text behind a space
 abbrev pub after_space : List ℕ → List ℕ
 after_space text = codes " " ++ text
 
+-- the line of an answer
 abbrev pub answer_text : Answer → List ℕ
 answer_text (Sio address c) = codes "SIO " ++ hexadecimal 3 address
     ++ condition_text (λ s. after_space (status_text s)) c

@@ -13,6 +13,7 @@ use Rattle.s360_events.specs.Seen.{event_seen, answer_seen}
 abbrev pub exchange_of : Event → Answer → machine.Exchange
 exchange_of e a = (event_seen e, None, answer_seen a)
 
+-- each event with its answer
 abbrev pub exchanges_of : List Event → List Answer → List machine.Exchange
 exchanges_of (e ∷ events) (a ∷ answers) = exchange_of e a ∷ exchanges_of events answers
 exchanges_of events answers = []
@@ -43,9 +44,11 @@ AllFit events answers = ⊥
 abbrev pub exchange_seen : Exchange → machine.Exchange
 exchange_seen t = exchange_of t.event.now t.answer.now
 
+-- exchanges as the machine has them
 abbrev pub exchanges_seen : List Exchange → List machine.Exchange
 exchanges_seen list = map exchange_seen list
 
+-- their events
 abbrev pub events_in : List machine.Exchange → List machine.Event
 events_in list = map (λ t. t.0) list
 
@@ -60,6 +63,7 @@ abbrev pub units_of : machine.Answer → Option ℕ
 units_of (machine.Stepped done) = Some done
 units_of answer = None
 
+-- the units that a step did; none of another event
 abbrev pub units_done : machine.Exchange → Option ℕ
 units_done t = if is_step t then units_of t.2 else None
 

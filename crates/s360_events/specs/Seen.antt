@@ -11,6 +11,7 @@ use Rattle.s360_events.specs.declared.events.Event.TheVariants as event
 use Rattle.s360_events.specs.declared.answers.Answer.{Answer}
 use Rattle.s360_events.specs.declared.answers.Answer.TheVariants as answer
 
+-- the event of the machine
 abbrev pub event_seen : Event → machine.Event
 event_seen (event.Sio address) = machine.Sio address
 event_seen (event.Tio address) = machine.Tio address
@@ -32,12 +33,15 @@ condition_seen stored (Stored s) = stored s
 condition_seen stored Two = machine.WithCode code.Two
 condition_seen stored Three = machine.WithCode code.Three
 
+-- a stored status, as an answer of the machine
 abbrev pub status_seen : Status → machine.Answer
 status_seen s = machine.StatusStored s.unit s.channel
 
+-- a stored channel status word, as an answer of the machine
 abbrev pub csw_seen : Csw → machine.Answer
 csw_seen csw = machine.CswStored csw
 
+-- the answer of the machine
 abbrev pub answer_seen : Answer → machine.Answer
 answer_seen (answer.Sio address c) = condition_seen status_seen c
 answer_seen (answer.Tio address c) = condition_seen csw_seen c

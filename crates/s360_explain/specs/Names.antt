@@ -35,6 +35,7 @@ command_name WriteCountKeyAndData = codes "Write Count, Key, Data"
 command_name WriteData = codes "Write Data"
 command_name WriteKeyAndData = codes "Write Key and Data"
 
+-- the name of what a command code asks for
 abbrev pub name_of_code : Code → List ℕ
 name_of_code Transfer = codes "Transfer In Channel"
 name_of_code Invalid = codes "(no command)"

@@ -16,6 +16,7 @@ use Rattle.s360_worked.specs.Volumes.{first_track, track_size}
 
 -- Channels.
 
+-- a drive at rest, with this address
 abbrev pub device_with : (device : ℕ) → IdleDrive → Device
 device_with device drive = record { device = device; arm = AtRest; drive = drive }
 
@@ -28,6 +29,7 @@ abbrev pub channel_with : Storage → List Device → Machine
 channel_with storage devices =
     record { channel = 1; storage = with_caw 0x00 storage; subchannel = Idle; devices = devices }
 
+-- the channel with one drive, at 90
 abbrev pub channel : Storage → IdleDrive → Machine
 channel storage drive = channel_with storage (device_with 0x90 drive ∷ [])
 
@@ -42,9 +44,11 @@ pub record Glance : Type 0 where
   pub csw : List ℕ
   pub drives : List (ℕ × ℕ × List ℕ × Result Track SlotFault)
 
+-- what is looked at of a drive
 abbrev pub glance_at : IdleDrive → ℕ × ℕ × List ℕ × Result Track SlotFault
 glance_at drive = (drive.cylinder, drive.head, sense_bytes drive.sense, track_under_arm drive)
 
+-- what is looked at of storage and all drives
 abbrev pub glance : World → Glance
 glance w = record { csw = slice_range w.storage.bytes 64 72; drives = map (λ d. glance_at d.1) w.drives }
 
@@ -52,9 +56,11 @@ glance w = record { csw = slice_range w.storage.bytes 64 72; drives = map (λ d.
 abbrev pub glance_after : List Input → Machine → Glance
 glance_after events m = glance (world_of (after_all events m))
 
+-- what is looked at behind the accepted programs, run one after another
 abbrev pub glance_after_programs : List Input → Machine → Glance
 glance_after_programs events m = glance (history (world_of m) (all_acts m (exchanges events m)))
 
+-- a glance of these parts
 abbrev pub glanced : (csw : List ℕ) → (drives : List (ℕ × ℕ × List ℕ × Result Track SlotFault)) → Glance
 glanced csw drives = record { csw = csw; drives = drives }
 
@@ -75,9 +81,11 @@ abbrev pub second_program : List Event
 second_program =
     Sio 0x191 ∷ StepBy 3 ∷ Sio 0x190 ∷ Arrive 0x190 ∷ StepBy 100 ∷ Interrupt ∷ Interrupt ∷ Interrupt ∷ []
 
+-- a seek, its two ends, and the address word of the program behind it
 abbrev pub first_program : List Event
 first_program = Sio 0x190 ∷ StepBy 100 ∷ Interrupt ∷ Tio 0x190 ∷ Store 72 (0x00 ∷ 0x00 ∷ 0x04 ∷ 0x08 ∷ []) ∷ []
 
+-- both, in one list
 abbrev pub two_programs : List Input
 two_programs = plain (first_program ++ second_program)
 
@@ -91,6 +99,7 @@ serial_events m = map (λ t. t.0) (serial_list (exchanges (plain second_program)
 abbrev pub whole_program : List Input
 whole_program = plain (Sio 0x190 ∷ StepBy 65535 ∷ Interrupt ∷ [])
 
+-- a program's first units, and then an event
 abbrev pub steps_and : (units : ℕ) → Event → List Input
 steps_and units event = plain (Sio 0x190 ∷ StepBy units ∷ event ∷ Interrupt ∷ [])
 
@@ -99,11 +108,13 @@ abbrev pub while_pending : List Input
 while_pending =
     plain (Sio 0x190 ∷ StepBy 65535 ∷ Tch ∷ Hio 0x190 ∷ Sio 0x191 ∷ Sio 0x190 ∷ Tio 0x190 ∷ Tio 0x190 ∷ [])
 
+-- starts while an arm moves, when it has arrived, and behind its device end
 abbrev pub starts_in_motion : List Input
 starts_in_motion = plain (Sio 0x190 ∷ Sio 0x190 ∷ Arrive 0x190 ∷ Sio 0x190 ∷ Sio 0x190 ∷ [])
 
 -- Faults of the store.
 
+-- the first load of a program fails
 abbrev pub first_load_fails : List Input
 first_load_fails = (Sio 0x190, None) ∷ failing (StepBy 65535) 0 LoadFails ∷ (Interrupt, None) ∷ []
 
@@ -120,6 +131,7 @@ abbrev pub write_home_address_after : List Input
 write_home_address_after =
     plain (Store 0x400 write_home_address ∷ Store 0x500 (0xC0 ∷ 0 ∷ 0 ∷ 0 ∷ 0 ∷ 0 ∷ []) ∷ Sio 0x190 ∷ StepBy 65535 ∷ Interrupt ∷ [])
 
+-- the data of a record of which 31 bytes are new
 abbrev pub partly_saved : List ℕ
 partly_saved = replicate 31 0xD7 ++ replicate 49 0xC1
 
@@ -130,9 +142,11 @@ save_before_seek_fails =
 
 -- Program-controlled interruption, and changes of storage while a program runs.
 
+-- a program-controlled interruption is taken before the program ends
 abbrev pub interruption_taken : List Input
 interruption_taken = plain (Sio 0x190 ∷ Interrupt ∷ StepBy 65535 ∷ Interrupt ∷ [])
 
+-- no interruption is asked for before the program has ended
 abbrev pub interruption_left : List Input
 interruption_left = plain (Sio 0x190 ∷ StepBy 65535 ∷ Interrupt ∷ Interrupt ∷ [])
 

@@ -20,6 +20,7 @@ seen address count (Ended used s e) =
     Some (record { units = used; csw = e.csw; sense = sense_bytes e.drive.sense; bytes = slice_range s.bytes address (address + count) })
 seen address count (NotEnded standing) = None
 
+-- what is seen of a program that ended
 abbrev pub saw : (units : ℕ) → Csw → (sense bytes : List ℕ) → Option Seen
 saw units csw sense bytes = Some (record { units = units; csw = csw; sense = sense; bytes = bytes })
 

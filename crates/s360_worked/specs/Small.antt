@@ -21,6 +21,7 @@ small_size = 72
 abbrev pub small_track : (first : List ℕ) → Track
 small_track first = track_with 0 0 (record_of 0 0 1 first ∷ record_of 0 0 2 (replicate 4 0xC2) ∷ [])
 
+-- two slots, the first with this track
 abbrev pub small_slots : (first : List ℕ) → List (List ℕ)
 small_slots first = slot_of small_size (small_track first) ∷ slot_of small_size (track_with 0 1 []) ∷ []
 
@@ -64,6 +65,7 @@ search_and_go words =
 abbrev pub write_small : (flags : ℕ) → Storage
 write_small flags = stored (search_and_go (ccw 0x05 0x600 flags 4)) 0x600 (replicate 4 0xD7)
 
+-- the last two bytes of storage, and a word that wants four
 abbrev pub write_past_storage : Storage
 write_past_storage = stored (search_and_go (ccw 0x05 0xFFE 0 4)) 0xFFE (0xD7 ∷ 0xD7 ∷ [])
 
@@ -154,6 +156,7 @@ parts_stored = plain (Sio 0x190 ∷ Show 64 8 ∷ Hio 0x190 ∷ Show 64 8 ∷ []
 abbrev pub reset_in_motion : List Input
 reset_in_motion = plain (Sio 0x190 ∷ Reset ∷ Arrive 0x190 ∷ Interrupt ∷ Sio 0x190 ∷ [])
 
+-- a reset while the channel status word pends
 abbrev pub reset_while_pending : List Input
 reset_while_pending = plain (Sio 0x190 ∷ StepBy 9 ∷ Reset ∷ Interrupt ∷ Tch ∷ [])
 
@@ -173,12 +176,15 @@ two_arrivals = plain (Sio 0x190 ∷ Sio 0x191 ∷ Arrive 0x191 ∷ Arrive 0x191 
 abbrev pub two_runs : List Input
 two_runs = plain (Sio 0x190 ∷ StepBy 9 ∷ Interrupt ∷ Sio 0x190 ∷ StepBy 9 ∷ Tio 0x190 ∷ [])
 
+-- a second start, behind the first program's interruption
 abbrev pub second_acceptance : List Input
 second_acceptance = plain (Sio 0x190 ∷ StepBy 9 ∷ Interrupt ∷ Sio 0x190 ∷ StepBy 2 ∷ [])
 
+-- a reset behind a program, and what pends then
 abbrev pub reset_run : List Input
 reset_run = plain (Sio 0x190 ∷ StepBy 9 ∷ Reset ∷ Interrupt ∷ [])
 
+-- a start whose command is over at once
 abbrev pub immediate_run : List Input
 immediate_run = plain (Sio 0x190 ∷ Interrupt ∷ [])
 

@@ -6,9 +6,11 @@ use Rattle.ckd_track.specs.NewVolume.{address, new_track, new_slots}
 use Rattle.ckd_track.specs.declared.geometries.Geometry.{Geometry}
 use Rattle.ckd_command.specs.Drive.{IdleDrive, no_sense}
 
+-- the bytes of a slot
 abbrev pub track_size : ℕ
 track_size = 320
 
+-- a volume of so many cylinders
 abbrev pub geometry_of : (cylinders : ℕ) → Geometry
 geometry_of cylinders = record { model = D2311; cylinders = cylinders; track_size = track_size }
 
@@ -33,6 +35,7 @@ track_with cylinder head records =
 
 -- One new cylinder.
 
+-- a drive with one new cylinder
 abbrev pub new_drive : IdleDrive
 new_drive = drive_with 1 (new_slots (geometry_of 1))
 
@@ -44,6 +47,7 @@ abbrev pub first_track : (contents : List ℕ) → Track
 first_track contents =
     track_with 0 0 (record_of 0 0 1 contents ∷ record_of 0 0 2 (replicate 80 0xC2) ∷ record_of 0 0 3 (replicate 80 0xC3) ∷ [])
 
+-- the tracks with records, at heads 0 to 3 of cylinder 0
 abbrev pub written_tracks : List Track
 written_tracks =
     first_track (replicate 80 0xC1)
@@ -52,10 +56,12 @@ written_tracks =
     ∷ track_with 0 3 (record_of 0 3 1 (0x00 ∷ 0x00 ∷ 0x06 ∷ 0x00 ∷ 0x00 ∷ 0x00 ∷ 0x00 ∷ 0x08 ∷ replicate 8 0xE1) ∷ [])
     ∷ []
 
+-- the tracks with R0 alone, behind them
 abbrev pub new_tracks : List Track
 new_tracks =
     map (new_track 0) (4 ∷ 5 ∷ 6 ∷ 7 ∷ 8 ∷ 9 ∷ [])
     ++ map (new_track 1) (0 ∷ 1 ∷ 2 ∷ 3 ∷ 4 ∷ 5 ∷ 6 ∷ 7 ∷ 8 ∷ 9 ∷ [])
 
+-- a drive over all of them
 abbrev pub written_drive : IdleDrive
 written_drive = drive_with 2 (map (slot_of track_size) (written_tracks ++ new_tracks))

@@ -62,7 +62,9 @@ impl<W: Write + Drop> Tracer<W> {
 }
 
 impl<W: Write + Drop> Watcher for Tracer<W> {
-    fn look<S: ImageStore>(&mut self, moment: Moment, channel: &Channel<S>) {
+    fn look<S: ImageStore>(&mut self, moment: Moment, channel: &Channel<S>)
+        ensures { Unit {0} }
+    {
         let seen = seen_of(moment, channel, self.trace.device);
         self.trace.look(moment, &seen);
         self.tell(matches!(moment, Moment::Unit));
