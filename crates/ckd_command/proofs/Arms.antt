@@ -38,14 +38,16 @@ no_sense : (c : Command) (r : Registers) → NoSenseFor (aim c) (cleared c r).se
 no_sense command.Sense r = search rules
 no_sense _ r = search rules
 
-starts_at : (c : Command) (before r : Registers) (o : Opened) → AtSameTrack before r → NoSenseFor (aim o.command) r.sense → BeginsAt before (started c r o)
+starts_at : (c : Command) (before r : Registers) (o : Opened) → AtSameTrack before r → NoSenseFor (aim o.command) r.sense
+    → BeginsAt before (started c r o)
 starts_at command.NoOperation before r o h k = h
 starts_at command.Recalibrate before r o h k = h
 starts_at _ before r o h k = (h, k)
 
 pub beginning_at : (code : ℕ) (r : Registers) → BeginsAt r (beginning code r)
 beginning_at code r =
-    beginning_by (BeginsAt r) code r (λ c bits _. record { cylinder = refl; head = refl }) (λ c o is. starts_at c r (cleared c r) o (record { cylinder = refl; head = refl }) (rw is (no_sense c r)))
+    beginning_by (BeginsAt r) code r (λ c bits _. record { cylinder = refl; head = refl }) (λ c o is. starts_at c r (cleared c r) o
+    (record { cylinder = refl; head = refl }) (rw is (no_sense c r)))
 
 -- How it looks: the head stays, but where the next head's track follows; and nothing is reported but where the look fails.
 
@@ -57,7 +59,10 @@ SightAt before o (Missed r) = AtSameTrack before r
 
 pub sight_at : (g : Geometry) (t : Sighted) (o : Opened) (r : Registers) → SightAt r o (sight g t o r)
 sight_at g t o r =
-    sight_by (SightAt r o) g t o r refl (λ a. refl) (record { cylinder = refl; head = refl }) (record { cylinder = refl; head = refl }, refl) (λ e. refl) (λ c h. record { cylinder = refl; head = refl })
+    sight_by (SightAt r o) g t o r refl (λ a. refl) (record { cylinder = refl; head = refl }) (
+      record { cylinder = refl; head = refl },
+      refl,
+    ) (λ e. refl) (λ c h. record { cylinder = refl; head = refl })
 
 -- How it closes: the arm moves only where it leaves the track.
 

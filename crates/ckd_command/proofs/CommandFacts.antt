@@ -26,7 +26,11 @@ use Rattle.ckd_command.specs.Answers.{Sight, Found, IndexPassed, NextHead, Misse
 use Rattle.ckd_command.proofs.Sights.{sight_by}
 use Rattle.ckd_command.specs.Tables.{action_of, extent_of, ends_with_data}
 use Rattle.ckd_position.specs.Contents.{Sighted, replaced, kept}
-use Rattle.ckd_command.specs.Commands.{Closing, ends, fails, writes, closing, close_by, whole_field, with_cause, at_end, seek_cylinder_and_head, seek_head, set_file_mask, search_ends, area_ends, end_of_area, update, updated, format, format_ends, new_record_fits, write_home_address, own_home_address, home_address_ends, ending_status, number, beginning, begin_decoded, begin_allowed, started, cleared, refusal, refusal_under, is_out_of_sequence, sight, at_index}
+use Rattle.ckd_command.specs.Commands.{Closing, ends, fails, writes, closing, close_by, whole_field, with_cause, at_end}
+use Rattle.ckd_command.specs.Commands.{seek_cylinder_and_head, seek_head, set_file_mask, search_ends, area_ends, end_of_area, update}
+use Rattle.ckd_command.specs.Commands.{updated, format, format_ends, new_record_fits, write_home_address, own_home_address}
+use Rattle.ckd_command.specs.Commands.{home_address_ends, ending_status, number, beginning, begin_decoded, begin_allowed, started, cleared}
+use Rattle.ckd_command.specs.Commands.{refusal, refusal_under, is_out_of_sequence, sight, at_index}
 
 -- Equipment check, which is of the store alone.
 
@@ -83,10 +87,24 @@ module _ (r : Registers) (b : List ℕ) (w : Bool) where
   plain s unit c d k = record { channel_end = c; device_end = d; written = inl refl; not_told = k.not_told; arm = inr (refl, k.arm) }
 
   check : (s : Registers) (bits : ℕ) → bit_and bits cause.EQUIPMENT_CHECK.0 ≡ 0 → Stays r s → Closes (fails s (record { 0 = bits }))
-  check s bits h k = plain (with_cause s (record { 0 = bits })) _ refl refl (record { arm = record { cylinder = k.arm.cylinder; head = k.arm.head }; not_told = λ e. with_other s bits h (k.not_told e) })
+  check s bits h k = plain (with_cause s (record { 0 = bits })) _ refl refl (record {
+    arm = record {
+      cylinder = k.arm.cylinder;
+      head =
+          k.arm.head;
+    };
+    not_told = λ e. with_other s bits h (k.not_told e);
+  })
 
   writing : (t : Track) (c : Closing) → w ≡ true → (b ≡ [] → ⊥) → Closes c → Closes (writes t c)
-  writing t c write some h = record { channel_end = h.channel_end; device_end = h.device_end; written = inr (some, write); not_told = h.not_told; arm = h.arm }
+  writing t c write some h = record {
+    channel_end = h.channel_end;
+    device_end = h.device_end;
+    written = inr (some, write);
+    not_told =
+        h.not_told;
+    arm = h.arm;
+  }
 
   either : (a : Bool) (x y : Closing) → Closes x → Closes y → Closes (cond a x y)
   either a x y p q = cond_both a x y Closes (λ _. p) (λ _. q)
@@ -97,15 +115,19 @@ module _ (r : Registers) (b : List ℕ) (w : Bool) where
 
   -- a field that must come whole, where the registers have gone on without telling anything
   whole : (s : Registers) (size : ℕ) (c : Closing) → Stays r s → ((b ≡ [] → ⊥) → Closes c) → Closes (whole_field s b size c)
-  whole s size c k h = by_bytes (ends s ending_status) _ (plain s _ refl refl k) (λ some. either (nat_lt (length b) size) _ c (check s _ refl k) (h some))
+  whole s size c k h = by_bytes (ends s ending_status) _ (plain s _ refl refl k) (λ some. either (nat_lt (length b) size) _ c
+      (check s _ refl k) (h some))
 
   seeks : (g : Geometry) → Closes (seek_cylinder_and_head g r b)
-  seeks g = either (number (take 2 b) == 0 && nat_lt (number (slice_range b 2 4)) g.cylinders && nat_lt (number (slice_range b 4 6)) (heads_of g.model)) _ _
-      (record { channel_end = refl; device_end = refl; written = inl refl; not_told = λ e. e; arm = inl refl }) (check r _ refl (itself _ _ refl refl refl))
+  seeks g = either (number (take 2 b) == 0 && nat_lt (number (slice_range b 2 4)) g.cylinders && nat_lt (number (slice_range b 4 6))
+      (heads_of g.model)) _ _
+      (record { channel_end = refl; device_end = refl; written = inl refl; not_told = λ e. e; arm = inl refl })
+      (check r _ refl (itself _ _ refl refl refl))
 
   head_seeks : (g : Geometry) → Closes (seek_head g r b)
   head_seeks g = either (nat_lt (number (slice_range b 4 6)) (heads_of g.model)) _ _
-      (record { channel_end = refl; device_end = refl; written = inl refl; not_told = λ e. e; arm = inl refl }) (check r _ refl (itself _ _ refl refl refl))
+      (record { channel_end = refl; device_end = refl; written = inl refl; not_told = λ e. e; arm = inl refl })
+      (check r _ refl (itself _ _ refl refl refl))
 
   masks : (bytes : List ℕ) → Closes (set_file_mask r bytes)
   masks [] = plain r _ refl refl (itself _ _ refl refl refl)
@@ -116,7 +138,8 @@ module _ (r : Registers) (b : List ℕ) (w : Bool) where
   searches o false all = plain _ _ refl refl (itself _ _ refl refl refl)
 
   area_end : (o : Opened) (no_data : Bool) → Closes (area_ends o r no_data)
-  area_end o no_data = cond_both (ends_with_data (extent_of o.command) && no_data) _ _ (λ unit. Closes (ends (at_end o r) unit)) (λ _. plain _ _ refl refl (itself _ _ refl refl refl))
+  area_end o no_data = cond_both (ends_with_data (extent_of o.command) && no_data) _ _ (λ unit. Closes (ends (at_end o r) unit))
+      (λ _. plain _ _ refl refl (itself _ _ refl refl refl))
       (λ _. plain _ _ refl refl (itself _ _ refl refl refl))
 
   updates : (change : Record → Record) (t : Sighted) (o : Opened) → w ≡ true → Closes (update change t o r b)
@@ -128,11 +151,13 @@ module _ (r : Registers) (b : List ℕ) (w : Bool) where
 
   formats : (g : Geometry) (t : Sighted) (o : Opened) → w ≡ true → (b ≡ [] → ⊥) → Closes (format g t o r b)
   formats g t o write some = either (new_record_fits g t o b) _ _
-      (writing _ (format_ends r (length (kept t o.area))) write some (plain _ _ refl refl (itself _ _ refl refl refl))) (check r _ refl (itself _ _ refl refl refl))
+      (writing _ (format_ends r (length (kept t o.area))) write some (plain _ _ refl refl (itself _ _ refl refl refl)))
+      (check r _ refl (itself _ _ refl refl refl))
 
   homes : (o : Opened) → w ≡ true → (b ≡ [] → ⊥) → Closes (write_home_address o r b)
   homes o write some = either (bytes_eq b (own_home_address r)) _ _
-      (writing _ (home_address_ends o r) write some (plain _ _ refl refl (itself _ _ refl refl refl))) (check (at_end o r) _ refl (itself _ _ refl refl refl))
+      (writing _ (home_address_ends o r) write some (plain _ _ refl refl (itself _ _ refl refl refl)))
+      (check (at_end o r) _ refl (itself _ _ refl refl refl))
 
 -- the actions of the writes
 abbrev writes_by : Action → Bool
@@ -145,7 +170,8 @@ is_write_by : (c : Command) → writes_by (action_of c) ≡ is_write c
 is_write_by command.Sense = refl
 is_write_by _ = refl
 
-closes : (a : Action) (g : Geometry) (t : Sighted) (o : Opened) (r : Registers) (b : List ℕ) → IsClosing r b (writes_by a) (close_by a g t o r b)
+closes : (a : Action) (g : Geometry) (t : Sighted) (o : Opened) (r : Registers) (b : List ℕ)
+    → IsClosing r b (writes_by a) (close_by a g t o r b)
 closes action.SeekCylinderAndHead g t o r b = whole r b _ r 6 _ (itself _ _ refl refl refl) (λ some. seeks r b _ g)
 closes action.SeekHead g t o r b = whole r b _ r 6 _ (itself _ _ refl refl refl) (λ some. head_seeks r b _ g)
 closes action.SetFileMask g t o r b = masks r b _ b
@@ -155,7 +181,8 @@ closes action.Format g t o r b = whole r b _ r 8 _ (itself _ _ refl refl refl) (
 closes action.Update g t o r b = updates r b _ (replaced (extent_of o.command) b) t o refl
 closes _ g t o r b = area_end r b _ o _
 
-pub closing_facts : (g : Geometry) (t : Sighted) (o : Opened) (r : Registers) (b : List ℕ) → IsClosing r b (is_write o.command) (closing g t o r b)
+pub closing_facts : (g : Geometry) (t : Sighted) (o : Opened) (r : Registers) (b : List ℕ)
+    → IsClosing r b (is_write o.command) (closing g t o r b)
 unfolding closing
 closing_facts g t o r b = rw (← is_write_by o.command) (closes (action_of o.command) g t o r b)
 
@@ -186,7 +213,8 @@ refusals NoSeek c r = refl
 refusals Yes c r = cond_both (is_out_of_sequence c r) (Some cause.OUT_OF_SEQUENCE) None IsOther (λ _. refl) (λ _. tt)
 
 -- what holds where a command is refused, and where it starts, holds of every beginning
-pub beginning_by : (P : Beginning → Type 0) (code : ℕ) (r : Registers) → ((c : Command) (bits : ℕ) → bit_and bits cause.EQUIPMENT_CHECK.0 ≡ 0 → P (Rejected (with_cause (cleared c r) (record { 0 = bits }))))
+pub beginning_by : (P : Beginning → Type 0) (code : ℕ) (r : Registers) → ((c : Command) (bits : ℕ) → bit_and bits cause.EQUIPMENT_CHECK.0
+    ≡ 0 → P (Rejected (with_cause (cleared c r) (record { 0 = bits }))))
     → ((c : Command) (o : Opened) → o.command ≡ c → P (started c (cleared c r) o)) → P (beginning code r)
 unfolding beginning
 beginning_by P code r refused starts = go (decoded code)
@@ -200,7 +228,8 @@ beginning_by P code r refused starts = go (decoded code)
     go (Some c) = by c (refusal c.command r) (refusals (permit_of r.file_mask c.command) c.command r)
 
 pub beginning_silent : (code : ℕ) (r : Registers) → BeginsSilent r (beginning code r)
-beginning_silent code r = beginning_by (BeginsSilent r) code r (λ c bits h. λ e. with_other (cleared c r) bits h (cleared_silent c r e)) (λ c o _. starts_silent c r (cleared c r) o (cleared_silent c r))
+beginning_silent code r = beginning_by (BeginsSilent r) code r (λ c bits h. λ e. with_other (cleared c r) bits h (cleared_silent c r e))
+    (λ c o _. starts_silent c r (cleared c r) o (cleared_silent c r))
 
 -- How it looks: equipment check is not reported.
 
@@ -211,4 +240,5 @@ SightSilent before (NextHead r) = NotTold before r
 SightSilent before (Missed r) = NotTold before r
 
 pub sight_silent : (g : Geometry) (t : Sighted) (o : Opened) (r : Registers) → SightSilent r (sight g t o r)
-sight_silent g t o r = sight_by (SightSilent r) g t o r tt (λ a. tt) (with_other r cause.UNREADABLE_TRACK.0 refl) (λ e. e) (λ _. λ e. e) (λ c h. with_other (at_index r) c.0 h)
+sight_silent g t o r = sight_by (SightSilent r) g t o r tt (λ a. tt) (with_other r cause.UNREADABLE_TRACK.0 refl) (λ e. e) (λ _. λ e. e)
+    (λ c h. with_other (at_index r) c.0 h)

@@ -1,5 +1,6 @@
 -- How many bytes pass in a command: it gives all those of its area, and no command gets shorter by bytes that pass.
-use Rattle.std.proofs.Common.{◌≡◌, ◌⊎◌, inl, inr, ℕ, ◌+◌, ◌≤◌, refl, sym, ap, ◌∙◌, arith, true, false, Bool, not, ◌||◌, List, ◌++◌, nat_lt, length, length-append}
+use Rattle.std.proofs.Common.{◌≡◌, ◌⊎◌, inl, inr, ℕ, ◌+◌, ◌≤◌, refl, sym, ap, ◌∙◌, arith, true, false, Bool, not, ◌||◌, List, ◌++◌, nat_lt}
+use Rattle.std.proofs.Common.{length, length-append}
 use Rattle.std.specs.Prelude.{if◌then◌else◌, slice_index}
 use Rattle.std.proofs.lemmas.Bool.Decides.{nat_tests}
 use Rattle.std.proofs.lemmas.List.{get_or_append_left}
@@ -14,11 +15,13 @@ use Rattle.ckd_position.specs.Contents.{Sighted}
 use Rattle.ckd_track.specs.Track.{key_length, data_length, body_length}
 use Rattle.ckd_track.specs.declared.geometries.Geometry.{Geometry}
 
-pub length_by : (a : Action) (g : Geometry) (t : Sighted) (o : Opened) (r : Registers) (b : List ℕ) → action_of o.command ≡ a → length_after g t o r b ≡ length_for a g t o r b
+pub length_by : (a : Action) (g : Geometry) (t : Sighted) (o : Opened) (r : Registers) (b : List ℕ) → action_of o.command ≡ a
+    → length_after g t o r b ≡ length_for a g t o r b
 unfolding length_after
 length_by a g t o r b is = rw is refl
 
-length_in : (a : Action) (o : Open) (b : List ℕ) → action_of o.opened.command ≡ a → length_of o b ≡ length_for a o.state.volume.geometry (track_under o.state) o.opened o.state.registers b
+length_in : (a : Action) (o : Open) (b : List ℕ) → action_of o.opened.command ≡ a → length_of o b ≡ length_for a o.state.volume.geometry
+    (track_under o.state) o.opened o.state.registers b
 length_in a o b is = length_by a o.state.volume.geometry (track_under o.state) o.opened o.state.registers b is
 
 -- what a command gives is the whole of its area
@@ -48,7 +51,8 @@ same_count b more long =
     record { short = grind (arith, nat_tests); key = get_or_append_left b more 0 5 (omega arith); bytes = rw (six, seven) refl }
 
 -- the length of a formatting write is 8, until the count area gives it, which later bytes do not change
-format_stays : (g : Geometry) (t : Sighted) (o : Opened) (b more : List ℕ) → nat_lt (length b) 8 ≡ false → format_length g t o b ≡ format_length g t o (b ++ more)
+format_stays : (g : Geometry) (t : Sighted) (o : Opened) (b more : List ℕ) → nat_lt (length b) 8 ≡ false
+    → format_length g t o b ≡ format_length g t o (b ++ more)
 format_stays g t o b more k =
     let s = same_count b more (grind (arith, nat_tests)) in
     rw (k, s.short, s.key, s.bytes) refl
@@ -70,14 +74,17 @@ length_changes o b more = go (action_of o.opened.command) refl
     T : Sighted
     T = track_under o.state
 
-    same : (a : Action) → action_of o.opened.command ≡ a → length_for a G T o.opened o.state.registers b ≡ length_for a G T o.opened o.state.registers (b ++ more)
+    same : (a : Action) → action_of o.opened.command ≡ a → length_for a G T o.opened o.state.registers b
+        ≡ length_for a G T o.opened o.state.registers (b ++ more)
         → Changes (length_of o b) (length_of o (b ++ more))
     same a e h = let is = length_in a o b e ∙ h ∙ sym (length_in a o (b ++ more) e) in record { grows = omega (arith, is); stays = inr is }
 
-    formats : action_of o.opened.command ≡ action.Format → (short : Bool) → nat_lt (length b) 8 ≡ short → Changes (length_of o b) (length_of o (b ++ more))
+    formats : action_of o.opened.command ≡ action.Format → (short : Bool) → nat_lt (length b) 8 ≡ short
+        → Changes (length_of o b) (length_of o (b ++ more))
     formats e true k =
         let eight = length_in action.Format o b e ∙ format_eight G T o.opened b k in
-        let least = eight_least (nat_lt (length (b ++ more)) 8 || not (new_record_fits G T o.opened (b ++ more))) (body_length (b ++ more)) in
+        let least = eight_least (nat_lt (length (b ++ more)) 8 || not (new_record_fits G T o.opened (b ++ more)))
+        (body_length (b ++ more)) in
         record { grows = rw (eight, length_in action.Format o (b ++ more) e) least; stays = inl eight }
     formats e false k = same action.Format e (format_stays G T o.opened b more k)
 

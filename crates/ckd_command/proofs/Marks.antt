@@ -13,7 +13,11 @@ use Rattle.ckd_command.specs.Answers as answer
 use Rattle.ckd_track.specs.Track.{Track}
 use Rattle.ckd_command.specs.Tables.{aim}
 use Rattle.ckd_command.specs.Commands.{Closing, beginning, closing}
-use Rattle.ckd_command.specs.Drive.{State, drive_of, track_under, Fault, LoadFails, SaveFails, left_by, lost, saving, moving_off, moved, with_registers, with_written, is_written, is_written_by, is_write_command, Open, state_of, AfterBegin, Rejected, Immediate, Started, begin, begun, at_cylinder_zero, AfterLook, Ready, Passed, Failed, look, looked, look_for, Closed, failed, close, closed, closed_moving, settled, with_unit_check, unsaved, unsaved_by, tells_equipment_check}
+use Rattle.ckd_command.specs.Drive.{State, drive_of, track_under, Fault, LoadFails, SaveFails, left_by, lost, saving, moving_off, moved}
+use Rattle.ckd_command.specs.Drive.{with_registers, with_written, is_written, is_written_by, is_write_command, Open, state_of, AfterBegin}
+use Rattle.ckd_command.specs.Drive.{Rejected, Immediate, Started, begin, begun, at_cylinder_zero, AfterLook, Ready, Passed, Failed, look}
+use Rattle.ckd_command.specs.Drive.{looked, look_for, Closed, failed, close, closed, closed_moving, settled, with_unit_check, unsaved}
+use Rattle.ckd_command.specs.Drive.{unsaved_by, tells_equipment_check}
 use Rattle.ckd_command.proofs.CommandFacts.{NotTold, BeginsSilent, SightSilent, closing_facts, beginning_silent, sight_silent}
 
 -- Marks.
@@ -30,7 +34,8 @@ anywhere Lost r q e = absurd (cc)
 anywhere _ r q e = refl
 
 -- what holds where a save goes, and where a track that was written is lost, holds of a save
-pub by_save : {A : Type 0} (P : A → Type 0) (f : Option Fault) (s : State) (fails : State → A) (goes : A) → P goes → ((left : List ℕ) → s.mark ≡ Written → P (fails (lost s left))) → P (moving_off f s fails goes)
+pub by_save : {A : Type 0} (P : A → Type 0) (f : Option Fault) (s : State) (fails : State → A) (goes : A) → P goes
+    → ((left : List ℕ) → s.mark ≡ Written → P (fails (lost s left))) → P (moving_off f s fails goes)
 by_save P f s fails goes h k = go f s.mark refl
   where
     go : (f : Option Fault) (m : Mark) → s.mark ≡ m → P (saving (left_by f m) s fails goes)
@@ -68,7 +73,8 @@ begin_traces f code s e = go (beginning code s.registers)
     go (answer.Rejected r) = same_mark s r e
     go (answer.Immediate r) = same_mark s r e
     go (answer.Started r o) = same_mark s r e
-    go (answer.ToCylinderZero r o) = by_save (BegunTraces s) f (with_registers s r) Rejected (at_cylinder_zero s r o) (at_zero r o) (λ left w. lost_mark s (with_registers s r) left w)
+    go (answer.ToCylinderZero r o) = by_save (BegunTraces s) f (with_registers s r) Rejected (at_cylinder_zero s r o) (at_zero r o)
+        (λ left w. lost_mark s (with_registers s r) left w)
 
 abbrev pub LookTraces : State → AfterLook → Type 0
 LookTraces before (Ready o) = Traces before (state_of o)
@@ -89,7 +95,8 @@ look_keeps f o e = go f (aim o.opened.command) _
     at : (f : Option Fault) (s : Sight) → LookKeeps o.state (looked f o s)
     at f (answer.Found opened) = (same_mark o.state o.state.registers e, e)
     at f (answer.IndexPassed r) = (same_mark o.state r e, tt)
-    at f (answer.NextHead r) = by_save (LookKeeps o.state) f o.state Failed (Passed (record o { state = moved o.state r })) (saved_mark o.state r, tt) (λ left w. (lost_mark o.state o.state left w, tt))
+    at f (answer.NextHead r) = by_save (LookKeeps o.state) f o.state Failed (Passed (record o { state = moved o.state r }))
+        (saved_mark o.state r, tt) (λ left w. (lost_mark o.state o.state left w, tt))
     at f (answer.Missed r) = (same_mark o.state r e, tt)
 
     go : (f : Option Fault) (a : Aim) (s : Sight) → LookKeeps o.state (look_for f o a s)
@@ -110,7 +117,8 @@ pub record CloseTraces (before alone after : State) : Type 0 where
 abbrev closing_of : Open → List ℕ → Closing
 closing_of o b = closing o.state.volume.geometry (track_under o.state) o.opened o.state.registers b
 
-pub close_traces : (f : Option Fault) (o : Open) (b : List ℕ) → unsaved (state_of o) ≡ None → CloseTraces (state_of o) (close None o b).state (close f o b).state
+pub close_traces : (f : Option Fault) (o : Open) (b : List ℕ) → unsaved (state_of o) ≡ None
+    → CloseTraces (state_of o) (close None o b).state (close f o b).state
 close_traces f o b e = go (closing_of o b) (closing_of o b).moves_off
   where
     stays : (c : Closing) (t : Option Track) → unsaved (with_registers (with_written o.state t) c.registers) ≡ None
@@ -121,21 +129,28 @@ close_traces f o b e = go (closing_of o b) (closing_of o b).moves_off
     go c true = by_save (λ x. CloseTraces o.state (closed None o.state c true).state x.state) f o.state failed (closed_moving o.state c)
         (record { lost = never_both None refl; written = untrue })
         (λ left w. record { lost = λ h. ap is_written_by w; written = untrue })
-    go c false = record { lost = never_both (unsaved (with_registers (with_written o.state c.written) c.registers)) (stays c c.written); written = λ w. w }
+    go c false = record {
+      lost = never_both (unsaved (with_registers (with_written o.state c.written) c.registers)) (stays c c.written);
+      written = λ w. w;
+    }
 
 -- only a write of which a byte has passed writes a track
-pub close_writes : (o : Open) (b : List ℕ) → is_written (close None o b).state ≡ true → (is_written (state_of o) ≡ true) ⊎ ((is_write_command o ≡ true) × (b ≡ [] → ⊥))
+pub close_writes : (o : Open) (b : List ℕ) → is_written (close None o b).state ≡ true → (is_written (state_of o) ≡ true)
+    ⊎ ((is_write_command o ≡ true) × (b ≡ [] → ⊥))
 close_writes o b = go (closing_of o b) (closing_of o b).moves_off (closing_facts _ _ _ _ b).written
   where
-    go : (c : Closing) (moves_off : Bool) → (c.written ≡ None) ⊎ ((b ≡ [] → ⊥) × (is_write_command o ≡ true)) → is_written (closed None o.state c moves_off).state ≡ true
+    go : (c : Closing) (moves_off : Bool) → (c.written ≡ None) ⊎ ((b ≡ [] → ⊥) × (is_write_command o ≡ true))
+        → is_written (closed None o.state c moves_off).state ≡ true
         → (is_written o.state ≡ true) ⊎ ((is_write_command o ≡ true) × (b ≡ [] → ⊥))
     go c true h = untrue
     go c false (inl h) = λ w. inl (sym (ap (λ t. is_written (with_written o.state t)) h) ∙ w)
     go c false (inr h) = λ w. inr (h.1, h.0)
 
 -- a save as the program ends loses what was written, or what was lost already
-pub settle_traces : (f : Option Fault) (c : Closed) → is_some (unsaved (settled f c).state) ≡ true → (is_some (unsaved c.state) ≡ true) ⊎ (is_written c.state ≡ true)
-settle_traces f c = by_save (λ x. is_some (unsaved x.state) ≡ true → (is_some (unsaved c.state) ≡ true) ⊎ (is_written c.state ≡ true)) f c.state (λ s. record c { state = s; unit = with_unit_check c.unit }) c
+pub settle_traces : (f : Option Fault) (c : Closed) → is_some (unsaved (settled f c).state) ≡ true → (is_some (unsaved c.state) ≡ true)
+    ⊎ (is_written c.state ≡ true)
+settle_traces f c = by_save (λ x. is_some (unsaved x.state) ≡ true → (is_some (unsaved c.state) ≡ true)
+    ⊎ (is_written c.state ≡ true)) f c.state (λ s. record c { state = s; unit = with_unit_check c.unit }) c
     (λ h. inl h) (λ left w h. inr (ap is_written_by w))
 
 -- Without a fault.
@@ -189,7 +204,8 @@ look_calm Q o h = go (aim o.opened.command) _ (sight_silent o.state.volume.geome
 pub close_calm : (Q : Type 0) (o : Open) (b : List ℕ) → Calm Q (state_of o) → Calm Q (close None o b).state
 close_calm Q o b h = go (closing_of o b) (closing_of o b).moves_off (closing_facts _ _ _ _ b).not_told
   where
-    stays : (c : Closing) (t : Option Track) → NotTold o.state.registers c.registers → Calm Q (with_registers (with_written o.state t) c.registers)
+    stays : (c : Closing) (t : Option Track) → NotTold o.state.registers c.registers
+        → Calm Q (with_registers (with_written o.state t) c.registers)
     stays c None k = calm_registers Q o.state c.registers h k
     stays c (Some t) k = record { saved = refl; quiet = λ q. k (h.quiet q) }
 

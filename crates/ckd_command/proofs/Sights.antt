@@ -24,23 +24,29 @@ use Rattle.ckd_command.specs.Answers.{Sight, Found, IndexPassed, NextHead, Misse
 use Rattle.ckd_command.specs.Tables.{aim, action_of, needs_readable}
 use Rattle.ckd_command.specs.Commands.{sight, sight_of, look_for, next_head, turned, at_index, with_cause}
 
-turning : (P : Sight → Type 0) (r : Registers) (l : Lap) → P (IndexPassed (record r { position = AtIndex; lap = Second })) → P (Missed (with_cause (at_index r) cause.NO_RECORD_FOUND)) → P (turned r l)
+turning : (P : Sight → Type 0) (r : Registers) (l : Lap) → P (IndexPassed (record r { position = AtIndex; lap = Second }))
+    → P (Missed (with_cause (at_index r) cause.NO_RECORD_FOUND)) → P (turned r l)
 turning P r First passed missed = passed
 turning P r Second passed missed = missed
 
 -- a look that passes the index goes on by one of these ways; it fails for no fault of the store
-pub passing : (P : Sight → Type 0) (g : Geometry) (o : Opened) (r : Registers) → P (IndexPassed (record r { position = AtIndex; lap = Second }))
-    → ((r.head + 1 == heads_of g.model) ≡ false → P (NextHead (moved_to r r.cylinder (r.head + 1)))) → ((c : Sense) → bit_and c.0 cause.EQUIPMENT_CHECK.0 ≡ 0 → P (Missed (with_cause (at_index r) c)))
+pub passing : (P : Sight → Type 0) (g : Geometry) (o : Opened) (r : Registers)
+    → P (IndexPassed (record r { position = AtIndex; lap = Second }))
+    → ((r.head + 1 == heads_of g.model) ≡ false → P (NextHead (moved_to r r.cylinder (r.head + 1))))
+    → ((c : Sense) → bit_and c.0 cause.EQUIPMENT_CHECK.0 ≡ 0 → P (Missed (with_cause (at_index r) c)))
     → P (sight_of g o r next.IndexPassed)
 passing P g o r passed head missed =
     cond_both o.multi_track (next_head g r) (turned r r.lap) P
-    (λ _. cond_both (not (allows_head_change r.file_mask)) _ _ P (λ _. missed cause.HEAD_CHANGE_NOT_ALLOWED refl) (λ _. cond_both (r.head + 1 == heads_of g.model) _ _ P (λ _. missed cause.END_OF_CYLINDER refl) head))
+    (λ _. cond_both (not (allows_head_change r.file_mask)) _ _ P (λ _. missed cause.HEAD_CHANGE_NOT_ALLOWED refl)
+    (λ _. cond_both (r.head + 1 == heads_of g.model) _ _ P (λ _. missed cause.END_OF_CYLINDER refl) head))
     (λ _. turning P r r.lap passed (missed cause.NO_RECORD_FOUND refl))
 
 -- what holds of these ways holds of every look; it has a premise for each of them
-pub sight_by : (P : Sight → Type 0) (g : Geometry) (t : Sighted) (o : Opened) (r : Registers) → P (Found o) → ((a : Area) → P (Found (record o { area = Some a })))
+pub sight_by : (P : Sight → Type 0) (g : Geometry) (t : Sighted) (o : Opened) (r : Registers) → P (Found o)
+    → ((a : Area) → P (Found (record o { area = Some a })))
     → P (Missed (with_cause r cause.UNREADABLE_TRACK)) → P (IndexPassed (record r { position = AtIndex; lap = Second }))
-    → ((r.head + 1 == heads_of g.model) ≡ false → P (NextHead (moved_to r r.cylinder (r.head + 1)))) → ((c : Sense) → bit_and c.0 cause.EQUIPMENT_CHECK.0 ≡ 0 → P (Missed (with_cause (at_index r) c)))
+    → ((r.head + 1 == heads_of g.model) ≡ false → P (NextHead (moved_to r r.cylinder (r.head + 1))))
+    → ((c : Sense) → bit_and c.0 cause.EQUIPMENT_CHECK.0 ≡ 0 → P (Missed (with_cause (at_index r) c)))
     → P (sight g t o r)
 unfolding sight
 sight_by P g t o r had found unread passed head missed = go (aim o.command)
@@ -50,7 +56,8 @@ sight_by P g t o r had found unread passed head missed = go (aim o.command)
     at next.IndexPassed = passing P g o r passed head missed
 
     go : (a : Aim) → P (look_for g t o r a)
-    go (Next kind) = cond_both (needs_readable (action_of o.command) && not (is_readable t)) _ _ P (λ _. unread) (λ _. at (next_of_kind (track_or_none t) r.position kind))
+    go (Next kind) = cond_both (needs_readable (action_of o.command) && not (is_readable t)) _ _ P (λ _. unread)
+        (λ _. at (next_of_kind (track_or_none t) r.position kind))
     go _ = had
 
 -- a command that looks for no area has found it
@@ -67,17 +74,21 @@ abbrev IsSameBut : Opened → Sight → Type 0
 IsSameBut o (Found o') = o' ≡ record o { area = o'.area }
 IsSameBut o _ = Unit {0}
 
-same_sight : (g : Geometry) (o : Opened) (r : Registers) (a : Option Area) (n : NextArea) → sight_of g (record o { area = a }) r n ≡ sight_of g o r n
+same_sight : (g : Geometry) (o : Opened) (r : Registers) (a : Option Area) (n : NextArea) → sight_of g (record o { area = a }) r n
+    ≡ sight_of g o r n
 same_sight g o r a (next.Found b) = refl
 same_sight g o r a next.IndexPassed = refl
 
-again : (k : Aim) (g : Geometry) (t : Sighted) (o : Opened) (r : Registers) (a : Option Area) → Found (record o { area = a }) ≡ look_for g t o r k → look_for g t (record o { area = a }) r k ≡ Found (record o { area = a })
+again : (k : Aim) (g : Geometry) (t : Sighted) (o : Opened) (r : Registers) (a : Option Area) → Found (record o { area = a })
+    ≡ look_for g t o r k → look_for g t (record o { area = a }) r k ≡ Found (record o { area = a })
 again (Next kind) g t o r a e = rw (same_sight g o r a (next_of_kind (track_or_none t) r.position kind)) (sym e)
 again _ g t o r a e = refl
 
-pub look_again : (g : Geometry) (t : Sighted) (o o' : Opened) (r : Registers) → Found o' ≡ sight g t o r → (o'.command ≡ o.command) × (sight g t o' r ≡ Found o')
+pub look_again : (g : Geometry) (t : Sighted) (o o' : Opened) (r : Registers) → Found o' ≡ sight g t o r → (o'.command ≡ o.command)
+    × (sight g t o' r ≡ Found o')
 unfolding sight
 look_again g t o o' r e =
-    let same : o' ≡ record o { area = o'.area } = subst (IsSameBut o) (sym e) (sight_by (IsSameBut o) g t o r refl (λ a. refl) tt tt (λ _. tt) (λ c h. tt)) in
+    let same : o' ≡ record o { area = o'.area } = subst (IsSameBut o) (sym e) (sight_by (IsSameBut o) g t o r refl (λ a. refl) tt tt
+    (λ _. tt) (λ c h. tt)) in
     let found = again (aim o.command) g t o r o'.area (ap Found (sym same) ∙ e) in
     (ap (λ (x : Opened). x.command) same, rw same found)

@@ -7,7 +7,9 @@ use Rattle.ckd_command.specs.Answers.{Beginning, Sight}
 use Rattle.ckd_command.specs.Answers as answer
 use Rattle.ckd_command.specs.Commands.{Closing, closing}
 use Rattle.ckd_command.specs.Commands as commands
-use Rattle.ckd_command.specs.Drive.{State, Fault, SaveFails, with_registers, is_written, Open, track_under, AfterBegin, Rejected, Immediate, Started, begin, begun, at_cylinder_zero, AfterLook, Passed, look, looked, Closed, failed, close, closed, closed_moving}
+use Rattle.ckd_command.specs.Drive.{State, Fault, SaveFails, with_registers, is_written, Open, track_under, AfterBegin, Rejected, Immediate}
+use Rattle.ckd_command.specs.Drive.{Started, begin, begun, at_cylinder_zero, AfterLook, Passed, look, looked, Closed, failed, close, closed}
+use Rattle.ckd_command.specs.Drive.{closed_moving}
 use Rattle.ckd_command.proofs.Marks.{by_save, untrue}
 
 -- Begin.
@@ -17,18 +19,22 @@ begun_state (Rejected s) = s
 begun_state (Immediate s motion) = s
 begun_state (Started o) = o.state
 
-begun_moved : (f : Option Fault) (s : State) (r : Registers) (o : Option Opened) → is_written (begun_state (begun f s (answer.ToCylinderZero r o))) ≡ false
-begun_moved f s r o = by_save (λ b. is_written (begun_state b) ≡ false) f (with_registers s r) Rejected (at_cylinder_zero s r o) (at_zero o) (λ left _. refl)
+begun_moved : (f : Option Fault) (s : State) (r : Registers) (o : Option Opened)
+    → is_written (begun_state (begun f s (answer.ToCylinderZero r o))) ≡ false
+begun_moved f s r o = by_save (λ b. is_written (begun_state b) ≡ false) f (with_registers s r) Rejected (at_cylinder_zero s r o) (at_zero o)
+    (λ left _. refl)
   where
     at_zero : (o : Option Opened) → is_written (begun_state (at_cylinder_zero s r o)) ≡ false
     at_zero None = refl
     at_zero (Some o) = refl
 
-begun_stable : (s : State) (b : Beginning) (left : List ℕ) → is_written (begun_state (begun None s b)) ≡ true → begun (Some (SaveFails left)) s b ≡ begun None s b
+begun_stable : (s : State) (b : Beginning) (left : List ℕ) → is_written (begun_state (begun None s b)) ≡ true
+    → begun (Some (SaveFails left)) s b ≡ begun None s b
 begun_stable s (answer.ToCylinderZero r o) left h = untrue (sym (begun_moved None s r o) ∙ h)
 begun_stable s _ left h = refl
 
-pub begin_stable : (code : ℕ) (s : State) (left : List ℕ) (b : AfterBegin) → begin None code s ≡ b → is_written (begun_state b) ≡ true → begin (Some (SaveFails left)) code s ≡ b
+pub begin_stable : (code : ℕ) (s : State) (left : List ℕ) (b : AfterBegin) → begin None code s ≡ b → is_written (begun_state b) ≡ true
+    → begin (Some (SaveFails left)) code s ≡ b
 begin_stable code s left b e h =
     begun_stable s (commands.beginning code s.registers) left (ap (λ b. is_written (begun_state b)) e ∙ h) ∙ e
 
@@ -51,13 +57,18 @@ closed_moved : (f : Option Fault) (s : State) (c : Closing) (m : Bool) → m ≡
 closed_moved f s c true h = by_save (λ c. is_written c.state ≡ false) f s failed (closed_moving s c) refl (λ left _. refl)
 closed_moved f s c false h = untrue h
 
-pub close_moved : (f : Option Fault) (o : Open) (b : List ℕ) → (closing o.state.volume.geometry (track_under o.state) o.opened o.state.registers b).moves_off ≡ true → is_written (close f o b).state ≡ false
+pub close_moved : (f : Option Fault) (o : Open) (b : List ℕ)
+    → (closing o.state.volume.geometry (track_under o.state) o.opened o.state.registers b).moves_off ≡ true → is_written (close f o b).state
+    ≡ false
 close_moved f o b h = closed_moved f o.state (closing o.state.volume.geometry (track_under o.state) o.opened o.state.registers b) _ h
 
-closed_stable : (s : State) (c : Closing) (left : List ℕ) (m : Bool) → is_written (closed None s c m).state ≡ true → closed (Some (SaveFails left)) s c m ≡ closed None s c m
+closed_stable : (s : State) (c : Closing) (left : List ℕ) (m : Bool) → is_written (closed None s c m).state ≡ true
+    → closed (Some (SaveFails left)) s c m ≡ closed None s c m
 closed_stable s c left true h = untrue (sym (closed_moved None s c true refl) ∙ h)
 closed_stable s c left false h = refl
 
-pub close_stable : (o : Open) (b left : List ℕ) (c : Closed) → close None o b ≡ c → is_written c.state ≡ true → close (Some (SaveFails left)) o b ≡ c
+pub close_stable : (o : Open) (b left : List ℕ) (c : Closed) → close None o b ≡ c → is_written c.state ≡ true
+    → close (Some (SaveFails left)) o b ≡ c
 close_stable o b left c e h =
-    closed_stable o.state (closing o.state.volume.geometry (track_under o.state) o.opened o.state.registers b) left _ (ap (λ (c : Closed). is_written c.state) e ∙ h) ∙ e
+    closed_stable o.state (closing o.state.volume.geometry (track_under o.state) o.opened o.state.registers b) left _
+    (ap (λ (c : Closed). is_written c.state) e ∙ h) ∙ e

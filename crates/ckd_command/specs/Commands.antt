@@ -1,6 +1,7 @@
 -- One command, as a change of what the drive remembers and of the track under the arm
 -- (component descriptions of the 2841 and the 2314, the sections of the commands).
-use Rattle.std.specs.Prelude.{ℕ, ◌<◌, ◌+◌, ◌*◌, ◌/◌, ◌%◌, List, [], ◌∷◌, Bool, true, false, not, ◌&&◌, ◌||◌, ◌==◌, Option, Some, None, is_none, Ok, length, take, slice_range, nat_lt, if◌then◌else◌, bytes_eq}
+use Rattle.std.specs.Prelude.{ℕ, ◌<◌, ◌+◌, ◌*◌, ◌/◌, ◌%◌, List, [], ◌∷◌, Bool, true, false, not, ◌&&◌, ◌||◌, ◌==◌, Option, Some, None, is_none, Ok, length}
+use Rattle.std.specs.Prelude.{take, slice_range, nat_lt, if◌then◌else◌, bytes_eq}
 use Rattle.ckd_track.specs.Track.{Record, Track, key_length, data_length, body_length, track_or_none}
 use Rattle.ckd_track.specs.Changes.{bare_track}
 use Rattle.ckd_track.specs.Model.{heads_of}

@@ -2,7 +2,8 @@
 //! of the commands).
 
 ghost use Rattle.std.specs.Prelude.{◌≡◌, ◌+◌, ◌≤◌, length, slice_range};
-ghost use Rattle.ckd_command.specs.Commands.{command_end, fails, at_end, search_ends, area_ends, format_ends, home_address_ends, set_file_mask, seek_head, seek_cylinder_and_head, own_home_address, number};
+ghost use Rattle.ckd_command.specs.Commands.{command_end, fails, at_end, search_ends, area_ends, format_ends, home_address_ends, set_file_mask, seek_head};
+ghost use Rattle.ckd_command.specs.Commands.{seek_cylinder_and_head, own_home_address, number};
 ghost use Rattle.ckd_command.specs.Answers.{closed_as, ClosedStays};
 
 use crate::begin::{Opened, add_cause};

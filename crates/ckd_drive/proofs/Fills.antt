@@ -1,5 +1,7 @@
 -- Tracks that are being written.
-use Rattle.std.proofs.Common.{◌≡◌, ◌∙◌, ap, sym, refl, ℕ, ◌+◌, ◌-◌, ◌<◌, ◌≤◌, ◌^◌, List, [], ◌++◌, true, Some, Ok, Err, unwrap_or, length, take, drop, set-set, get_or-set_same, slice_set, replicate, length-append, length-drop, length-take, length-set, append_assoc, arith}
+use Rattle.std.proofs.Common.{◌≡◌, ◌∙◌, ap, sym, refl, ℕ, ◌+◌, ◌-◌, ◌<◌, ◌≤◌, ◌^◌, List, [], ◌++◌, true, Some, Ok, Err, unwrap_or, length}
+use Rattle.std.proofs.Common.{take, drop, set-set, get_or-set_same, slice_set, replicate, length-append, length-drop, length-take}
+use Rattle.std.proofs.Common.{length-set, append_assoc, arith}
 use Rattle.std.proofs.Math.Bool.{or-true}
 use Rattle.std.proofs.lemmas.List.{length-replicate, drop-append-le}
 use Rattle.std.proofs.lemmas.List.Elements.{All-set}
@@ -17,7 +19,8 @@ use Rattle.ckd_command.specs.Commands.{length_after, closing, command_end}
 use Rattle.ckd_slot.specs.Buffer.{FitsSlot, IsUpdate, SameRecords, lengths_on}
 use Rattle.ckd_slot.specs.Cache.{CacheState, slot_held, with_held}
 use Rattle.ckd_drive.specs.declared.transfer.Written.{Written}
-use Rattle.ckd_drive.specs.Invariant.{HalfDone, own_track, seen_with, HasFilled, IsFilled, slot_at, track_under, AtWork, geometry_in, slot_in, at_work, closes_by}
+use Rattle.ckd_drive.specs.Invariant.{HalfDone, own_track, seen_with, HasFilled, IsFilled, slot_at, track_under, AtWork, geometry_in}
+use Rattle.ckd_drive.specs.Invariant.{slot_in, at_work, closes_by}
 use Rattle.ckd_drive.specs.Passing.{Works, MayTake, Absorbs, with_taken}
 use Rattle.ckd_slot.proofs.Writes.{update_offset, update_length, length-padded}
 use Rattle.ckd_slot.proofs.Updates.{form_of, padded_on, same_records}
@@ -32,9 +35,11 @@ new_slot_at c n new held lt = rw held (get_or-set_same c.slots n new [] lt)
 
 -- The slot at hand has become another, made of a track.
 pub written_absorbs : (half : HalfDone) (before' : List ℕ) (more new : List ℕ) (w : Window) (u : Written)
-    → Works half → half.cache.held ≡ Some (own_track half) → length new ≡ half.cache.image.geometry.track_size → half.progress.left - length more ≤ w.len
+    → Works half → half.cache.held ≡ Some (own_track half) → length new ≡ half.cache.image.geometry.track_size
+    → half.progress.left - length more ≤ w.len
     → HasFilled (at_work (with_taken half more (with_held half.cache new) before' (Filled w u))) w u
-    → slice_set half.cache.slots (own_track half) before' ≡ seen_with half half.before half.progress.place → length half.passed + length more < 2 ^ 32
+    → slice_set half.cache.slots (own_track half) before' ≡ seen_with half half.before half.progress.place
+    → length half.passed + length more < 2 ^ 32
     → Absorbs half more (with_held half.cache new) before' (Filled w u)
 written_absorbs half before' more new w u x held size le filled seen small =
     let c = half.cache in
@@ -49,7 +54,13 @@ written_absorbs half before' more new w u x held size le filled seen small =
         };
         arm = x.arm;
         anchored = λ _. held;
-        goes = record { moved = rw (← goes.moved) (length-append half.passed more); left = le; placed = filled; no_credit = goes.no_credit };
+        goes = record {
+          moved = rw (← goes.moved) (length-append half.passed more);
+          left = le;
+          placed = filled;
+          no_credit =
+              goes.no_credit;
+        };
       };
       image = refl;
       seen_same = rw held (set-set c.slots (own_track half) new before' ∙ seen);
@@ -67,7 +78,8 @@ old_read slot e = by (track_of slot) refl e
     by (Err f) is e = absurd cc
 
 -- A track whose slot is made anew is read.
-pub reads_new : (size : ℕ) (t : Track) (new : List ℕ) → FitsSlot size t → new ≡ slot_of size t → (is_readable (track_of new) ≡ true) × (track_in new ≡ t) × (length new ≡ size)
+pub reads_new : (size : ℕ) (t : Track) (new : List ℕ) → FitsSlot size t → new ≡ slot_of size t → (is_readable (track_of new) ≡ true)
+    × (track_in new ≡ t) × (length new ≡ size)
 reads_new size t new f e =
     let read = slot_of_reads size t f.home_address f.records in
     (rw (e, read) refl, ap (λ (s : List ℕ). track_in s) e ∙ ap track_or_none read, ap length e ∙ length-slot_of size t f.room)
@@ -90,13 +102,16 @@ filled_with fill body = with_record_changed (replaced fill.extent body) (Of fill
 -- what the command closes to once these bytes came
 pub record ClosesFilled (job : AtWork) (b : List ℕ) (fill : Filling) : Type 0 where
   pub so : command_end (closing (geometry_in job) (track_of job.before) job.opened job.registers b) ≡ fill.closes
-  pub written : (closing (geometry_in job) (track_of job.before) job.opened job.registers b).written ≡ Some (filled_with fill (padded (drop fill.lead b) (room_of fill)))
+  pub written : (closing (geometry_in job) (track_of job.before) job.opened job.registers b).written
+      ≡ Some (filled_with fill (padded (drop fill.lead b) (room_of fill)))
   pub wants : length_after (geometry_in job) (track_of job.before) job.opened job.registers b ≡ fill.lead + room_of fill
 
 -- an area is filled once all of these are known of it: three commands come here, each by facts of its own
 abbrev pub form_filled : (job : AtWork) (now : List ℕ) (w : Window) (fill : Filling)
-    → IsUpdate fill.extent → FitsSlot (geometry_in job).track_size fill.track → fill.number < length fill.track.records → lengths_on (track_in now) ≡ lengths_on fill.track → fill.lead ≤ length job.passed → fill.lead ≤ 8
-    → w.start ≡ update_offset fill.extent fill.track fill.number + (length job.passed - fill.lead) → w.len + (length job.passed - fill.lead) ≡ room_of fill
+    → IsUpdate fill.extent → FitsSlot (geometry_in job).track_size fill.track → fill.number < length fill.track.records
+    → lengths_on (track_in now) ≡ lengths_on fill.track → fill.lead ≤ length job.passed → fill.lead ≤ 8
+    → w.start ≡ update_offset fill.extent fill.track fill.number + (length job.passed - fill.lead) → w.len + (length job.passed - fill.lead)
+    ≡ room_of fill
     → ((more : List ℕ) → length more ≤ w.len → ClosesFilled job (job.passed ++ more) fill)
     → IsFilled job now w fill.closes
 form_filled job now w fill upd f lt lens begins small start len k =
@@ -122,7 +137,14 @@ form_filled job now w fill upd f lt lens begins small start len k =
           (let c = k more le in
           let b = job.passed ++ more in
           let body = padded (drop fill.lead b) room in
-          let body_long : length body ≡ room = length-padded (drop fill.lead b) room (omega (arith, length-drop fill.lead b, length-append job.passed more, le, len, begins)) in
+          let body_long : length body ≡ room = length-padded (drop fill.lead b) room (omega (
+            arith,
+            length-drop fill.lead b,
+            length-append job.passed more,
+            le,
+            len,
+            begins,
+          )) in
           let form = form_of size t0 fill.extent fill.part fill.number body upd f lt body_long in
           record {
             track = filled_with fill body;
@@ -137,8 +159,10 @@ form_filled job now w fill upd f lt lens begins small start len k =
 
 -- More bytes, which leave the slot so.
 
-abbrev pub filled_on : (job : AtWork) (new now' more : List ℕ) (w : Window) (u : CommandEnd) → length more ≤ w.len → lengths_on (track_in now') ≡ lengths_on (track_in (slot_in job))
-    → IsFilled job (slot_in job) w u → IsFilled (record job { cache = with_held job.cache new; passed = job.passed ++ more }) now' (record { start = w.start + length more; len = w.len - length more }) u
+abbrev pub filled_on : (job : AtWork) (new now' more : List ℕ) (w : Window) (u : CommandEnd) → length more ≤ w.len
+    → lengths_on (track_in now') ≡ lengths_on (track_in (slot_in job))
+    → IsFilled job (slot_in job) w u → IsFilled (record job { cache = with_held job.cache new; passed = job.passed ++ more }) now'
+    (record { start = w.start + length more; len = w.len - length more }) u
 filled_on job new now' more w u le lens f =
     let passed = job.passed in
     let far = length-append passed more in
@@ -163,7 +187,8 @@ filled_on job new now' more w u le lens f =
     }
 
 -- the same of lists and numbers alone, so that tactics read no drive
-pub next_made : (old head tail mid more : List ℕ) (room start : ℕ) → old ≡ head ++ (padded mid room ++ tail) → length head + length mid ≡ start → length mid + length more ≤ room
+pub next_made : (old head tail mid more : List ℕ) (room start : ℕ) → old ≡ head ++ (padded mid room ++ tail)
+    → length head + length mid ≡ start → length mid + length more ≤ room
     → overwritten old start more ≡ head ++ (padded (mid ++ more) room ++ tail)
 next_made old head tail mid more room start is at le = rw (is, ← at) (padded_on head tail mid more room le)
 
@@ -173,7 +198,8 @@ pub record NextSlot (half : HalfDone) (more : List ℕ) (w : Window) (what : Wri
   pub le : length more ≤ w.len
   pub room : w.start + length more ≤ half.cache.image.geometry.track_size
   pub records : SameRecords (slot_held half.cache) (overwritten (slot_held half.cache) w.start more)
-  pub absorbs : Absorbs half more (with_held half.cache (overwritten (slot_held half.cache) w.start more)) half.before (Filled (record { start = w.start + length more; len = w.len - length more }) what)
+  pub absorbs : Absorbs half more (with_held half.cache (overwritten (slot_held half.cache) w.start more)) half.before
+      (Filled (record { start = w.start + length more; len = w.len - length more }) what)
 
 pub filled_absorbs : (half : HalfDone) (more : List ℕ) (w : Window) (what : Written)
     → MayTake half more → half.progress.place ≡ Filled w what → NextSlot half more w what
@@ -196,14 +222,16 @@ filled_absorbs half more w what may at =
     let start : length f.head + length (drop f.lead passed) ≡ w.start = omega (arith, f.start, lead_len) in
     let made : new ≡ f.head ++ (padded (drop f.lead passed ++ more) f.room ++ f.tail) =
     next_made old f.head f.tail (drop f.lead passed) more f.room w.start h.slot_is start (omega (arith, lead_len, f.rest, le, f.begins)) in
-    let made' : new ≡ f.head ++ (padded (drop f.lead (passed ++ more)) f.room ++ f.tail) = rw (drop-append-le f.lead passed more f.begins) made in
+    let made' : new ≡ f.head ++ (padded (drop f.lead (passed ++ more)) f.room ++ f.tail) =
+    rw (drop-append-le f.lead passed more f.begins) made in
     let slot : new ≡ slot_of g.track_size k.track = made' ∙ sym k.slot_is in
     let read = reads_new g.track_size k.track new k.fits slot in
     let lens : lengths_on (track_in new) ≡ lengths_on (track_in old) = ap lengths_on read.1 ∙ k.lengths_stay in
     let at_new = new_slot_at c n new h.at_hand.held lt in
     let w' : Window = record { start = w.start + length more; len = w.len - length more } in
     let now : List ℕ = slot_at (with_held c new).slots n in
-    let on = filled_on (at_work half) new now more w (closes_by half.registers half.opened what) le (ap (λ (y : List ℕ). lengths_on (track_in y)) at_new ∙ lens) f in
+    let on = filled_on (at_work half) new now more w (closes_by half.registers half.opened what) le
+    (ap (λ (y : List ℕ). lengths_on (track_in y)) at_new ∙ lens) f in
     let wants = f.wants more le in
     let has : HasFilled (at_work (with_taken half more (with_held c new) half.before (Filled w' what))) w' what = record {
       at_hand = record { held = h.at_hand.held; readable = rw at_new read.0 };
@@ -220,5 +248,6 @@ filled_absorbs half more w what may at =
       le = le;
       room = omega (arith, f.within, le);
       records = rw here (same_records g.track_size old new k.track (old_read old h.at_hand.readable) k.fits slot k.lengths_stay);
-      absorbs = rw here (written_absorbs half half.before more new w' what may.works h.at_hand.held read.2 (omega (arith, left, le)) has (rw at refl) (omega (arith, f.start, f.within, f.begins, f.lead_small, le, may.works.volume.geometry.limit)));
+      absorbs = rw here (written_absorbs half half.before more new w' what may.works h.at_hand.held read.2 (omega (arith, left, le)) has
+          (rw at refl) (omega (arith, f.start, f.within, f.begins, f.lead_small, le, may.works.volume.geometry.limit)));
     }

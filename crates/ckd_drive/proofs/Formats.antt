@@ -1,5 +1,7 @@
 -- A track that gets a new record.
-use Rattle.std.proofs.Common.{◌≡◌, ◌∙◌, ap, sym, subst, refl, ℕ, ◌+◌, ◌-◌, ◌<◌, ◌≤◌, List, [], ◌∷◌, ◌++◌, true, false, Option, Some, length, take, drop, slice_range, replicate, unwrap_or, set-set, length-append, length-drop, length-take, drop-drop, append_assoc, append-nil, arith}
+use Rattle.std.proofs.Common.{◌≡◌, ◌∙◌, ap, sym, subst, refl, ℕ, ◌+◌, ◌-◌, ◌<◌, ◌≤◌, List, [], ◌∷◌, ◌++◌, true, false, Option, Some, length}
+use Rattle.std.proofs.Common.{take, drop, slice_range, replicate, unwrap_or, set-set, length-append, length-drop, length-take, drop-drop}
+use Rattle.std.proofs.Common.{append_assoc, append-nil, arith}
 use Rattle.std.proofs.Math.Bool.{or-false, or-true}
 use Rattle.std.proofs.Math.Seq.{get_or-append_seam, set-append_seam}
 use Rattle.std.proofs.lemmas.List.{drop_at, take_all, take-append-le}
@@ -19,7 +21,8 @@ use Rattle.ckd_command.specs.Commands.{Closing, command_end, own_home_address, n
 use Rattle.ckd_slot.specs.Buffer.{HasFormatted, CanMake, IsPlaceOf, fits_track, lengths_on, made_on}
 use Rattle.ckd_slot.specs.Cache.{CacheState, with_held, slot_held, after_format}
 use Rattle.ckd_drive.specs.declared.transfer.Written.TheVariants as written
-use Rattle.ckd_drive.specs.Invariant.{HalfDone, HasDue, HasFilled, IsFound, at_work, own_slot, own_track, action_now, IsFilled, AtHand, slot_at, AtWork, geometry_in, action_in}
+use Rattle.ckd_drive.specs.Invariant.{HalfDone, HasDue, HasFilled, IsFound, at_work, own_slot, own_track, action_now, IsFilled, AtHand}
+use Rattle.ckd_drive.specs.Invariant.{slot_at, AtWork, geometry_in, action_in}
 use Rattle.ckd_drive.specs.Passing.{Works, Absorbs, with_taken, whole_of}
 use Rattle.ckd_slot.proofs.Writes.{update_length, update_place, made_formatted, kept_le, length-padded, padded_whole}
 use Rattle.ckd_track.proofs.ChargeLaws.{no_end_mark}
@@ -40,7 +43,8 @@ parts b body eight long =
     let k = key_length b in
     let id : take 5 (b ++ body) ≡ take 5 b = take-append-le 5 b body (omega (arith, eight)) in
     let behind : drop 8 (b ++ body) ≡ body = drop_at b body 8 eight in
-    let key : slice_range (b ++ body) 8 (8 + key_length (b ++ body)) ≡ take k body = rw (s.key, behind, (let e : 8 + k - 8 ≡ k = omega arith in e)) refl in
+    let key : slice_range (b ++ body) 8 (8 + key_length (b ++ body)) ≡ take k body =
+    rw (s.key, behind, (let e : 8 + k - 8 ≡ k = omega arith in e)) refl in
     let bytes : slice_range (b ++ body) (8 + key_length (b ++ body)) (8 + body_length (b ++ body)) ≡ drop k body =
     (let far : drop (8 + k) (b ++ body) ≡ drop k body = sym (drop-drop k 8 (b ++ body)) ∙ ap (drop k) behind in
     rw (s.key, s.bytes, far) (take_all (8 + body_length b - (8 + k)) (drop k body) (omega (arith, length-drop k body, long)))) in
@@ -56,37 +60,64 @@ pub new_with : (b m : List ℕ) → length b ≡ 8 → length m ≤ body_length 
 new_with b m eight le =
     let s = same_count b m (omega (arith, eight)) in
     let n : body_length (b ++ m) ≡ body_length b = rw (s.key, s.bytes) refl in
-    ap (λ (k : ℕ). record_at (padded (b ++ m) (8 + k))) n ∙ ap record_at (padded_behind b m (body_length b) eight) ∙ parts b (padded m (body_length b)) eight (length-padded m (body_length b) le)
+    ap (λ (k : ℕ). record_at (padded (b ++ m) (8 + k))) n ∙ ap record_at (padded_behind b m (body_length b) eight)
+    ∙ parts b (padded m (body_length b)) eight (length-padded m (body_length b) le)
 
 -- The new record stands behind the kept ones.
 
-length-record : (b m : List ℕ) → length m ≤ body_length b → length (take (key_length b) (padded m (body_length b))) + length (drop (key_length b) (padded m (body_length b))) ≡ body_length b
+length-record : (b m : List ℕ) → length m ≤ body_length b → length (take (key_length b) (padded m (body_length b)))
+    + length (drop (key_length b) (padded m (body_length b))) ≡ body_length b
 length-record b m le =
     let long = length-padded m (body_length b) le in
     omega (arith, length-take (key_length b) (padded m (body_length b)), length-drop (key_length b) (padded m (body_length b)), long)
 
 -- with zeros for its key and data, as yet
-record_last : (t : Sighted) (after : Option Area) (b : List ℕ) (i : ℕ) → length b ≡ 8 → i ≡ length (kept t after) → record_in (formatted t after b) i ≡ record_with b (padded [] (body_length b))
-record_last t after b i eight e = rw e (get_or-append_seam (kept t after) (new_record b) [] no_record) ∙ (ap new_record (sym (append-nil b)) ∙ new_with b [] eight (omega arith))
+record_last : (t : Sighted) (after : Option Area) (b : List ℕ) (i : ℕ) → length b ≡ 8 → i ≡ length (kept t after)
+    → record_in (formatted t after b) i ≡ record_with b (padded [] (body_length b))
+record_last t after b i eight e = rw e (get_or-append_seam (kept t after) (new_record b) [] no_record) ∙ (ap new_record (sym (append-nil b))
+    ∙ new_with b [] eight (omega arith))
 
-pub format_bytes : (t : Sighted) (after : Option Area) (b : List ℕ) (i : ℕ) → i ≡ length (kept t after) → length b ≡ 8 → update_length extent.KeyAndData (record_in (formatted t after b) i) ≡ body_length b
+pub format_bytes : (t : Sighted) (after : Option Area) (b : List ℕ) (i : ℕ) → i ≡ length (kept t after) → length b ≡ 8
+    → update_length extent.KeyAndData (record_in (formatted t after b) i) ≡ body_length b
 format_bytes t after b i e eight = ap (update_length extent.KeyAndData) (record_last t after b i eight e) ∙ length-record b [] (omega arith)
 
-pub format_written : (t : Sighted) (after : Option Area) (b m : List ℕ) (part : Part) (i : ℕ) → length b ≡ 8 → i ≡ length (kept t after) → length m ≤ body_length b
-    → with_record_changed (replaced extent.KeyAndData (padded (drop 8 (b ++ m)) (update_length extent.KeyAndData (record_in (formatted t after b) i)))) (Of part i) (formatted t after b) ≡ formatted t after (b ++ m)
+pub format_written : (t : Sighted) (after : Option Area) (b m : List ℕ) (part : Part) (i : ℕ) → length b ≡ 8 → i ≡ length (kept t after)
+    → length m ≤ body_length b
+    → with_record_changed
+    (replaced extent.KeyAndData (padded (drop 8 (b ++ m)) (update_length extent.KeyAndData (record_in (formatted t after b) i))))
+    (Of part i) (formatted t after b) ≡ formatted t after (b ++ m)
 format_written t after b m part i eight e le =
     let n = body_length b in
     let k = key_length b in
     let sum : length (take k (padded [] n)) + length (drop k (padded [] n)) ≡ n = length-record b [] (omega arith) in
     let key : length (take k (padded [] n)) ≡ k = omega (arith, length-take k (padded [] n), length-padded [] n (omega arith)) in
-    rw (drop_at b m 8 eight, record_last t after b i eight e, sum, key, padded_whole (padded m n) n (length-padded m n le), new_with b m eight le, e, set-append_seam (kept t after) (new_record b) [] (record_with b (padded m n))) refl
+    rw (
+      drop_at b m 8 eight,
+      record_last t after b i eight e,
+      sum,
+      key,
+      padded_whole (padded m n) n (length-padded m n le),
+      new_with b m eight le,
+      e,
+      set-append_seam (kept t after) (new_record b) [] (record_with b (padded m n)),
+    ) refl
 
 -- the record that a formatting write fills, behind its count bytes
 abbrev format_filling : AtWork → Part → ℕ → Filling
-format_filling job part i = record { closes = command_end (format_ends job.registers i); track = formatted (track_of job.before) job.opened.area job.passed; extent = extent.KeyAndData; part = part; number = i; lead = 8 }
+format_filling job part i = record {
+  closes = command_end (format_ends job.registers i);
+  track =
+      formatted (track_of job.before) job.opened.area job.passed;
+  extent = extent.KeyAndData;
+  part = part;
+  number = i;
+  lead = 8;
+}
 
-pub format_filled : (job : AtWork) (m : List ℕ) (part : Part) (i : ℕ) → action_in job ≡ action.Format → length job.passed ≡ 8 → new_record_fits (geometry_in job) (track_of job.before) job.opened job.passed ≡ true
-    → i ≡ length (kept (track_of job.before) job.opened.area) → length m ≤ room_of (format_filling job part i) → ClosesFilled job (job.passed ++ m) (format_filling job part i)
+pub format_filled : (job : AtWork) (m : List ℕ) (part : Part) (i : ℕ) → action_in job ≡ action.Format → length job.passed ≡ 8
+    → new_record_fits (geometry_in job) (track_of job.before) job.opened job.passed ≡ true
+    → i ≡ length (kept (track_of job.before) job.opened.area) → length m ≤ room_of (format_filling job part i)
+    → ClosesFilled job (job.passed ++ m) (format_filling job part i)
 format_filled job m part i is eight fits e le =
     let t = track_of job.before in
     let o = job.opened in
@@ -95,7 +126,8 @@ format_filled job m part i is eight fits e le =
     let k = formats_on (geometry_in job) t o job.registers b m is (omega (arith, eight)) fits in
     record {
       so = ap command_end k.closes ∙ rw e refl;
-      written = ap (λ (y : Closing). y.written) k.closes ∙ ap (λ (y : Track). Some y) (sym (format_written t o.area b m part i eight e (rw n at le)));
+      written = ap (λ (y : Closing). y.written) k.closes
+          ∙ ap (λ (y : Track). Some y) (sym (format_written t o.area b m part i eight e (rw n at le)));
       wants = rw n k.wants;
     }
 
@@ -109,7 +141,8 @@ pub record FormatGoes (half : HalfDone) (more f field count : List ℕ) : Type 0
 
 -- by what the code has read of its field
 pub format_goes : {half : HalfDone} {more f field : List ℕ} (count : List ℕ) → Collects half more f field → length field ≡ 8
-    → whole_of (action_now half) (own_home_address half.registers) (half.progress.moved + length more) field ≡ whole.Count count → FormatGoes half more f field count
+    → whole_of (action_now half) (own_home_address half.registers) (half.progress.moved + length more) field ≡ whole.Count count
+    → FormatGoes half more f field count
 format_goes {half} {more} {f} {field} count x long e =
     let k = field_goes x in
     let new = rw e at (is_whole (action_now half) (own_home_address half.registers) (half.progress.moved + length more) field) in
@@ -124,16 +157,19 @@ format_goes {half} {more} {f} {field} count x long e =
 
 -- a record that does not fit
 pub format_stays : {half : HalfDone} {more f field count : List ℕ} → FormatGoes half more f field count
-    → fits_track half.cache.image.geometry.model half.opened.area count (track_of (slot_held half.cache)) ≡ false → Absorbs half more half.cache half.before (Field field)
+    → fits_track half.cache.image.geometry.model half.opened.area count (track_of (slot_held half.cache)) ≡ false
+    → Absorbs half more half.cache half.before (Field field)
 format_stays {half} k no_room =
     let held = slot_is half.cache (own_track half) (slot_held half.cache) k.at_hand.held refl in
     field_absorbs k.collects (rw k.is (λ _. rw (held, k.whole) at no_room))
 
 -- a record that fits
 abbrev Fits : HalfDone → (count : List ℕ) → ℕ → Window → Type 0
-Fits half count i w = HasFormatted half.cache.image.geometry.model half.cache.image.geometry.track_size half.opened.area count (track_of (slot_held half.cache)) i w
+Fits half count i w = HasFormatted half.cache.image.geometry.model half.cache.image.geometry.track_size half.opened.area count
+    (track_of (slot_held half.cache)) i w
 
-format_absorbs : {half : HalfDone} {more f field count : List ℕ} (i : ℕ) (w : Window) → FormatGoes half more f field count → Fits half count i w
+format_absorbs : {half : HalfDone} {more f field count : List ℕ} (i : ℕ) (w : Window) → FormatGoes half more f field count
+    → Fits half count i w
     → Absorbs half more (after_format half.cache half.opened.area count) (slot_held half.cache) (Filled w (written.Record i))
 format_absorbs {half} {more} {f} {field} {count} i w k has =
     let may = k.collects.may in
@@ -151,29 +187,37 @@ format_absorbs {half} {more} {f} {field} {count} i w k has =
     let made : new ≡ slot_of g.track_size t0 = rw (held, k.whole) refl in
     let read = reads_new g.track_size t0 new is_new.spelled made in
     let now : List ℕ = slot_at (with_held c new).slots n in
-    let lens : lengths_on (track_in now) ≡ lengths_on t0 = ap (λ (y : List ℕ). lengths_on (track_in y)) (new_slot_at c n new k.at_hand.held (there half may.works)) ∙ ap lengths_on read.1 in
+    let lens : lengths_on (track_in now) ≡ lengths_on t0 = ap (λ (y : List ℕ). lengths_on (track_in y)) (new_slot_at c n new k.at_hand.held
+    (there half may.works)) ∙ ap lengths_on read.1 in
     let last : i < length t0.records = omega (arith, is_new.is_last, length-append (kept t a) (new_record b ∷ [])) in
     let place = update_place extent.KeyAndData t0 part.Data i w tt last is_new.place in
     let job = new_work half more new w (written.Record i) in
     let filled : IsFilled job now w (command_end (format_ends half.registers i)) =
-    form_filled job now w (format_filling job part.Data i) tt is_new.spelled last lens (omega (arith, k.eight)) (omega arith) (omega (arith, place.0, k.eight)) (omega (arith, place.1, k.eight))
+    form_filled job now w (format_filling job part.Data i) tt is_new.spelled last lens (omega (arith, k.eight)) (omega arith)
+    (omega (arith, place.0, k.eight)) (omega (arith, place.1, k.eight))
     (λ m le. format_filled job m part.Data i k.is k.eight is_new.fits is_new.is_last (omega (arith, le, place.1))) in
-    let whole : with_record_changed (replaced extent.KeyAndData (padded (drop 8 (b ++ [])) (update_length extent.KeyAndData (record_in t0 i)))) (Of part.Data i) t0 ≡ t0 =
+    let whole : with_record_changed
+    (replaced extent.KeyAndData (padded (drop 8 (b ++ [])) (update_length extent.KeyAndData (record_in t0 i)))) (Of part.Data i) t0
+    ≡ t0 =
     format_written t a b [] part.Data i k.eight is_new.is_last (omega arith) ∙ ap (λ (y : List ℕ). formatted t a y) (append-nil b) in
     newly_absorbs half more new w (written.Record i) (omega arith) may.works k.at_hand.held (rw k.collects.placed refl) goes.again
-    may.taking (omega (arith, k.eight, goes.long)) (let left = rw k.is at goes.left in omega (arith, left, k.eight)) (omega (arith, k.eight, goes.long))
+    may.taking (omega (arith, k.eight, goes.long)) (let left = rw k.is at goes.left in omega (arith, left, k.eight))
+    (omega (arith, k.eight, goes.long))
     filled (made ∙ ap (slot_of g.track_size) (sym whole))
 
 -- a record that fits is due, and the track stays
-pub due_absorbs : {half : HalfDone} {more f field count : List ℕ} (i : ℕ) (w : Window) → FormatGoes half more f field count → Fits half count i w → Absorbs half more half.cache half.before (Due w i count)
+pub due_absorbs : {half : HalfDone} {more f field count : List ℕ} (i : ℕ) (w : Window) → FormatGoes half more f field count
+    → Fits half count i w → Absorbs half more half.cache half.before (Due w i count)
 due_absorbs {half} {more} {f} {field} {count} i w k has =
     let a = format_absorbs i w k has in
     let works = k.collects.may.works in
     let at = k.collects.placed in
-    let job = at_work (with_taken half more (after_format half.cache half.opened.area count) (slot_held half.cache) (Filled w (written.Record i))) in
+    let job = at_work (with_taken half more (after_format half.cache half.opened.area count) (slot_held half.cache)
+    (Filled w (written.Record i))) in
     let h : HasFilled job w (written.Record i) = a.works.goes.placed in
     let F : List ℕ → Type 0 = λ y. IsFound job (track_of y) (Filled w (written.Record i)) in
-    let found : IsFound job (track_of (own_slot half)) (Filled w (written.Record i)) = subst F (slot_is half.cache (own_track half) (slot_held half.cache) k.at_hand.held refl) h.found in
+    let found : IsFound job (track_of (own_slot half)) (Filled w (written.Record i)) =
+    subst F (slot_is half.cache (own_track half) (slot_held half.cache) k.at_hand.held refl) h.found in
     record {
       works = record {
         volume = works.volume;
@@ -203,10 +247,13 @@ due_absorbs {half} {more} {f} {field} {count} i w k has =
 -- a record that is due, once it is made with these bytes
 pub record NextMade (half : HalfDone) (more : List ℕ) (w : Window) (number : ℕ) (count : List ℕ) : Type 0 where
   pub can : CanMake half.cache.image.geometry.track_size (track_of (slot_held half.cache)) number count w more
-  pub absorbs : Absorbs half more (with_held half.cache (overwritten (slot_of half.cache.image.geometry.track_size (made_on (track_of (slot_held half.cache)) number count)) w.start more))
+  pub absorbs : Absorbs half more
+      (with_held half.cache
+      (overwritten (slot_of half.cache.image.geometry.track_size (made_on (track_of (slot_held half.cache)) number count)) w.start more))
       (slot_held half.cache) (Filled (record { start = w.start + length more; len = w.len - length more }) (written.Record number))
 
-pub made_absorbs : (half : HalfDone) (more : List ℕ) (w : Window) (number : ℕ) (count : List ℕ) → Works half → half.progress.place ≡ Due w number count → length more ≤ half.progress.left → NextMade half more w number count
+pub made_absorbs : (half : HalfDone) (more : List ℕ) (w : Window) (number : ℕ) (count : List ℕ) → Works half
+    → half.progress.place ≡ Due w number count → length more ≤ half.progress.left → NextMade half more w number count
 made_absorbs half more w number count x at le =
     let c = half.cache in
     let size = c.image.geometry.track_size in
@@ -218,7 +265,12 @@ made_absorbs half more w number count x at le =
     let made : List ℕ = slot_of size (made_on t number count) in
     let c' = after_format c area count in
     let left : half.progress.left ≤ w.len = rw at at x.goes.left in
-    let half' : HalfDone = record half { cache = c'; before = slot_held c; progress = record half.progress { place = Filled w (written.Record number) } } in
+    let half' : HalfDone = record half {
+      cache = c';
+      before = slot_held c;
+      progress =
+          record half.progress { place = Filled w (written.Record number) };
+    } in
     let works' : Works half' = record {
       volume = h.volume;
       arm = x.arm;
@@ -227,11 +279,14 @@ made_absorbs half more w number count x at le =
     } in
     let k = filled_absorbs half' more w (written.Record number) (record { works = works'; room = le; taking = h.filled.takes }) refl in
     let new_at : slot_held c' ≡ made =
-    slot_is c' n (slot_held c') h.at_hand.held refl ∙ new_slot_at c n (slot_of size (formatted t area count)) h.at_hand.held (there half x) ∙ ap (slot_of size) same_track in
+    slot_is c' n (slot_held c') h.at_hand.held refl ∙ new_slot_at c n (slot_of size (formatted t area count)) h.at_hand.held (there half x)
+    ∙ ap (slot_of size) same_track in
     let w' : Window = record { start = w.start + length more; len = w.len - length more } in
     let same : with_held c' (overwritten made w.start more) ≡ with_held c (overwritten made w.start more) =
-    ap (λ (s : List (List ℕ)). let y : CacheState = record c { slots = s; changed = true } in y) (set-set c.slots (unwrap_or c.held 0) (slot_of size (formatted t area count)) (overwritten made w.start more)) in
-    let a : Absorbs half' more (with_held c (overwritten made w.start more)) (slot_held c) (Filled w' (written.Record number)) = rw (new_at, same) at k.absorbs in
+    ap (λ (s : List (List ℕ)). let y : CacheState = record c { slots = s; changed = true } in
+    y) (set-set c.slots (unwrap_or c.held 0) (slot_of size (formatted t area count)) (overwritten made w.start more)) in
+    let a : Absorbs half' more (with_held c (overwritten made w.start more)) (slot_held c) (Filled w' (written.Record number)) =
+    rw (new_at, same) at k.absorbs in
     let short : length more ≤ w.len = omega (arith, le, left) in
     let P : Track → Type 0 = λ y. IsPlaceOf extent.KeyAndData y (Of part.Data number) w in
     record {

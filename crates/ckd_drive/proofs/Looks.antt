@@ -18,7 +18,9 @@ use Rattle.ckd_drive.proofs.Takes.{field_unwritten, field_wants, no_byte}
 use Rattle.ckd_command.proofs.Closings.{area_by, closing_by, sense_closes, sense_length}
 use Rattle.ckd_command.proofs.Lengths.{length_by}
 use Rattle.ckd_slot.specs.Cache.{CacheState, holds, loaded, after_hold, after_failed_hold, after_save, after_failed_save}
-use Rattle.ckd_drive.specs.Invariant.{IsFirstPlace, IsPlaced, IsField, ReadsWhole, FieldAtHand, AtHand, slot_at, AtWork, geometry_in, number_in, slot_in, at_work, Stands, StaysAt, CreditAtHand, remaining, state_of, is_filled_by, HalfDone, Parts, parts_of, own_track, own_slot, AreaIsThere, SightKeeps, StageIs, is_filled}
+use Rattle.ckd_drive.specs.Invariant.{IsFirstPlace, IsPlaced, IsField, ReadsWhole, FieldAtHand, AtHand, slot_at, AtWork, geometry_in}
+use Rattle.ckd_drive.specs.Invariant.{number_in, slot_in, at_work, Stands, StaysAt, CreditAtHand, remaining, state_of, is_filled_by}
+use Rattle.ckd_drive.specs.Invariant.{HalfDone, Parts, parts_of, own_track, own_slot, AreaIsThere, SightKeeps, StageIs, is_filled}
 use Rattle.ckd_drive.specs.Passing.{first_progress}
 use Rattle.ckd_track.specs.declared.geometries.Geometry.{Geometry}
 use Rattle.ckd_command.specs.declared.registers.Registers.{Registers}
@@ -27,7 +29,8 @@ use Rattle.ckd_drive.specs.declared.answers.Stage.{Stage}
 use Rattle.ckd_drive.specs.declared.answers.Stage.TheVariants.{Looking, Passing, Failed}
 use Rattle.ckd_drive.specs.Work.{fault_met, with_image, after_look, DriveState, after_sight, look_loads, look_saves}
 use Rattle.ckd_command.specs.Drive.{is_written_by, AfterLook, Ready, LoadFails, look as look_by, Fault}
-use Rattle.ckd_drive.proofs.Calls.{fault_none, fault_loading, lost_registers, save_lost, changed_is, no_more, calls_none, calls_of_failed_save, calls_of_failed_hold, calls_behind_load, comes_saved}
+use Rattle.ckd_drive.proofs.Calls.{fault_none, fault_loading, lost_registers, save_lost, changed_is, no_more, calls_none}
+use Rattle.ckd_drive.proofs.Calls.{calls_of_failed_save, calls_of_failed_hold, calls_behind_load, comes_saved}
 use Rattle.ckd_drive.specs.Calls.{Comes, Looks, Leaves, Loses}
 use Rattle.ckd_drive.proofs.Standing.{no_credit, no_filled_seen, volume_not_held, geometry_saved, lost_stands}
 use Rattle.std.proofs.lemmas.Bool.Decides.{nat_tests}
@@ -53,17 +56,24 @@ on_track extent.Count t (Of part i) on = on
 on_track extent.CountKeyAndData t (Of part i) on = on
 on_track _ t _ on = tt
 
-pub seen_there : (g : Geometry) (t : Sighted) (o : Opened) (r : Registers) (x : NextArea) → IfFound x (IsOnTrack (track_or_none t)) → AreaIsThere t o (sight_of g o r x)
+pub seen_there : (g : Geometry) (t : Sighted) (o : Opened) (r : Registers) (x : NextArea) → IfFound x (IsOnTrack (track_or_none t))
+    → AreaIsThere t o (sight_of g o r x)
 seen_there g t o r (next.Found a) on = (refl, on_track _ t a on)
 seen_there g t o r next.IndexPassed on = passing (AreaIsThere t o) g o r tt (λ e. tt) (λ c h. tt)
 
-next_in : (g : Geometry) (r : Registers) (n : ℕ) → IsAtTrack g r → n ≡ heads_of g.model → (r.head + 1 == n) ≡ false → IsAtTrack g (moved_to r r.cylinder (r.head + 1))
+next_in : (g : Geometry) (r : Registers) (n : ℕ) → IsAtTrack g r → n ≡ heads_of g.model → (r.head + 1 == n) ≡ false
+    → IsAtTrack g (moved_to r r.cylinder (r.head + 1))
 next_in g r n at is e = record { cylinder = at.cylinder; head = grind (arith, nat_tests, at.head) }
 
 -- where the arm is after a look
 pub sight_keeps : (g : Geometry) (t : Sighted) (o : Opened) (r : Registers) → IsAtTrack g r → SightKeeps g r (sight g t o r)
 sight_keeps g t o r at =
-    sight_by (SightKeeps g r) g t o r tt (λ a. tt) (record { cylinder = refl; head = refl; credit = refl }) (record { cylinder = refl; head = refl; credit = refl })
+    sight_by (SightKeeps g r) g t o r tt (λ a. tt) (record { cylinder = refl; head = refl; credit = refl }) (record {
+      cylinder =
+          refl;
+      head = refl;
+      credit = refl;
+    })
     (λ e. (next_in g r (heads_of g.model) at refl e, refl)) (λ c h. record { cylinder = refl; head = refl; credit = refl })
 
 -- a track on which an area was found reads whole, where the command asks it
@@ -79,12 +89,14 @@ pub record FoundAgain (old : HalfDone) (o : Opened) (slot : List ℕ) : Type 0 w
   pub slot_is : slot ≡ own_slot old
 
 pub found_again : (old : HalfDone) (o : Opened) (slot : List ℕ) (k : Kind) → aim old.opened.command ≡ Next k
-    → Found o ≡ sight old.cache.image.geometry (track_of (own_slot old)) old.opened old.registers → slot ≡ own_slot old → FoundAgain old o slot
+    → Found o ≡ sight old.cache.image.geometry (track_of (own_slot old)) old.opened old.registers → slot ≡ own_slot old
+    → FoundAgain old o slot
 unfolding sight
 found_again old o slot k is e slot_is =
     let t = track_of (own_slot old) in
     let again = look_again old.cache.image.geometry t old.opened o old.registers e in
-    let whole = whole_by (action_of old.opened.command) t (λ needs. true_from_ne_false (is_readable t) (λ unread. (let missed = rw (is, needs, unread) at e in cc))) in
+    let whole = whole_by (action_of old.opened.command) t (λ needs. true_from_ne_false (is_readable t) (λ unread. (let missed =
+    rw (is, needs, unread) at e in cc))) in
     record { first = sym e; again = again.1; whole = rw again.0 whole; slot_is = slot_is }
 
 -- What a command wants at hand.
@@ -110,50 +122,126 @@ pub record Hand (c : CacheState) (n : ℕ) (o : Opened) : Type 0 where
 abbrev pub HandIfAimed : CacheState → ℕ → Opened → Type 0
 HandIfAimed c n o = (aim o.command ≡ NoArea → ⊥) → Hand c n o
 
-hand_for : (c : CacheState) (n : ℕ) (o : Opened) (a : Action) → action_of o.command ≡ a → needs_area a ≡ true → HandIfAimed c n o → Hand c n o
+hand_for : (c : CacheState) (n : ℕ) (o : Opened) (a : Action) → action_of o.command ≡ a → needs_area a ≡ true → HandIfAimed c n o
+    → Hand c n o
 hand_for c n o a is w h = h (aims o.command (rw is w))
 
-whole_at : (c : CacheState) (n : ℕ) (o : Opened) (a : Action) → action_of o.command ≡ a → (ReadsWhole a (track_of (slot_at c.slots n)) → is_readable (track_of (slot_at c.slots n)) ≡ true) → Hand c n o → AtHand c n
+whole_at : (c : CacheState) (n : ℕ) (o : Opened) (a : Action) → action_of o.command ≡ a → (ReadsWhole a (track_of (slot_at c.slots n))
+    → is_readable (track_of (slot_at c.slots n)) ≡ true) → Hand c n o → AtHand c n
 whole_at c n o a is f h = record { held = h.held; readable = f (rw is at h.whole) }
 
-field_at_hand : (a : Action) (c : CacheState) (n : ℕ) (o : Opened) → action_of o.command ≡ a → IsField a → HandIfAimed c n o → FieldAtHand a c n
+field_at_hand : (a : Action) (c : CacheState) (n : ℕ) (o : Opened) → action_of o.command ≡ a → IsField a → HandIfAimed c n o
+    → FieldAtHand a c n
 field_at_hand action.WriteHomeAddress c n o is f h = (hand_for c n o action.WriteHomeAddress is refl h).held
 field_at_hand action.Format c n o is f h = whole_at c n o action.Format is (λ x. x) (hand_for c n o action.Format is refl h)
 field_at_hand _ c n o is f h = search rules
 
 pub first_placed : (job : AtWork) (p : Transfer)
-    → IsFirstPlace (slot_in job) job.opened job.registers p → HandIfAimed job.cache (number_in job) job.opened → sight (geometry_in job) (track_of (slot_in job)) job.opened job.registers ≡ Found job.opened → IsPlaced (record job { passed = [] }) p
+    → IsFirstPlace (slot_in job) job.opened job.registers p → HandIfAimed job.cache (number_in job) job.opened
+    → sight (geometry_in job) (track_of (slot_in job)) job.opened job.registers ≡ Found job.opened
+    → IsPlaced (record job { passed = [] }) p
 first_placed job (Sense b) f h again =
     let t = track_of (slot_in job) in
-    let is = sense_closes (geometry_in job) t job.opened job.registers [] f.0 in
-    (record { is_sense = f.0; bytes_are = f.1; room = omega arith }, record { again = again; len = sense_length (geometry_in job) t job.opened job.registers [] f.0 }, record { so = ap command_end is; unwritten = ap (λ (k : Closing). k.written) is })
+    let is = sense_closes (geometry_in job) t job.opened job.registers [] f.0 in (
+      record { is_sense = f.0; bytes_are = f.1; room = omega arith },
+      record {
+        again = again;
+        len =
+            sense_length (geometry_in job) t job.opened job.registers [] f.0;
+      },
+      record {
+        so = ap command_end is;
+        unwritten =
+            ap (λ (k : Closing). k.written) is;
+      },
+    )
 first_placed job (Field x) f h again =
     let t = track_of (slot_in job) in
     let a = action_of job.opened.command in (
-      record { is_field = f; room = omega arith; collected = refl; at_hand = field_at_hand a job.cache (number_in job) job.opened refl f h },
-      record { again = again; len = (let wants = length_by a (geometry_in job) t job.opened job.registers [] refl ∙ field_wants a (geometry_in job) t job.opened job.registers [] f (omega arith) (no_byte a (geometry_in job) t job.opened job.registers) in omega (arith, wants)) },
-      ap (λ (k : Closing). k.written) (closing_by a (geometry_in job) t job.opened job.registers [] refl) ∙ field_unwritten a (geometry_in job) t job.opened job.registers [] f (omega arith) (no_byte a (geometry_in job) t job.opened job.registers),
+      record {
+        is_field = f;
+        room = omega arith;
+        collected = refl;
+        at_hand =
+            field_at_hand a job.cache (number_in job) job.opened refl f h;
+      },
+      record {
+        again = again;
+        len = (let wants = length_by a (geometry_in job) t job.opened job.registers [] refl
+            ∙ field_wants a (geometry_in job) t job.opened job.registers [] f (omega arith)
+            (no_byte a (geometry_in job) t job.opened job.registers) in omega (arith, wants));
+      },
+      ap (λ (k : Closing). k.written) (closing_by a (geometry_in job) t job.opened job.registers [] refl)
+          ∙ field_unwritten a (geometry_in job) t job.opened job.registers [] f (omega arith)
+          (no_byte a (geometry_in job) t job.opened job.registers),
     )
 first_placed job (Read w u) f h again =
     let t = track_of (slot_in job) in
     let area = area_by action.Read t job.opened job.registers f.0 in
     let is = closing_by action.Read (geometry_in job) t job.opened job.registers [] f.0 in (
-      record { is_read = f.0; held = (hand_for job.cache (number_in job) job.opened action.Read f.0 refl h).held; lies = rw area f.1; room = omega arith; begins = omega arith },
-      record { again = again; len = omega (arith, length_by action.Read (geometry_in job) t job.opened job.registers [] f.0, ap length area, f.1.size) },
+      record {
+        is_read = f.0;
+        held = (hand_for job.cache (number_in job) job.opened action.Read f.0 refl h).held;
+        lies = rw area f.1;
+        room =
+            omega arith;
+        begins = omega arith;
+      },
+      record {
+        again = again;
+        len = omega (
+          arith,
+          length_by action.Read (geometry_in job) t job.opened job.registers [] f.0,
+          ap length area,
+          f.1.size,
+        );
+      },
       record { so = ap command_end is ∙ sym f.2; unwritten = ap (λ (k : Closing). k.written) is },
     )
 first_placed job (Search w so_far) f h again =
     let t = track_of (slot_in job) in
     let area = area_by action.Search t job.opened job.registers f.0 in (
-      record { is_search = f.0; at_hand = whole_at job.cache (number_in job) job.opened action.Search f.0 (λ x. x) (hand_for job.cache (number_in job) job.opened action.Search f.0 refl h); lies = rw area f.1; room = omega arith; begins = omega arith; compared = f.2 },
-      record { again = again; len = omega (arith, length_by action.Search (geometry_in job) t job.opened job.registers [] f.0, ap length area, f.1.size) },
+      record {
+        is_search = f.0;
+        at_hand = whole_at job.cache (number_in job) job.opened action.Search f.0 (λ x. x)
+            (hand_for job.cache (number_in job) job.opened action.Search f.0 refl h);
+        lies = rw area f.1;
+        room = omega arith;
+        begins =
+            omega arith;
+        compared = f.2;
+      },
+      record {
+        again = again;
+        len = omega (
+          arith,
+          length_by action.Search (geometry_in job) t job.opened job.registers [] f.0,
+          ap length area,
+          f.1.size,
+        );
+      },
     )
 first_placed job (Fill w u) f h again =
     let t = track_of (slot_in job) in
     let area = area_by action.Update t job.opened job.registers f.0 in
     let is = closing_by action.Update (geometry_in job) t job.opened job.registers [] f.0 in (
-      record { is_update = f.0; at_hand = whole_at job.cache (number_in job) job.opened action.Update f.0 (λ x. x) (hand_for job.cache (number_in job) job.opened action.Update f.0 refl h); lies = rw area f.1; place = f.2; none = refl },
-      record { again = again; len = omega (arith, length_by action.Update (geometry_in job) t job.opened job.registers [] f.0, ap length area, f.1.size) },
+      record {
+        is_update = f.0;
+        at_hand = whole_at job.cache (number_in job) job.opened action.Update f.0 (λ x. x)
+            (hand_for job.cache (number_in job) job.opened action.Update f.0 refl h);
+        lies = rw area f.1;
+        place = f.2;
+        none = refl;
+      },
+      record {
+        again = again;
+        len = omega (
+          arith,
+          length_by action.Update (geometry_in job) t job.opened job.registers [] f.0,
+          ap length area,
+          f.1.size,
+        );
+      },
       record { so = ap command_end is ∙ sym f.3; unwritten = ap (λ (k : Closing). k.written) is },
     )
 first_placed job (Due w number count) f h again = absurd f
@@ -164,7 +252,8 @@ first_not_filled slot o r (Filled w u) f = absurd f
 first_not_filled slot o r _ f = refl
 
 -- how many bytes it wants, by its place
-pub first_len : (job : AtWork) (p : Transfer) → IsFirstPlace (slot_in job) job.opened job.registers p → IsPlaced (record job { passed = [] }) p
+pub first_len : (job : AtWork) (p : Transfer) → IsFirstPlace (slot_in job) job.opened job.registers p
+    → IsPlaced (record job { passed = [] }) p
     → length_after (geometry_in job) (track_of (slot_in job)) job.opened job.registers [] ≡ 0 + remaining (action_of job.opened.command) p 0
 first_len job (Due w number count) f x = absurd f
 first_len job (Filled w u) f x = absurd f
@@ -173,13 +262,19 @@ first_len job _ f x = x.1.len
 -- What a look leaves.
 
 pub credit_hand : (c : CacheState) (n : ℕ) (o : Opened) → aim o.command ≡ Credited → CreditAtHand (aim o.command) c n → HandIfAimed c n o
-credit_hand c n o is h = λ _. (let at : AtHand c n = rw is at h in record { held = at.held; whole = whole_by (action_of o.command) _ (λ _. at.readable) })
+credit_hand c n o is h = λ _. (let at : AtHand c n = rw is at h in record {
+  held = at.held;
+  whole =
+      whole_by (action_of o.command) _ (λ _. at.readable);
+})
 
 -- The store is not called.
-comes_quiet : (loads saves : Bool) (d now : Parts) (after : Option Fault → DriveState) → Stands now → now.job.cache.image ≡ d.job.cache.image → saves ≡ false
+comes_quiet : (loads saves : Bool) (d now : Parts) (after : Option Fault → DriveState) → Stands now
+    → now.job.cache.image ≡ d.job.cache.image → saves ≡ false
     → state_of now ≡ with_image (after None) now.job.cache.image → Comes loads saves (state_of d) after now
 comes_quiet loads saves d now after x image s state =
-    let none : fault_met (state_of d) (state_of now) ≡ None = fault_none (state_of d) (state_of now) (ap (λ (i : ImageState). i.failures) image) in
+    let none : fault_met (state_of d) (state_of now) ≡ None =
+    fault_none (state_of d) (state_of now) (ap (λ (i : ImageState). i.failures) image) in
     record {
       stands = x;
       state = rw none state;
@@ -187,7 +282,8 @@ comes_quiet loads saves d now after x image s state =
       at_hand = λ e. absurd (no_more d.job.cache.image.loads (sym (ap (λ (i : ImageState). i.loads) image) ∙ e));
     }
 
-sighted_with : (l : AfterLook) (d : DriveState) (i j : ImageState) → with_image (after_sight l (with_image d j)) i ≡ with_image (after_sight l d) i
+sighted_with : (l : AfterLook) (d : DriveState) (i j : ImageState) → with_image (after_sight l (with_image d j)) i
+    ≡ with_image (after_sight l d) i
 sighted_with (Ready o) d i j = refl
 sighted_with _ d i j = refl
 
@@ -204,71 +300,119 @@ module _ (old : HalfDone) (was : Mark) (x : Stands (parts_of old was Looking)) w
   sees o = sight old.cache.image.geometry (track_of (own_slot old)) o old.registers
 
   -- It finds its area.
-  pub found_looks : (o : Opened) (p : Progress) (s : Stage) → IsFirstPlace (own_slot old) o old.registers p.place → HandIfAimed old.cache (own_track old) o → sees o ≡ Found o → sees old.opened ≡ Found o
-      → p ≡ first_progress (action_of o.command) p.place → s ≡ Passing → Looks asked (parts_of (record old { opened = o; progress = p }) was s)
+  pub found_looks : (o : Opened) (p : Progress) (s : Stage) → IsFirstPlace (own_slot old) o old.registers p.place
+      → HandIfAimed old.cache (own_track old) o → sees o ≡ Found o → sees old.opened ≡ Found o
+      → p ≡ first_progress (action_of o.command) p.place → s ≡ Passing
+      → Looks asked (parts_of (record old { opened = o; progress = p }) was s)
   found_looks o p s f h again first p_is s_is =
       let place = p.place in
       let empty : is_filled_by place ≡ false = first_not_filled (own_slot old) o old.registers place f in
       let after : HalfDone = record old { opened = o; progress = first_progress (action_of o.command) place; passed = [] } in
       let placed = first_placed (at_work after) place f h again in
       let len = first_len (at_work after) place f placed in
-      let left_is : remaining (action_of o.command) place 0 ≡ length_after old.cache.image.geometry (track_of (own_slot old)) o old.registers [] = omega (arith, len) in
+      let left_is : remaining (action_of o.command) place 0 ≡ length_after old.cache.image.geometry
+      (track_of (own_slot old)) o old.registers [] = omega (arith, len) in
       rw (p_is, s_is)
       (comes_quiet _ _ asked (parts_of after was Passing) _
-      (record { volume = x.volume; arm = x.arm; anchored = x.anchored; marked = rw empty x.marked; work = record { moved = refl; left = omega arith; placed = placed; no_credit = x.work.no_credit } })
-      refl (rw first (and-false (is_written_by was))) (rw (no_filled_seen old.cache.slots (own_track old) old.before place empty, first, left_is) refl))
+      (record {
+        volume = x.volume;
+        arm = x.arm;
+        anchored = x.anchored;
+        marked = rw empty x.marked;
+        work =
+            record { moved = refl; left = omega arith; placed = placed; no_credit = x.work.no_credit };
+      })
+      refl (rw first (and-false (is_written_by was))) (rw (
+        no_filled_seen old.cache.slots (own_track old) old.before place empty,
+        first,
+        left_is,
+      ) refl))
 
   -- The arm stays, and its registers are these.
-  stays_looks : (q : Registers) (s : Stage) → old.cache.held ≡ Some (own_track old) → StaysAt old.registers q → is_filled s (record old { registers = q; passed = [] }) ≡ false → StageIs s (record old { registers = q; passed = [] })
-      → look_saves (state_of asked) ≡ false → state_of (parts_of (record old { registers = q; passed = [] }) was s) ≡ with_image (after_look None (state_of asked)) old.cache.image
+  stays_looks : (q : Registers) (s : Stage) → old.cache.held ≡ Some (own_track old) → StaysAt old.registers q
+      → is_filled s (record old { registers = q; passed = [] }) ≡ false → StageIs s (record old { registers = q; passed = [] })
+      → look_saves (state_of asked) ≡ false → state_of (parts_of (record old { registers = q; passed = [] }) was s)
+      ≡ with_image (after_look None (state_of asked)) old.cache.image
       → Looks asked (parts_of (record old { registers = q }) was s)
   stays_looks q s held keeps plain work saves state =
       comes_quiet _ _ asked (parts_of (record old { registers = q; passed = [] }) was s) _
-      (record { volume = x.volume; arm = record { cylinder = rw keeps.cylinder x.arm.cylinder; head = rw keeps.head x.arm.head }; anchored = λ _. held ∙ rw (keeps.cylinder, keeps.head) refl; marked = rw plain x.marked; work = work })
+      (record {
+        volume = x.volume;
+        arm = record { cylinder = rw keeps.cylinder x.arm.cylinder; head = rw keeps.head x.arm.head };
+        anchored =
+            λ _. held ∙ rw (keeps.cylinder, keeps.head) refl;
+        marked = rw plain x.marked;
+        work = work;
+      })
       refl saves state
 
   -- the index passes
-  pub passed_looks : (q : Registers) (k : Kind) → aim old.opened.command ≡ Next k → old.cache.held ≡ Some (own_track old) → sees old.opened ≡ IndexPassed q → Looks asked (parts_of (record old { registers = q }) was Looking)
+  pub passed_looks : (q : Registers) (k : Kind) → aim old.opened.command ≡ Next k → old.cache.held ≡ Some (own_track old)
+      → sees old.opened ≡ IndexPassed q → Looks asked (parts_of (record old { registers = q }) was Looking)
   passed_looks q k aimed held sighted =
       let keeps = rw sighted at (sight_keeps old.cache.image.geometry (track_of (own_slot old)) old.opened old.registers x.arm) in
-      stays_looks q Looking held keeps refl (record { transfers = x.work.transfers; credit = rw aimed tt; no_credit = keeps.credit ∙ x.work.no_credit }) (rw sighted (and-false (is_written_by was))) (rw sighted refl)
+      stays_looks q Looking held keeps refl (record {
+        transfers = x.work.transfers;
+        credit = rw aimed tt;
+        no_credit = keeps.credit
+            ∙ x.work.no_credit;
+      }) (rw sighted (and-false (is_written_by was))) (rw sighted refl)
 
   -- it finds none
-  pub missed_looks : (q : Registers) → old.cache.held ≡ Some (own_track old) → sees old.opened ≡ Missed q → Looks asked (parts_of (record old { registers = q }) was Failed)
+  pub missed_looks : (q : Registers) → old.cache.held ≡ Some (own_track old) → sees old.opened ≡ Missed q
+      → Looks asked (parts_of (record old { registers = q }) was Failed)
   missed_looks q held sighted =
       let keeps = rw sighted at (sight_keeps old.cache.image.geometry (track_of (own_slot old)) old.opened old.registers x.arm) in
-      stays_looks q Failed held keeps refl (no_credit old.cache q (own_track (record old { registers = q })) (keeps.credit ∙ x.work.no_credit)) (rw sighted (and-false (is_written_by was))) (rw sighted refl)
+      stays_looks q Failed held keeps refl (no_credit old.cache q (own_track (record old { registers = q })) (keeps.credit
+      ∙ x.work.no_credit)) (rw sighted (and-false (is_written_by was))) (rw sighted refl)
 
   -- It goes on at the next head.
-  pub next_looks : (new : HalfDone) (now : Mark) (q : Registers) (k : Kind) → aim old.opened.command ≡ Next k → sees old.opened ≡ NextHead q → Leaves old new now q → Looks asked (parts_of new now Looking)
+  pub next_looks : (new : HalfDone) (now : Mark) (q : Registers) (k : Kind) → aim old.opened.command ≡ Next k → sees old.opened ≡ NextHead q
+      → Leaves old new now q → Looks asked (parts_of new now Looking)
   next_looks new now q k aimed sighted l =
       let keeps = rw sighted at (sight_keeps old.cache.image.geometry (track_of (own_slot old)) old.opened old.registers x.arm) in
       rw (l.0, l.1)
-      (comes_saved _ _ asked (record old { cache = after_save old.cache; registers = q; passed = [] }) Looking _ x refl (rw sighted (and-true (is_written_by was))) refl refl keeps.0
-      (record { transfers = x.work.transfers; credit = rw aimed tt; no_credit = keeps.1 ∙ x.work.no_credit }) (rw (sighted, geometry_saved old.cache) refl))
+      (comes_saved _ _ asked (record old { cache = after_save old.cache; registers = q; passed = [] }) Looking _ x refl
+      (rw sighted (and-true (is_written_by was))) refl refl keeps.0
+      (record { transfers = x.work.transfers; credit = rw aimed tt; no_credit = keeps.1 ∙ x.work.no_credit })
+      (rw (sighted, geometry_saved old.cache) refl))
 
   -- The track can't be saved that it goes on from.
-  pub lost_looks : (new : HalfDone) (now : Mark) (q : Registers) → sees old.opened ≡ NextHead q → Loses old new now → Looks asked (parts_of new now Failed)
+  pub lost_looks : (new : HalfDone) (now : Mark) (q : Registers) → sees old.opened ≡ NextHead q → Loses old new now
+      → Looks asked (parts_of new now Failed)
   lost_looks new now q sighted l =
-      let after : HalfDone = record old { cache = after_failed_save old.cache l.left; registers = lost_registers old.registers; passed = [] } in
+      let after : HalfDone = record old {
+        cache = after_failed_save old.cache l.left;
+        registers = lost_registers old.registers;
+        passed =
+            [];
+      } in
       let drive = state_of (parts_of after Lost Failed) in
       let s = save_lost asked old new now drive x refl refl l refl in
       rw (l.job, l.mark_is) (record {
         stands = lost_stands asked l.left after Failed x l.size refl refl refl refl tt;
         state = rw (s.fault, sighted, s.written, s.held, s.whole) refl;
-        calls = calls_of_failed_save _ _ old.cache l.left (state_of asked) drive refl refl (changed_is asked x refl ∙ rw sighted (sym (and-true (is_written_by was)))) l.changed;
+        calls = calls_of_failed_save _ _ old.cache l.left (state_of asked) drive refl refl (changed_is asked x refl
+            ∙ rw sighted (sym (and-true (is_written_by was)))) l.changed;
         at_hand = λ e. absurd (no_more old.cache.image.loads e);
       })
 
   -- Its track can't be loaded; what is written is at hand.
   not_written : holds old.cache.held (own_track old) ≡ false → is_written_by was ≡ false
-  not_written not = sym (changed_is asked x refl) ∙ false_from_ne_true old.cache.changed (λ e. no_other old.cache (own_track old) (x.anchored e) not)
+  not_written not = sym (changed_is asked x refl) ∙ false_from_ne_true old.cache.changed (λ e. no_other old.cache (own_track old)
+      (x.anchored e) not)
 
-  pub unloaded_looks : (c' : CacheState) (r' : Registers) (k : Kind) → aim old.opened.command ≡ Next k → holds old.cache.held (own_track old) ≡ false → c' ≡ after_failed_hold old.cache → r' ≡ with_cause old.registers STORE_FAULT
+  pub unloaded_looks : (c' : CacheState) (r' : Registers) (k : Kind) → aim old.opened.command ≡ Next k
+      → holds old.cache.held (own_track old) ≡ false → c' ≡ after_failed_hold old.cache → r' ≡ with_cause old.registers STORE_FAULT
       → Looks asked (parts_of (record old { cache = c'; registers = r' }) was Failed)
   unloaded_looks c' r' k aimed not e f =
       let c = old.cache in
-      let drive = state_of (parts_of (record old { cache = after_failed_hold c; registers = with_cause old.registers STORE_FAULT; passed = [] }) was Failed) in
+      let drive = state_of (parts_of (record old {
+        cache = after_failed_hold c;
+        registers = with_cause old.registers STORE_FAULT;
+        passed =
+            [];
+      }) was Failed) in
       let met : fault_met (state_of asked) drive ≡ Some LoadFails = fault_loading (state_of asked) drive refl refl in
       rw (e, f) (record {
         stands = record {
@@ -284,8 +428,10 @@ module _ (old : HalfDone) (was : Mark) (x : Stands (parts_of old was Looking)) w
       })
 
   -- Its track was at hand, or was loaded first.
-  loaded_looks : (b : Bool) (k : Kind) (now : Parts) (held : Option ℕ) → (b ≡ false → is_written_by was ≡ false) → aim old.opened.command ≡ Next k → now.job.cache.image.loads ≡ (loaded old.cache.image b).loads
-      → Looks (parts_of (record old { cache = record old.cache { image = loaded old.cache.image b; held = held } }) was Looking) now → Looks asked now
+  loaded_looks : (b : Bool) (k : Kind) (now : Parts) (held : Option ℕ) → (b ≡ false → is_written_by was ≡ false)
+      → aim old.opened.command ≡ Next k → now.job.cache.image.loads ≡ (loaded old.cache.image b).loads
+      → Looks (parts_of (record old { cache = record old.cache { image = loaded old.cache.image b; held = held } }) was Looking) now
+      → Looks asked now
   loaded_looks true k now held clean aimed e l = record { stands = l.stands; state = l.state; calls = l.calls; at_hand = l.at_hand }
   loaded_looks false k now held clean aimed e l =
       let unwritten : is_written_by was ≡ false = clean refl in
@@ -293,15 +439,19 @@ module _ (old : HalfDone) (was : Mark) (x : Stands (parts_of old was Looking)) w
       let new = state_of (parts_of (record now.job { passed = [] }) now.mark now.stage) in
       record {
         stands = l.stands;
-        state = l.state ∙ sighted_with (look_by (fault_met d new) (record { opened = old.opened; state = d.state })) d now.job.cache.image (loaded old.cache.image false);
-        calls = calls_behind_load _ _ d (with_image d (loaded old.cache.image false)) new refl (rw aimed refl) (rw unwritten refl) e l.calls;
+        state = l.state ∙ sighted_with (look_by (fault_met d new) (record { opened = old.opened; state = d.state })) d now.job.cache.image
+            (loaded old.cache.image false);
+        calls = calls_behind_load _ _ d (with_image d (loaded old.cache.image false)) new refl (rw aimed refl)
+            (rw unwritten refl) e l.calls;
         at_hand = λ _. unwritten;
       }
 
   -- the look of a drive that holds the track now is that of the drive that was asked
-  pub held_looks : (c : CacheState) (k : Kind) (now : Parts) → aim old.opened.command ≡ Next k → c ≡ after_hold old.cache (own_track old) → now.job.cache.image.loads ≡ c.image.loads
+  pub held_looks : (c : CacheState) (k : Kind) (now : Parts) → aim old.opened.command ≡ Next k → c ≡ after_hold old.cache (own_track old)
+      → now.job.cache.image.loads ≡ c.image.loads
       → Looks (parts_of (record old { cache = c }) was Looking) now → Looks asked now
-  held_looks c k now aimed held loads l = loaded_looks (holds old.cache.held (own_track old)) k now (Some (own_track old)) not_written aimed (rw held at loads) (rw held at l)
+  held_looks c k now aimed held loads l = loaded_looks (holds old.cache.held (own_track old)) k now (Some (own_track old)) not_written aimed
+      (rw held at loads) (rw held at l)
 
 -- The drive that was called, once no byte has passed.
 pub has_looked : (old now : Parts) (passed : List ℕ) (d : DriveState) → state_of old ≡ d → passed ≡ [] → Looks old now

@@ -1,5 +1,6 @@
 -- Tracks that a command begins to write.
-use Rattle.std.proofs.Common.{◌≡◌, ◌∙◌, ap, sym, refl, ℕ, ◌+◌, ◌-◌, ◌<◌, ◌≤◌, ◌^◌, List, [], ◌∷◌, ◌++◌, true, false, ◌&&◌, ◌==◌, Some, length, take, drop, bytes_eq, length-append, length-take, append-nil, arith}
+use Rattle.std.proofs.Common.{◌≡◌, ◌∙◌, ap, sym, refl, ℕ, ◌+◌, ◌-◌, ◌<◌, ◌≤◌, ◌^◌, List, [], ◌∷◌, ◌++◌, true, false, ◌&&◌, ◌==◌, Some}
+use Rattle.std.proofs.Common.{length, take, drop, bytes_eq, length-append, length-take, append-nil, arith}
 use Rattle.std.proofs.lemmas.List.{take-append-drop, drop_all, set-get_or}
 use Rattle.std.proofs.lemmas.Bool.{and_parts, cond_both, eqb-true, false_from_ne_true}
 use Rattle.ckd_track.specs.Track.{track_of, track_in, slot_of}
@@ -22,7 +23,8 @@ use Rattle.ckd_slot.specs.Buffer.{lengths_on}
 use Rattle.ckd_slot.specs.Cache.{slot_held, with_held}
 use Rattle.ckd_drive.specs.declared.transfer.Written.{Written}
 use Rattle.ckd_drive.specs.declared.transfer.Written.TheVariants as written
-use Rattle.ckd_drive.specs.Invariant.{HalfDone, own_track, own_slot, action_now, HasFilled, IsFilled, slot_at, is_filled_by, AtWork, geometry_in, slot_in, action_in, at_work, closes_by}
+use Rattle.ckd_drive.specs.Invariant.{HalfDone, own_track, own_slot, action_now, HasFilled, IsFilled, slot_at, is_filled_by, AtWork}
+use Rattle.ckd_drive.specs.Invariant.{geometry_in, slot_in, action_in, at_work, closes_by}
 use Rattle.ckd_drive.specs.Passing.{Works, Absorbs, whole_of, with_taken}
 use Rattle.ckd_slot.proofs.Writes.{bare_fits}
 use Rattle.ckd_drive.proofs.Fills.{there, new_slot_at, written_absorbs, reads_new}
@@ -64,35 +66,45 @@ newly_absorbs half more new w what le0 x held plain again takes some left small 
       takes = takes;
       some = omega (arith, some, far);
     } in
-    rw (slot_is c n (slot_held c) held refl) (written_absorbs half (own_slot half) more new w what x held read.2 left has (set-get_or c.slots n [] ∙ sym (no_filled_seen c.slots n half.before half.progress.place plain)) small)
+    rw (slot_is c n (slot_held c) held refl) (written_absorbs half (own_slot half) more new w what x held read.2 left has
+    (set-get_or c.slots n [] ∙ sym (no_filled_seen c.slots n half.before half.progress.place plain)) small)
 
 -- What a field is that came whole.
 
 -- what is known of it: a home address is the track's own, and count bytes are those of a formatting write
 abbrev pub IsWhole : Action → (own : List ℕ) → (moved : ℕ) → (field : List ℕ) → Whole → Type 0
-IsWhole a own moved f (whole.HomeAddress h) = (a ≡ action.WriteHomeAddress) × (moved ≡ 5) × (bytes_eq (take 5 f) own ≡ true) × (h ≡ take 5 f)
+IsWhole a own moved f (whole.HomeAddress h) = (a ≡ action.WriteHomeAddress) × (moved ≡ 5) × (bytes_eq (take 5 f) own ≡ true)
+    × (h ≡ take 5 f)
 IsWhole a own moved f (whole.Count b) = (a ≡ action.Format) × (moved ≡ 8) × (b ≡ f)
 IsWhole a own moved f whole.No = Unit {0}
 
 pub is_whole : (a : Action) (own : List ℕ) (moved : ℕ) (f : List ℕ) → IsWhole a own moved f (whole_of a own moved f)
-is_whole action.WriteHomeAddress own moved f = cond_both (moved == 5 && bytes_eq (take 5 f) own) _ _ (IsWhole action.WriteHomeAddress own moved f)
+is_whole action.WriteHomeAddress own moved f = cond_both (moved == 5 && bytes_eq (take 5 f) own) _ _
+    (IsWhole action.WriteHomeAddress own moved f)
     (λ whole. (let t = and_parts (moved == 5) (bytes_eq (take 5 f) own) whole in (refl, eqb-true moved 5 t.0, t.1, refl))) (λ _. tt)
-is_whole action.Format own moved f = cond_both (moved == 8) _ _ (IsWhole action.Format own moved f) (λ eight. (refl, eqb-true moved 8 eight, refl)) (λ _. tt)
+is_whole action.Format own moved f = cond_both (moved == 8) _ _ (IsWhole action.Format own moved f) (λ eight. (
+  refl,
+  eqb-true moved 8 eight,
+  refl,
+)) (λ _. tt)
 is_whole _ own moved f = tt
 
 -- what is no whole field changes nothing, by each thing that the test of a field reads
-pub no_change : (a : Action) (g : Geometry) (t : Sighted) (o : Opened) (r : Registers) (moved : ℕ) (f b : List ℕ) → whole_of a (own_home_address r) moved f ≡ whole.No → length b ≡ moved → take moved f ≡ b → ChangesNothing a g t o r b
+pub no_change : (a : Action) (g : Geometry) (t : Sighted) (o : Opened) (r : Registers) (moved : ℕ) (f b : List ℕ)
+    → whole_of a (own_home_address r) moved f ≡ whole.No → length b ≡ moved → take moved f ≡ b → ChangesNothing a g t o r b
 no_change action.WriteHomeAddress g t o r moved f b e long is = λ five.
     (let m : moved ≡ 5 = sym long ∙ five in
     false_from_ne_true (bytes_eq b (own_home_address r)) (λ own. (let e' = rw (m, rw m at is, own) at e in cc)))
 no_change action.Format g t o r moved f b e long is = λ eight. absurd (let m : moved ≡ 8 = sym long ∙ eight in let e' = rw m at e in cc)
 no_change _ g t o r moved f b e long is = tt
 
-pub field_stays : {half : HalfDone} {more f field : List ℕ} → Collects half more f field → whole_of (action_now half) (own_home_address half.registers) (half.progress.moved + length more) field ≡ whole.No
+pub field_stays : {half : HalfDone} {more f field : List ℕ} → Collects half more f field
+    → whole_of (action_now half) (own_home_address half.registers) (half.progress.moved + length more) field ≡ whole.No
     → Absorbs half more half.cache half.before (Field field)
 field_stays {half} {more} {f} {field} x none =
     let k = field_goes x in
-    field_absorbs x (no_change (action_now half) half.cache.image.geometry (track_of (own_slot half)) half.opened half.registers (length (half.passed ++ more)) field (half.passed ++ more) (rw k.moved at none) refl k.collected)
+    field_absorbs x (no_change (action_now half) half.cache.image.geometry (track_of (own_slot half)) half.opened half.registers
+    (length (half.passed ++ more)) field (half.passed ++ more) (rw k.moved at none) refl k.collected)
 
 -- the home address
 
@@ -101,8 +113,10 @@ nothing_more b [] le = append-nil b
 nothing_more b (x ∷ more) le = absurd (omega (arith, le))
 
 -- the track's own home address has come whole
-abbrev pub home_filled : (job : AtWork) (now : List ℕ) → action_in job ≡ action.WriteHomeAddress → length job.passed ≡ 5 → bytes_eq job.passed (own_home_address job.registers) ≡ true → 13 ≤ (geometry_in job).track_size
-    → lengths_on (track_in now) ≡ lengths_on (bare_track job.passed) → IsFilled job now (record { start = 5; len = 0 }) (command_end (home_address_ends job.opened job.registers))
+abbrev pub home_filled : (job : AtWork) (now : List ℕ) → action_in job ≡ action.WriteHomeAddress → length job.passed ≡ 5
+    → bytes_eq job.passed (own_home_address job.registers) ≡ true → 13 ≤ (geometry_in job).track_size
+    → lengths_on (track_in now) ≡ lengths_on (bare_track job.passed) → IsFilled job now (record { start = 5; len = 0 })
+    (command_end (home_address_ends job.opened job.registers))
 home_filled job now is five own room lens =
     let g = geometry_in job in
     let r = job.registers in
@@ -124,7 +138,8 @@ home_filled job now is five own room lens =
       rest = omega (arith, five);
       closes = λ more le.
           (let e = nothing_more b more le in
-          let k : closing g t o r (b ++ more) ≡ writes (bare_track b) (home_address_ends o r) = ap (λ (x : List ℕ). closing g t o r x) e ∙ closing_by action.WriteHomeAddress g t o r b is ∙ rw (five, own) refl in
+          let k : closing g t o r (b ++ more) ≡ writes (bare_track b) (home_address_ends o r) = ap (λ (x : List ℕ). closing g t o r x) e
+          ∙ closing_by action.WriteHomeAddress g t o r b is ∙ rw (five, own) refl in
           record {
             track = bare_track b;
             so = ap command_end k;
@@ -133,12 +148,14 @@ home_filled job now is five own room lens =
             lengths_stay = sym lens;
             slot_is = rw (e, drop_all 5 b (omega (arith, five))) (sym (take-append-drop 5 s));
           });
-      wants = λ more le. ap (λ (x : List ℕ). length_after g t o r x) (nothing_more b more le) ∙ length_by action.WriteHomeAddress g t o r b is;
+      wants = λ more le. ap (λ (x : List ℕ). length_after g t o r x) (nothing_more b more le)
+          ∙ length_by action.WriteHomeAddress g t o r b is;
     }
 
 -- by what the code has read of its field, and by the slot that it made
 pub home_absorbs : {half : HalfDone} {more f field : List ℕ} (h new : List ℕ) → Collects half more f field
-    → whole_of (action_now half) (own_home_address half.registers) (half.progress.moved + length more) field ≡ whole.HomeAddress h → new ≡ slot_of half.cache.image.geometry.track_size (bare_track h)
+    → whole_of (action_now half) (own_home_address half.registers) (half.progress.moved + length more) field ≡ whole.HomeAddress h
+    → new ≡ slot_of half.cache.image.geometry.track_size (bare_track h)
     → Absorbs half more (with_held half.cache new) (slot_held half.cache) (Filled (record { start = 5; len = 0 }) written.HomeAddress)
 home_absorbs {half} {more} {f} {field} h new x e new_is =
     let works = x.may.works in
@@ -155,7 +172,8 @@ home_absorbs {half} {more} {f} {field} h new x e new_is =
     let made : new ≡ slot_of size (bare_track b) = new_is ∙ ap (λ (y : List ℕ). slot_of size (bare_track y)) (home.3 ∙ come) in
     let read = reads_new size (bare_track b) new (bare_fits size b five room) made in
     let now : List ℕ = slot_at (with_held c new).slots n in
-    let lens : lengths_on (track_in now) ≡ lengths_on (bare_track b) = ap (λ (y : List ℕ). lengths_on (track_in y)) (new_slot_at c n new held (there half works)) ∙ ap lengths_on read.1 in
+    let lens : lengths_on (track_in now) ≡ lengths_on (bare_track b) =
+    ap (λ (y : List ℕ). lengths_on (track_in y)) (new_slot_at c n new held (there half works)) ∙ ap lengths_on read.1 in
     let w : Window = record { start = 5; len = 0 } in
     newly_absorbs half more new w written.HomeAddress (omega arith) works held (rw x.placed refl) k.again
     x.may.taking (omega (arith, five, k.long)) (let left = rw home.0 at k.left in omega (arith, left, five)) (omega (arith, five, k.long))

@@ -1,5 +1,6 @@
 -- A record that gets other bytes.
-use Rattle.std.proofs.Common.{◌≡◌, ◌∙◌, ap, sym, refl, inl, inr, ℕ, ◌+◌, ◌-◌, ◌<◌, ◌≤◌, List, [], ◌++◌, false, ◌==◌, Option, Some, None, Ok, length, length-append, append-nil, arith, Bool}
+use Rattle.std.proofs.Common.{◌≡◌, ◌∙◌, ap, sym, refl, inl, inr, ℕ, ◌+◌, ◌-◌, ◌<◌, ◌≤◌, List, [], ◌++◌, false, ◌==◌, Option, Some, None, Ok}
+use Rattle.std.proofs.Common.{length, length-append, append-nil, arith, Bool}
 use Rattle.std.proofs.lemmas.List.{get_or_past}
 use Rattle.std.proofs.lemmas.Bool.{cases_lt}
 use Rattle.std.proofs.lemmas.Bool.Decides.{nat_tests}
@@ -21,7 +22,8 @@ use Rattle.ckd_command.specs.Commands.{Closing, bytes_at, area_bytes, sight, end
 use Rattle.ckd_slot.specs.Buffer.{FitsSlot, IsUpdate, IsUpdateAt, IsRecordOf, lengths_on}
 use Rattle.ckd_slot.specs.Cache.{with_held, slot_held}
 use Rattle.ckd_drive.specs.declared.transfer.Written.TheVariants as written
-use Rattle.ckd_drive.specs.Invariant.{HalfDone, own_track, own_slot, action_now, IsFilled, AtHand, slot_at, track_under, AtWork, geometry_in, action_in}
+use Rattle.ckd_drive.specs.Invariant.{HalfDone, own_track, own_slot, action_now, IsFilled, AtHand, slot_at, track_under, AtWork}
+use Rattle.ckd_drive.specs.Invariant.{geometry_in, action_in}
 use Rattle.ckd_drive.specs.Passing.{MayTake, Absorbs}
 use Rattle.ckd_slot.proofs.Writes.{update_length, update_place, length-padded, padded_changes}
 use Rattle.ckd_slot.proofs.Updates.{form_of}
@@ -40,7 +42,11 @@ update_extent _ e = absurd cc
 
 -- only a record's areas have bytes to replace
 in_range : (t : Track) (i : ℕ) (size : Record → ℕ) → size no_record ≡ 0 → 0 < size (record_in t i) → i < length t.records
-in_range t i size none some = elim (cases_lt i (length t.records)) [ inl lt ↦ lt | inr le ↦ absurd (let z = ap size (get_or_past t.records i no_record le) in omega (arith, z, none, some)) ]
+in_range t i size none some = elim (cases_lt i (length t.records)) [
+  | inl lt ↦ lt
+  | inr le ↦ absurd (let z =
+      ap size (get_or_past t.records i no_record le) in omega (arith, z, none, some))
+]
 
 bytes_there : (e : Extent) (t : Track) (a : Area) → IsUpdate e → 0 < length (bytes_of e (Ok t) a) → IsRecordOf t a
 bytes_there extent.Data t (Of part i) u some = in_range t i (λ r. length r.data_area) refl some
@@ -51,12 +57,23 @@ bytes_there _ t a u some = absurd u
 
 -- the record that an update fills
 abbrev fill_filling : AtWork → Part → ℕ → CommandEnd → Filling
-fill_filling job part i u = record { closes = u; track = track_in job.before; extent = extent_of job.opened.command; part = part; number = i; lead = 0 }
+fill_filling job part i u = record {
+  closes = u;
+  track = track_in job.before;
+  extent = extent_of job.opened.command;
+  part = part;
+  number =
+      i;
+  lead = 0;
+}
 
 -- how an update of that record closes, by all that a look found of it
-fill_filled : (job : AtWork) (part : Part) (i : ℕ) (b : List ℕ) (u : CommandEnd) → action_in job ≡ action.Update → IsUpdate (extent_of job.opened.command) → track_of job.before ≡ Ok (track_in job.before) → job.opened.area ≡ Some (Of part i)
-    → 0 < length b → length b ≤ update_length (extent_of job.opened.command) (record_in (track_in job.before) i) → command_end (end_of_area (track_of job.before) job.opened job.registers) ≡ u
-    → length (area_bytes (track_of job.before) job.opened job.registers) ≡ update_length (extent_of job.opened.command) (record_in (track_in job.before) i)
+fill_filled : (job : AtWork) (part : Part) (i : ℕ) (b : List ℕ) (u : CommandEnd) → action_in job ≡ action.Update
+    → IsUpdate (extent_of job.opened.command) → track_of job.before ≡ Ok (track_in job.before) → job.opened.area ≡ Some (Of part i)
+    → 0 < length b → length b ≤ update_length (extent_of job.opened.command) (record_in (track_in job.before) i)
+    → command_end (end_of_area (track_of job.before) job.opened job.registers) ≡ u
+    → length (area_bytes (track_of job.before) job.opened job.registers) ≡ update_length (extent_of job.opened.command)
+    (record_in (track_in job.before) i)
     → ClosesFilled job b (fill_filling job part i u)
 fill_filled job part i b u is upd reads there some le so size =
     let o = job.opened in
@@ -64,7 +81,8 @@ fill_filled job part i b u is upd reads there some le so size =
     let wants = length_by action.Update (geometry_in job) (track_of job.before) o job.registers b is in
     record {
       so = ap command_end k ∙ so;
-      written = ap (λ (y : Closing). y.written) k ∙ ap (λ (y : Track). Some y) (sym (padded_changes (extent_of o.command) part i (track_in job.before) b upd le));
+      written = ap (λ (y : Closing). y.written) k
+          ∙ ap (λ (y : Track). Some y) (sym (padded_changes (extent_of o.command) part i (track_in job.before) b upd le));
       wants = omega (arith, wants, size);
     }
 
@@ -80,10 +98,12 @@ pub record FillGoes (half : HalfDone) (more : List ℕ) (a : Area) (w : Window) 
   pub within : w.start + w.len ≤ half.cache.image.geometry.track_size
   pub again : sight half.cache.image.geometry (track_of (own_slot half)) half.opened half.registers ≡ Found half.opened
   pub size : length (area_bytes (track_of (own_slot half)) half.opened half.registers) ≡ w.len
-  pub so : command_end (end_of_area (track_of (own_slot half)) half.opened half.registers) ≡ command_end (area_ends half.opened half.registers no_data)
+  pub so : command_end (end_of_area (track_of (own_slot half)) half.opened half.registers)
+      ≡ command_end (area_ends half.opened half.registers no_data)
 
 -- bytes that come belong to an area
-no_area : (half : HalfDone) (more : List ℕ) (w : Window) (no_data : Bool) → MayTake half more → half.progress.place ≡ Fill w no_data → half.opened.area ≡ None → (length more == 0) ≡ false → ⊥
+no_area : (half : HalfDone) (more : List ℕ) (w : Window) (no_data : Bool) → MayTake half more → half.progress.place ≡ Fill w no_data
+    → half.opened.area ≡ None → (length more == 0) ≡ false → ⊥
 no_area half more w no_data may at none came =
     let some : 0 < length more = grind (arith, nat_tests) in
     let g = half.cache.image.geometry in
@@ -91,11 +111,13 @@ no_area half more w no_data may at none came =
     let t = track_of (slot_at half.cache.slots n) in
     let left : half.progress.left ≤ w.len = rw at at may.works.goes.left in
     let h = (rw at at may.works.goes.placed).0 in
-    let bytes : area_bytes t half.opened half.registers ≡ [] = area_by action.Update t half.opened half.registers h.is_update ∙ rw none refl in
+    let bytes : area_bytes t half.opened half.registers ≡ [] = area_by action.Update t half.opened half.registers h.is_update
+    ∙ rw none refl in
     let zero : 0 ≡ w.len = sym (ap length bytes) ∙ h.lies.size in
     omega (arith, zero, left, may.room, some)
 
-fill_goes : (half : HalfDone) (more : List ℕ) (a : Area) (w : Window) (no_data : Bool) → MayTake half more → half.progress.place ≡ Fill w no_data → half.opened.area ≡ Some a → 0 < length more
+fill_goes : (half : HalfDone) (more : List ℕ) (a : Area) (w : Window) (no_data : Bool) → MayTake half more
+    → half.progress.place ≡ Fill w no_data → half.opened.area ≡ Some a → 0 < length more
     → FillGoes half more a w no_data
 fill_goes half more a w no_data may at area some =
     let r = half.registers in
@@ -110,7 +132,8 @@ fill_goes half more a w no_data may at area some =
     let e = extent_of half.opened.command in
     let upd = update_extent half.opened.command h.is_update in
     let reads = old_read old h.at_hand.readable in
-    let bytes : area_bytes t half.opened r ≡ bytes_of e t a = area_by action.Update t half.opened r h.is_update ∙ ap (λ (y : Option Area). bytes_at e t y) area in
+    let bytes : area_bytes t half.opened r ≡ bytes_of e t a = area_by action.Update t half.opened r h.is_update
+    ∙ ap (λ (y : Option Area). bytes_at e t y) area in
     let count : length (bytes_of e t a) ≡ w.len = ap length (sym bytes) ∙ h.lies.size in
     let full : 0 < length (bytes_of e t a) = omega (arith, count, left, may.room, some) in
     let closes = closing_by action.Update g t half.opened r [] h.is_update in
@@ -129,13 +152,16 @@ fill_goes half more a w no_data may at area some =
 
 -- the slot once its record has these bytes, and zeros behind them
 abbrev pub replaced_slot : HalfDone → (slot more : List ℕ) → Area → List ℕ
-replaced_slot half slot more a = slot_of half.cache.image.geometry.track_size (with_record_changed (replaced (extent_of half.opened.command) more) a (track_in slot))
+replaced_slot half slot more a =
+    slot_of half.cache.image.geometry.track_size (with_record_changed (replaced (extent_of half.opened.command) more) a (track_in slot))
 
 -- the drive then holds a track that is being written; what is known of a command that comes to write is a premise each, since they
 -- come from the look, the bytes and the slot
-fill_absorbs : (half : HalfDone) (more : List ℕ) (a : Area) (w : Window) (no_data : Bool) → MayTake half more → half.progress.place ≡ Fill w no_data → half.opened.area ≡ Some a → 0 < length more
+fill_absorbs : (half : HalfDone) (more : List ℕ) (a : Area) (w : Window) (no_data : Bool) → MayTake half more
+    → half.progress.place ≡ Fill w no_data → half.opened.area ≡ Some a → 0 < length more
     → FillGoes half more a w no_data → FitsSlot half.cache.image.geometry.track_size (track_in (own_slot half))
-    → Absorbs half more (with_held half.cache (replaced_slot half (own_slot half) more a)) (slot_held half.cache) (Filled (record { start = w.start + length more; len = w.len - length more }) (written.Area no_data))
+    → Absorbs half more (with_held half.cache (replaced_slot half (own_slot half) more a)) (slot_held half.cache)
+    (Filled (record { start = w.start + length more; len = w.len - length more }) (written.Area no_data))
 fill_absorbs half more HomeAddress w no_data may at area some k f = absurd k.at.there
 fill_absorbs half more (Of part i) w no_data may at area some k f =
     let u = command_end (area_ends half.opened half.registers no_data) in
@@ -151,11 +177,13 @@ fill_absorbs half more (Of part i) w no_data may at area some k f =
     let short : length more ≤ room = omega (arith, k.le, pl.1) in
     let form = form_of size t e part i (padded more room) upd f lt (length-padded more room short) in
     let new = replaced_slot half old more (Of part i) in
-    let new_is : new ≡ slot_of size (with_record_changed (replaced e (padded more room)) (Of part i) t) = ap (slot_of size) (sym (padded_changes e part i t more upd short)) in
+    let new_is : new ≡ slot_of size (with_record_changed (replaced e (padded more room)) (Of part i) t) =
+    ap (slot_of size) (sym (padded_changes e part i t more upd short)) in
     let read = reads_new size (with_record_changed (replaced e (padded more room)) (Of part i) t) new form.fits new_is in
     let at_new = new_slot_at half.cache n new k.hand.held (there half may.works) in
     let now : List ℕ = slot_at (with_held half.cache new).slots n in
-    let lengths : lengths_on (track_in now) ≡ lengths_on t = ap (λ (y : List ℕ). lengths_on (track_in y)) at_new ∙ ap lengths_on read.1 ∙ form.lengths in
+    let lengths : lengths_on (track_in now) ≡ lengths_on t = ap (λ (y : List ℕ). lengths_on (track_in y)) at_new ∙ ap lengths_on read.1
+    ∙ form.lengths in
     let b = half.passed ++ more in
     let b_is : b ≡ more = ap (λ (y : List ℕ). y ++ more) k.none in
     let b_long : length b ≡ length more = ap length b_is in
@@ -163,11 +191,14 @@ fill_absorbs half more (Of part i) w no_data may at area some k f =
     let w' : Window = record { start = w.start + length more; len = w.len - length more } in
     let job = new_work half more new w' (written.Area no_data) in
     let filled : IsFilled job now w' u =
-    form_filled job now w' (fill_filling job part i u) upd f lt lengths (omega arith) (omega arith) (omega (arith, pl.0, b_long)) (omega (arith, pl.1, b_long, k.le))
-    (λ m le. fill_filled job part i (b ++ m) u k.is upd (old_read old k.hand.readable) area (omega (arith, length-append b m, b_long, some)) (omega (arith, length-append b m, b_long, le, k.le, pl.1)) k.so (k.size ∙ pl.1)) in
+    form_filled job now w' (fill_filling job part i u) upd f lt lengths (omega arith) (omega arith) (omega (arith, pl.0, b_long))
+    (omega (arith, pl.1, b_long, k.le))
+    (λ m le. fill_filled job part i (b ++ m) u k.is upd (old_read old k.hand.readable) area (omega (arith, length-append b m, b_long, some))
+    (omega (arith, length-append b m, b_long, le, k.le, pl.1)) k.so (k.size ∙ pl.1)) in
     let whole : b ++ [] ≡ more = append-nil b ∙ b_is in
     newly_absorbs half more new w' (written.Area no_data) (omega arith) may.works k.hand.held (rw at refl) k.again may.taking
-    (omega (arith, some)) (let l = k.left in omega (arith, l)) (omega (arith, none_long, k.le, k.within, may.works.volume.geometry.limit)) filled
+    (omega (arith, some)) (let l = k.left in omega (arith, l)) (omega (arith, none_long, k.le, k.within, may.works.volume.geometry.limit))
+    filled
     (new_is ∙ ap (λ (y : List ℕ). slot_of size (with_record_changed (replaced e (padded y room)) (Of part i) t)) (sym whole))
 
 -- what such bytes replace, and what they make of the track, by the slot at hand
@@ -176,9 +207,11 @@ pub record Fills (half : HalfDone) (more : List ℕ) (w : Window) (no_data : Boo
   pub at : IsUpdateAt (track_in (slot_held half.cache)) (extent_of half.opened.command) area w
   pub le : length more ≤ w.len
   pub absorbs : FitsSlot half.cache.image.geometry.track_size (track_in (slot_held half.cache))
-      → Absorbs half more (with_held half.cache (replaced_slot half (slot_held half.cache) more area)) (slot_held half.cache) (Filled (record { start = w.start + length more; len = w.len - length more }) (written.Area no_data))
+      → Absorbs half more (with_held half.cache (replaced_slot half (slot_held half.cache) more area)) (slot_held half.cache)
+      (Filled (record { start = w.start + length more; len = w.len - length more }) (written.Area no_data))
 
-pub fills : (half : HalfDone) (more : List ℕ) (w : Window) (no_data : Bool) → MayTake half more → half.progress.place ≡ Fill w no_data → (length more == 0) ≡ false → Fills half more w no_data
+pub fills : (half : HalfDone) (more : List ℕ) (w : Window) (no_data : Bool) → MayTake half more → half.progress.place ≡ Fill w no_data
+    → (length more == 0) ≡ false → Fills half more w no_data
 fills half more w no_data may at came = by half.opened.area refl
   where
     by : (x : Option Area) → half.opened.area ≡ x → Fills half more w no_data
@@ -187,4 +220,10 @@ fills half more w no_data may at came = by half.opened.area refl
         let some : 0 < length more = grind (arith, nat_tests) in
         let k = fill_goes half more a w no_data may at area some in
         let old : slot_held half.cache ≡ own_slot half = slot_is half.cache (own_track half) (slot_held half.cache) k.hand.held refl in
-        record { area = a; at = rw old k.at; le = k.le; absorbs = λ f. (let x = fill_absorbs half more a w no_data may at area some k (rw old at f) in rw old (rw old at x)) }
+        record {
+          area = a;
+          at = rw old k.at;
+          le = k.le;
+          absorbs =
+              λ f. (let x = fill_absorbs half more a w no_data may at area some k (rw old at f) in rw old (rw old at x));
+        }

@@ -50,9 +50,12 @@ slot_there h slot at =
     slot_is h.cache (own_track h) slot (held_of h.cache.held (own_track h) hand.0) (sym hand.1)
 
 -- by what each call of the code says of the area and its bytes, which makes its premises many
-pub is_unlike : (h : HalfDone) (c : Command) (k : Kind) (wanted slot : List ℕ) (a : Area) (w : Window) → Some slot ≡ slot_at_hand h.cache (own_track h) → is_readable (track_of slot) ≡ true
-    → next.Found a ≡ next_of_kind (track_or_none (track_of slot)) h.registers.position k → Lies slot w (bytes_of (extent_of c) (track_of slot) a)
-    → (w.len ≡ length wanted) × (is_satisfied (comparison c) (slice_range slot w.start (w.start + w.len)) wanted ≡ false) → IsUnlike h c k wanted a
+pub is_unlike : (h : HalfDone) (c : Command) (k : Kind) (wanted slot : List ℕ) (a : Area) (w : Window)
+    → Some slot ≡ slot_at_hand h.cache (own_track h) → is_readable (track_of slot) ≡ true
+    → next.Found a ≡ next_of_kind (track_or_none (track_of slot)) h.registers.position k
+    → Lies slot w (bytes_of (extent_of c) (track_of slot) a)
+    → (w.len ≡ length wanted) × (is_satisfied (comparison c) (slice_range slot w.start (w.start + w.len)) wanted ≡ false)
+    → IsUnlike h c k wanted a
 is_unlike h c k wanted slot a w at whole comes lies (long, fails) =
     let own = slot_there h slot at in
     record {
@@ -63,7 +66,8 @@ is_unlike h c k wanted slot a w at whole comes lies (long, fails) =
     }
 
 -- the same, by the code of the search; what the code says of each is a premise of its own
-pub unlike_by : (h : HalfDone) (code : ℕ) (wanted : List ℕ) (read : CommandCode) (k : Kind) (x : Option Area) → Some read ≡ decoded code → Next k ≡ aim read.command → action.Search ≡ action_of read.command
+pub unlike_by : (h : HalfDone) (code : ℕ) (wanted : List ℕ) (read : CommandCode) (k : Kind) (x : Option Area) → Some read ≡ decoded code
+    → Next k ≡ aim read.command → action.Search ≡ action_of read.command
     → IfSome x (IsUnlike h read.command k wanted) → IfSome x (IsUnlikeBy h code wanted)
 unlike_by h code wanted read k None decodes aimed searches u = tt
 unlike_by h code wanted read k (Some a) decodes aimed searches u = record {
@@ -139,9 +143,11 @@ asked_by c multi_track s = record {
   state = with_registers s (record s.registers { sense = no_sense; credit = None });
 }
 
-begins : (c : Command) (multi_track : Bool) (code : ℕ) (s : State) → action_of c ≡ action.Search → decoded code ≡ Some (record { command = c; multi_track = multi_track }) → begin None code s ≡ Started (asked_by c multi_track s)
+begins : (c : Command) (multi_track : Bool) (code : ℕ) (s : State) → action_of c ≡ action.Search
+    → decoded code ≡ Some (record { command = c; multi_track = multi_track }) → begin None code s ≡ Started (asked_by c multi_track s)
 unfolding beginning
-begins command.SearchHomeAddressEqual multi_track code s e is = rw (is, permitted s.registers.file_mask command.SearchHomeAddressEqual e) refl
+begins command.SearchHomeAddressEqual multi_track code s e is =
+    rw (is, permitted s.registers.file_mask command.SearchHomeAddressEqual e) refl
 begins command.SearchIdEqual multi_track code s e is = rw (is, permitted s.registers.file_mask command.SearchIdEqual e) refl
 begins command.SearchIdHigh multi_track code s e is = rw (is, permitted s.registers.file_mask command.SearchIdHigh e) refl
 begins command.SearchIdEqualOrHigh multi_track code s e is = rw (is, permitted s.registers.file_mask command.SearchIdEqualOrHigh e) refl
@@ -188,7 +194,12 @@ module _ (h : HalfDone) (m : Mark) (code : ℕ) (wanted : List ℕ) (a : Area) (
 
   closes : closing h.cache.image.geometry track found.opened found.state.registers wanted ≡ ends (after.state.registers) ending_status
   closes = closing_by action.Search h.cache.image.geometry track found.opened found.state.registers wanted u.searches
-      ∙ rw (area_by action.Search track found.opened found.state.registers u.searches, u.unlike.fails, and-false (nat_lt 0 (length wanted)), left_there u.command a u.searches) refl
+      ∙ rw (
+        area_by action.Search track found.opened found.state.registers u.searches,
+        u.unlike.fails,
+        and-false (nat_lt 0 (length wanted)),
+        left_there u.command a u.searches,
+      ) refl
 
   pub passes_by : PassesBy code wanted a before after
   passes_by = record {
@@ -204,6 +215,8 @@ module _ (h : HalfDone) (m : Mark) (code : ℕ) (wanted : List ℕ) (a : Area) (
   }
 
 -- of a drive that stands so
-pub passing : (h : HalfDone) (m : Mark) (s : Stage) (code : ℕ) (wanted : List ℕ) (a : Area) (now : DriveState) → s ≡ Idle → state_of (parts_of h m s) ≡ now → IsUnlikeBy h code wanted a
-    → PassesBy code wanted a now (state_of (parts_of (record h { registers = record h.registers { sense = no_sense; credit = None; position = At a } }) m s))
+pub passing : (h : HalfDone) (m : Mark) (s : Stage) (code : ℕ) (wanted : List ℕ) (a : Area) (now : DriveState) → s ≡ Idle
+    → state_of (parts_of h m s) ≡ now → IsUnlikeBy h code wanted a
+    → PassesBy code wanted a now
+    (state_of (parts_of (record h { registers = record h.registers { sense = no_sense; credit = None; position = At a } }) m s))
 passing h m s code wanted a now idle is u = rw (← is, idle) (passes_by h m code wanted a u)

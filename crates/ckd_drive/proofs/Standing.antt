@@ -1,12 +1,14 @@
 -- A drive that stands, and after its parts have changed.
-use Rattle.std.proofs.Common.{◌≡◌, ℕ, ◌+◌, ◌*◌, ◌<◌, ◌≤◌, length, refl, arith, add-one, ◌∙◌, List, Bool, true, false, None, unwrap_or, length-set, Some, ap}
+use Rattle.std.proofs.Common.{◌≡◌, ℕ, ◌+◌, ◌*◌, ◌<◌, ◌≤◌, length, refl, arith, add-one, ◌∙◌, List, Bool, true, false, None, unwrap_or}
+use Rattle.std.proofs.Common.{length-set, Some, ap}
 use Rattle.std.proofs.Math.Nat.{mul-le-mul_right, suc-mul}
 use Rattle.ckd_track.specs.Model.{heads_of}
 use Rattle.ckd_track.specs.declared.geometries.Geometry.{Geometry}
 use Rattle.ckd_track.specs.Geometry.{tracks_of}
 use Rattle.ckd_command.specs.declared.registers.Registers.{Registers}
 use Rattle.ckd_command.specs.Commands.{IsAtTrack}
-use Rattle.ckd_drive.specs.Invariant.{Stands, track_under, HalfDone, Parts, own_track, StageIs, CreditIs, is_filled, work_of, parts_of, Goes, seen_by, slot_at, is_filled_by, AtWork, number_in, state_of}
+use Rattle.ckd_drive.specs.Invariant.{Stands, track_under, HalfDone, Parts, own_track, StageIs, CreditIs, is_filled, work_of, parts_of}
+use Rattle.ckd_drive.specs.Invariant.{Goes, seen_by, slot_at, is_filled_by, AtWork, number_in, state_of}
 use Rattle.std.proofs.lemmas.List.Elements.{All-set}
 use Rattle.ckd_track.specs.declared.model.DriveModel.TheVariants.{D2311, D2314}
 use Rattle.ckd_command.specs.declared.registers.Mark.TheVariants.{Saved, Lost}
@@ -26,7 +28,8 @@ pub number_below : (g : Geometry) (r : Registers) → IsAtTrack g r → track_un
 number_below g r at = below g.cylinders (heads_of g.model) r.cylinder r.head at.cylinder at.head
   where
     below : (c h x y : ℕ) → x < c → y < h → x * h + y < c * h
-    below c h x y a b = (let le : (x + 1) * h ≤ c * h = mul-le-mul_right h (omega (arith, a)) in let e : (x + 1) * h ≡ x * h + h = rw (add-one, suc-mul) refl in omega (arith, le, e, b))
+    below c h x y a b = (let le : (x + 1) * h ≤ c * h = mul-le-mul_right h (omega (arith, a)) in let e : (x + 1) * h ≡ x * h + h =
+        rw (add-one, suc-mul) refl in omega (arith, le, e, b))
 
 pub number_there : (d : Parts) → Stands d → own_track d.job < length d.job.cache.slots
 number_there d x =
@@ -40,18 +43,27 @@ pub no_credit : (c : CacheState) (r : Registers) (n : ℕ) → r.credit ≡ None
 no_credit c r n e = rw e tt
 
 pub at_zero : (c : CacheState) (r : Registers) → IsVolume c → IsAtTrack c.image.geometry (moved_to r 0 0)
-at_zero c r v = (let g = v.geometry in record { cylinder = omega (arith, g.cylinders); head = elim c.image.geometry.model as (λ m. 0 < heads_of m) [ D2311 ↦ omega arith | D2314 ↦ omega arith ] })
+at_zero c r v = (let g = v.geometry in record {
+  cylinder = omega (arith, g.cylinders);
+  head =
+      elim c.image.geometry.model as (λ m. 0 < heads_of m) [ D2311 ↦ omega arith | D2314 ↦ omega arith ];
+})
 
 -- The slots.
 
-volume_saved_by : (c : CacheState) (b : Bool) → c.changed ≡ b → IsVolume c → IsVolume (record c { image = saved c.image c.slots b; changed = false })
+volume_saved_by : (c : CacheState) (b : Bool) → c.changed ≡ b → IsVolume c → IsVolume (record c {
+  image = saved c.image c.slots b;
+  changed =
+      false;
+})
 volume_saved_by c true e v = record { geometry = v.geometry; count = v.count; sizes = v.sizes; clean = λ _. refl }
 volume_saved_by c false e v = record { geometry = v.geometry; count = v.count; sizes = v.sizes; clean = λ _. v.clean e }
 
 pub volume_saved : (c : CacheState) → IsVolume c → IsVolume (after_save c)
 volume_saved c v = volume_saved_by c c.changed refl v
 
-pub volume_lost : (c : CacheState) (left : List ℕ) → length left ≡ c.image.geometry.track_size → IsVolume c → IsVolume (after_failed_save c left)
+pub volume_lost : (c : CacheState) (left : List ℕ) → length left ≡ c.image.geometry.track_size → IsVolume c
+    → IsVolume (after_failed_save c left)
 volume_lost c left size v = record {
   geometry = v.geometry;
   count = length-set c.slots (unwrap_or c.held 0) left ∙ v.count;
@@ -69,12 +81,20 @@ pub failures_saved : (c : CacheState) → (after_save c).image.failures ≡ c.im
 failures_saved c = elim c.changed as (λ b. (saved c.image c.slots b).failures ≡ c.image.failures) [ true ↦ refl | false ↦ refl ]
 
 -- Where a written track was saved.
-pub saved_stands : (d : Parts) (h : HalfDone) (s : Stage) → Stands d → h.cache ≡ after_save d.job.cache → is_filled s h ≡ false → IsAtTrack d.job.cache.image.geometry h.registers → StageIs s h → Stands (parts_of h Saved s)
-saved_stands d h s x e f at w = record { volume = rw e (volume_saved d.job.cache x.volume); arm = rw (e, geometry_saved d.job.cache) at; anchored = λ t. absurd (let no = rw e at t in cc); marked = rw (f, e) refl; work = w }
+pub saved_stands : (d : Parts) (h : HalfDone) (s : Stage) → Stands d → h.cache ≡ after_save d.job.cache → is_filled s h ≡ false
+    → IsAtTrack d.job.cache.image.geometry h.registers → StageIs s h → Stands (parts_of h Saved s)
+saved_stands d h s x e f at w = record {
+  volume = rw e (volume_saved d.job.cache x.volume);
+  arm = rw (e, geometry_saved d.job.cache) at;
+  anchored = λ t. absurd (let no = rw e at t in cc);
+  marked = rw (f, e) refl;
+  work = w;
+}
 
 -- Where its saving failed: by all that a drive stands by, since four calls come here.
 pub lost_stands : (d : Parts) (left : List ℕ) (h : HalfDone) (s : Stage)
-    → Stands d → length left ≡ d.job.cache.image.geometry.track_size → h.cache ≡ after_failed_save d.job.cache left → is_filled s h ≡ false → h.registers.cylinder ≡ d.job.registers.cylinder → h.registers.head ≡ d.job.registers.head → StageIs s h
+    → Stands d → length left ≡ d.job.cache.image.geometry.track_size → h.cache ≡ after_failed_save d.job.cache left → is_filled s h ≡ false
+    → h.registers.cylinder ≡ d.job.registers.cylinder → h.registers.head ≡ d.job.registers.head → StageIs s h
     → Stands (parts_of h Lost s)
 lost_stands d left h s x size e f cy he w = record {
   volume = rw e (volume_lost d.job.cache left size x.volume);
@@ -84,7 +104,8 @@ lost_stands d left h s x size e f cy he w = record {
   work = w;
 }
 
-pub no_filled_seen : (slots : List (List ℕ)) (n : ℕ) (before : List ℕ) (p : Transfer) → is_filled_by p ≡ false → seen_by slots n before p ≡ slots
+pub no_filled_seen : (slots : List (List ℕ)) (n : ℕ) (before : List ℕ) (p : Transfer) → is_filled_by p ≡ false
+    → seen_by slots n before p ≡ slots
 no_filled_seen slots n before (Filled w u) f = absurd cc
 no_filled_seen slots n before _ f = refl
 

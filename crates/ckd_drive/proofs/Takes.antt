@@ -1,5 +1,6 @@
 -- Bytes that are taken.
-use Rattle.std.proofs.Common.{rules, ◌≡◌, ◌∙◌, ap, sym, refl, ℕ, ◌+◌, ◌-◌, ◌≤◌, List, [], ◌∷◌, ◌++◌, length, take, drop, slice_range, length-append, length-take, append_assoc, arith, Bool, true, false, ◌==◌, nat_lt, None, bytes_eq}
+use Rattle.std.proofs.Common.{rules, ◌≡◌, ◌∙◌, ap, sym, refl, ℕ, ◌+◌, ◌-◌, ◌≤◌, List, [], ◌∷◌, ◌++◌, length, take, drop, slice_range}
+use Rattle.std.proofs.Common.{length-append, length-take, append_assoc, arith, Bool, true, false, ◌==◌, nat_lt, None, bytes_eq}
 use Rattle.std.specs.Ordering.{nat_cmp, ordering_then}
 use Rattle.std.specs.declared.cmp.Ordering.{Ordering}
 use Rattle.std.specs.declared.cmp.Ordering.TheVariants as order
@@ -12,7 +13,8 @@ use Rattle.ckd_command.specs.declared.tables.Action.TheVariants as action
 use Rattle.ckd_command.specs.Answers.{Found}
 use Rattle.ckd_slot.specs.declared.windows.Window.{Window}
 use Rattle.ckd_drive.specs.declared.transfer.Transfer.TheVariants.{Field, Search}
-use Rattle.ckd_command.specs.Commands.{Closing, sight, close_by, length_for, own_home_address, new_record_fits, write_home_address, format, whole_field, at_end}
+use Rattle.ckd_command.specs.Commands.{Closing, sight, close_by, length_for, own_home_address, new_record_fits, write_home_address, format}
+use Rattle.ckd_command.specs.Commands.{whole_field, at_end}
 use Rattle.ckd_drive.specs.Invariant.{HalfDone, own_slot, action_now, area_in, HasField, order_of, field_size, at_work, IsField}
 use Rattle.ckd_drive.specs.Passing.{MayTake, Absorbs}
 use Rattle.ckd_command.proofs.Closings.{closing_by}
@@ -32,17 +34,22 @@ then_assoc : (a b c : Ordering) → ordering_then (ordering_then a b) c ≡ orde
 then_assoc order.Equal b c = refl
 then_assoc _ b c = refl
 
-compare_more : (x a : List ℕ) (y b : List ℕ) → length x ≡ length a → ordering_then (slice_cmp nat_cmp x a) (slice_cmp nat_cmp y b) ≡ slice_cmp nat_cmp (x ++ y) (a ++ b)
+compare_more : (x a : List ℕ) (y b : List ℕ) → length x ≡ length a → ordering_then (slice_cmp nat_cmp x a) (slice_cmp nat_cmp y b)
+    ≡ slice_cmp nat_cmp (x ++ y) (a ++ b)
 compare_more [] [] y b e = refl
-compare_more (x ∷ xs) (a ∷ bs) y b e = then_assoc (nat_cmp x a) (slice_cmp nat_cmp xs bs) (slice_cmp nat_cmp y b) ∙ ap (λ (o : Ordering). ordering_then (nat_cmp x a) o) (compare_more xs bs y b (omega (arith, e)))
+compare_more (x ∷ xs) (a ∷ bs) y b e = then_assoc (nat_cmp x a) (slice_cmp nat_cmp xs bs) (slice_cmp nat_cmp y b)
+    ∙ ap (λ (o : Ordering). ordering_then (nat_cmp x a) o) (compare_more xs bs y b (omega (arith, e)))
 compare_more _ _ y b e = absurd (omega (arith, e))
 
-order_more : (area passed more : List ℕ) → length passed + length more ≤ length area → ordering_then (order_of area passed) (slice_cmp nat_cmp (take (length more) (drop (length passed) area)) more) ≡ order_of area (passed ++ more)
+order_more : (area passed more : List ℕ) → length passed + length more ≤ length area
+    → ordering_then (order_of area passed) (slice_cmp nat_cmp (take (length more) (drop (length passed) area)) more) ≡ order_of area
+    (passed ++ more)
 order_more area passed more le =
     let m = length passed in
     let long : length (take m area) ≡ length passed = omega (arith, length-take m area, le) in
     compare_more (take m area) passed (take (length more) (drop m area)) more long
-    ∙ ap (λ (x : List ℕ). slice_cmp nat_cmp x (passed ++ more)) (sym (take-add m (length more) area) ∙ ap (λ (n : ℕ). take n area) (sym (length-append passed more)))
+    ∙ ap (λ (x : List ℕ). slice_cmp nat_cmp x (passed ++ more)) (sym (take-add m (length more) area)
+    ∙ ap (λ (n : ℕ). take n area) (sym (length-append passed more)))
 
 -- by the slot and the order as the code has them
 pub search_absorbs : (half : HalfDone) (more slot : List ℕ) (w : Window) (so_far now : Ordering)
@@ -55,10 +62,16 @@ search_absorbs half more slot w so_far now may at slot_is now_is =
     let placed = rw at at x.goes.placed in
     let h = placed.0 in
     let m = window_moves half more w x.volume h.lies h.room h.begins (omega (arith, left, may.room)) in
-    let compared = now_is ∙ rw (h.compared, slot_is, m.first) (order_more (area_in (at_work half)) half.passed more (omega (arith, m.room, length-append half.passed more))) in
-    absorbs_plain half more (Search (record { start = w.start + length more; len = w.len - length more }) now) x (rw at refl) refl (rw at refl) (rw at refl) (
+    let compared = now_is ∙ rw (h.compared, slot_is, m.first) (order_more (area_in (at_work half)) half.passed more
+    (omega (arith, m.room, length-append half.passed more))) in
+    absorbs_plain half more (Search (record { start = w.start + length more; len = w.len - length more }) now) x (rw at refl) refl
+    (rw at refl) (rw at refl) (
       record { is_search = h.is_search; at_hand = h.at_hand; lies = m.lies; room = m.room; begins = m.begins; compared = compared },
-      record { again = placed.1.again; len = length_by action.Search half.cache.image.geometry (track_of (own_slot half)) half.opened half.registers (half.passed ++ more) h.is_search ∙ m.len },
+      record {
+        again = placed.1.again;
+        len = length_by action.Search half.cache.image.geometry (track_of (own_slot half)) half.opened
+            half.registers (half.passed ++ more) h.is_search ∙ m.len;
+      },
     )
     m.small
 
@@ -71,25 +84,33 @@ ChangesNothing action.Format g t o r b = (length b ≡ 8) → new_record_fits g 
 ChangesNothing a g t o r b = Unit {0}
 
 -- a field that must come whole writes nothing, unless it is whole and what it then closes to writes
-unwritten_field : (r : Registers) (b : List ℕ) (size : ℕ) (c : Closing) → length b ≤ size → (length b ≡ size → c.written ≡ None) → (whole_field r b size c).written ≡ None
+unwritten_field : (r : Registers) (b : List ℕ) (size : ℕ) (c : Closing) → length b ≤ size → (length b ≡ size → c.written ≡ None)
+    → (whole_field r b size c).written ≡ None
 unwritten_field r b size c le h =
     let P : Closing → Type 0 = λ k. k.written ≡ None in
-    cond_both (length b == 0) _ _ P (λ _. refl) (λ _. cond_both (nat_lt (length b) size) _ _ P (λ _. refl) (λ long. h (grind (arith, nat_tests))))
+    cond_both (length b == 0) _ _ P (λ _. refl) (λ _. cond_both (nat_lt (length b) size) _ _ P (λ _. refl)
+    (λ long. h (grind (arith, nat_tests))))
 
-format_wants : (g : Geometry) (t : Sighted) (o : Opened) (r : Registers) (b : List ℕ) (short : Bool) → nat_lt (length b) 8 ≡ short → length b ≤ 8 → ChangesNothing action.Format g t o r b → length_for action.Format g t o r b ≡ 8
+format_wants : (g : Geometry) (t : Sighted) (o : Opened) (r : Registers) (b : List ℕ) (short : Bool) → nat_lt (length b) 8 ≡ short
+    → length b ≤ 8 → ChangesNothing action.Format g t o r b → length_for action.Format g t o r b ≡ 8
 format_wants g t o r b true e le n = rw e refl
 format_wants g t o r b false e le n = (let own = n (grind (arith, nat_tests)) in rw (e, own) refl)
 
-pub field_unwritten : (a : Action) (g : Geometry) (t : Sighted) (o : Opened) (r : Registers) (b : List ℕ) → IsField a → length b ≤ field_size a → ChangesNothing a g t o r b → (close_by a g t o r b).written ≡ None
-field_unwritten action.SeekCylinderAndHead g t o r b f le n = unwritten_field r b 6 _ le (λ _. cond_both _ _ _ (λ (k : Closing). k.written ≡ None) (λ _. refl) (λ _. refl))
-field_unwritten action.SeekHead g t o r b f le n = unwritten_field r b 6 _ le (λ _. cond_both _ _ _ (λ (k : Closing). k.written ≡ None) (λ _. refl) (λ _. refl))
+pub field_unwritten : (a : Action) (g : Geometry) (t : Sighted) (o : Opened) (r : Registers) (b : List ℕ) → IsField a
+    → length b ≤ field_size a → ChangesNothing a g t o r b → (close_by a g t o r b).written ≡ None
+field_unwritten action.SeekCylinderAndHead g t o r b f le n =
+    unwritten_field r b 6 _ le (λ _. cond_both _ _ _ (λ (k : Closing). k.written ≡ None) (λ _. refl) (λ _. refl))
+field_unwritten action.SeekHead g t o r b f le n = unwritten_field r b 6 _ le (λ _. cond_both _ _ _ (λ (k : Closing). k.written ≡ None)
+    (λ _. refl) (λ _. refl))
 field_unwritten action.SetFileMask g t o r [] f le n = refl
 field_unwritten action.SetFileMask g t o r (x ∷ b) f le n = refl
-field_unwritten action.WriteHomeAddress g t o r b f le n = unwritten_field (at_end o r) b 5 (write_home_address o r b) le (λ five. (let own = n five in rw own refl))
+field_unwritten action.WriteHomeAddress g t o r b f le n = unwritten_field (at_end o r) b 5 (write_home_address o r b) le
+    (λ five. (let own = n five in rw own refl))
 field_unwritten action.Format g t o r b f le n = unwritten_field r b 8 (format g t o r b) le (λ eight. (let none = n eight in rw none refl))
 field_unwritten _ g t o r b f le n = absurd f
 
-pub field_wants : (a : Action) (g : Geometry) (t : Sighted) (o : Opened) (r : Registers) (b : List ℕ) → IsField a → length b ≤ field_size a → ChangesNothing a g t o r b → length_for a g t o r b ≡ field_size a
+pub field_wants : (a : Action) (g : Geometry) (t : Sighted) (o : Opened) (r : Registers) (b : List ℕ) → IsField a → length b ≤ field_size a
+    → ChangesNothing a g t o r b → length_for a g t o r b ≡ field_size a
 field_wants action.Format g t o r b f le n = format_wants g t o r b (nat_lt (length b) 8) refl le n
 field_wants _ g t o r b f le n = search rules
 
@@ -105,10 +126,12 @@ no_byte _ g t o r = tt
 
 -- More bytes of one.
 
-collected_more : (f passed more : List ℕ) → take (length passed) f ≡ passed → take (length (passed ++ more)) (overwritten f (length passed) more) ≡ passed ++ more
+collected_more : (f passed more : List ℕ) → take (length passed) f ≡ passed
+    → take (length (passed ++ more)) (overwritten f (length passed) more) ≡ passed ++ more
 collected_more f passed more e =
     let m = length passed in
-    let is : overwritten f m more ≡ (passed ++ more) ++ drop (m + length more) f = ap (λ (z : List ℕ). z ++ (more ++ drop (m + length more) f)) e ∙ sym (append_assoc passed more (drop (m + length more) f)) in
+    let is : overwritten f m more ≡ (passed ++ more) ++ drop (m + length more) f =
+    ap (λ (z : List ℕ). z ++ (more ++ drop (m + length more) f)) e ∙ sym (append_assoc passed more (drop (m + length more) f)) in
     rw is (take_at (passed ++ more) (drop (m + length more) f) (length (passed ++ more)) refl)
 
 -- a field is collected, and is this with more bytes
@@ -154,10 +177,12 @@ field_absorbs {half} {more} {f} {field} x nothing =
     let t = track_of (own_slot half) in
     let at = x.placed in
     let k = field_goes x in
-    let wants = length_by a g t half.opened r (half.passed ++ more) refl ∙ field_wants a g t half.opened r (half.passed ++ more) k.has.is_field k.room nothing in
+    let wants = length_by a g t half.opened r (half.passed ++ more) refl
+    ∙ field_wants a g t half.opened r (half.passed ++ more) k.has.is_field k.room nothing in
     absorbs_plain half more (Field field) x.may.works (rw at refl) refl (rw at refl) (rw at (let far = k.long in omega (arith, far))) (
       record { is_field = k.has.is_field; room = k.room; collected = k.collected; at_hand = k.has.at_hand },
       record { again = k.again; len = (let room = k.room in omega (arith, wants, room)) },
-      ap (λ (y : Closing). y.written) (closing_by a g t half.opened r (half.passed ++ more) refl) ∙ field_unwritten a g t half.opened r (half.passed ++ more) k.has.is_field k.room nothing,
+      ap (λ (y : Closing). y.written) (closing_by a g t half.opened r (half.passed ++ more) refl)
+          ∙ field_unwritten a g t half.opened r (half.passed ++ more) k.has.is_field k.room nothing,
     )
     (omega (arith, k.room, k.long, field_small a))

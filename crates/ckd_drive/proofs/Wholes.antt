@@ -44,11 +44,13 @@ found_taken : (test : Area → Bool) (along : List Area) (a : Area) → next.Fou
 found_taken test [] a e = absurd (cc e)
 found_taken test (x ∷ along) a e = by (test x) refl (found_taken test along a) e
   where
-    by : (b : Bool) → test x ≡ b → (next.Found a ≡ found (find test along) → test a ≡ true) → next.Found a ≡ found (cond b (Some x) (find test along)) → test a ≡ true
+    by : (b : Bool) → test x ≡ b → (next.Found a ≡ found (find test along) → test a ≡ true)
+        → next.Found a ≡ found (cond b (Some x) (find test along)) → test a ≡ true
     by true taken behind e = (let same : a ≡ x = cc in rw same taken)
     by false taken behind e = behind e
 
-left_of_lent : (c : Command) (k : Kind) (p : Position) (a : Area) → is_lent_whole c ≡ true → aim c ≡ Next k → takes k p a ≡ true → (n : ℕ) × (area_left (extent_of c) a ≡ Of Data n)
+left_of_lent : (c : Command) (k : Kind) (p : Position) (a : Area) → is_lent_whole c ≡ true → aim c ≡ Next k → takes k p a ≡ true → (n : ℕ)
+    × (area_left (extent_of c) a ≡ Of Data n)
 left_of_lent command.ReadData kind.Data p (Of Data n) lent aimed taken = (n, refl)
 left_of_lent command.ReadCountKeyAndData kind.LaterCount p (Of Count n) lent aimed taken = (n, refl)
 left_of_lent _ _ p _ lent aimed taken = absurd cc
@@ -86,8 +88,10 @@ module _ {h : HalfDone} {k : Kind} {slot : List ℕ} (l : Lent h k slot) where
   sees x whole is = rw (← slot_own, l.aimed, reads, whole, ← is) refl
 
   -- by what each call of the code says of its area and its bytes, which makes its premises many
-  pub gives_whole : (m : Mark) (a : Area) (read : WholeRead) (bytes : List ℕ) → is_readable (track_of slot) ≡ true → next.Found a ≡ next_of_kind (track_or_none (track_of slot)) h.registers.position k
-      → Of Data read.record ≡ area_left (extent_of h.opened.command) a → ends_with_data (extent_of h.opened.command) ≡ true → read.no_data ≡ has_no_data (track_of slot) (Some a)
+  pub gives_whole : (m : Mark) (a : Area) (read : WholeRead) (bytes : List ℕ) → is_readable (track_of slot) ≡ true
+      → next.Found a ≡ next_of_kind (track_or_none (track_of slot)) h.registers.position k
+      → Of Data read.record ≡ area_left (extent_of h.opened.command) a → ends_with_data (extent_of h.opened.command) ≡ true
+      → read.no_data ≡ has_no_data (track_of slot) (Some a)
       → bytes ≡ bytes_of (extent_of h.opened.command) (track_of slot) a → GivesWhole (state_of (parts_of h m Looking)) bytes read
   gives_whole m a read bytes whole comes left full none are =
       let g = h.cache.image.geometry in
@@ -95,7 +99,8 @@ module _ {h : HalfDone} {k : Kind} {slot : List ℕ} (l : Lent h k slot) where
       let o : Opened = record h.opened { area = Some a } in
       let finds = sees (next.Found a) whole comes in
       let has : read.no_data ≡ has_no_data t (Some a) = none ∙ ap (λ (s : List ℕ). has_no_data (track_of s) (Some a)) slot_own in
-      let closes : closing g t o h.registers bytes ≡ ends (record h.registers { position = At (Of Data read.record) }) (if read.no_data then unit_exception_status else ending_status) =
+      let closes : closing g t o h.registers bytes ≡ ends (record h.registers { position = At (Of Data read.record) })
+      (if read.no_data then unit_exception_status else ending_status) =
       closing_by action.Read g t o h.registers bytes reads ∙ rw (← left, full, ← has) refl in
       record {
         asked = h.opened;
@@ -110,8 +115,10 @@ module _ {h : HalfDone} {k : Kind} {slot : List ℕ} (l : Lent h k slot) where
       }
 
   -- the position is then at a record's data
-  pub leaves_data : (a : Area) → next.Found a ≡ next_of_kind (track_or_none (track_of slot)) h.registers.position k → (n : ℕ) × (area_left (extent_of h.opened.command) a ≡ Of Data n)
-  leaves_data a comes = left_of_lent h.opened.command k h.registers.position a l.lent l.aimed (found_taken (takes k h.registers.position) (areas (track_or_none (track_of slot))) a comes)
+  pub leaves_data : (a : Area) → next.Found a ≡ next_of_kind (track_or_none (track_of slot)) h.registers.position k → (n : ℕ)
+      × (area_left (extent_of h.opened.command) a ≡ Of Data n)
+  leaves_data a comes = left_of_lent h.opened.command k h.registers.position a l.lent l.aimed (found_taken (takes k h.registers.position)
+      (areas (track_or_none (track_of slot))) a comes)
 
   -- When it is lent: its bytes are there exactly if its next look finds its area.
   abbrev IsLent : Mark → Bool → Type 0
@@ -124,7 +131,9 @@ module _ {h : HalfDone} {k : Kind} {slot : List ℕ} (l : Lent h k slot) where
   unfolding sight
   lends_unread m unread = lends_if m false (rw (← slot_own, l.aimed, reads, unread) refl)
 
-  pub lends_next : (m : Mark) (x : NextArea) → is_readable (track_of slot) ≡ true → x ≡ next_of_kind (track_or_none (track_of slot)) h.registers.position k → IsLent m (is_found x)
+  pub lends_next : (m : Mark) (x : NextArea) → is_readable (track_of slot) ≡ true
+      → x ≡ next_of_kind (track_or_none (track_of slot)) h.registers.position k → IsLent m (is_found x)
   lends_next m (next.Found a) whole is = lends_if m true (rw (sees (next.Found a) whole is) refl)
   lends_next m next.IndexPassed whole is = lends_if m false (rw (sees next.IndexPassed whole is)
-      (passing (λ (x : Sight). false ≡ is_ready (looked None (open_at (state_of (parts_of h m Looking)) h.opened) x)) h.cache.image.geometry h.opened h.registers refl (λ e. refl) (λ c e. refl)))
+      (passing (λ (x : Sight). false ≡ is_ready (looked None (open_at (state_of (parts_of h m Looking)) h.opened) x)) h.cache.image.geometry
+      h.opened h.registers refl (λ e. refl) (λ c e. refl)))

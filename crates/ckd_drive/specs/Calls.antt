@@ -14,7 +14,8 @@ use Rattle.ckd_command.specs.Commands.{with_cause}
 use Rattle.ckd_command.specs.Drive.{Fault, is_written, is_written_by}
 use Rattle.ckd_command.specs.Drive as drive
 use Rattle.ckd_slot.specs.Cache.{after_save, after_failed_save}
-use Rattle.ckd_drive.specs.Work.{DriveState, CallsStore, Reports, fault_met, with_image, after_begun, after_look, after_end, closed_of, ending_of, end_saves, failed_ending, goes_to_cylinder_zero, look_loads, look_saves}
+use Rattle.ckd_drive.specs.Work.{DriveState, CallsStore, Reports, fault_met, with_image, after_begun, after_look, after_end, closed_of, ending_of, end_saves}
+use Rattle.ckd_drive.specs.Work.{failed_ending, goes_to_cylinder_zero, look_loads, look_saves}
 use Rattle.ckd_drive.specs.Invariant.{HalfDone, Parts, parts_of, Stands, state_of}
 
 -- what a begin answers, by the stage that it came to

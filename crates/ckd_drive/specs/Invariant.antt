@@ -1,5 +1,6 @@
 -- A command half done, as the drive holds it.
-use Rattle.std.specs.Prelude.{◌≡◌, ℕ, ◌+◌, ◌-◌, ◌≤◌, ◌<◌, List, [], ◌++◌, Bool, true, false, ◌||◌, Option, Some, None, length, take, drop, slice_index_or, slice_set}
+use Rattle.std.specs.Prelude.{◌≡◌, ℕ, ◌+◌, ◌-◌, ◌≤◌, ◌<◌, List, [], ◌++◌, Bool, true, false, ◌||◌, Option, Some, None, length, take, drop, slice_index_or}
+use Rattle.std.specs.Prelude.{slice_set}
 use Rattle.ckd_track.specs.Track.{Track, track_of, track_in, slot_of}
 use Rattle.ckd_track.specs.declared.geometries.Geometry.{Geometry}
 use Rattle.ckd_track.specs.Geometry.{track_at}
@@ -31,7 +32,8 @@ use Rattle.ckd_drive.specs.declared.answers.Stage.TheVariants as stage
 use Rattle.ckd_command.specs.Tables.{action_of, extent_of, aim, is_giving}
 use Rattle.ckd_sense.specs.SenseBytes.{sense_bytes}
 use Rattle.ckd_position.specs.Contents.{Sighted, is_readable, padded}
-use Rattle.ckd_command.specs.Commands.{Closing, IsAtTrack, sight as sight_on, area_bytes, bytes_at, area_ends, end_of_area, length_after, closing, command_end, home_address_ends, format_ends}
+use Rattle.ckd_command.specs.Commands.{Closing, IsAtTrack, sight as sight_on, area_bytes, bytes_at, area_ends, end_of_area, length_after, closing, command_end}
+use Rattle.ckd_command.specs.Commands.{home_address_ends, format_ends}
 use Rattle.ckd_slot.specs.Buffer.{Lies, HasBytes, IsPlaceOf, FitsSlot, HasFormatted, lengths_on}
 use Rattle.ckd_slot.specs.Cache.{CacheState, IsVolume, slot_held, after_format}
 use Rattle.ckd_command.specs.Drive.{is_written_by}

@@ -5,7 +5,8 @@ use Rattle.ckd_command.specs.declared.close.DriveEnding.{DriveEnding}
 use Rattle.ckd_command.specs.Drive.{begin, is_written, tells_equipment_check, unsaved}
 use Rattle.ckd_drive.specs.declared.answers.Begun.{Begun}
 use Rattle.ckd_drive.specs.declared.answers.Begun.TheVariants as begun
-use Rattle.ckd_drive.specs.Work.{DriveState, Work, Over, CallsStore, Reports, fault_met, with_image, after_begin, answer_of_begin, begin_saves, after_look, look_loads, look_saves, failed_ending, after_end, closed_of, ending_of, end_saves, after_settle}
+use Rattle.ckd_drive.specs.Work.{DriveState, Work, Over, CallsStore, Reports, fault_met, with_image, after_begin, answer_of_begin, begin_saves, after_look}
+use Rattle.ckd_drive.specs.Work.{look_loads, look_saves, failed_ending, after_end, closed_of, ending_of, end_saves, after_settle}
 
 -- One call of a drive while a program runs, by its clauses: begin, look, end, settle; or bytes pass.
 pub data Called (old new : DriveState) : Type 0 where

@@ -1,5 +1,6 @@
 -- What becomes of a command by its bytes as they pass, and how it closes by them.
-use Rattle.std.specs.Prelude.{◌≡◌, ℕ, ◌+◌, ◌-◌, ◌^◌, ◌≤◌, ◌<◌, List, [], ◌++◌, Bool, true, false, ◌&&◌, ◌||◌, ◌==◌, nat_lt, Some, bytes_eq, length, take, if◌then◌else◌}
+use Rattle.std.specs.Prelude.{◌≡◌, ℕ, ◌+◌, ◌-◌, ◌^◌, ◌≤◌, ◌<◌, List, [], ◌++◌, Bool, true, false, ◌&&◌, ◌||◌, ◌==◌, nat_lt, Some, bytes_eq, length, take}
+use Rattle.std.specs.Prelude.{if◌then◌else◌}
 use Rattle.ckd_track.specs.declared.geometries.Geometry.{Geometry}
 use Rattle.ckd_command.specs.declared.registers.Registers.{Registers}
 use Rattle.ckd_command.specs.declared.registers.Mark.{Mark}
@@ -17,7 +18,8 @@ use Rattle.ckd_drive.specs.declared.transfer.Progress.{Progress}
 use Rattle.ckd_command.specs.Tables.{action_of, comparison, is_giving}
 use Rattle.ckd_position.specs.Comparisons.{accepts}
 use Rattle.ckd_sense.specs.declared.sense_bytes.TheConstants.Sense as cause
-use Rattle.ckd_command.specs.Commands.{Closing, IsAtTrack, area_ends, search_ends, whole_field, seek_cylinder_and_head, seek_head, set_file_mask, fails, ends, at_end, ending_status, command_end}
+use Rattle.ckd_command.specs.Commands.{Closing, IsAtTrack, area_ends, search_ends, whole_field, seek_cylinder_and_head, seek_head, set_file_mask, fails, ends}
+use Rattle.ckd_command.specs.Commands.{at_end, ending_status, command_end}
 use Rattle.ckd_slot.specs.Cache.{CacheState, IsVolume}
 use Rattle.ckd_drive.specs.Invariant.{field_size, remaining, closes_by, seen_by, HalfDone, own_track, action_now, seen_with, Goes, is_filled_by}
 

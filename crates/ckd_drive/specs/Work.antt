@@ -1,5 +1,6 @@
 -- A drive between two calls, as those see it who call it.
-use Rattle.std.specs.Prelude.{◌≡◌, ◌⊎◌, ℕ, ◌+◌, ◌-◌, List, [], ◌++◌, Bool, true, false, not, ◌&&◌, ◌==◌, Option, Some, None, length, slice_index_or, if◌then◌else◌}
+use Rattle.std.specs.Prelude.{◌≡◌, ◌⊎◌, ℕ, ◌+◌, ◌-◌, List, [], ◌++◌, Bool, true, false, not, ◌&&◌, ◌==◌, Option, Some, None, length, slice_index_or}
+use Rattle.std.specs.Prelude.{if◌then◌else◌}
 use Rattle.ckd_image.specs.Image.{ImageState}
 use Rattle.ckd_command.specs.declared.registers.Mark.{Mark}
 use Rattle.ckd_command.specs.declared.registers.Mark.TheVariants as mark
@@ -16,7 +17,9 @@ use Rattle.ckd_position.specs.declared.areas.Area.TheVariants.{Of}
 use Rattle.ckd_position.specs.declared.areas.Part.TheVariants.{Data}
 use Rattle.ckd_position.specs.declared.areas.Position.TheVariants.{At}
 use Rattle.ckd_command.specs.Commands.{ending_status, unit_exception_status, in_motion_status, unit_check_status, beginning, sight, closing}
-use Rattle.ckd_command.specs.Drive.{State, with_registers, Fault, LoadFails, SaveFails, Open, AfterBegin, Rejected, Immediate, Started, AfterLook, Ready, Passed, Failed, Closed, begin, look, given, length_of, close, saving, left_by, begin_program, drive_of, first_drive, number_under, track_under, is_written, tells_equipment_check, no_sense}
+use Rattle.ckd_command.specs.Drive.{State, with_registers, Fault, LoadFails, SaveFails, Open, AfterBegin, Rejected, Immediate, Started, AfterLook, Ready}
+use Rattle.ckd_command.specs.Drive.{Passed, Failed, Closed, begin, look, given, length_of, close, saving, left_by, begin_program, drive_of, first_drive}
+use Rattle.ckd_command.specs.Drive.{number_under, track_under, is_written, tells_equipment_check, no_sense}
 use Rattle.ckd_drive.specs.declared.answers.Begun.{Begun}
 use Rattle.ckd_drive.specs.declared.answers.Begun.TheVariants as begun
 use Rattle.ckd_drive.specs.declared.answers.Look.{Look}

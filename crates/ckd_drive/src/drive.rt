@@ -6,7 +6,10 @@ ghost use Rattle.ckd_image.specs.Store.{Counts};
 ghost use Rattle.ckd_command.specs.Drive.{unsaved, begin, is_written};
 ghost use Rattle.ckd_drive.specs.declared.answers.Begun.TheVariants as begun;
 ghost use Rattle.ckd_drive.specs.Calls.{Ends};
-ghost use Rattle.ckd_drive.specs.Work.{DriveState, Over, CallsStore, Reports, fault_met, begin_saves, look_loads, look_saves, end_saves, failed_ending, after_begin, after_look, moved_on, left_of, gives_now, takes_now, given_now, passed_of, closed_of, after_end, ending_of, is_idle, is_working, may_end, passes_now, after_settle, begun_program, answer_of_begin, answer_of_look, with_image, new_drive, without_sense, phase_of, Allows};
+ghost use Rattle.ckd_drive.specs.Work.{DriveState, Over, CallsStore, Reports, fault_met, begin_saves, look_loads, look_saves, end_saves, failed_ending};
+ghost use Rattle.ckd_drive.specs.Work.{after_begin, after_look, moved_on, left_of, gives_now, takes_now, given_now, passed_of, closed_of, after_end, ending_of};
+ghost use Rattle.ckd_drive.specs.Work.{is_idle, is_working, may_end, passes_now, after_settle, begun_program, answer_of_begin, answer_of_look, with_image};
+ghost use Rattle.ckd_drive.specs.Work.{new_drive, without_sense, phase_of, Allows};
 
 use crate::answers::{Begun, Look, Phase, Stage};
 use crate::job::Job;

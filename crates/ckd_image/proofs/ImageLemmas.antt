@@ -1,5 +1,6 @@
 -- An image and its files.
-use Rattle.std.proofs.Common.{◌≡◌, ℕ, ◌+◌, ◌*◌, ◌<◌, ◌≤◌, List, [], ◌∷◌, length, take, drop, map, get_or, set, slice_range, Option, Result, Ok, Err, OnOk, OnErr, refl, sym, ap, ◌∙◌, arith, length-append}
+use Rattle.std.proofs.Common.{◌≡◌, ℕ, ◌+◌, ◌*◌, ◌<◌, ◌≤◌, List, [], ◌∷◌, length, take, drop, map, get_or, set, slice_range, Option, Result}
+use Rattle.std.proofs.Common.{Ok, Err, OnOk, OnErr, refl, sym, ap, ◌∙◌, arith, length-append}
 use Rattle.std.proofs.lemmas.List.Edits.{length-between}
 use Rattle.std.proofs.Math.Nat.{add-mul, zero-mul, eq_of_mul-eq-mul_right}
 use Rattle.std.specs.List.{concat, sum}
@@ -14,7 +15,8 @@ use Rattle.ckd_image.specs.Files.{slot_bytes, held, each, HoldTracks}
 use Rattle.ckd_image.proofs.MountLemmas.{mount_fits}
 use Rattle.ckd_image.proofs.FileLemmas.{sum_cons, slot_bytes-cons, tracks_behind}
 use Rattle.ckd_image.proofs.Writes.{range_is, torn_is}
-use Rattle.ckd_image.proofs.SlotLemmas.{length-slots_in, get_or-slots_in, slot_within, length-slot, sizes-slots_in, concat-slots_in, slots_in-overwritten}
+use Rattle.ckd_image.proofs.SlotLemmas.{length-slots_in, get_or-slots_in, slot_within, length-slot, sizes-slots_in, concat-slots_in}
+use Rattle.ckd_image.proofs.SlotLemmas.{slots_in-overwritten}
 
 abbrev pub slots_of : Geometry → List (List ℕ) → List (List ℕ)
 slots_of g files = slots_in g.track_size (tracks_of g) (slot_bytes files)
@@ -41,10 +43,12 @@ holds_slots g files mounts =
       order = sym (concat-slots_in g.track_size (tracks_of g) (slot_bytes files) behind);
     }
 
-pub holds_image : (g : Geometry) (files origins : List (List ℕ)) (failures loads saves : ℕ) → mount_of files ≡ Ok g → HoldsImage files (seen g files origins failures loads saves)
+pub holds_image : (g : Geometry) (files origins : List (List ℕ)) (failures loads saves : ℕ) → mount_of files ≡ Ok g
+    → HoldsImage files (seen g files origins failures loads saves)
 holds_image g files origins failures loads saves mounts = record { holds = holds_slots g files mounts; headers = refl }
 
-pub is_image : (g : Geometry) (files origins : List (List ℕ)) (failures loads saves : ℕ) → mount_of files ≡ Ok g → IsImage (seen g files origins failures loads saves)
+pub is_image : (g : Geometry) (files origins : List (List ℕ)) (failures loads saves : ℕ) → mount_of files ≡ Ok g
+    → IsImage (seen g files origins failures loads saves)
 is_image g files origins failures loads saves mounts =
     let holds = holds_slots g files mounts in
     record {
@@ -58,28 +62,36 @@ is_image g files origins failures loads saves mounts =
 -- The tracks of the files are those of the geometry.
 
 module _ {S : Type 0} where
-  bytes_held : (content : S → List ℕ) (size : ℕ) (files : List (Option S)) (tracks : List ℕ) → HoldTracks content size files tracks → length files ≡ length tracks → length (slot_bytes (each content files)) ≡ sum tracks * size
+  bytes_held : (content : S → List ℕ) (size : ℕ) (files : List (Option S)) (tracks : List ℕ) → HoldTracks content size files tracks
+      → length files ≡ length tracks → length (slot_bytes (each content files)) ≡ sum tracks * size
   bytes_held content size [] [] holds count = sym (zero-mul size)
   bytes_held content size (f ∷ files) (n ∷ tracks) holds count =
       let first = tracks_behind content size f files n tracks holds in
       let ih = bytes_held content size files tracks first.1 (omega arith) in
-      let all : sum (n ∷ tracks) * size ≡ n * size + sum tracks * size = ap (λ (k : ℕ). k * size) (sum_cons n tracks) ∙ add-mul n (sum tracks) size in
+      let all : sum (n ∷ tracks) * size ≡ n * size + sum tracks * size = ap (λ (k : ℕ). k * size) (sum_cons n tracks)
+      ∙ add-mul n (sum tracks) size in
       rw slot_bytes-cons (length-append (drop 512 (held content [] f)) (slot_bytes (each content files)) ∙ omega (arith, ih, first.0, all))
   bytes_held content size _ _ holds count = absurd (omega arith)
 
-  pub tracks_held : (content : S → List ℕ) (g : Geometry) (files : List (Option S)) (tracks : List ℕ) → mount_of (each content files) ≡ Ok g → HoldTracks content g.track_size files tracks → length files ≡ length tracks → sum tracks ≡ tracks_of g
+  pub tracks_held : (content : S → List ℕ) (g : Geometry) (files : List (Option S)) (tracks : List ℕ) → mount_of (each content files) ≡ Ok g
+      → HoldTracks content g.track_size files tracks → length files ≡ length tracks → sum tracks ≡ tracks_of g
   tracks_held content g files tracks mounts holds count =
       let fits = mount_fits (each content files) g mounts in
       let some = fits.is_geometry.room in
-      eq_of_mul-eq-mul_right g.track_size (omega arith) (sum tracks) (tracks_of g) (sym (bytes_held content g.track_size files tracks holds count) ∙ fits.is_length)
+      eq_of_mul-eq-mul_right g.track_size (omega arith) (sum tracks) (tracks_of g)
+      (sym (bytes_held content g.track_size files tracks holds count) ∙ fits.is_length)
 
 -- One slot.
 
 -- what stands in its place is the slot
-pub slot_is : (g : Geometry) (files : List (List ℕ)) (track : ℕ) → track < tracks_of g → slice_range (slot_bytes files) (track * g.track_size) (track * g.track_size + g.track_size) ≡ get_or (slots_of g files) track []
-slot_is g files track exists = range_is (slot_bytes files) (track * g.track_size) g.track_size ∙ sym (get_or-slots_in g.track_size (tracks_of g) track (slot_bytes files) exists)
+pub slot_is : (g : Geometry) (files : List (List ℕ)) (track : ℕ) → track < tracks_of g
+    → slice_range (slot_bytes files) (track * g.track_size) (track * g.track_size + g.track_size) ≡ get_or (slots_of g files) track []
+slot_is g files track exists = range_is (slot_bytes files) (track * g.track_size) g.track_size
+    ∙ sym (get_or-slots_in g.track_size (tracks_of g) track (slot_bytes files) exists)
 
-slots_put : (g : Geometry) (files new : List (List ℕ)) (bytes : List ℕ) (track : ℕ) → mount_of files ≡ Ok g → track < tracks_of g → length bytes ≡ g.track_size → slot_bytes new ≡ overwritten (slot_bytes files) (track * g.track_size) bytes → slots_of g new ≡ set (slots_of g files) track bytes
+slots_put : (g : Geometry) (files new : List (List ℕ)) (bytes : List ℕ) (track : ℕ) → mount_of files ≡ Ok g → track < tracks_of g
+    → length bytes ≡ g.track_size → slot_bytes new ≡ overwritten (slot_bytes files) (track * g.track_size) bytes
+    → slots_of g new ≡ set (slots_of g files) track bytes
 slots_put g files new bytes track mounts exists size is =
     let behind = (mount_fits files g mounts).is_length in
     ap (slots_in g.track_size (tracks_of g)) is
@@ -89,25 +101,47 @@ slots_put g files new bytes track mounts exists size is =
 pub record Saved (was now : ImageState) (slot : List ℕ) (track : ℕ) (r : Result (Unit {0}) StoreFault) : Type 0 where
   pub geometry : now.geometry ≡ was.geometry
   pub ok : OnOk r (now ≡ record was { saves = was.saves + 1; slots = set was.slots track slot })
-  pub err : OnErr r (now ≡ record was { saves = was.saves + 1; failures = was.failures + 1; slots = set was.slots track (get_or now.slots track []) })
+  pub err : OnErr r (now ≡ record was {
+    saves = was.saves + 1;
+    failures = was.failures + 1;
+    slots =
+        set was.slots track (get_or now.slots track []);
+  })
   pub size : length (get_or now.slots track []) ≡ was.geometry.track_size
 
 -- with all that is seen of an image before and now, since each of it stays or is counted
-pub saved : (g : Geometry) (files new origins : List (List ℕ)) (slot : List ℕ) (track before now loads saves : ℕ) (r : Result (Unit {0}) StoreFault) → mount_of files ≡ Ok g → mount_of new ≡ Ok g → track < tracks_of g → length slot ≡ g.track_size → map (take 512) new ≡ map (take 512) files → OnOk r (slot_bytes new ≡ overwritten (slot_bytes files) (track * g.track_size) slot) → OnErr r (Torn (slot_bytes files) (slot_bytes new) (track * g.track_size) g.track_size) → Counts before now r → Saved (seen g files origins before loads saves) (seen g new origins now loads (saves + 1)) slot track r
-saved g files new origins slot track before now loads saves r mounts mounts_now exists size headers written torn counted = by r written torn counted
+pub saved : (g : Geometry) (files new origins : List (List ℕ)) (slot : List ℕ) (track before now loads saves : ℕ)
+    (r : Result (Unit {0}) StoreFault) → mount_of files ≡ Ok g → mount_of new ≡ Ok g → track < tracks_of g → length slot ≡ g.track_size
+    → map (take 512) new ≡ map (take 512) files → OnOk r (slot_bytes new ≡ overwritten (slot_bytes files) (track * g.track_size) slot)
+    → OnErr r (Torn (slot_bytes files) (slot_bytes new) (track * g.track_size) g.track_size) → Counts before now r
+    → Saved (seen g files origins before loads saves) (seen g new origins now loads (saves + 1)) slot track r
+saved g files new origins slot track before now loads saves r mounts mounts_now exists size headers written torn counted =
+    by r written torn counted
   where
     long : length (get_or (slots_of g new) track []) ≡ g.track_size
-    long = length-slot g.track_size (tracks_of g) track (slot_bytes new) exists (let behind = (mount_fits new g mounts_now).is_length in omega arith)
+    long = length-slot g.track_size (tracks_of g) track (slot_bytes new) exists (let behind = (mount_fits new g mounts_now).is_length in
+        omega arith)
 
-    by : (r : Result (Unit {0}) StoreFault) → OnOk r (slot_bytes new ≡ overwritten (slot_bytes files) (track * g.track_size) slot) → OnErr r (Torn (slot_bytes files) (slot_bytes new) (track * g.track_size) g.track_size) → Counts before now r → Saved (seen g files origins before loads saves) (seen g new origins now loads (saves + 1)) slot track r
-    by (Ok v) written torn counted = record { geometry = refl; ok = rw (headers, slots_put g files new slot track mounts exists size written, counted) refl; err = tt; size = long }
+    by : (r : Result (Unit {0}) StoreFault) → OnOk r (slot_bytes new ≡ overwritten (slot_bytes files) (track * g.track_size) slot)
+        → OnErr r (Torn (slot_bytes files) (slot_bytes new) (track * g.track_size) g.track_size) → Counts before now r
+        → Saved (seen g files origins before loads saves) (seen g new origins now loads (saves + 1)) slot track r
+    by (Ok v) written torn counted =
+        record {
+          geometry = refl;
+          ok = rw (headers, slots_put g files new slot track mounts exists size written, counted) refl;
+          err =
+              tt;
+          size = long;
+        }
     by (Err e) written torn counted =
         let at = track * g.track_size in
         let behind = (mount_fits files g mounts).is_length in
         let within = slot_within g.track_size (tracks_of g) track exists in
         let ends : at + g.track_size ≤ length (slot_bytes files) = omega arith in
         let part = slice_range (slot_bytes new) at (at + g.track_size) in
-        let part_size : length part ≡ g.track_size = length-between (slot_bytes new) at (at + g.track_size) (rw torn.same_length ends) ∙ omega arith in
-        let slots : slots_of g new ≡ set (slots_of g files) track part = slots_put g files new part track mounts exists part_size (torn_is (slot_bytes files) (slot_bytes new) at g.track_size torn ends) in
+        let part_size : length part ≡ g.track_size = length-between (slot_bytes new) at (at + g.track_size) (rw torn.same_length ends)
+        ∙ omega arith in
+        let slots : slots_of g new ≡ set (slots_of g files) track part = slots_put g files new part track mounts exists part_size
+        (torn_is (slot_bytes files) (slot_bytes new) at g.track_size torn ends) in
         let there : get_or (slots_of g new) track [] ≡ part = sym (slot_is g new track exists) in
         record { geometry = refl; ok = tt; err = rw (there, headers, slots, counted) refl; size = long }

@@ -1,5 +1,6 @@
 -- Slots of one size in a row of bytes.
-use Rattle.std.proofs.Common.{◌≡◌, ℕ, zero, suc, ◌+◌, ◌*◌, ◌<◌, ◌≤◌, List, [], ◌++◌, length, take, drop, get_or, set, All, refl, sym, ap, ◌∙◌, arith, length-drop}
+use Rattle.std.proofs.Common.{◌≡◌, ℕ, zero, suc, ◌+◌, ◌*◌, ◌<◌, ◌≤◌, List, [], ◌++◌, length, take, drop, get_or, set, All, refl, sym, ap}
+use Rattle.std.proofs.Common.{◌∙◌, arith, length-drop}
 use Rattle.std.proofs.lemmas.List.{length-take-le, drop-drop, take_at, drop_at, take-append-drop, nil_from_length, get_or_default}
 use Rattle.std.proofs.Math.Nat.{zero-add, zero-mul, suc-mul, mul-le-mul_right}
 use Rattle.std.specs.List.{concat}
@@ -26,7 +27,8 @@ slot_within size n k h = rw (sym (suc-mul k size)) (mul-le-mul_right size h)
 
 pub length-slot : (size n k : ℕ) (bytes : List ℕ) → k < n → n * size ≤ length bytes → length (get_or (slots_in size n bytes) k []) ≡ size
 length-slot size n k bytes h room =
-    rw (get_or-slots_in size n k bytes h) (length-take-le size (drop (k * size) bytes) (simp length-drop (omega (arith, slot_within size n k h))))
+    rw (get_or-slots_in size n k bytes h) (length-take-le size (drop (k * size) bytes)
+    (simp length-drop (omega (arith, slot_within size n k h))))
 
 pub sizes-slots_in : (size n : ℕ) (bytes : List ℕ) → n * size ≤ length bytes → All (λ slot. length slot ≡ size) (slots_in size n bytes)
 sizes-slots_in size n bytes room k d h =
@@ -40,7 +42,8 @@ concat-slots_in size (suc n) bytes h =
     ap (λ (s : List ℕ). take size bytes ++ s) (concat-slots_in size n (drop size bytes) (simp length-drop (omega (arith, suc-mul n size))))
     ∙ take-append-drop size bytes
 
-pub slots_in-overwritten : (size n k : ℕ) (bytes slot : List ℕ) → k < n → length slot ≡ size → n * size ≤ length bytes → slots_in size n (overwritten bytes (k * size) slot) ≡ set (slots_in size n bytes) k slot
+pub slots_in-overwritten : (size n k : ℕ) (bytes slot : List ℕ) → k < n → length slot ≡ size → n * size ≤ length bytes
+    → slots_in size n (overwritten bytes (k * size) slot) ≡ set (slots_in size n bytes) k slot
 unfolding slots_in
 slots_in-overwritten size zero k bytes slot h l room = absurd (omega arith)
 slots_in-overwritten size (suc n) zero bytes slot h l room =

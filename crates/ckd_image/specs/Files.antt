@@ -1,5 +1,6 @@
 -- The files of an image, one behind the other.
-use Rattle.std.specs.Prelude.{◌≡◌, ℕ, ◌+◌, ◌-◌, nat_lt, if◌then◌else◌, ◌*◌, ◌<◌, ◌≤◌, ◌^◌, List, [], ◌∷◌, length, drop, take, map, slice_index, slice_index_or, slice_set, Option, Some, None, Err, IsOk}
+use Rattle.std.specs.Prelude.{◌≡◌, ℕ, ◌+◌, ◌-◌, nat_lt, if◌then◌else◌, ◌*◌, ◌<◌, ◌≤◌, ◌^◌, List, [], ◌∷◌, length, drop, take, map, slice_index, slice_index_or}
+use Rattle.std.specs.Prelude.{slice_set, Option, Some, None, Err, IsOk}
 use Rattle.std.specs.List.{concat}
 use Rattle.ckd_image.specs.declared.files.SlotPlace.{SlotPlace}
 use Rattle.ckd_image.specs.declared.stores.Stores.{Stores}

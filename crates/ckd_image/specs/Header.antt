@@ -1,5 +1,6 @@
 -- The header of an image's file in the CKD_P370 layout, and the rules by which one to eight files are mounted.
-use Rattle.std.specs.Prelude.{ℕ, ◌+◌, ◌-◌, ◌*◌, ◌/◌, ◌==◌, Bool, false, not, ◌&&◌, ◌||◌, nat_lt, nat_le, if◌then◌else◌, List, [], ◌∷◌, ◌++◌, length, take, map, replicate, slice_index, slice_range, Option, Some, None, Result, Ok, Err, bytes_eq, codes}
+use Rattle.std.specs.Prelude.{ℕ, ◌+◌, ◌-◌, ◌*◌, ◌/◌, ◌==◌, Bool, false, not, ◌&&◌, ◌||◌, nat_lt, nat_le, if◌then◌else◌, List, [], ◌∷◌, ◌++◌, length, take, map}
+use Rattle.std.specs.Prelude.{replicate, slice_index, slice_range, Option, Some, None, Result, Ok, Err, bytes_eq, codes}
 use Rattle.byteorder.specs.Endian.{little_number, little_bytes}
 use Rattle.ckd_track.specs.declared.model.DriveModel.{DriveModel}
 use Rattle.ckd_track.specs.declared.model.DriveModel.TheVariants.{D2311, D2314}

@@ -1,5 +1,6 @@
 -- An image as the layers above see it, and the files that hold it.
-use Rattle.std.specs.Prelude.{◌≡◌, ℕ, ◌+◌, ◌≤◌, List, [], ◌∷◌, ◌++◌, length, take, map, All, ◌==◌, ◌||◌, nat_lt, if◌then◌else◌, Option, slice_get, Result, Ok, Err, IsOk}
+use Rattle.std.specs.Prelude.{◌≡◌, ℕ, ◌+◌, ◌≤◌, List, [], ◌∷◌, ◌++◌, length, take, map, All, ◌==◌, ◌||◌, nat_lt, if◌then◌else◌, Option, slice_get, Result, Ok}
+use Rattle.std.specs.Prelude.{Err, IsOk}
 use Rattle.std.specs.List.{concat}
 use Rattle.ckd_track.specs.declared.model.DriveModel.{DriveModel}
 use Rattle.ckd_track.specs.declared.geometries.Geometry.{Geometry}

@@ -1,6 +1,7 @@
 //! The files of an image: a slot is found by its track's number.
 
-ghost use Rattle.std.specs.Prelude.{◌≡◌, ◌+◌, ◌-◌, ◌*◌, ◌<◌, ◌≤◌, [], ◌∷◌, ◌++◌, length, take, map, replicate, None, IsSome, slice_range, slice_set, All, OnOk, OnErr, IfOk, IfErr, Ok};
+ghost use Rattle.std.specs.Prelude.{◌≡◌, ◌+◌, ◌-◌, ◌*◌, ◌<◌, ◌≤◌, [], ◌∷◌, ◌++◌, length, take, map, replicate, None, IsSome, slice_range, slice_set, All, OnOk};
+ghost use Rattle.std.specs.Prelude.{OnErr, IfOk, IfErr, Ok};
 ghost use Rattle.std.specs.List.{sum};
 ghost use Rattle.arrayvec.specs.ArrayVec.{array_vec_len};
 ghost use Rattle.ckd_image.specs.Store.{overwritten, Torn, Counts};

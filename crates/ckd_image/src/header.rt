@@ -2,7 +2,8 @@
 
 ghost use Rattle.std.specs.Prelude.{◌≡◌, ◌<◌, ◌≤◌, ◌+◌, ◌^◌, length, ◌++◌, drop, Some, All};
 ghost use Rattle.ckd_track.specs.Model.{heads_of, slot_size_of};
-ghost use Rattle.ckd_image.specs.Header.{fields_of, on_model, is_part, are_parts, are_together, cylinders_of, cylinders_in, volume_of, model_of, device_type_of, new_header, fields_behind_id};
+ghost use Rattle.ckd_image.specs.Header.{fields_of, on_model, is_part, are_parts, are_together, cylinders_of, cylinders_in, volume_of, model_of};
+ghost use Rattle.ckd_image.specs.Header.{device_type_of, new_header, fields_behind_id};
 ghost use Rattle.byteorder.specs.Endian.{little_bytes};
 
 use crate::fault::MountFault;

@@ -1,6 +1,7 @@
 //! An image: a volume in one to eight stores, read and written slot by slot.
 
-ghost use Rattle.std.specs.Prelude.{◌≡◌, ◌+◌, ◌≤◌, ◌<◌, max, [], ◌∷◌, length, map, take, Ok, option_map, slice_index_or, slice_set, IfOk, IfErr, OnOk, OnErr, All, IsSome};
+ghost use Rattle.std.specs.Prelude.{◌≡◌, ◌+◌, ◌≤◌, ◌<◌, max, [], ◌∷◌, length, map, take, Ok, option_map, slice_index_or, slice_set, IfOk, IfErr, OnOk, OnErr};
+ghost use Rattle.std.specs.Prelude.{All, IsSome};
 ghost use Rattle.std.specs.List.{sum};
 ghost use Rattle.ckd_track.specs.Geometry.{tracks_of, new_geometry};
 ghost use Rattle.ckd_image.specs.Layout.{image_length};
@@ -52,7 +53,8 @@ impl<S: ImageStore> Model for Image<S> {
       saves = i.saves;
     } };
 
-    ghost invariant = { λ i. (mount_of (each S.content (listed i.stores)) ≡ Ok i.geometry) × HoldTracks S.content i.geometry.track_size (listed i.stores) i.tracks };
+    ghost invariant = { λ i. (mount_of (each S.content (listed i.stores)) ≡ Ok i.geometry)
+        × HoldTracks S.content i.geometry.track_size (listed i.stores) i.tracks };
 }
 
 /// The image of this geometry in these files.

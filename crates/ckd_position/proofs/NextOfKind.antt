@@ -1,5 +1,6 @@
 -- The next area of each kind, reached from the number of a record.
-use Rattle.std.proofs.Common.{◌≡◌, ℕ, zero, suc, ◌+◌, ◌<◌, ◌≤◌, ◌⊎◌, inl, inr, List, [], ◌∷◌, ◌++◌, length, length-drop, drop, refl, ap, ◌∙◌, arith, Bool, true, false, Some, max}
+use Rattle.std.proofs.Common.{◌≡◌, ℕ, zero, suc, ◌+◌, ◌<◌, ◌≤◌, ◌⊎◌, inl, inr, List, [], ◌∷◌, ◌++◌, length, length-drop, drop, refl, ap}
+use Rattle.std.proofs.Common.{◌∙◌, arith, Bool, true, false, Some, max}
 use Rattle.std.specs.Prelude.{find}
 use Rattle.std.proofs.lemmas.Bool.{cases_lt, lt-ltb, le-ltb, and_right}
 use Rattle.std.proofs.lemmas.Bool.Decides.{nat_tests}
@@ -18,7 +19,8 @@ use Rattle.ckd_position.specs.Looks.{part_on, records_begun, key_record, data_re
 use Rattle.ckd_position.proofs.Walk.{with_key, NoneBefore, skip}
 
 -- a look takes no area before record n, and of that record this part first
-part_found : (test : Area → Bool) (part : Part) (t : Track) (n : ℕ) → test HomeAddress ≡ false → NoneBefore test n → (n < length t.records → (b : Bool) (rest : List Area) → find test (with_key b n ++ rest) ≡ Some (Of part n))
+part_found : (test : Area → Bool) (part : Part) (t : Track) (n : ℕ) → test HomeAddress ≡ false → NoneBefore test n
+    → (n < length t.records → (b : Bool) (rest : List Area) → find test (with_key b n ++ rest) ≡ Some (Of part n))
     → found (find test (areas t)) ≡ part_on t part n
 part_found test part t n home before first = by (cases_lt n (length t.records))
   where
@@ -29,17 +31,31 @@ part_found test part t n home before first = by (cases_lt n (length t.records))
     by (inr h) = rw (home, skip test n 0 n t.records before (omega arith), drop_all n t.records h, le-ltb n (length t.records) h) refl
 
 -- a look that takes only count areas, and one that takes only data areas
-count_found : (test : Area → Bool) (t : Track) (n : ℕ) → test HomeAddress ≡ false → ((j : ℕ) → test (Of Key j) ≡ false) → ((j : ℕ) → test (Of Data j) ≡ false)
-    → ((j : ℕ) → j < n → test (Of Count j) ≡ false) → (n < length t.records → test (Of Count n) ≡ true) → found (find test (areas t)) ≡ part_on t Count n
-count_found test t n home key body before here = part_found test Count t n home (record { count = before; key = λ j _. key j; body = λ j _. body j }) (λ l. first (here l))
+count_found : (test : Area → Bool) (t : Track) (n : ℕ) → test HomeAddress ≡ false → ((j : ℕ) → test (Of Key j) ≡ false)
+    → ((j : ℕ) → test (Of Data j) ≡ false)
+    → ((j : ℕ) → j < n → test (Of Count j) ≡ false) → (n < length t.records → test (Of Count n) ≡ true)
+    → found (find test (areas t)) ≡ part_on t Count n
+count_found test t n home key body before here = part_found test Count t n home (record {
+  count = before;
+  key = λ j _. key j;
+  body =
+      λ j _. body j;
+}) (λ l. first (here l))
   where
     first : test (Of Count n) ≡ true → (b : Bool) (rest : List Area) → find test (with_key b n ++ rest) ≡ Some (Of Count n)
     first c true rest = rw c refl
     first c false rest = rw c refl
 
-data_found : (test : Area → Bool) (t : Track) (n : ℕ) → test HomeAddress ≡ false → ((j : ℕ) → test (Of Count j) ≡ false) → ((j : ℕ) → test (Of Key j) ≡ false)
-    → ((j : ℕ) → j < n → test (Of Data j) ≡ false) → (n < length t.records → test (Of Data n) ≡ true) → found (find test (areas t)) ≡ part_on t Data n
-data_found test t n home count key before here = part_found test Data t n home (record { count = λ j _. count j; key = λ j _. key j; body = before }) (λ l. first (here l))
+data_found : (test : Area → Bool) (t : Track) (n : ℕ) → test HomeAddress ≡ false → ((j : ℕ) → test (Of Count j) ≡ false)
+    → ((j : ℕ) → test (Of Key j) ≡ false)
+    → ((j : ℕ) → j < n → test (Of Data j) ≡ false) → (n < length t.records → test (Of Data n) ≡ true)
+    → found (find test (areas t)) ≡ part_on t Data n
+data_found test t n home count key before here = part_found test Data t n home (record {
+  count = λ j _. count j;
+  key = λ j _. key j;
+  body =
+      before;
+}) (λ l. first (here l))
   where
     first : test (Of Data n) ≡ true → (b : Bool) (rest : List Area) → find test (with_key b n ++ rest) ≡ Some (Of Data n)
     first d true rest = rw (count n, key n, d) refl
@@ -58,15 +74,18 @@ count_passed t (At (Of Count i)) j h = grind (arith, nat_tests)
 count_passed t _ j h = grind (arith, nat_tests)
 
 -- and every area of the others is still to pass
-still_behind : (t : Track) (p : Position) (part : Part) (j : ℕ) → records_begun t p ≤ j → j < length t.records → is_behind p (Of part j) ≡ true
+still_behind : (t : Track) (p : Position) (part : Part) (j : ℕ) → records_begun t p ≤ j → j < length t.records
+    → is_behind p (Of part j) ≡ true
 still_behind t (At (Of q i)) part j h l = grind (arith, nat_tests)
 still_behind t _ part j h l = refl
 
 pub any_count : (t : Track) (p : Position) → next_of_kind t p kind.AnyCount ≡ part_on t Count (records_begun t p)
-any_count t p = count_found (takes kind.AnyCount p) t _ refl (λ j. refl) (λ j. refl) (count_passed t p) (λ l. still_behind t p Count (records_begun t p) (omega arith) l)
+any_count t p = count_found (takes kind.AnyCount p) t _ refl (λ j. refl) (λ j. refl) (count_passed t p)
+    (λ l. still_behind t p Count (records_begun t p) (omega arith) l)
 
 pub first_count : (t : Track) (p : Position) → records_begun t p ≡ 0 → next_of_kind t p kind.FirstCount ≡ part_on t Count 0
-first_count t p e = count_found (takes kind.FirstCount p) t 0 refl (λ j. refl) (λ j. refl) (λ j h. absurd (omega (arith, h))) (λ l. still_behind t p Count 0 (omega arith) l)
+first_count t p e = count_found (takes kind.FirstCount p) t 0 refl (λ j. refl) (λ j. refl) (λ j h. absurd (omega (arith, h)))
+    (λ l. still_behind t p Count 0 (omega arith) l)
 
 pub no_first_count : (t : Track) (p : Position) → 0 < records_begun t p → next_of_kind t p kind.FirstCount ≡ IndexPassed
 no_first_count t p h = none_found (takes kind.FirstCount p) none (areas t)
@@ -152,7 +171,19 @@ pub next_key : (t : Track) (p : Position) → next_of_kind t p kind.Key ≡ next
 next_key t p =
     let n = key_record t p in
     let none : NoneBefore (takes kind.Key p) n = record { count = λ j h. refl; key = key_passed t p; body = λ j h. refl } in
-    ap found (skip (takes kind.Key p) n 0 n t.records none (omega arith) ∙ first_key p n (drop n t.records) (λ j h l. key_taken t p j h (omega (arith, length-drop n t.records))))
+    ap found (skip (takes kind.Key p) n 0 n t.records none (omega arith)
+    ∙ first_key p n (drop n t.records) (λ j h l. key_taken t p j h (omega (arith, length-drop n t.records))))
 
 -- the next area of each kind
-pub ruleset next_areas = (any_count, first_count, no_first_count, later_count, no_home_address, first_data, no_first_data, next_data, next_key_and_data, next_key)
+pub ruleset next_areas = (
+  any_count,
+  first_count,
+  no_first_count,
+  later_count,
+  no_home_address,
+  first_data,
+  no_first_data,
+  next_data,
+  next_key_and_data,
+  next_key,
+)

@@ -22,7 +22,8 @@ one_more x y e xs ys Less h = tt
 one_more x y e xs ys Equal h = cc
 one_more x y e xs ys Greater h = (suc h.0, omega arith, cc, h.3)
 
-at_first : (x y : ℕ) (xs ys : List ℕ) (o rest : Ordering) → o ≡ nat_cmp x y → Means rest xs ys → Means (ordering_then o rest) (x ∷ xs) (y ∷ ys)
+at_first : (x y : ℕ) (xs ys : List ℕ) (o rest : Ordering) → o ≡ nat_cmp x y → Means rest xs ys
+    → Means (ordering_then o rest) (x ∷ xs) (y ∷ ys)
 at_first x y xs ys Less rest e h = tt
 at_first x y xs ys Equal rest e h = one_more x y (ranked x y Equal e) xs ys rest h
 at_first x y xs ys Greater rest e h = (0, omega arith, refl, ranked x y Greater e)
@@ -61,5 +62,6 @@ told compare.EqualOrHigh xs ys (inl h) = rw (h, same_told ys) refl
 told compare.EqualOrHigh xs ys (inr h) = rw (higher_told xs ys h.0 h.1 h.2 h.3) refl
 
 -- a search is satisfied exactly where its comparison holds
-pub satisfied_means : (c : Compare) (xs ys : List ℕ) (r : Bool) → length ys ≤ length xs → r ≡ is_satisfied c xs ys → IsTrue r ↔ Satisfies c xs ys
+pub satisfied_means : (c : Compare) (xs ys : List ℕ) (r : Bool) → length ys ≤ length xs → r ≡ is_satisfied c xs ys
+    → IsTrue r ↔ Satisfies c xs ys
 satisfied_means c xs ys r l e = rw e (meant c _ xs ys (order_means xs ys l), told c xs ys)

@@ -19,7 +19,8 @@ pub next_key_here : (t : Track) (i : ℕ) → i < length t.records → has_key (
 next_key_here t i h k = rw (drop_more t.records i no_record h, k) refl
 
 -- where it has none, the look goes on
-pub next_key_later : (t : Track) (i : ℕ) → i < length t.records → has_key (record_in t i) ≡ false → next_key_from t i ≡ next_key_from t (i + 1)
+pub next_key_later : (t : Track) (i : ℕ) → i < length t.records → has_key (record_in t i) ≡ false
+    → next_key_from t i ≡ next_key_from t (i + 1)
 next_key_later t i h k = rw (drop_more t.records i no_record h, k) refl
 
 -- past the last record there is none
@@ -33,7 +34,8 @@ pub record NoneBefore (test : Area → Bool) (n : ℕ) : Type 0 where
   pub body : (j : ℕ) → j < n → test (Of Data j) ≡ false
 
 -- may begin at that record
-pub skip : (test : Area → Bool) (n i m : ℕ) (rs : List Record) → NoneBefore test m → i + n ≡ m → find test (areas_from i rs) ≡ find test (areas_from m (drop n rs))
+pub skip : (test : Area → Bool) (n i m : ℕ) (rs : List Record) → NoneBefore test m → i + n ≡ m
+    → find test (areas_from i rs) ≡ find test (areas_from m (drop n rs))
 skip test zero i m rs none e = ap (λ k. find test (areas_from k rs)) (omega (arith, e))
 skip test (suc n) i m [] none e = refl
 skip test (suc n) i m (r ∷ rs) none e = here (has_key r) ∙ skip test n (i + 1) m rs none (omega (arith, e))

@@ -1,6 +1,7 @@
 -- The areas of a track in the order in which they pass, and the next one of a kind
 -- (component descriptions of the 2841 and the 2314, 'Track Format' and the descriptions of the commands).
-use Rattle.std.specs.Prelude.{⊤, ℕ, ◌+◌, ◌<◌, List, [], ◌∷◌, ◌++◌, Bool, true, false, not, ◌&&◌, ◌||◌, ◌==◌, Option, Some, None, length, nat_lt, if◌then◌else◌, find}
+use Rattle.std.specs.Prelude.{⊤, ℕ, ◌+◌, ◌<◌, List, [], ◌∷◌, ◌++◌, Bool, true, false, not, ◌&&◌, ◌||◌, ◌==◌, Option, Some, None, length, nat_lt, if◌then◌else◌}
+use Rattle.std.specs.Prelude.{find}
 use Rattle.ckd_track.specs.Track.{Record, Track}
 use Rattle.ckd_position.specs.declared.areas.Part.{Part}
 use Rattle.ckd_position.specs.declared.areas.Part.TheVariants.{Count, Key, Data}

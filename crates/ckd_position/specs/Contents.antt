@@ -1,6 +1,7 @@
 -- The track that a slot spells, as a command reads and changes it
 -- (component descriptions of the 2841 and the 2314, the sections of the commands).
-use Rattle.std.specs.Prelude.{ℕ, ◌+◌, ◌-◌, List, [], ◌++◌, Bool, true, false, ◌==◌, Option, Some, None, Result, Ok, Err, length, take, drop, replicate, slice_index_or, slice_set}
+use Rattle.std.specs.Prelude.{ℕ, ◌+◌, ◌-◌, List, [], ◌++◌, Bool, true, false, ◌==◌, Option, Some, None, Result, Ok, Err, length, take, drop, replicate}
+use Rattle.std.specs.Prelude.{slice_index_or, slice_set}
 use Rattle.ckd_track.specs.Track.{Record, Track, count_area, record_bytes, record_at, body_length, no_record, track_or_none}
 use Rattle.ckd_track.specs.Changes.{kept_records, with_record}
 use Rattle.ckd_track.specs.declared.fault.SlotFault.{SlotFault}

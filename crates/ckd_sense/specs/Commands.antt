@@ -1,7 +1,11 @@
 -- The command codes (component descriptions of the 2841 and the 2314, 'Channel Command Codes').
 use Rattle.std.specs.Prelude.{ℕ, ◌+◌, List, [], ◌∷◌, Bool, true, false, not, ◌&&◌, ◌||◌, ◌==◌, Option, find, option_map}
 use Rattle.ckd_sense.specs.declared.commands.Command.{Command}
-use Rattle.ckd_sense.specs.declared.commands.Command.TheVariants.{NoOperation, Recalibrate, Seek, SeekCylinder, SeekHead, SetFileMask, Sense, SearchHomeAddressEqual, SearchIdEqual, SearchIdHigh, SearchIdEqualOrHigh, SearchKeyEqual, SearchKeyHigh, SearchKeyEqualOrHigh, ReadIpl, ReadHomeAddress, ReadR0, ReadCount, ReadData, ReadKeyAndData, ReadCountKeyAndData, WriteHomeAddress, WriteR0, WriteCountKeyAndData, WriteData, WriteKeyAndData}
+use Rattle.ckd_sense.specs.declared.commands.Command.TheVariants.{NoOperation, Recalibrate, Seek, SeekCylinder, SeekHead, SetFileMask, Sense}
+use Rattle.ckd_sense.specs.declared.commands.Command.TheVariants.{SearchHomeAddressEqual, SearchIdEqual, SearchIdHigh, SearchIdEqualOrHigh, SearchKeyEqual}
+use Rattle.ckd_sense.specs.declared.commands.Command.TheVariants.{SearchKeyHigh, SearchKeyEqualOrHigh, ReadIpl, ReadHomeAddress, ReadR0, ReadCount, ReadData}
+use Rattle.ckd_sense.specs.declared.commands.Command.TheVariants.{ReadKeyAndData, ReadCountKeyAndData, WriteHomeAddress, WriteR0, WriteCountKeyAndData}
+use Rattle.ckd_sense.specs.declared.commands.Command.TheVariants.{WriteData, WriteKeyAndData}
 use Rattle.ckd_sense.specs.declared.commands.CommandCode.{CommandCode}
 
 -- a row of the table of command codes

@@ -1,7 +1,8 @@
 -- The file mask (component descriptions of the 2841 and the 2314, 'Set File Mask').
 use Rattle.std.specs.Prelude.{ℕ, Bool, true, false, ◌==◌, if◌then◌else◌, bit_and}
 use Rattle.ckd_sense.specs.declared.commands.Command.{Command}
-use Rattle.ckd_sense.specs.declared.commands.Command.TheVariants.{Recalibrate, Seek, SeekCylinder, SeekHead, ReadIpl, WriteHomeAddress, WriteR0, WriteCountKeyAndData, WriteData, WriteKeyAndData}
+use Rattle.ckd_sense.specs.declared.commands.Command.TheVariants.{Recalibrate, Seek, SeekCylinder, SeekHead, ReadIpl, WriteHomeAddress, WriteR0}
+use Rattle.ckd_sense.specs.declared.commands.Command.TheVariants.{WriteCountKeyAndData, WriteData, WriteKeyAndData}
 use Rattle.ckd_sense.specs.declared.masks.FileMask.{FileMask}
 use Rattle.ckd_sense.specs.declared.masks.WritePermission.{WritePermission}
 use Rattle.ckd_sense.specs.declared.masks.WritePermission.TheVariants.{InhibitHomeAddressAndR0, InhibitAllWrites, InhibitFormatWrites, PermitAllWrites}

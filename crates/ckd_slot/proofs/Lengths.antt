@@ -1,5 +1,6 @@
 -- What follows from the lengths of keys and data: where records stand, and what they take.
-use Rattle.std.proofs.Common.{◌≡◌, ◌∙◌, ap, sym, refl, ℕ, ◌+◌, ◌-◌, List, [], ◌∷◌, length, take, map, sum_by, nat_le, if◌then◌else◌, Some, None, arith}
+use Rattle.std.proofs.Common.{◌≡◌, ◌∙◌, ap, sym, refl, ℕ, ◌+◌, ◌-◌, List, [], ◌∷◌, length, take, map, sum_by, nat_le, if◌then◌else◌, Some}
+use Rattle.std.proofs.Common.{None, arith}
 use Rattle.std.proofs.lemmas.List.{take-map}
 use Rattle.std.proofs.lemmas.List.Sums.{sum_by-cons}
 use Rattle.ckd_track.specs.declared.model.DriveModel.{DriveModel}
@@ -30,19 +31,28 @@ abbrev charges_by : DriveModel → List (ℕ × ℕ) → ℕ
 charges_by model [] = 0
 charges_by model (l ∷ ls) = r0_charge_of model l.0 l.1 + sum_by (charge_by model) ls
 
-charges_are : (model : DriveModel) (rs : List Record) (n : ℕ) → kept_charges model (take n rs) ≡ charges_by model (take n (map lengths_of rs))
+charges_are : (model : DriveModel) (rs : List Record) (n : ℕ) → kept_charges model (take n rs) ≡ charges_by model
+    (take n (map lengths_of rs))
 charges_are model rs n = by (take n rs) ∙ ap (charges_by model) (sym (take-map lengths_of n rs))
   where
     others : (rs : List Record) → sum_by (record_charge model) rs ≡ sum_by (charge_by model) (map lengths_of rs)
     others [] = refl
-    others (r ∷ rs) = omega (arith, sum_by-cons (record_charge model) r rs, sum_by-cons (charge_by model) (lengths_of r) (map lengths_of rs), others rs)
+    others (r ∷ rs) = omega (
+      arith,
+      sum_by-cons (record_charge model) r rs,
+      sum_by-cons (charge_by model) (lengths_of r)
+          (map lengths_of rs),
+      others rs,
+    )
 
     by : (rs : List Record) → kept_charges model rs ≡ charges_by model (map lengths_of rs)
     by [] = refl
     by (r ∷ rs) = ap (λ (k : ℕ). r0_charge_of model (length r.key_area) (length r.data_area) + k) (others rs)
 
 -- and leave as much of the capacity
-pub same_left : (model : DriveModel) (t' t : Track) (n : ℕ) → lengths_on t' ≡ lengths_on t → capacity_left model (take n t'.records) ≡ capacity_left model (take n t.records)
+pub same_left : (model : DriveModel) (t' t : Track) (n : ℕ) → lengths_on t' ≡ lengths_on t → capacity_left model (take n t'.records)
+    ≡ capacity_left model (take n t.records)
 same_left model t' t n same =
-    let k = charges_are model t'.records n ∙ ap (λ (ls : List (ℕ × ℕ)). charges_by model (take n ls)) same ∙ sym (charges_are model t.records n) in
+    let k = charges_are model t'.records n ∙ ap (λ (ls : List (ℕ × ℕ)). charges_by model (take n ls)) same
+    ∙ sym (charges_are model t.records n) in
     ap (λ (k : ℕ). if nat_le k (capacity_of model) then Some (capacity_of model - k) else None) k

@@ -1,5 +1,6 @@
 -- Slots whose area is written bit by bit.
-use Rattle.std.proofs.Common.{◌≡◌, ◌∙◌, ap, sym, refl, ℕ, ◌+◌, ◌-◌, ◌≤◌, ◌<◌, max, false, Option, Some, None, List, ◌++◌, length, take, drop, replicate, length-append, append_assoc, Ok, arith}
+use Rattle.std.proofs.Common.{◌≡◌, ◌∙◌, ap, sym, refl, ℕ, ◌+◌, ◌-◌, ◌≤◌, ◌<◌, max, false, Option, Some, None, List, ◌++◌, length, take}
+use Rattle.std.proofs.Common.{drop, replicate, length-append, append_assoc, Ok, arith}
 use Rattle.std.proofs.lemmas.List.{length-replicate, replicate-append-replicate, length-take-le, drop_at, take-append-drop}
 use Rattle.ckd_track.specs.Track.{Track, Spells, track_of, track_in, track_or_none, record_in, slot_of, end_mark}
 use Rattle.ckd_track.specs.Changes.{end_offset, overwritten, ended_at, IsZeroFrom}
@@ -18,14 +19,16 @@ use Rattle.ckd_slot.proofs.AreaPlaces.{Reads}
 use Rattle.ckd_slot.proofs.Writes.{IsUpdated, update_is, update_offset, update_length}
 
 -- A write before the end mark leaves the end mark and the zeros behind it.
-ended_same : (s : List ℕ) (t : Track) (off : ℕ) (b : List ℕ) → Spells s t → s ≡ slot_of (length s) t → off + length b ≤ end_offset t → ended_at (overwritten s off b) (end_offset t) ≡ overwritten s off b
+ended_same : (s : List ℕ) (t : Track) (off : ℕ) (b : List ℕ) → Spells s t → s ≡ slot_of (length s) t → off + length b ≤ end_offset t
+    → ended_at (overwritten s off b) (end_offset t) ≡ overwritten s off b
 ended_same s t off b spells is within =
     let e = end_offset t in
     let x = overwritten s off b in
     let last : e + 8 ≤ length s = omega (arith, place-le s t spells (length t.records), end_is t) in
     let same : length x ≡ length s = length-overwritten s off b (omega (arith, within, last)) in
     let tail : drop e x ≡ end_mark ++ replicate (length x - (e + 8)) 0 =
-    drop_over s off e b within (omega (arith, last)) ∙ ap (drop e) (is ∙ sym (ended s t (length s) refl spells)) ∙ drop_at (take e s) (end_mark ++ replicate (length s - (e + 8)) 0) e (length-take-le e s (omega (arith, last)))
+    drop_over s off e b within (omega (arith, last)) ∙ ap (drop e) (is ∙ sym (ended s t (length s) refl spells))
+    ∙ drop_at (take e s) (end_mark ++ replicate (length s - (e + 8)) 0) e (length-take-le e s (omega (arith, last)))
     ∙ ap (λ (n : ℕ). end_mark ++ replicate (n - (e + 8)) 0) (sym same) in
     rw (← tail) (take-append-drop e x)
 
@@ -34,10 +37,12 @@ pub record HasForm (size : ℕ) (t0 : Track) (e : Extent) (i : ℕ) (body : List
   pub fits : FitsSlot size t'
   pub lengths : lengths_on t' ≡ lengths_on t0
   pub within : update_offset e t0 i + length body ≤ size
-  pub slot : slot_of size t' ≡ take (update_offset e t0 i) (slot_of size t0) ++ (body ++ drop (update_offset e t0 i + length body) (slot_of size t0))
+  pub slot : slot_of size t' ≡ take (update_offset e t0 i) (slot_of size t0) ++ (body ++ drop (update_offset e t0 i + length body)
+      (slot_of size t0))
 
 -- An update makes such a slot. Its premises are many, since three updates come here, each with bytes of its own.
-pub form_of : (size : ℕ) (t0 : Track) (e : Extent) (part : Part) (i : ℕ) (body : List ℕ) → IsUpdate e → FitsSlot size t0 → i < length t0.records → length body ≡ update_length e (record_in t0 i)
+pub form_of : (size : ℕ) (t0 : Track) (e : Extent) (part : Part) (i : ℕ) (body : List ℕ) → IsUpdate e → FitsSlot size t0
+    → i < length t0.records → length body ≡ update_length e (record_in t0 i)
     → HasForm size t0 e i body (with_record_changed (replaced e body) (Of part i) t0)
 form_of size t0 e part i body u f lt same =
     let s0 = slot_of size t0 in
@@ -49,7 +54,8 @@ form_of size t0 e part i body u f lt same =
       fits = rw long at k.fits;
       lengths = k.lengths;
       within = omega (arith, k.within, long, place-le s0 t0 spells (length t0.records), end_is t0);
-      slot = ap (λ (m : ℕ). slot_of m t') (sym long) ∙ sym k.law ∙ ended_same s0 t0 (update_offset e t0 i) body spells (ap (λ (m : ℕ). slot_of m t0) (sym long)) k.within;
+      slot = ap (λ (m : ℕ). slot_of m t') (sym long) ∙ sym k.law ∙ ended_same s0 t0 (update_offset e t0 i) body spells
+          (ap (λ (m : ℕ). slot_of m t0) (sym long)) k.within;
     }
 
 -- more bytes in their place
@@ -59,34 +65,53 @@ padded_on head tail passed more room le =
     let k = length more in
     let rest = room - length passed - k in
     let all : room - length passed ≡ k + rest = omega (arith, le) in
-    let split : replicate {A = ℕ} (room - length passed) 0 ≡ replicate k 0 ++ replicate rest 0 = ap (λ (n : ℕ). replicate n 0) all ∙ sym (replicate-append-replicate {A = ℕ} k rest 0) in
+    let split : replicate {A = ℕ} (room - length passed) 0 ≡ replicate k 0 ++ replicate rest 0 = ap (λ (n : ℕ). replicate n 0) all
+    ∙ sym (replicate-append-replicate {A = ℕ} k rest 0) in
     let left : room - length (passed ++ more) ≡ rest = omega (arith, length-append passed more) in
     rw (split, left) (in_middle head passed (replicate k 0) (replicate rest 0) tail more (sym (length-replicate {A = ℕ} k 0)))
   where
-    in_middle : (h p z y t m : List ℕ) → length m ≡ length z → overwritten (h ++ ((p ++ (z ++ y)) ++ t)) (length h + length p) m ≡ h ++ (((p ++ m) ++ y) ++ t)
+    in_middle : (h p z y t m : List ℕ) → length m ≡ length z → overwritten (h ++ ((p ++ (z ++ y)) ++ t)) (length h + length p) m ≡ h
+        ++ (((p ++ m) ++ y) ++ t)
     in_middle h p z y t m same =
         let old : h ++ ((p ++ (z ++ y)) ++ t) ≡ (h ++ p) ++ (z ++ (y ++ t)) = simp append_assoc in
         let new : (h ++ p) ++ (m ++ (y ++ t)) ≡ h ++ (((p ++ m) ++ y) ++ t) = simp append_assoc in
         rw old (overwritten-middle (h ++ p) z (y ++ t) m (length h + length p) (length-append h p) same ∙ new)
 
 -- A slot of this size that was made of a track whose records are as long as those of another.
-pub same_records : (size : ℕ) (old new : List ℕ) (t : Track) → track_of old ≡ Ok (track_in old) → FitsSlot size t → new ≡ slot_of size t → lengths_on t ≡ lengths_on (track_in old) → SameRecords old new
+pub same_records : (size : ℕ) (old new : List ℕ) (t : Track) → track_of old ≡ Ok (track_in old) → FitsSlot size t → new ≡ slot_of size t
+    → lengths_on t ≡ lengths_on (track_in old) → SameRecords old new
 same_records size old new t reads f is long =
     let read = slot_of_reads size t f.home_address f.records in
     let same : track_in (slot_of size t) ≡ t = ap track_or_none read in
-    rw is (record { old_read = reads; spells = rw same (slot_of_spells size t f.home_address f.records); read = rw same read; lengths = rw same long })
+    rw is (record {
+      old_read = reads;
+      spells = rw same (slot_of_spells size t f.home_address f.records);
+      read = rw same read;
+      lengths =
+          rw same long;
+    })
 
 -- A slot and its table where other bytes were put that leave the records in their places.
-put_indexed : {old new offsets : List ℕ} {records : Option ℕ} → IsIndexed old offsets records → SameRecords old new → length new ≡ length old → IsIndexed new offsets records
+put_indexed : {old new offsets : List ℕ} {records : Option ℕ} → IsIndexed old offsets records → SameRecords old new
+    → length new ≡ length old → IsIndexed new offsets records
 put_indexed {old} {new} {offsets} {records = Some n} x s long = record {
   room = rw long x.room;
   size = rw long x.size;
-  read = record { read = s.read; spells = s.spells; within = x.read.within; table = x.read.table ∙ sym (same_offsets (track_in new) (track_in old) s.lengths) };
+  read = record {
+    read = s.read;
+    spells = s.spells;
+    within = x.read.within;
+    table = x.read.table
+        ∙ sym (same_offsets (track_in new) (track_in old) s.lengths);
+  };
 }
-put_indexed {old} {new} {offsets} {records = None} x s long = absurd (let no : is_readable (track_of old) ≡ false = x.read in let yes = ap is_readable s.old_read in cc)
+put_indexed {old} {new} {offsets} {records = None} x s long = absurd (let no : is_readable (track_of old) ≡ false = x.read in let yes =
+    ap is_readable s.old_read in cc)
 
 -- a buffer whose slot got other bytes; it names each field that the buffer keeps beside its slot
-pub kept_buffer : {old new offsets : List ℕ} {records : Option ℕ} {zeros_from z : ℕ} {charged : Charged} → IsBuffer old offsets records zeros_from charged → SameRecords old new → length new ≡ length old → IsZeroFrom new z → IsBuffer new offsets records z charged
+pub kept_buffer : {old new offsets : List ℕ} {records : Option ℕ} {zeros_from z : ℕ} {charged : Charged}
+    → IsBuffer old offsets records zeros_from charged → SameRecords old new → length new ≡ length old → IsZeroFrom new z
+    → IsBuffer new offsets records z charged
 kept_buffer {old} {new} {charged} x s long cleared = record {
   indexed = put_indexed x.indexed s long;
   cleared = cleared;
@@ -94,15 +119,20 @@ kept_buffer {old} {new} {charged} x s long cleared = record {
 }
 
 -- a buffer in whose slot bytes are put; it names each field that the buffer keeps beside its slot
-pub put_buffer : {old offsets : List ℕ} {records : Option ℕ} {zeros_from : ℕ} {charged : Charged} (at : ℕ) (b : List ℕ) → IsBuffer old offsets records zeros_from charged → at + length b ≤ length old → SameRecords old (overwritten old at b)
+pub put_buffer : {old offsets : List ℕ} {records : Option ℕ} {zeros_from : ℕ} {charged : Charged} (at : ℕ) (b : List ℕ)
+    → IsBuffer old offsets records zeros_from charged → at + length b ≤ length old → SameRecords old (overwritten old at b)
     → IsBuffer (overwritten old at b) offsets records (max zeros_from (at + length b)) charged
 put_buffer {old} {zeros_from} at b x room s =
-    kept_buffer x s (length-overwritten old at b room) (zero_over old at b zeros_from (max zeros_from (at + length b)) x.cleared (omega arith) (omega arith) (omega (arith, x.cleared.within, room)))
+    kept_buffer x s (length-overwritten old at b room) (zero_over old at b zeros_from (max zeros_from (at + length b)) x.cleared
+    (omega arith) (omega arith) (omega (arith, x.cleared.within, room)))
 
 -- a buffer whose slot is updated; it names each field that the buffer keeps beside its slot
-pub updated_buffer : {old offsets body : List ℕ} {records : Option ℕ} {zeros_from off : ℕ} {charged : Charged} {t : Track} → IsBuffer old offsets records zeros_from charged → Reads old → IsUpdated old (track_in old) off body t
+pub updated_buffer : {old offsets body : List ℕ} {records : Option ℕ} {zeros_from off : ℕ} {charged : Charged} {t : Track}
+    → IsBuffer old offsets records zeros_from charged → Reads old → IsUpdated old (track_in old) off body t
     → IsBuffer (slot_of (length old) t) offsets records (end_offset (track_in old) + 8) charged
 updated_buffer {old} {body} {off} {t} x r k =
-    let room : end_offset (track_in old) + 8 ≤ length old = omega (arith, place-le old (track_in old) r.spells (length (track_in old).records), end_is (track_in old)) in
-    kept_buffer x (same_records (length old) old (slot_of (length old) t) t r.read k.fits refl k.lengths) (length-slot_of (length old) t k.fits.room)
+    let room : end_offset (track_in old) + 8 ≤ length old =
+    omega (arith, place-le old (track_in old) r.spells (length (track_in old).records), end_is (track_in old)) in
+    kept_buffer x (same_records (length old) old (slot_of (length old) t) t r.read k.fits refl k.lengths)
+    (length-slot_of (length old) t k.fits.room)
     (ended_zeros old off body (end_offset (track_in old)) (slot_of (length old) t) (omega (arith, k.within, room)) room (sym k.law))

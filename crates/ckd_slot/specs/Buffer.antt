@@ -1,6 +1,8 @@
 -- One slot at hand, and a table of its records.
-use Rattle.std.specs.Prelude.{◌≡◌, ℕ, zero, suc, ◌+◌, ◌-◌, ◌/◌, ◌≤◌, ◌<◌, ◌^◌, List, Bool, true, false, Option, Some, None, Ok, length, take, map, flat_map, slice_range, slice_index, bytes_eq, All}
-use Rattle.ckd_track.specs.Track.{Record, Track, IsRecord, Spells, track_of, track_in, record_offsets, record_in, record_bytes, spelling, slot_of, end_mark, key_length, data_length}
+use Rattle.std.specs.Prelude.{◌≡◌, ℕ, zero, suc, ◌+◌, ◌-◌, ◌/◌, ◌≤◌, ◌<◌, ◌^◌, List, Bool, true, false, Option, Some, None, Ok, length, take, map, flat_map}
+use Rattle.std.specs.Prelude.{slice_range, slice_index, bytes_eq, All}
+use Rattle.ckd_track.specs.Track.{Record, Track, IsRecord, Spells, track_of, track_in, record_offsets, record_in, record_bytes, spelling, slot_of, end_mark}
+use Rattle.ckd_track.specs.Track.{key_length, data_length}
 use Rattle.ckd_track.specs.declared.model.DriveModel.{DriveModel}
 use Rattle.ckd_position.specs.declared.areas.Area.{Area}
 use Rattle.ckd_position.specs.declared.areas.Area.TheVariants.{HomeAddress, Of}

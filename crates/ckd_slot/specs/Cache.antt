@@ -1,5 +1,6 @@
 -- An image, with the slot of one track at hand: loaded when it is first wanted, written in place, saved late.
-use Rattle.std.specs.Prelude.{◌≡◌, ℕ, ◌+◌, ◌<◌, List, [], Bool, true, false, ◌==◌, Option, Some, None, IsSome, unwrap_or, length, slice_index_or, slice_set, All, if◌then◌else◌}
+use Rattle.std.specs.Prelude.{◌≡◌, ℕ, ◌+◌, ◌<◌, List, [], Bool, true, false, ◌==◌, Option, Some, None, IsSome, unwrap_or, length, slice_index_or, slice_set}
+use Rattle.std.specs.Prelude.{All, if◌then◌else◌}
 use Rattle.ckd_track.specs.Geometry.{IsGeometry, tracks_of}
 use Rattle.ckd_image.specs.Image.{ImageState}
 use Rattle.ckd_track.specs.Track.{track_of, slot_of}

@@ -1,6 +1,7 @@
 //! The slot of one track at hand, with a table of where its records stand.
 
-ghost use Rattle.std.specs.Prelude.{◌≡◌, ◌≤◌, ◌<◌, ◌+◌, ◌-◌, ◌/◌, ◌^◌, ◌==◌, max, length, drop, replicate, false, slice_index_or, IfOk, OnOk, OnErr, Ok, Some, [], true};
+ghost use Rattle.std.specs.Prelude.{◌≡◌, ◌≤◌, ◌<◌, ◌+◌, ◌-◌, ◌/◌, ◌^◌, ◌==◌, max, length, drop, replicate, false, slice_index_or, IfOk, OnOk, OnErr, Ok, Some};
+ghost use Rattle.std.specs.Prelude.{[], true};
 ghost use Rattle.ckd_track.specs.Track.{track_of, track_in, track_or_none, no_track, slot_of, key_length, data_length};
 ghost use Rattle.ckd_track.specs.Geometry.{tracks_of};
 ghost use Rattle.ckd_position.specs.Areas.{next_of_kind, IsOnTrack, IfFound};
@@ -10,7 +11,8 @@ ghost use Rattle.std.specs.Option.{ForSome};
 ghost use Rattle.ckd_position.specs.Contents.{bytes_of, is_readable, has_no_data, padded, with_record_changed, replaced, kept, record_before};
 ghost use Rattle.ckd_position.specs.declared.areas.Area.{Area};
 ghost use Rattle.ckd_position.specs.declared.extents.Extent.{Extent};
-ghost use Rattle.ckd_slot.specs.Buffer.{Lies, HasBytes, IsPlaceOf, StandsThere, home_address_place, record_place, IsRead, end_of_records, number_up_to, SameRecords, FitsSlot, IsUpdateAt, HasUpdateAt, Places, CanMake, made_on};
+ghost use Rattle.ckd_slot.specs.Buffer.{Lies, HasBytes, IsPlaceOf, StandsThere, home_address_place, record_place, IsRead, end_of_records, number_up_to};
+ghost use Rattle.ckd_slot.specs.Buffer.{SameRecords, FitsSlot, IsUpdateAt, HasUpdateAt, Places, CanMake, made_on};
 
 use crate::charges::Charged;
 use crate::windows::Window;

@@ -1,6 +1,7 @@
 //! An image, with the slot of one track at hand: loaded when it is first wanted, written in place, saved late.
 
-ghost use Rattle.std.specs.Prelude.{◌≡◌, ◌≤◌, ◌<◌, ◌+◌, Some, None, true, false, [], length, unwrap_or, slice_index_or, option_map, IfOk, IfErr, OnOk, OnErr, IsSome};
+ghost use Rattle.std.specs.Prelude.{◌≡◌, ◌≤◌, ◌<◌, ◌+◌, Some, None, true, false, [], length, unwrap_or, slice_index_or, option_map, IfOk, IfErr, OnOk, OnErr};
+ghost use Rattle.std.specs.Prelude.{IsSome};
 ghost use Rattle.ckd_track.specs.Geometry.{tracks_of};
 ghost use Rattle.ckd_track.specs.Track.{track_of, track_in, slot_of};
 ghost use Rattle.ckd_track.specs.Changes.{overwritten, bare_track};

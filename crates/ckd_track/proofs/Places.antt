@@ -1,9 +1,11 @@
 -- What lies before and behind a record in a slot that spells its track.
-use Rattle.std.proofs.Common.{◌≡◌, ◌∙◌, ap, sym, ℕ, zero, suc, ◌+◌, ◌≤◌, ◌<◌, List, [], ◌∷◌, ◌++◌, length, length-append, append_assoc, take, drop, slice_index, flat_map, All, arith}
+use Rattle.std.proofs.Common.{◌≡◌, ◌∙◌, ap, sym, ℕ, zero, suc, ◌+◌, ◌≤◌, ◌<◌, List, [], ◌∷◌, ◌++◌, length, length-append, append_assoc}
+use Rattle.std.proofs.Common.{take, drop, slice_index, flat_map, All, arith}
 use Rattle.std.proofs.lemmas.Grind.{flat_map-append}
 use Rattle.std.proofs.lemmas.List.{take_at, drop_at, take_all, take-append-drop, take_more, drop_more, flat_map_more}
 use Rattle.std.proofs.lemmas.List.Elements.{All-get_or, All-head, All-tail}
-use Rattle.ckd_track.specs.Track.{Record, Track, IsRecord, Spells, record_bytes, record_size, record_in, no_record, record_offsets, offsets_from, end_mark}
+use Rattle.ckd_track.specs.Track.{Record, Track, IsRecord, Spells, record_bytes, record_size, record_in, no_record, record_offsets}
+use Rattle.ckd_track.specs.Track.{offsets_from, end_mark}
 use Rattle.ckd_track.specs.Changes.{end_offset}
 use Rattle.ckd_track.proofs.Spelled.{reads_back}
 
@@ -14,7 +16,8 @@ place t k = length t.home_address + length (flat_map record_bytes (take k t.reco
 pub length-record_bytes : (r : Record) → IsRecord r → length (record_bytes r) ≡ record_size r
 length-record_bytes r is = (reads_back r [] is).own
 
-offsets_are : (at : ℕ) (rs : List Record) (k : ℕ) → All IsRecord rs → k < length rs → slice_index (offsets_from at rs) k ≡ at + length (flat_map record_bytes (take k rs))
+offsets_are : (at : ℕ) (rs : List Record) (k : ℕ) → All IsRecord rs → k < length rs → slice_index (offsets_from at rs) k ≡ at
+    + length (flat_map record_bytes (take k rs))
 offsets_are at [] k are lt = absurd (omega (arith, lt))
 offsets_are at (r ∷ rs) zero are lt = omega arith
 offsets_are at (r ∷ rs) (suc k) are lt =
@@ -23,7 +26,8 @@ offsets_are at (r ∷ rs) (suc k) are lt =
     omega (arith, length-append (record_bytes r) (flat_map record_bytes (take k rs)))
 
 pub end_is : (t : Track) → place t (length t.records) ≡ end_offset t
-end_is t = ap (λ (rs : List Record). length t.home_address + length (flat_map record_bytes rs)) (take_all (length t.records) t.records (omega arith))
+end_is t = ap (λ (rs : List Record). length t.home_address + length (flat_map record_bytes rs)) (take_all (length t.records) t.records
+    (omega arith))
 
 module _ (s : List ℕ) (t : Track) (spells : Spells s t) where
   pub offset_is : (k : ℕ) → k < length t.records → slice_index (record_offsets t) k ≡ place t k
@@ -38,7 +42,8 @@ module _ (s : List ℕ) (t : Track) (spells : Spells s t) where
   behind k = flat_map record_bytes (drop k t.records) ++ (end_mark ++ spells.rest)
 
   parts : (k : ℕ) → flat_map record_bytes t.records ≡ flat_map record_bytes (take k t.records) ++ flat_map record_bytes (drop k t.records)
-  parts k = ap (flat_map record_bytes) (sym (take-append-drop k t.records)) ∙ flat_map-append record_bytes (take k t.records) (drop k t.records)
+  parts k = ap (flat_map record_bytes) (sym (take-append-drop k t.records)) ∙ flat_map-append record_bytes (take k t.records)
+      (drop k t.records)
 
   pub split_at : (k : ℕ) → s ≡ front k ++ behind k
   split_at k = spells.bytes ∙ rw (parts k) (simp append_assoc)

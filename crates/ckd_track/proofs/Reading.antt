@@ -1,10 +1,13 @@
 -- What stands at an offset of a slot, and one record further in a walk over it.
-use Rattle.std.proofs.Common.{◌≡◌, subst, Bool, if◌then◌else◌, nat_lt, ◌∙◌, ap, sym, refl, ℕ, suc, ◌+◌, ◌-◌, ◌≤◌, ◌<◌, true, false, List, [], ◌∷◌, ◌++◌, length, drop, take, length-drop, length-take, drop-drop, append_assoc, Option, Some, None, Result, Ok, Err, arith}
+use Rattle.std.proofs.Common.{◌≡◌, subst, Bool, if◌then◌else◌, nat_lt, ◌∙◌, ap, sym, refl, ℕ, suc, ◌+◌, ◌-◌, ◌≤◌, ◌<◌, true, false, List}
+use Rattle.std.proofs.Common.{[], ◌∷◌, ◌++◌, length, drop, take, length-drop, length-take, drop-drop, append_assoc, Option, Some, None}
+use Rattle.std.proofs.Common.{Result, Ok, Err, arith}
 use Rattle.std.proofs.lemmas.Bool.{ltb-true, ltb-false, lt-ltb, le-ltb}
 use Rattle.std.proofs.lemmas.List.{append-nil}
 use Rattle.ckd_track.specs.declared.fault.SlotFault.{SlotFault}
 use Rattle.ckd_track.specs.declared.fault.SlotFault.TheVariants.{NoEnd, RecordPastEnd}
-use Rattle.ckd_track.specs.Track.{Record, records_from, records_of, followed_by, behind_home_address, record_at, record_size, body_length, begins_with_end_mark, size_at, track_of, number_of_records, offsets_from, offsets_on, offsets_of}
+use Rattle.ckd_track.specs.Track.{Record, records_from, records_of, followed_by, behind_home_address, record_at, record_size, body_length}
+use Rattle.ckd_track.specs.Track.{begins_with_end_mark, size_at, track_of, number_of_records, offsets_from, offsets_on, offsets_of}
 
 -- What stands at an offset.
 
@@ -24,10 +27,13 @@ Tells at bytes (Err (RecordPastEnd offset)) =
 
 pub size_tells : (at : ℕ) (bytes : List ℕ) (there : Result (Option ℕ) SlotFault) → size_at at bytes ≡ there → Tells at bytes there
 size_tells at bytes there e =
-    subst (Tells at bytes) e (by (nat_lt (length bytes) 8) (begins_with_end_mark bytes) (nat_lt (length bytes) (8 + body_length bytes)) refl refl refl)
+    subst (Tells at bytes) e (by (nat_lt (length bytes) 8) (begins_with_end_mark bytes) (nat_lt (length bytes) (8 + body_length bytes)) refl
+    refl refl)
   where
-    by : (short mark past : Bool) → nat_lt (length bytes) 8 ≡ short → begins_with_end_mark bytes ≡ mark → nat_lt (length bytes) (8 + body_length bytes) ≡ past
-        → Tells at bytes (if short then Err (NoEnd at) else (if mark then Ok None else (if past then Err (RecordPastEnd at) else Ok (Some (8 + body_length bytes)))))
+    by : (short mark past : Bool) → nat_lt (length bytes) 8 ≡ short → begins_with_end_mark bytes ≡ mark
+        → nat_lt (length bytes) (8 + body_length bytes) ≡ past
+        → Tells at bytes (if short then Err (NoEnd at) else (if mark then Ok None else (if past then Err (RecordPastEnd at) else Ok
+        (Some (8 + body_length bytes)))))
     by true mark past s m p = (refl, ltb-true _ _ s)
     by false true past s m p = (ltb-false _ _ s, m)
     by false false true s m p = (refl, ltb-false _ _ s, m, ltb-true _ _ p)
@@ -35,10 +41,17 @@ size_tells at bytes there e =
 
 pub told_size : (at : ℕ) (bytes : List ℕ) (there : Result (Option ℕ) SlotFault) → Tells at bytes there → size_at at bytes ≡ there
 told_size at bytes (Ok (Some size)) t =
-    rw (le-ltb (length bytes) 8 (omega (arith, t.is, t.fits)), t.no_end_mark, le-ltb (length bytes) (8 + body_length bytes) (omega (arith, t.is, t.fits)), t.is) refl
+    rw (
+      le-ltb (length bytes) 8 (omega (arith, t.is, t.fits)),
+      t.no_end_mark,
+      le-ltb (length bytes) (8 + body_length bytes)
+          (omega (arith, t.is, t.fits)),
+      t.is,
+    ) refl
 told_size at bytes (Ok None) t = rw (le-ltb (length bytes) 8 t.0, t.1) refl
 told_size at bytes (Err (NoEnd offset)) t = rw (t.0, lt-ltb (length bytes) 8 t.1) refl
-told_size at bytes (Err (RecordPastEnd offset)) t = rw (t.0, le-ltb (length bytes) 8 t.1, t.2, lt-ltb (length bytes) (8 + body_length bytes) t.3) refl
+told_size at bytes (Err (RecordPastEnd offset)) t =
+    rw (t.0, le-ltb (length bytes) 8 t.1, t.2, lt-ltb (length bytes) (8 + body_length bytes) t.3) refl
 
 pub size_of_record_at : (size : ℕ) (bytes : List ℕ) → IsSize bytes size → record_size (record_at bytes) ≡ size
 size_of_record_at size bytes is = omega (arith, is.is, is.fits, length-take {A = ℕ}, length-drop {A = ℕ})
@@ -52,7 +65,8 @@ read_on r others (Ok None) = Ok []
 read_on r others (Err fault) = Err fault
 
 pub read_step : (most at : ℕ) (bytes : List ℕ)
-    → records_from (suc most) at bytes ≡ read_on (record_at bytes) (records_from most (at + (8 + body_length bytes)) (drop (8 + body_length bytes) bytes)) (size_at at bytes)
+    → records_from (suc most) at bytes ≡ read_on (record_at bytes) (records_from most (at + (8 + body_length bytes))
+    (drop (8 + body_length bytes) bytes)) (size_at at bytes)
 unfolding records_from
 read_step most at bytes = grind arith
 
@@ -66,7 +80,8 @@ step s n at there lt e =
     let more : length s - n ≡ suc (length s - (n + 1)) = omega arith in
     rw (more, ← (drop-drop (8 + body_length (drop at s)) at s), ← e) (read_step (length s - (n + 1)) at (drop at s))
 
-step_on : (s : List ℕ) (n at size : ℕ) → n < length s → size_at at (drop at s) ≡ Ok (Some size) → walk s n at ≡ followed_by (record_at (drop at s)) (walk s (n + 1) (at + size))
+step_on : (s : List ℕ) (n at size : ℕ) → n < length s → size_at at (drop at s) ≡ Ok (Some size)
+    → walk s n at ≡ followed_by (record_at (drop at s)) (walk s (n + 1) (at + size))
 step_on s n at size lt e = rw (size_tells at (drop at s) _ e).is (step s n at _ lt e)
 
 -- Where a walk begins.
@@ -91,7 +106,8 @@ abbrev pub counts : ℕ → Result (List Record) SlotFault → Result ℕ SlotFa
 counts n = mapped (λ rs. n + length rs)
 
 -- one record further, what is made of the others is made of all
-followed : {A : Type 0} (f g : List Record → A) (r : Record) (others : Result (List Record) SlotFault) → ((rs : List Record) → f (r ∷ rs) ≡ g rs) → mapped f (followed_by r others) ≡ mapped g others
+followed : {A : Type 0} (f g : List Record → A) (r : Record) (others : Result (List Record) SlotFault)
+    → ((rs : List Record) → f (r ∷ rs) ≡ g rs) → mapped f (followed_by r others) ≡ mapped g others
 followed f g r (Ok rs) same = ap Ok (same rs)
 followed f g r (Err fault) same = refl
 
@@ -103,19 +119,22 @@ pub count_from : (s : List ℕ) → 5 ≤ length s → counts 0 (walk s 0 5) ≡
 unfolding track_of
 count_from s long = rw (← (whole_slot s long)) (number_on (take 5 s) (records_of s))
 
-pub count_on : (s : List ℕ) (n at size : ℕ) → n < length s → size_at at (drop at s) ≡ Ok (Some size) → counts n (walk s n at) ≡ counts (n + 1) (walk s (n + 1) (at + size))
+pub count_on : (s : List ℕ) (n at size : ℕ) → n < length s → size_at at (drop at s) ≡ Ok (Some size)
+    → counts n (walk s n at) ≡ counts (n + 1) (walk s (n + 1) (at + size))
 count_on s n at size lt e = ap (counts n) (step_on s n at size lt e) ∙ followed _ _ _ _ (λ rs. omega arith)
 
 pub count_stops : (s : List ℕ) (n at : ℕ) → n < length s → size_at at (drop at s) ≡ Ok None → counts n (walk s n at) ≡ Ok n
 count_stops s n at lt e = ap (counts n) (step s n at _ lt e) ∙ ap Ok (omega arith)
 
-pub count_fails : (s : List ℕ) (n at : ℕ) (fault : SlotFault) → n < length s → size_at at (drop at s) ≡ Err fault → counts n (walk s n at) ≡ Err fault
+pub count_fails : (s : List ℕ) (n at : ℕ) (fault : SlotFault) → n < length s → size_at at (drop at s) ≡ Err fault
+    → counts n (walk s n at) ≡ Err fault
 count_fails s n at fault lt e = ap (counts n) (step s n at _ lt e)
 
 pub short_number : (s : List ℕ) → length s < 5 → number_of_records (track_of s) ≡ Err (NoEnd 0)
 short_number s short = ap number_of_records (short_slot s short)
 
-pub size_within : (s : List ℕ) (at size : ℕ) → at ≤ length s → size_at at (drop at s) ≡ Ok (Some size) → (size_at at (drop at s) ≡ Ok (Some size)) × (8 ≤ size) × (at + size ≤ length s)
+pub size_within : (s : List ℕ) (at size : ℕ) → at ≤ length s → size_at at (drop at s) ≡ Ok (Some size)
+    → (size_at at (drop at s) ≡ Ok (Some size)) × (8 ≤ size) × (at + size ≤ length s)
 size_within s at size le e = let t = size_tells at (drop at s) _ e in (e, omega (arith, t.is), omega (arith, t.fits, length-drop at s))
 
 -- what a walk that counts the records asks
@@ -141,7 +160,8 @@ note_on s so_far n at size lt e =
     let is = size_of_record_at size (drop at s) (size_tells at (drop at s) _ e) in
     ap (noted so_far at) (step_on s n at size lt e) ∙ rw (← is) (followed _ _ _ _ (λ rs. sym (append_assoc so_far (at ∷ []) _)))
 
-pub note_stops : (s so_far : List ℕ) (n at : ℕ) → n < length s → size_at at (drop at s) ≡ Ok None → noted so_far at (walk s n at) ≡ Ok so_far
+pub note_stops : (s so_far : List ℕ) (n at : ℕ) → n < length s → size_at at (drop at s) ≡ Ok None → noted so_far at (walk s n at)
+    ≡ Ok so_far
 note_stops s so_far n at lt e = ap (noted so_far at) (step s n at _ lt e) ∙ ap Ok (append-nil so_far)
 
 -- and one that notes their offsets

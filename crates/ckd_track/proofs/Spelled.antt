@@ -1,7 +1,9 @@
 -- A record's bytes are read back as that record.
-use Rattle.std.proofs.Common.{◌≡◌, sym, refl, ℕ, ◌+◌, ◌-◌, ◌*◌, ◌/◌, ◌%◌, false, List, [], ◌∷◌, ◌++◌, length, length-append, drop, take, drop-drop, bytes_eq, arith}
+use Rattle.std.proofs.Common.{◌≡◌, sym, refl, ℕ, ◌+◌, ◌-◌, ◌*◌, ◌/◌, ◌%◌, false, List, [], ◌∷◌, ◌++◌, length, length-append, drop, take}
+use Rattle.std.proofs.Common.{drop-drop, bytes_eq, arith}
 use Rattle.std.proofs.lemmas.Grind.{common_steps}
-use Rattle.ckd_track.specs.Track.{Record, record_bytes, count_area, record_at, record_size, body_length, key_length, IsRecord, begins_with_end_mark, end_mark}
+use Rattle.ckd_track.specs.Track.{Record, record_bytes, count_area, record_at, record_size, body_length, key_length, IsRecord}
+use Rattle.ckd_track.specs.Track.{begins_with_end_mark, end_mark}
 
 -- what bytes that begin with a record's are read as
 pub record ReadsBack (r : Record) (rest : List ℕ) : Type 0 where
@@ -17,14 +19,16 @@ pub record ReadsBack (r : Record) (rest : List ℕ) : Type 0 where
   pub no_end_mark : begins_with_end_mark (record_bytes r ++ rest) ≡ false
 
 -- key, data and what lies behind them
-parts : (key body rest : List ℕ) → (take (length key) (key ++ body ++ rest) ≡ key) × (take (length body) (drop (length key) (key ++ body ++ rest)) ≡ body)
+parts : (key body rest : List ℕ) → (take (length key) (key ++ body ++ rest) ≡ key)
+    × (take (length body) (drop (length key) (key ++ body ++ rest)) ≡ body)
     × (drop (length key + length body) (key ++ body ++ rest) ≡ rest)
 parts key body rest = (grind (arith, common_steps), grind (arith, common_steps), grind (arith, common_steps))
 
 pub reads_back : (r : Record) (rest : List ℕ) → IsRecord r → ReadsBack r rest
 reads_back r rest is = go r.id is.id is.no_end_mark
   where
-    go : (id : List ℕ) → length id ≡ 5 → bytes_eq (count_area (record r { id = id })) end_mark ≡ false → ReadsBack (record r { id = id }) rest
+    go : (id : List ℕ) → length id ≡ 5 → bytes_eq (count_area (record r { id = id })) end_mark ≡ false
+        → ReadsBack (record r { id = id }) rest
     go (a ∷ b ∷ c ∷ d ∷ e ∷ []) five no_mark =
         let key = r.key_area in
         let body = r.data_area in

@@ -1,6 +1,7 @@
 -- What records take of a track's capacity, in bytes: this subsystem's own rule, with the overheads of the two drives
 -- (component descriptions of the 2841 and the 2314, 'Track Capacity').
-use Rattle.std.specs.Prelude.{◌≡◌, ◌≤◌, ℕ, ◌+◌, ◌-◌, ◌*◌, ◌/◌, Bool, false, nat_lt, nat_le, if◌then◌else◌, List, [], ◌∷◌, ◌++◌, length, take, slice_index_or, sum_by, bytes_eq, Option, Some, None, ◌==◌}
+use Rattle.std.specs.Prelude.{◌≡◌, ◌≤◌, ℕ, ◌+◌, ◌-◌, ◌*◌, ◌/◌, Bool, false, nat_lt, nat_le, if◌then◌else◌, List, [], ◌∷◌, ◌++◌, length, take, slice_index_or}
+use Rattle.std.specs.Prelude.{sum_by, bytes_eq, Option, Some, None, ◌==◌}
 use Rattle.ckd_track.specs.declared.model.DriveModel.{DriveModel}
 use Rattle.ckd_track.specs.declared.model.DriveModel.TheVariants.{D2311, D2314}
 use Rattle.ckd_track.specs.Model.{capacity_of}

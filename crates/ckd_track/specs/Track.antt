@@ -1,6 +1,7 @@
 -- What a slot spells: five bytes of home address, and the records up to eight bytes FF
 -- (component descriptions of the 2841 and the 2314, 'Track Format'; the CKD_P370 image layout).
-use Rattle.std.specs.Prelude.{◌≡◌, ℕ, zero, suc, ◌+◌, ◌-◌, ◌*◌, ◌/◌, ◌%◌, ◌≤◌, ◌<◌, ◌⊎◌, Bool, false, nat_lt, if◌then◌else◌, List, [], ◌∷◌, ◌++◌, length, take, drop, flat_map, replicate, slice_index, slice_index_or, slice_range, Option, Some, None, Result, Ok, Err, bytes_eq, All}
+use Rattle.std.specs.Prelude.{◌≡◌, ℕ, zero, suc, ◌+◌, ◌-◌, ◌*◌, ◌/◌, ◌%◌, ◌≤◌, ◌<◌, ◌⊎◌, Bool, false, nat_lt, if◌then◌else◌, List, [], ◌∷◌, ◌++◌, length, take}
+use Rattle.std.specs.Prelude.{drop, flat_map, replicate, slice_index, slice_index_or, slice_range, Option, Some, None, Result, Ok, Err, bytes_eq, All}
 use Rattle.ckd_track.specs.declared.fault.SlotFault.{SlotFault}
 use Rattle.ckd_track.specs.declared.fault.SlotFault.TheVariants.{NoEnd, RecordPastEnd}
 

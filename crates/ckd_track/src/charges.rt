@@ -7,7 +7,8 @@ ghost use Rattle.std.specs.Option.{ForSome};
 ghost use Rattle.ckd_track.specs.Model.{capacity_of};
 ghost use Rattle.ckd_track.specs.Track.{Record, record_in};
 ghost use Rattle.ckd_track.specs.Changes.{kept_records};
-ghost use Rattle.ckd_track.specs.Charges.{key_overhead_of, charge_of, last_charge_of, r0_charge_of, charge_at, capacity_left, used_of, has_room, LeavesRoom, IsNoEndMark};
+ghost use Rattle.ckd_track.specs.Charges.{key_overhead_of, charge_of, last_charge_of, r0_charge_of, charge_at, capacity_left, used_of, has_room, LeavesRoom};
+ghost use Rattle.ckd_track.specs.Charges.{IsNoEndMark};
 
 use crate::model::DriveModel;
 use crate::view::TrackView;

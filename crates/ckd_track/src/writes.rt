@@ -6,7 +6,8 @@
 ghost use Rattle.std.specs.Prelude.{◌≡◌, ◌≤◌, ◌<◌, ◌+◌, ◌++◌, max, length, replicate, slice_index, bytes_eq, false, IsOk, Ok};
 ghost use Rattle.std.specs.Option.{ForSome};
 ghost use Rattle.ckd_track.specs.Track.{track_of, track_in, record_in, record_offsets, record_size, slot_of, spelling, end_mark, record_at, body_length};
-ghost use Rattle.ckd_track.specs.Changes.{bare_track, with_record, with_data, with_key_data, data_offset, offset_behind, end_offset, overwritten, ended_at, IsZeroFrom};
+ghost use Rattle.ckd_track.specs.Changes.{bare_track, with_record, with_data, with_key_data, data_offset, offset_behind, end_offset, overwritten, ended_at};
+ghost use Rattle.ckd_track.specs.Changes.{IsZeroFrom};
 
 use crate::walk::{
     COUNT_LENGTH, END_MARK, RECORDS_START, data_length, key_length, offset_of, record_size_at,

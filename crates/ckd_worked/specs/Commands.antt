@@ -4,7 +4,8 @@ use Rattle.std.specs.List.{range_with_len}
 use Rattle.ckd_track.specs.Track.{Track}
 use Rattle.ckd_track.specs.declared.fault.SlotFault.{SlotFault}
 use Rattle.ckd_position.specs.declared.areas.Position.{Position}
-use Rattle.ckd_command.specs.Drive.{State, Fault, Open, AfterBegin, Rejected, Immediate, Started, begin, AfterLook, Ready, Passed, Failed, look, Closed, close, settled, begin_program, drive_of, gives, given, length_of, track_under}
+use Rattle.ckd_command.specs.Drive.{State, Fault, Open, AfterBegin, Rejected, Immediate, Started, begin, AfterLook, Ready, Passed, Failed, look, Closed, close}
+use Rattle.ckd_command.specs.Drive.{settled, begin_program, drive_of, gives, given, length_of, track_under}
 use Rattle.ckd_sense.specs.Commands.{decoded}
 use Rattle.ckd_sense.specs.declared.masks.FileMask.{FileMask}
 use Rattle.ckd_command.specs.declared.registers.Credit.{Credit}

@@ -9,13 +9,15 @@ ghost use Rattle.ckd_position.specs.declared.areas.Position.TheVariants.{AtIndex
 ghost use Rattle.ckd_sense.specs.Masks.{mask_of_byte};
 ghost use Rattle.ckd_command.specs.declared.registers.Credit.TheVariants.{EqualId};
 ghost use Rattle.ckd_command.specs.declared.registers.Lap.TheVariants.{First};
-ghost use Rattle.ckd_worked.specs.Commands.{asks, does, last_of, seen, saw, arm, moved, mask, senses_of, command_codes, next_program, IsRejected, IsOver, FindsNone, Ends};
+ghost use Rattle.ckd_worked.specs.Commands.{asks, does, last_of, seen, saw, arm, moved, mask, senses_of, command_codes, next_program, IsRejected, IsOver};
+ghost use Rattle.ckd_worked.specs.Commands.{FindsNone, Ends};
 ghost use Rattle.ckd_worked.specs.Volumes.{drive, at_track, behind, credited_with, masked_by};
 
 /// Write Home Address, Write R0, Write Count, Key and Data, Write Data, Write Key and Data under each mask. What the mask does
 /// not allow is reported as file protected before a sequence is looked at.
 pub fn writes_under_each_mask()
-    ensures no_home_address_and_r0 { senses_of (0x19 ∷ 0x15 ∷ 0x1D ∷ 0x05 ∷ 0x0D ∷ []) (masked_by 0x00 drive) ≡ 0x8004 ∷ 0x8004 ∷ 0x8010 ∷ 0x8010 ∷ 0x8010 ∷ [] }
+    ensures no_home_address_and_r0 { senses_of (0x19 ∷ 0x15 ∷ 0x1D ∷ 0x05 ∷ 0x0D ∷ []) (masked_by 0x00 drive) ≡ 0x8004 ∷ 0x8004 ∷ 0x8010 ∷ 0x8010 ∷ 0x8010
+        ∷ [] }
     ensures none { senses_of (0x19 ∷ 0x15 ∷ 0x1D ∷ 0x05 ∷ 0x0D ∷ []) (masked_by 0x40 drive) ≡ replicate 5 0x8004 }
     ensures no_formatting { senses_of (0x19 ∷ 0x15 ∷ 0x1D ∷ 0x05 ∷ 0x0D ∷ []) (masked_by 0x80 drive) ≡ 0x8004 ∷ 0x8004 ∷ 0x8004 ∷ 0x8010 ∷ 0x8010 ∷ [] }
     ensures every { senses_of (0x19 ∷ 0x15 ∷ 0x1D ∷ 0x05 ∷ 0x0D ∷ []) (masked_by 0xC0 drive) ≡ 0x0000 ∷ 0x8010 ∷ 0x8010 ∷ 0x8010 ∷ 0x8010 ∷ [] }
@@ -39,7 +41,8 @@ pub fn head_changes_under_each_mask()
 
 /// What the mask refuses is not begun: arm and track stay.
 pub fn refused_by_the_mask()
-    ensures seek { seen (does (asks 0x07 (0 ∷ 0 ∷ 0 ∷ 0 ∷ 0 ∷ 1 ∷ [])) (masked_by 0x18 (behind (At (Of Data 1)) drive))) ≡ saw IsRejected 0x0004 (At (Of Data 1)) None }
+    ensures seek { seen (does (asks 0x07 (0 ∷ 0 ∷ 0 ∷ 0 ∷ 0 ∷ 1 ∷ [])) (masked_by 0x18 (behind (At (Of Data 1)) drive))) ≡ saw IsRejected 0x0004
+        (At (Of Data 1)) None }
     ensures arm { arm (does (asks 0x13 []) (masked_by 0x08 (at_track 1 3))) ≡ (1, 3, First) }
     ensures initial_program_loading { arm (does (asks 0x02 []) (masked_by 0x10 (at_track 1 3))) ≡ (1, 3, First) }
     ensures write { seen (does (asks 0x05 (0x11 ∷ [])) (masked_by 0x40 (credited_with (EqualId 1) drive))) ≡ saw IsRejected 0x8004 AtIndex None }
@@ -69,7 +72,8 @@ pub fn second_set_file_mask()
 
 /// The codes that are commands; the multiple-track bit makes another code of thirteen of them.
 pub fn codes_of_commands()
-    ensures { command_codes ≡ 2 ∷ 3 ∷ 4 ∷ 5 ∷ 6 ∷ 7 ∷ 0x0B ∷ 0x0D ∷ 0x0E ∷ 0x12 ∷ 0x13 ∷ 0x15 ∷ 0x16 ∷ 0x19 ∷ 0x1A ∷ 0x1B ∷ 0x1D ∷ 0x1E ∷ 0x1F ∷ 0x29 ∷ 0x31 ∷ 0x39 ∷ 0x49 ∷ 0x51 ∷ 0x69 ∷ 0x71 ∷ 0x86 ∷ 0x8E ∷ 0x92 ∷ 0x96 ∷ 0x9A ∷ 0x9E ∷ 0xA9 ∷ 0xB1 ∷ 0xB9 ∷ 0xC9 ∷ 0xD1 ∷ 0xE9 ∷ 0xF1 ∷ [] }
+    ensures { command_codes ≡ 2 ∷ 3 ∷ 4 ∷ 5 ∷ 6 ∷ 7 ∷ 0x0B ∷ 0x0D ∷ 0x0E ∷ 0x12 ∷ 0x13 ∷ 0x15 ∷ 0x16 ∷ 0x19 ∷ 0x1A ∷ 0x1B ∷ 0x1D ∷ 0x1E ∷ 0x1F ∷ 0x29 ∷ 0x31
+        ∷ 0x39 ∷ 0x49 ∷ 0x51 ∷ 0x69 ∷ 0x71 ∷ 0x86 ∷ 0x8E ∷ 0x92 ∷ 0x96 ∷ 0x9A ∷ 0x9E ∷ 0xA9 ∷ 0xB1 ∷ 0xB9 ∷ 0xC9 ∷ 0xD1 ∷ 0xE9 ∷ 0xF1 ∷ [] }
 {}
 
 /// Any other code is a command reject, under any mask: Write Special Count, Key and Data, Space Record, Erase, Restore, Read
@@ -89,10 +93,14 @@ pub fn sense()
 /// A new program begins at the index with file mask 00, which may be set again, and without a credit. The arm, the head and the
 /// sense stay between programs.
 pub fn next_program()
-    ensures mask { seen (does (asks 0x1F (0xC0 ∷ [])) (next_program (last_of (asks 0x1F (0 ∷ []) ∷ asks 0x31 (0 ∷ 0 ∷ 0 ∷ 0 ∷ 0 ∷ []) ∷ []) drive))) ≡ saw (Ends 0x0C false) 0x0000 AtIndex None }
-    ensures write_home_address { seen (does (asks 0x19 (0 ∷ 0 ∷ 0 ∷ 0 ∷ 0 ∷ [])) (next_program (last_of (asks 0x1F (0xC0 ∷ []) ∷ asks 0x03 [] ∷ []) drive))) ≡ saw IsRejected 0x8004 AtIndex None }
-    ensures credit { seen (does (asks 0x05 (0x11 ∷ [])) (next_program (last_of (asks 0x31 (0 ∷ 0 ∷ 0 ∷ 0 ∷ 0 ∷ []) ∷ []) drive))) ≡ saw IsRejected 0x8010 AtIndex None }
-    ensures turn { arm (does (asks 0x31 (0 ∷ 0 ∷ 0 ∷ 0 ∷ 0 ∷ [])) (next_program (last_of (asks 0x29 (0xFF ∷ []) ∷ asks 0x29 (0xFF ∷ []) ∷ asks 0x29 (0xFF ∷ []) ∷ []) drive))) ≡ (0, 0, First) }
+    ensures mask { seen (does (asks 0x1F (0xC0 ∷ [])) (next_program (last_of (asks 0x1F (0 ∷ []) ∷ asks 0x31 (0 ∷ 0 ∷ 0 ∷ 0 ∷ 0 ∷ []) ∷ []) drive)))
+        ≡ saw (Ends 0x0C false) 0x0000 AtIndex None }
+    ensures write_home_address { seen (does (asks 0x19 (0 ∷ 0 ∷ 0 ∷ 0 ∷ 0 ∷ [])) (next_program (last_of (asks 0x1F (0xC0 ∷ []) ∷ asks 0x03 [] ∷ []) drive)))
+        ≡ saw IsRejected 0x8004 AtIndex None }
+    ensures credit { seen (does (asks 0x05 (0x11 ∷ [])) (next_program (last_of (asks 0x31 (0 ∷ 0 ∷ 0 ∷ 0 ∷ 0 ∷ []) ∷ []) drive)))
+        ≡ saw IsRejected 0x8010 AtIndex None }
+    ensures turn { arm (does (asks 0x31 (0 ∷ 0 ∷ 0 ∷ 0 ∷ 0 ∷ [])) (next_program (last_of (asks 0x29 (0xFF ∷ []) ∷ asks 0x29 (0xFF ∷ []) ∷ asks 0x29 (0xFF ∷ [])
+        ∷ []) drive))) ≡ (0, 0, First) }
     ensures arm { arm (does (asks 0x03 []) (next_program (last_of (asks 0x07 (0 ∷ 0 ∷ 0 ∷ 1 ∷ 0 ∷ 3 ∷ []) ∷ []) drive))) ≡ (1, 3, First) }
     ensures sense { moved (does (asks 0x04 []) (next_program (last_of (asks 0x05 [] ∷ []) drive))) ≡ (0x80 ∷ 0x10 ∷ 0 ∷ 0 ∷ 0 ∷ 0 ∷ [], 6) }
 {}

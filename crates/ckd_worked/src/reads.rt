@@ -10,7 +10,8 @@ ghost use Rattle.ckd_command.specs.declared.registers.Credit.TheVariants.{EqualI
 ghost use Rattle.ckd_command.specs.declared.registers.Lap.TheVariants.{First};
 ghost use Rattle.ckd_command.specs.declared.registers.Mark.TheVariants.{Saved};
 ghost use Rattle.ckd_worked.specs.Commands.{asks, does, last_of, seen, saw, arm, track, moved, senses_of, FindsNone, Ends};
-ghost use Rattle.ckd_worked.specs.Volumes.{drive, drive_over, drive_with, at_track, at_head, slot, record_of, track_of_head, usual_r0, track_0, track_0_with, behind};
+ghost use Rattle.ckd_worked.specs.Volumes.{drive, drive_over, drive_with, at_track, at_head, slot, record_of, track_of_head, usual_r0, track_0, track_0_with};
+ghost use Rattle.ckd_worked.specs.Volumes.{behind};
 
 /// Read Home Address gives five bytes: flag, cylinder and head.
 pub fn read_home_address()
@@ -88,14 +89,16 @@ pub fn records_without_data()
     ensures read_key_and_data { seen (does (asks 0x0E []) (behind (At (Of Count 2)) drive)) ≡ saw (Ends 0x0D false) 0x0000 (At (Of Data 2)) None }
     ensures read_key_and_data_of_a_key { seen (does (asks 0x0E []) (at_head 1)) ≡ saw (Ends 0x0D false) 0x0000 (At (Of Data 1)) None }
     ensures read_count_key_and_data { seen (does (asks 0x1E []) (behind (At (Of Count 1)) drive)) ≡ saw (Ends 0x0D false) 0x0000 (At (Of Data 2)) None }
-    ensures read_initial_program_loading { seen (does (asks 0x02 []) (drive_with (track_0_with (record_of 0 1 [] [])))) ≡ saw (Ends 0x0D false) 0x0000 (At (Of Data 1)) None }
+    ensures read_initial_program_loading { seen (does (asks 0x02 []) (drive_with (track_0_with (record_of 0 1 [] [])))) ≡ saw (Ends 0x0D false) 0x0000
+        (At (Of Data 1)) None }
     ensures no_bytes { moved (does (asks 0x06 []) (behind (At (Of Count 2)) drive)) ≡ ([], 0) }
 {}
 
 /// The commands that work on another area of such a record report no unit exception.
 pub fn no_unit_exception_elsewhere()
     ensures read_count { seen (does (asks 0x12 []) (behind (At (Of Count 1)) drive)) ≡ saw (Ends 0x0C false) 0x0000 (At (Of Count 2)) None }
-    ensures search_identifier { seen (does (asks 0x31 (0 ∷ 0 ∷ 0 ∷ 0 ∷ 2 ∷ [])) (behind (At (Of Count 1)) drive)) ≡ saw (Ends 0x4C false) 0x0000 (At (Of Count 2)) (Some (EqualId 2)) }
+    ensures search_identifier { seen (does (asks 0x31 (0 ∷ 0 ∷ 0 ∷ 0 ∷ 2 ∷ [])) (behind (At (Of Count 1)) drive)) ≡ saw (Ends 0x4C false) 0x0000
+        (At (Of Count 2)) (Some (EqualId 2)) }
     ensures search_key { seen (does (asks 0x29 (0xE1 ∷ [])) (at_head 1)) ≡ saw (Ends 0x4C false) 0x0000 (At (Of Key 1)) (Some (EqualKey 1)) }
     ensures read_home_address { seen (does (asks 0x1A []) (at_head 1)) ≡ saw (Ends 0x0C false) 0x0000 (At HomeAddress) None }
 {}
@@ -116,8 +119,10 @@ pub fn commands_that_need_no_readable_track()
 
 /// R0 is a track's first record, whatever number its identifier has.
 pub fn r0_is_the_first_record()
-    ensures read_r0 { moved (does (asks 0x16 []) (drive_with (track_of_head 0 (record_of 0 5 [] (0x77 ∷ []) ∷ record_of 0 0 [] (0x88 ∷ []) ∷ [])))) ≡ (0 ∷ 0 ∷ 0 ∷ 0 ∷ 5 ∷ 0 ∷ 0 ∷ 1 ∷ 0x77 ∷ [], 9) }
-    ensures read_data { moved (does (asks 0x06 []) (drive_with (track_of_head 0 (record_of 0 5 [] (0x77 ∷ []) ∷ record_of 0 0 [] (0x88 ∷ []) ∷ [])))) ≡ (0x88 ∷ [], 1) }
+    ensures read_r0 { moved (does (asks 0x16 []) (drive_with (track_of_head 0 (record_of 0 5 [] (0x77 ∷ []) ∷ record_of 0 0 [] (0x88 ∷ []) ∷ []))))
+        ≡ (0 ∷ 0 ∷ 0 ∷ 0 ∷ 5 ∷ 0 ∷ 0 ∷ 1 ∷ 0x77 ∷ [], 9) }
+    ensures read_data { moved (does (asks 0x06 []) (drive_with (track_of_head 0 (record_of 0 5 [] (0x77 ∷ []) ∷ record_of 0 0 [] (0x88 ∷ []) ∷ []))))
+        ≡ (0x88 ∷ [], 1) }
 {}
 
 /// What is only read and searched is not written.

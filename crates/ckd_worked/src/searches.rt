@@ -27,7 +27,8 @@ pub fn home_address_comes_at_the_index()
 /// record.
 pub fn search_identifier_equal()
     ensures of_r0 { seen (does (asks 0x31 (0 ∷ 0 ∷ 0 ∷ 0 ∷ 0 ∷ [])) drive) ≡ saw (Ends 0x4C false) 0x0000 (At (Of Count 0)) (Some (EqualId 0)) }
-    ensures of_the_next { seen (does (asks 0x31 (0 ∷ 0 ∷ 0 ∷ 0 ∷ 1 ∷ [])) (behind (At (Of Count 0)) drive)) ≡ saw (Ends 0x4C false) 0x0000 (At (Of Count 1)) (Some (EqualId 1)) }
+    ensures of_the_next { seen (does (asks 0x31 (0 ∷ 0 ∷ 0 ∷ 0 ∷ 1 ∷ [])) (behind (At (Of Count 0)) drive)) ≡ saw (Ends 0x4C false) 0x0000 (At (Of Count 1))
+        (Some (EqualId 1)) }
     ensures other { seen (does (asks 0x31 (0 ∷ 0 ∷ 0 ∷ 0 ∷ 1 ∷ [])) drive) ≡ saw (Ends 0x0C false) 0x0000 (At (Of Count 0)) None }
     ensures with_bit { seen (does (asks 0xB1 (0 ∷ 0 ∷ 0 ∷ 0 ∷ 0 ∷ [])) drive) ≡ saw (Ends 0x4C false) 0x0000 (At (Of Count 0)) (Some (EqualId 0)) }
 {}
@@ -51,9 +52,11 @@ pub fn search_identifier_equal_or_high()
 /// Search Key Equal behind a count area compares the key of that record. Satisfied by the whole key it leaves credit for the
 /// record.
 pub fn search_key_equal()
-    ensures satisfied { seen (does (asks 0x29 (0xA1 ∷ 0xA5 ∷ [])) (behind (At (Of Count 1)) drive)) ≡ saw (Ends 0x4C false) 0x0000 (At (Of Key 1)) (Some (EqualKey 1)) }
+    ensures satisfied { seen (does (asks 0x29 (0xA1 ∷ 0xA5 ∷ [])) (behind (At (Of Count 1)) drive)) ≡ saw (Ends 0x4C false) 0x0000 (At (Of Key 1))
+        (Some (EqualKey 1)) }
     ensures other { seen (does (asks 0x29 (0xA1 ∷ 0xA6 ∷ [])) (behind (At (Of Count 1)) drive)) ≡ saw (Ends 0x0C false) 0x0000 (At (Of Key 1)) None }
-    ensures with_bit { seen (does (asks 0xA9 (0xA1 ∷ 0xA5 ∷ [])) (behind (At (Of Count 1)) drive)) ≡ saw (Ends 0x4C false) 0x0000 (At (Of Key 1)) (Some (EqualKey 1)) }
+    ensures with_bit { seen (does (asks 0xA9 (0xA1 ∷ 0xA5 ∷ [])) (behind (At (Of Count 1)) drive)) ≡ saw (Ends 0x4C false) 0x0000 (At (Of Key 1))
+        (Some (EqualKey 1)) }
 {}
 
 /// Search Key High is satisfied by a greater key alone.
@@ -81,9 +84,12 @@ pub fn comparison_from_the_left()
 /// R0 that has one.
 pub fn next_key()
     ensures from_the_index { seen (does (asks 0x29 (0xE1 ∷ [])) (at_head 1)) ≡ saw (Ends 0x4C false) 0x0000 (At (Of Key 1)) (Some (EqualKey 1)) }
-    ensures from_data { seen (does (asks 0x29 (0xB1 ∷ 0xB5 ∷ [])) (behind (At (Of Data 1)) drive)) ≡ saw (Ends 0x4C false) 0x0000 (At (Of Key 3)) (Some (EqualKey 3)) }
-    ensures from_a_key { seen (does (asks 0x29 (0xB1 ∷ 0xB5 ∷ [])) (behind (At (Of Key 1)) drive)) ≡ saw (Ends 0x4C false) 0x0000 (At (Of Key 3)) (Some (EqualKey 3)) }
-    ensures from_a_count_without_key { seen (does (asks 0x29 (0xB1 ∷ 0xB5 ∷ [])) (behind (At (Of Count 2)) drive)) ≡ saw (Ends 0x4C false) 0x0000 (At (Of Key 3)) (Some (EqualKey 3)) }
+    ensures from_data { seen (does (asks 0x29 (0xB1 ∷ 0xB5 ∷ [])) (behind (At (Of Data 1)) drive)) ≡ saw (Ends 0x4C false) 0x0000 (At (Of Key 3))
+        (Some (EqualKey 3)) }
+    ensures from_a_key { seen (does (asks 0x29 (0xB1 ∷ 0xB5 ∷ [])) (behind (At (Of Key 1)) drive)) ≡ saw (Ends 0x4C false) 0x0000 (At (Of Key 3))
+        (Some (EqualKey 3)) }
+    ensures from_a_count_without_key { seen (does (asks 0x29 (0xB1 ∷ 0xB5 ∷ [])) (behind (At (Of Count 2)) drive)) ≡ saw (Ends 0x4C false) 0x0000
+        (At (Of Key 3)) (Some (EqualKey 3)) }
 {}
 
 /// The key of R0 is reached from its count area alone.

@@ -28,7 +28,8 @@ pub fn seek_cylinder()
 /// A 2311 has ten heads and a 2314 twenty: the last one is there, and the next is not.
 pub fn heads_of_each_drive()
     ensures last_of_a_2311 { arm (does (asks 0x1B (0 ∷ 0 ∷ 0 ∷ 0 ∷ 0 ∷ 9 ∷ [])) (behind (At (Of Data 1)) drive)) ≡ (0, 9, First) }
-    ensures none_of_a_2311 { seen (does (asks 0x1B (0 ∷ 0 ∷ 0 ∷ 0 ∷ 0 ∷ 0x0A ∷ [])) (behind (At (Of Data 1)) drive)) ≡ saw (Ends 0x0E false) 0x8100 (At (Of Data 1)) None }
+    ensures none_of_a_2311 { seen (does (asks 0x1B (0 ∷ 0 ∷ 0 ∷ 0 ∷ 0 ∷ 0x0A ∷ [])) (behind (At (Of Data 1)) drive)) ≡ saw (Ends 0x0E false) 0x8100
+        (At (Of Data 1)) None }
     ensures last_of_a_2314 { arm (does (asks 0x1B (0 ∷ 0 ∷ 0 ∷ 0 ∷ 0 ∷ 0x13 ∷ [])) drive_of_a_2314) ≡ (0, 19, First) }
     ensures none_of_a_2314 { seen (does (asks 0x1B (0 ∷ 0 ∷ 0 ∷ 0 ∷ 0 ∷ 0x14 ∷ [])) drive_of_a_2314) ≡ saw (Ends 0x0E false) 0x8100 AtIndex None }
 {}
@@ -49,25 +50,32 @@ pub fn seek_to_where_the_arm_is()
 
 /// Behind a seek a search begins at the index of the new track.
 pub fn search_behind_a_seek()
-    ensures { seen (last_of (asks 0x31 (0 ∷ 0 ∷ 0 ∷ 0 ∷ 0 ∷ []) ∷ asks 0x07 (0 ∷ 0 ∷ 0 ∷ 0 ∷ 0 ∷ 1 ∷ []) ∷ asks 0x31 (0 ∷ 0 ∷ 0 ∷ 1 ∷ 0 ∷ []) ∷ []) drive) ≡ saw (Ends 0x4C false) 0x0000 (At (Of Count 0)) (Some (EqualId 0)) }
+    ensures { seen (last_of (asks 0x31 (0 ∷ 0 ∷ 0 ∷ 0 ∷ 0 ∷ []) ∷ asks 0x07 (0 ∷ 0 ∷ 0 ∷ 0 ∷ 0 ∷ 1 ∷ []) ∷ asks 0x31 (0 ∷ 0 ∷ 0 ∷ 1 ∷ 0 ∷ []) ∷ []) drive)
+        ≡ saw (Ends 0x4C false) 0x0000 (At (Of Count 0)) (Some (EqualId 0)) }
 {}
 
 /// A cylinder, a head or a bin that the volume does not have is command reject and seek check. Arm and track stay.
 pub fn seek_address_outside()
-    ensures cylinder { seen (does (asks 0x07 (0 ∷ 0 ∷ 0 ∷ 2 ∷ 0 ∷ 0 ∷ [])) (behind (At (Of Data 1)) drive)) ≡ saw (Ends 0x0E false) 0x8100 (At (Of Data 1)) None }
-    ensures head { seen (does (asks 0x07 (0 ∷ 0 ∷ 0 ∷ 0 ∷ 0 ∷ 0x0A ∷ [])) (behind (At (Of Data 1)) drive)) ≡ saw (Ends 0x0E false) 0x8100 (At (Of Data 1)) None }
+    ensures cylinder { seen (does (asks 0x07 (0 ∷ 0 ∷ 0 ∷ 2 ∷ 0 ∷ 0 ∷ [])) (behind (At (Of Data 1)) drive)) ≡ saw (Ends 0x0E false) 0x8100
+        (At (Of Data 1)) None }
+    ensures head { seen (does (asks 0x07 (0 ∷ 0 ∷ 0 ∷ 0 ∷ 0 ∷ 0x0A ∷ [])) (behind (At (Of Data 1)) drive)) ≡ saw (Ends 0x0E false) 0x8100
+        (At (Of Data 1)) None }
     ensures bin { seen (does (asks 0x07 (0 ∷ 1 ∷ 0 ∷ 0 ∷ 0 ∷ 0 ∷ [])) (behind (At (Of Data 1)) drive)) ≡ saw (Ends 0x0E false) 0x8100 (At (Of Data 1)) None }
-    ensures of_seek_cylinder { seen (does (asks 0x0B (0 ∷ 0 ∷ 0 ∷ 2 ∷ 0 ∷ 0 ∷ [])) (behind (At (Of Data 1)) drive)) ≡ saw (Ends 0x0E false) 0x8100 (At (Of Data 1)) None }
-    ensures of_seek_head { seen (does (asks 0x1B (0 ∷ 0 ∷ 0 ∷ 0 ∷ 0 ∷ 0x0A ∷ [])) (behind (At (Of Data 1)) drive)) ≡ saw (Ends 0x0E false) 0x8100 (At (Of Data 1)) None }
+    ensures of_seek_cylinder { seen (does (asks 0x0B (0 ∷ 0 ∷ 0 ∷ 2 ∷ 0 ∷ 0 ∷ [])) (behind (At (Of Data 1)) drive)) ≡ saw (Ends 0x0E false) 0x8100
+        (At (Of Data 1)) None }
+    ensures of_seek_head { seen (does (asks 0x1B (0 ∷ 0 ∷ 0 ∷ 0 ∷ 0 ∷ 0x0A ∷ [])) (behind (At (Of Data 1)) drive)) ≡ saw (Ends 0x0E false) 0x8100
+        (At (Of Data 1)) None }
     ensures arm { arm (does (asks 0x07 (0 ∷ 0 ∷ 0 ∷ 1 ∷ 0 ∷ 0x0A ∷ [])) (behind (At (Of Data 1)) drive)) ≡ (0, 0, First) }
 {}
 
 /// The high byte of each of the three numbers counts.
 pub fn high_bytes_of_a_seek_address()
-    ensures cylinder { seen (does (asks 0x07 (0 ∷ 0 ∷ 1 ∷ 0 ∷ 0 ∷ 0 ∷ [])) (behind (At (Of Data 1)) drive)) ≡ saw (Ends 0x0E false) 0x8100 (At (Of Data 1)) None }
+    ensures cylinder { seen (does (asks 0x07 (0 ∷ 0 ∷ 1 ∷ 0 ∷ 0 ∷ 0 ∷ [])) (behind (At (Of Data 1)) drive)) ≡ saw (Ends 0x0E false) 0x8100
+        (At (Of Data 1)) None }
     ensures head { seen (does (asks 0x07 (0 ∷ 0 ∷ 0 ∷ 0 ∷ 1 ∷ 0 ∷ [])) (behind (At (Of Data 1)) drive)) ≡ saw (Ends 0x0E false) 0x8100 (At (Of Data 1)) None }
     ensures bin { seen (does (asks 0x07 (1 ∷ 0 ∷ 0 ∷ 0 ∷ 0 ∷ 0 ∷ [])) (behind (At (Of Data 1)) drive)) ≡ saw (Ends 0x0E false) 0x8100 (At (Of Data 1)) None }
-    ensures of_seek_head { seen (does (asks 0x1B (0 ∷ 0 ∷ 0 ∷ 0 ∷ 1 ∷ 0 ∷ [])) (behind (At (Of Data 1)) drive)) ≡ saw (Ends 0x0E false) 0x8100 (At (Of Data 1)) None }
+    ensures of_seek_head { seen (does (asks 0x1B (0 ∷ 0 ∷ 0 ∷ 0 ∷ 1 ∷ 0 ∷ [])) (behind (At (Of Data 1)) drive)) ≡ saw (Ends 0x0E false) 0x8100
+        (At (Of Data 1)) None }
 {}
 
 /// A seek for which no byte comes moves nothing and is no error.
@@ -82,8 +90,10 @@ pub fn seek_without_bytes()
 pub fn seek_cut_short()
     ensures one_byte { seen (does (asks 0x07 (0 ∷ [])) (behind (At (Of Data 1)) drive)) ≡ saw (Ends 0x0E false) 0x8000 (At (Of Data 1)) None }
     ensures five_bytes { seen (does (asks 0x07 (0 ∷ 0 ∷ 0 ∷ 0 ∷ 0 ∷ [])) (behind (At (Of Data 1)) drive)) ≡ saw (Ends 0x0E false) 0x8000 (At (Of Data 1)) None }
-    ensures of_seek_cylinder { seen (does (asks 0x0B (0 ∷ 0 ∷ 0 ∷ 0 ∷ 0 ∷ [])) (behind (At (Of Data 1)) drive)) ≡ saw (Ends 0x0E false) 0x8000 (At (Of Data 1)) None }
-    ensures of_seek_head { seen (does (asks 0x1B (0 ∷ 0 ∷ 0 ∷ 0 ∷ 0 ∷ [])) (behind (At (Of Data 1)) drive)) ≡ saw (Ends 0x0E false) 0x8000 (At (Of Data 1)) None }
+    ensures of_seek_cylinder { seen (does (asks 0x0B (0 ∷ 0 ∷ 0 ∷ 0 ∷ 0 ∷ [])) (behind (At (Of Data 1)) drive)) ≡ saw (Ends 0x0E false) 0x8000
+        (At (Of Data 1)) None }
+    ensures of_seek_head { seen (does (asks 0x1B (0 ∷ 0 ∷ 0 ∷ 0 ∷ 0 ∷ [])) (behind (At (Of Data 1)) drive)) ≡ saw (Ends 0x0E false) 0x8000
+        (At (Of Data 1)) None }
     ensures arm { arm (does (asks 0x07 (0 ∷ 0 ∷ 0 ∷ 1 ∷ 0 ∷ [])) (behind (At (Of Data 1)) drive)) ≡ (0, 0, First) }
 {}
 

@@ -14,17 +14,22 @@ ghost use Rattle.ckd_worked.specs.Volumes.{drive, at_head, behind, masked_by, on
 /// Searches that follow one another share their turns: the third one passes the index, and at the fifth, which would pass it
 /// again, no record is found.
 pub fn searches_share_one_turn()
-    ensures third { seen (last_of (asks 0x29 (0xFF ∷ []) ∷ asks 0x29 (0xFF ∷ []) ∷ asks 0x29 (0xFF ∷ []) ∷ []) drive) ≡ saw (Ends 0x0C false) 0x0000 (At (Of Key 1)) None }
+    ensures third { seen (last_of (asks 0x29 (0xFF ∷ []) ∷ asks 0x29 (0xFF ∷ []) ∷ asks 0x29 (0xFF ∷ []) ∷ []) drive) ≡ saw (Ends 0x0C false) 0x0000
+        (At (Of Key 1)) None }
     ensures third_turn { arm (last_of (asks 0x29 (0xFF ∷ []) ∷ asks 0x29 (0xFF ∷ []) ∷ asks 0x29 (0xFF ∷ []) ∷ []) drive) ≡ (0, 0, Second) }
-    ensures fourth { seen (last_of (asks 0x29 (0xFF ∷ []) ∷ asks 0x29 (0xFF ∷ []) ∷ asks 0x29 (0xFF ∷ []) ∷ asks 0x29 (0xFF ∷ []) ∷ []) drive) ≡ saw (Ends 0x0C false) 0x0000 (At (Of Key 3)) None }
-    ensures fifth { seen (last_of (asks 0x29 (0xFF ∷ []) ∷ asks 0x29 (0xFF ∷ []) ∷ asks 0x29 (0xFF ∷ []) ∷ asks 0x29 (0xFF ∷ []) ∷ asks 0x29 (0xFF ∷ []) ∷ []) drive) ≡ saw FindsNone 0x0008 AtIndex None }
-    ensures fifth_turn { arm (last_of (asks 0x29 (0xFF ∷ []) ∷ asks 0x29 (0xFF ∷ []) ∷ asks 0x29 (0xFF ∷ []) ∷ asks 0x29 (0xFF ∷ []) ∷ asks 0x29 (0xFF ∷ []) ∷ []) drive) ≡ (0, 0, First) }
+    ensures fourth { seen (last_of (asks 0x29 (0xFF ∷ []) ∷ asks 0x29 (0xFF ∷ []) ∷ asks 0x29 (0xFF ∷ []) ∷ asks 0x29 (0xFF ∷ []) ∷ []) drive)
+        ≡ saw (Ends 0x0C false) 0x0000 (At (Of Key 3)) None }
+    ensures fifth { seen (last_of (asks 0x29 (0xFF ∷ []) ∷ asks 0x29 (0xFF ∷ []) ∷ asks 0x29 (0xFF ∷ []) ∷ asks 0x29 (0xFF ∷ []) ∷ asks 0x29 (0xFF ∷ [])
+        ∷ []) drive) ≡ saw FindsNone 0x0008 AtIndex None }
+    ensures fifth_turn { arm (last_of (asks 0x29 (0xFF ∷ []) ∷ asks 0x29 (0xFF ∷ []) ∷ asks 0x29 (0xFF ∷ []) ∷ asks 0x29 (0xFF ∷ []) ∷ asks 0x29 (0xFF ∷ [])
+        ∷ []) drive) ≡ (0, 0, First) }
 {}
 
 /// Any command but a search begins its looks on a first turn: the searches behind it may pass the index once more.
 pub fn other_commands_begin_a_turn()
     ensures no_operation { arm (last_of (asks 0x29 (0xFF ∷ []) ∷ asks 0x29 (0xFF ∷ []) ∷ asks 0x29 (0xFF ∷ []) ∷ asks 0x03 [] ∷ []) drive) ≡ (0, 0, First) }
-    ensures behind_it { seen (last_of (asks 0x29 (0xFF ∷ []) ∷ asks 0x29 (0xFF ∷ []) ∷ asks 0x29 (0xFF ∷ []) ∷ asks 0x03 [] ∷ asks 0x29 (0xFF ∷ []) ∷ asks 0x29 (0xFF ∷ []) ∷ []) drive) ≡ saw (Ends 0x0C false) 0x0000 (At (Of Key 1)) None }
+    ensures behind_it { seen (last_of (asks 0x29 (0xFF ∷ []) ∷ asks 0x29 (0xFF ∷ []) ∷ asks 0x29 (0xFF ∷ []) ∷ asks 0x03 [] ∷ asks 0x29 (0xFF ∷ [])
+        ∷ asks 0x29 (0xFF ∷ []) ∷ []) drive) ≡ saw (Ends 0x0C false) 0x0000 (At (Of Key 1)) None }
 {}
 
 /// A command that is no search passes the index once, and at the second time no record is found: behind R0 the last track has
@@ -41,13 +46,16 @@ pub fn read_that_finds_nothing()
 pub fn read_on_the_second_turn()
     ensures found { seen (does (asks 0x12 []) (behind (At (Of Count 3)) drive)) ≡ saw (Ends 0x0C false) 0x0000 (At (Of Count 1)) None }
     ensures turn { arm (does (asks 0x12 []) (behind (At (Of Count 3)) drive)) ≡ (0, 0, Second) }
-    ensures after_a_search { seen (does (asks 0x12 []) (on_second_turn (behind (At (Of Count 3)) drive))) ≡ saw (Ends 0x0C false) 0x0000 (At (Of Count 1)) None }
+    ensures after_a_search { seen (does (asks 0x12 []) (on_second_turn (behind (At (Of Count 3)) drive))) ≡ saw (Ends 0x0C false) 0x0000
+        (At (Of Count 1)) None }
 {}
 
 /// With the multiple-track bit the next head follows at the index, for each search and each read that has the bit.
 pub fn multiple_tracks()
-    ensures search_home_address { seen (does (asks 0xB9 (0 ∷ 0 ∷ 0 ∷ 1 ∷ [])) (behind (At HomeAddress) drive)) ≡ saw (Ends 0x4C false) 0x0000 (At HomeAddress) (Some EqualHomeAddress) }
-    ensures search_identifier { seen (does (asks 0xF1 (0 ∷ 0 ∷ 0 ∷ 1 ∷ 0 ∷ [])) (behind (At (Of Count 3)) drive)) ≡ saw (Ends 0x4C false) 0x0000 (At (Of Count 0)) None }
+    ensures search_home_address { seen (does (asks 0xB9 (0 ∷ 0 ∷ 0 ∷ 1 ∷ [])) (behind (At HomeAddress) drive)) ≡ saw (Ends 0x4C false) 0x0000 (At HomeAddress)
+        (Some EqualHomeAddress) }
+    ensures search_identifier { seen (does (asks 0xF1 (0 ∷ 0 ∷ 0 ∷ 1 ∷ 0 ∷ [])) (behind (At (Of Count 3)) drive)) ≡ saw (Ends 0x4C false) 0x0000
+        (At (Of Count 0)) None }
     ensures search_key { seen (does (asks 0xA9 (0xE1 ∷ [])) (behind (At (Of Key 3)) drive)) ≡ saw (Ends 0x4C false) 0x0000 (At (Of Key 1)) (Some (EqualKey 1)) }
     ensures read_home_address { moved (does (asks 0x9A []) (behind (At HomeAddress) drive)) ≡ (0 ∷ 0 ∷ 0 ∷ 0 ∷ 1 ∷ [], 5) }
     ensures read_r0 { seen (does (asks 0x96 []) (behind (At (Of Count 0)) drive)) ≡ saw (Ends 0x0D false) 0x0000 (At (Of Data 0)) None }
@@ -60,10 +68,14 @@ pub fn multiple_tracks()
 
 /// The next head begins its turns anew: behind it the index may pass once more.
 pub fn head_change_begins_the_turns_anew()
-    ensures next_head { arm (last_of (asks 0x29 (0xFF ∷ []) ∷ asks 0x29 (0xFF ∷ []) ∷ asks 0x29 (0xFF ∷ []) ∷ asks 0xA9 (0xFF ∷ []) ∷ asks 0xA9 (0xFF ∷ []) ∷ []) drive) ≡ (0, 1, First) }
-    ensures key { seen (last_of (asks 0x29 (0xFF ∷ []) ∷ asks 0x29 (0xFF ∷ []) ∷ asks 0x29 (0xFF ∷ []) ∷ asks 0xA9 (0xFF ∷ []) ∷ asks 0xA9 (0xFF ∷ []) ∷ []) drive) ≡ saw (Ends 0x0C false) 0x0000 (At (Of Key 1)) None }
-    ensures behind_it { seen (last_of (asks 0x29 (0xFF ∷ []) ∷ asks 0x29 (0xFF ∷ []) ∷ asks 0x29 (0xFF ∷ []) ∷ asks 0xA9 (0xFF ∷ []) ∷ asks 0xA9 (0xFF ∷ []) ∷ asks 0x29 (0xFF ∷ []) ∷ []) drive) ≡ saw (Ends 0x0C false) 0x0000 (At (Of Key 1)) None }
-    ensures turn { arm (last_of (asks 0x29 (0xFF ∷ []) ∷ asks 0x29 (0xFF ∷ []) ∷ asks 0x29 (0xFF ∷ []) ∷ asks 0xA9 (0xFF ∷ []) ∷ asks 0xA9 (0xFF ∷ []) ∷ asks 0x29 (0xFF ∷ []) ∷ []) drive) ≡ (0, 1, Second) }
+    ensures next_head { arm (last_of (asks 0x29 (0xFF ∷ []) ∷ asks 0x29 (0xFF ∷ []) ∷ asks 0x29 (0xFF ∷ []) ∷ asks 0xA9 (0xFF ∷ []) ∷ asks 0xA9 (0xFF ∷ [])
+        ∷ []) drive) ≡ (0, 1, First) }
+    ensures key { seen (last_of (asks 0x29 (0xFF ∷ []) ∷ asks 0x29 (0xFF ∷ []) ∷ asks 0x29 (0xFF ∷ []) ∷ asks 0xA9 (0xFF ∷ []) ∷ asks 0xA9 (0xFF ∷ [])
+        ∷ []) drive) ≡ saw (Ends 0x0C false) 0x0000 (At (Of Key 1)) None }
+    ensures behind_it { seen (last_of (asks 0x29 (0xFF ∷ []) ∷ asks 0x29 (0xFF ∷ []) ∷ asks 0x29 (0xFF ∷ []) ∷ asks 0xA9 (0xFF ∷ []) ∷ asks 0xA9 (0xFF ∷ [])
+        ∷ asks 0x29 (0xFF ∷ []) ∷ []) drive) ≡ saw (Ends 0x0C false) 0x0000 (At (Of Key 1)) None }
+    ensures turn { arm (last_of (asks 0x29 (0xFF ∷ []) ∷ asks 0x29 (0xFF ∷ []) ∷ asks 0x29 (0xFF ∷ []) ∷ asks 0xA9 (0xFF ∷ []) ∷ asks 0xA9 (0xFF ∷ [])
+        ∷ asks 0x29 (0xFF ∷ []) ∷ []) drive) ≡ (0, 1, Second) }
 {}
 
 /// An area that is still to pass on this track is found there, with the bit as without it.

@@ -1,5 +1,6 @@
 -- The pieces of a line of bytes.
-use Rattle.std.proofs.Common.{ℕ, ◌+◌, ◌-◌, ◌/◌, ◌%◌, ◌^◌, ◌<◌, ◌≤◌, ◌≡◌, ◌∙◌, List, [], ◌∷◌, ◌++◌, true, refl, sym, ap, codes, append_assoc, append-nil, arith}
+use Rattle.std.proofs.Common.{ℕ, ◌+◌, ◌-◌, ◌/◌, ◌%◌, ◌^◌, ◌<◌, ◌≤◌, ◌≡◌, ◌∙◌, List, [], ◌∷◌, ◌++◌, true, refl, sym, ap, codes, append_assoc}
+use Rattle.std.proofs.Common.{append-nil, arith}
 use Rattle.std.specs.Fmt.{digit_glyph}
 use Rattle.std.specs.List.{concat}
 use Rattle.text_lines.proofs.Spelling.{last_glyph, last_behind, two_digits}
@@ -44,21 +45,25 @@ pub front_is : (before : List ℕ) (letter n : ℕ) → n < 65536
 front_is before letter n small = rw (sym (offset_is n small)) (simp (append_assoc))
 
 -- a byte in its digits
-pub digits_are : (before : List ℕ) (byte high low : ℕ) → byte < 256 → high ≡ digit_glyph true (byte / 16) → low ≡ digit_glyph true (byte % 16)
+pub digits_are : (before : List ℕ) (byte high low : ℕ) → byte < 256 → high ≡ digit_glyph true (byte / 16)
+    → low ≡ digit_glyph true (byte % 16)
     → (before ++ high ∷ []) ++ low ∷ [] ≡ before ++ hexadecimal 2 byte
 digits_are before byte high low fits first last =
     append_assoc before (high ∷ []) (low ∷ [])
-    ∙ ap (λ (l : List ℕ). before ++ l) (ap (λ h. h ∷ low ∷ []) first ∙ ap (λ l. digit_glyph true (byte / 16) ∷ l ∷ []) last ∙ sym (two_digits byte fits))
+    ∙ ap (λ (l : List ℕ). before ++ l) (ap (λ h. h ∷ low ∷ []) first ∙ ap (λ l. digit_glyph true (byte / 16) ∷ l ∷ []) last
+    ∙ sym (two_digits byte fits))
 
 -- blanks so far
 pub no_blanks : (before : List ℕ) → before ≡ before ++ blanks_text 0
 no_blanks before = sym (ap (λ l. before ++ l) (of_none (λ (k : ℕ). codes "   ")) ∙ append-nil before)
 
 pub blanks_more : (before : List ℕ) (n : ℕ) → (before ++ blanks_text n) ++ codes "   " ≡ before ++ blanks_text (n + 1)
-blanks_more before n = append_assoc before (blanks_text n) (codes "   ") ∙ ap (λ l. before ++ l) (sym (of_one_more (λ (k : ℕ). codes "   ") n))
+blanks_more before n = append_assoc before (blanks_text n) (codes "   ")
+    ∙ ap (λ l. before ++ l) (sym (of_one_more (λ (k : ℕ). codes "   ") n))
 
 -- a whole line, piece by piece
 pub line_is : (letter offset spaced blanks characters : List ℕ)
-    → ((((([] ++ concat (codes "    " ∷ letter ∷ codes " " ∷ offset ∷ codes "  " ∷ [])) ++ spaced) ++ blanks) ++ codes " ") ++ characters) ++ line_feed
+    → ((((([] ++ concat (codes "    " ∷ letter ∷ codes " " ∷ offset ∷ codes "  " ∷ [])) ++ spaced) ++ blanks) ++ codes " ") ++ characters)
+    ++ line_feed
     ≡ concat (codes "    " ∷ letter ∷ codes " " ∷ offset ∷ codes "  " ∷ spaced ∷ blanks ∷ codes " " ∷ characters ∷ line_feed ∷ [])
 line_is letter offset spaced blanks characters = simp (append_assoc)

@@ -6,7 +6,8 @@ use Rattle.std.proofs.KnownBytes.{Appends-trans}
 use Rattle.std.specs.Io.KnownBytes.{Appends}
 
 module _ {X : Type 0} (line : X → List ℕ) where
-  pub lines_more : (a b c : Option (List ℕ)) (xs ys : List X) → Appends a b (flat_map line xs) → Appends b c (flat_map line ys) → Appends a c (flat_map line (xs ++ ys))
+  pub lines_more : (a b c : Option (List ℕ)) (xs ys : List X) → Appends a b (flat_map line xs) → Appends b c (flat_map line ys)
+      → Appends a c (flat_map line (xs ++ ys))
   lines_more a b c xs ys first next = subst (Appends a c) (sym (flat_map-append line xs ys)) (Appends-trans a b c _ _ first next)
 
   -- the same where the last step may have failed
@@ -16,5 +17,6 @@ module _ {X : Type 0} (line : X → List ℕ) where
   lines_then (Err e) a b c xs ys first next = next
 
   -- one line, which may have failed
-  pub lines_one : {A E : Type 0} (r : Result A E) (a b : Option (List ℕ)) (x : X) → OnOk r (Appends a b (line x)) → OnOk r (Appends a b (flat_map line (x ∷ [])))
+  pub lines_one : {A E : Type 0} (r : Result A E) (a b : Option (List ℕ)) (x : X) → OnOk r (Appends a b (line x))
+      → OnOk r (Appends a b (flat_map line (x ∷ [])))
   lines_one r a b x is = subst (λ l. OnOk r (Appends a b l)) (sym (append-nil (line x))) is

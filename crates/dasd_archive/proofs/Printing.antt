@@ -18,19 +18,24 @@ pub front_before : (a b : Stream) (text more : List ℕ) → TakesFront a b text
 front_before a b text more h = front_more a b text (text ++ more) (begins_before text text more (begins_with_all text)) h
 
 -- a text is printed, and then another one, or its first bytes
-pub printed_behind : {A : Type 0} (r : Result A VolumeFault) (a b c : Stream) (text more : List ℕ) → Takes a b text → PrintsBytes r more b c → PrintsBytes r (text ++ more) a c
+pub printed_behind : {A : Type 0} (r : Result A VolumeFault) (a b c : Stream) (text more : List ℕ) → Takes a b text → PrintsBytes r more b c
+    → PrintsBytes r (text ++ more) a c
 printed_behind (Ok done) a b c text more h p = takes_more a b c text more h p
 printed_behind (Err fault) a b c text more h p = front_behind a b c text more h p
 
-pub then_whole : {E : Type 0} (r : Result (Unit {0}) E) (a b c : Stream) (text more : List ℕ) → Takes a b text × NoneFailed a b → WritesWhole r b c more → WritesWhole r a c (text ++ more)
+pub then_whole : {E : Type 0} (r : Result (Unit {0}) E) (a b c : Stream) (text more : List ℕ) → Takes a b text × NoneFailed a b
+    → WritesWhole r b c more → WritesWhole r a c (text ++ more)
 then_whole (Ok done) a b c text more h w = (takes_more a b c text more h.0 w.0, w.1 ∙ h.1)
 then_whole (Err fault) a b c text more h w = (front_behind a b c text more h.0 w.0, w.1 ∙ ap (λ (n : ℕ). n + 1) h.1)
 
-pub stopped_before : (a b : Stream) (text more : List ℕ) → TakesFront a b text × OneFailed a b → TakesFront a b (text ++ more) × OneFailed a b
+pub stopped_before : (a b : Stream) (text more : List ℕ) → TakesFront a b text × OneFailed a b → TakesFront a b (text ++ more)
+    × OneFailed a b
 stopped_before a b text more h = (front_before a b text more h.0, h.1)
 
 -- a text is written, and then that of a volume or its first bytes
-pub text_behind : {A : Type 0} (r : Result A VolumeFault) (a b c : Stream) (text : Geometry → List ℕ) (more : Geometry → List (List ℕ) → List ℕ) (v : KnownVolume)
+pub text_behind : {A : Type 0} (r : Result A VolumeFault) (a b c : Stream) (text : Geometry → List ℕ) (more : Geometry → List (List ℕ)
+    → List ℕ) (v : KnownVolume)
     → Takes a b (text v.geometry) → PrintsText r more v b c → PrintsText r (λ g slots. text g ++ more g slots) v a c
 text_behind (Ok done) a b c text more v h p = λ slots known. takes_more a b c (text v.geometry) (more v.geometry slots) h (p slots known)
-text_behind (Err fault) a b c text more v h p = λ slots known. front_behind a b c (text v.geometry) (more v.geometry slots) h (p slots known)
+text_behind (Err fault) a b c text more v h p = λ slots known. front_behind a b c (text v.geometry) (more v.geometry slots) h
+    (p slots known)

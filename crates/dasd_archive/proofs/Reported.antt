@@ -1,5 +1,6 @@
 -- What was reported in several steps.
-use Rattle.std.proofs.Common.{ℕ, ◌+◌, ◌≡◌, ◌∙◌, List, [], ◌∷◌, ◌++◌, Bool, true, Option, Result, Ok, Err, OnOk, ap, sym, subst, append_assoc, append-nil}
+use Rattle.std.proofs.Common.{ℕ, ◌+◌, ◌≡◌, ◌∙◌, List, [], ◌∷◌, ◌++◌, Bool, true, Option, Result, Ok, Err, OnOk, ap, sym, subst}
+use Rattle.std.proofs.Common.{append_assoc, append-nil}
 use Rattle.std.proofs.lemmas.List.Concat.{flat_map-append}
 use Rattle.std.proofs.KnownBytes.{Appends-trans, Appends-nil}
 use Rattle.std.specs.Io.KnownBytes.{Appends}
@@ -42,11 +43,17 @@ module _ (style : Style) (path : List ℕ) where
       subst (Reports style path a c t v) (sym (of_one_more of n)) (more a b c t u v (of_each of n) (of n) first next)
 
   -- the same of findings that are printed
-  pub none_found : (of : ℕ → List Finding) (a : Stream) (t : Tally) → Takes a a (finding_lines style path (of_each of 0)) × CountsUp t t (of_each of 0)
-  none_found of a t = (no_lines (finding_line style path) of a, λ earlier is. is ∙ ap tally_of (sym (append-nil earlier) ∙ ap (λ l. earlier ++ l) (sym (of_none of))))
+  pub none_found : (of : ℕ → List Finding) (a : Stream) (t : Tally) → Takes a a (finding_lines style path (of_each of 0))
+      × CountsUp t t (of_each of 0)
+  none_found of a t = (
+    no_lines (finding_line style path) of a,
+    λ earlier is. is ∙ ap tally_of (sym (append-nil earlier)
+        ∙ ap (λ l. earlier ++ l) (sym (of_none of))),
+  )
 
   pub one_more_found : (of : ℕ → List Finding) (n : ℕ) (a b c : Stream) (t u v : Tally)
-      → Takes a b (finding_lines style path (of_each of n)) × CountsUp t u (of_each of n) → Takes b c (finding_lines style path (of n)) × CountsUp u v (of n)
+      → Takes a b (finding_lines style path (of_each of n)) × CountsUp t u (of_each of n) → Takes b c (finding_lines style path (of n))
+      × CountsUp u v (of n)
       → Takes a c (finding_lines style path (of_each of (n + 1))) × CountsUp t v (of_each of (n + 1))
   one_more_found of n a b c t u v first next = (
     more_lines (finding_line style path) of a b c n first.0 next.0,

@@ -1,5 +1,6 @@
 -- What a comparison of two volumes of one geometry prints.
-use Rattle.std.specs.Prelude.{◌≡◌, ℕ, ◌+◌, min, Bool, true, false, ◌==◌, nat_le, nat_eq, if◌then◌else◌, List, [], ◌∷◌, ◌++◌, length, drop, slice_index_or, codes, Option, Some, Result, Ok, Err, bytes_eq}
+use Rattle.std.specs.Prelude.{◌≡◌, ℕ, ◌+◌, min, Bool, true, false, ◌==◌, nat_le, nat_eq, if◌then◌else◌, List, [], ◌∷◌, ◌++◌, length, drop, slice_index_or}
+use Rattle.std.specs.Prelude.{codes, Option, Some, Result, Ok, Err, bytes_eq}
 use Rattle.std.specs.List.{concat, common_prefix_len, flat_map}
 use Rattle.std.specs.Fmt.{decimal}
 use Rattle.ckd_track.specs.declared.geometries.Geometry.{Geometry}
@@ -17,7 +18,8 @@ use Rattle.dasd_archive.specs.Printed.{PrintsBytes}
 use Rattle.dasd_archive.specs.declared.reports.Style.{Style}
 use Rattle.dasd_archive.specs.declared.reports.Style.TheVariants.{Text, Json}
 use Rattle.dasd_archive.specs.declared.differences.Difference.{Difference}
-use Rattle.dasd_archive.specs.declared.differences.Difference.TheVariants.{HomeAddress, Records, Identifier, Key, Contents, BehindEnd, FirstUnreadable, SecondUnreadable, Unreadable}
+use Rattle.dasd_archive.specs.declared.differences.Difference.TheVariants.{HomeAddress, Records, Identifier, Key, Contents, BehindEnd, FirstUnreadable}
+use Rattle.dasd_archive.specs.declared.differences.Difference.TheVariants.{SecondUnreadable, Unreadable}
 
 -- One difference.
 
@@ -124,7 +126,8 @@ compare_text style path other lists g slots other_slots =
     ++ number_line style path other (length (changed_in g slots other_slots))
 
 -- this text of two volumes was printed, and with a fault only its first bytes, if the slots of both are known
-abbrev pub PrintsBoth : {A : Type 0} → Result A VolumeFault → (text : Geometry → List (List ℕ) → List (List ℕ) → List ℕ) → (one other : KnownVolume) → (before after : Stream) → Type 0
+abbrev pub PrintsBoth : {A : Type 0} → Result A VolumeFault → (text : Geometry → List (List ℕ) → List (List ℕ) → List ℕ) → (one other : KnownVolume)
+    → (before after : Stream) → Type 0
 PrintsBoth result text one other before after =
     (slots other_slots : List (List ℕ)) → one.slots ≡ Some slots → other.slots ≡ Some other_slots
     → PrintsBytes result (text one.geometry slots other_slots) before after

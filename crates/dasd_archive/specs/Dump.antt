@@ -1,5 +1,6 @@
 -- What a dump prints: home addresses and records, their bytes in hexadecimal and in EBCDIC, sixteen to a line.
-use Rattle.std.specs.Prelude.{◌≡◌, ◌≤◌, ◌<◌, ℕ, ◌+◌, ◌-◌, ◌*◌, ◌/◌, min, Bool, ◌&&◌, nat_le, if◌then◌else◌, List, [], ◌∷◌, ◌++◌, length, slice_range, slice_index, slice_index_or, codes, encode_utf8, Result, Ok, Err}
+use Rattle.std.specs.Prelude.{◌≡◌, ◌≤◌, ◌<◌, ℕ, ◌+◌, ◌-◌, ◌*◌, ◌/◌, min, Bool, ◌&&◌, nat_le, if◌then◌else◌, List, [], ◌∷◌, ◌++◌, length, slice_range}
+use Rattle.std.specs.Prelude.{slice_index, slice_index_or, codes, encode_utf8, Result, Ok, Err}
 use Rattle.std.specs.List.{concat, flat_map}
 use Rattle.std.specs.Fmt.{decimal}
 use Rattle.ckd_track.specs.declared.geometries.Geometry.{Geometry}
@@ -50,7 +51,8 @@ place_text path cylinder head = concat (codes "{\"path\":" ∷ path ∷ codes ",
 -- how one of a record ends
 abbrev pub areas_text : (id key body : List ℕ) → List ℕ
 areas_text id key body = concat (
-    codes ",\"identifier\":\"" ∷ bytes_text id ∷ codes "\",\"key\":\"" ∷ bytes_text key ∷ codes "\",\"data\":\"" ∷ bytes_text body ∷ codes "\"}" ∷ line_feed ∷ [])
+    codes ",\"identifier\":\"" ∷ bytes_text id ∷ codes "\",\"key\":\"" ∷ bytes_text key ∷ codes "\",\"data\":\"" ∷ bytes_text body ∷ codes "\"}" ∷ line_feed
+    ∷ [])
 
 -- a record as an object
 abbrev pub object_text : (path : List ℕ) → (cylinder head : ℕ) → (id key body : List ℕ) → List ℕ

@@ -5,7 +5,8 @@ use Rattle.std.specs.Fmt.{decimal}
 use Rattle.dasd_archive.specs.declared.findings.Severity.{Severity}
 use Rattle.dasd_archive.specs.declared.findings.Severity.TheVariants.{Error, Warning, Note}
 use Rattle.dasd_archive.specs.declared.findings.Problem.{Problem}
-use Rattle.dasd_archive.specs.declared.findings.Problem.TheVariants.{ReservedBytes, Unreadable, OtherHomeAddress, Flagged, NoRecord0, OverCapacity, SameIdentifier, OtherIdentifier, EndOfFile, BytesBehindEnd}
+use Rattle.dasd_archive.specs.declared.findings.Problem.TheVariants.{ReservedBytes, Unreadable, OtherHomeAddress, Flagged, NoRecord0, OverCapacity}
+use Rattle.dasd_archive.specs.declared.findings.Problem.TheVariants.{SameIdentifier, OtherIdentifier, EndOfFile, BytesBehindEnd}
 use Rattle.dasd_archive.specs.declared.findings.Place.{Place}
 use Rattle.dasd_archive.specs.declared.findings.Place.TheVariants as place
 use Rattle.dasd_archive.specs.declared.findings.Finding.{Finding}

@@ -66,6 +66,8 @@ pub record Reports (style : Style) (path : List ℕ) (before now : Option (List 
   pub counts : CountsUp tally tally_now findings
 
 -- these findings were printed and counted; with a fault only the first bytes of their lines were printed
-abbrev pub PrintsFindings : {A : Type 0} → Result A VolumeFault → Style → (path : List ℕ) → List Finding → (before after : Stream) → (tally tally_now : Tally) → Type 0
-PrintsFindings (Ok _) style path findings before after tally tally_now = Takes before after (finding_lines style path findings) × CountsUp tally tally_now findings
+abbrev pub PrintsFindings : {A : Type 0} → Result A VolumeFault → Style → (path : List ℕ) → List Finding → (before after : Stream) → (tally tally_now : Tally)
+    → Type 0
+PrintsFindings (Ok _) style path findings before after tally tally_now = Takes before after (finding_lines style path findings)
+    × CountsUp tally tally_now findings
 PrintsFindings (Err _) style path findings before after tally tally_now = TakesFront before after (finding_lines style path findings)

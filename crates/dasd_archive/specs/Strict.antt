@@ -1,5 +1,6 @@
 -- What a strict check finds on a volume.
-use Rattle.std.specs.Prelude.{◌≡◌, ℕ, ◌+◌, ◌-◌, ◌^◌, min, Bool, true, false, not, List, [], ◌∷◌, ◌++◌, length, take, drop, slice_range, slice_index, slice_index_or, position, codes, Option, None, Some, Result, Ok, Err, bytes_eq, nat_lt, ◌==◌, if◌then◌else◌}
+use Rattle.std.specs.Prelude.{◌≡◌, ℕ, ◌+◌, ◌-◌, ◌^◌, min, Bool, true, false, not, List, [], ◌∷◌, ◌++◌, length, take, drop, slice_range, slice_index}
+use Rattle.std.specs.Prelude.{slice_index_or, position, codes, Option, None, Some, Result, Ok, Err, bytes_eq, nat_lt, ◌==◌, if◌then◌else◌}
 use Rattle.std.specs.List.{list_any}
 use Rattle.ckd_track.specs.declared.model.DriveModel.{DriveModel}
 use Rattle.ckd_track.specs.declared.geometries.Geometry.{Geometry}
@@ -11,7 +12,8 @@ use Rattle.ckd_track.specs.Charges.{used_of}
 use Rattle.ckd_track.specs.Changes.{end_offset}
 use Rattle.ckd_track.specs.NewVolume.{address}
 use Rattle.dasd_archive.specs.declared.findings.Problem.{Problem}
-use Rattle.dasd_archive.specs.declared.findings.Problem.TheVariants.{ReservedBytes, Unreadable, OtherHomeAddress, Flagged, NoRecord0, OverCapacity, SameIdentifier, OtherIdentifier, EndOfFile, BytesBehindEnd}
+use Rattle.dasd_archive.specs.declared.findings.Problem.TheVariants.{ReservedBytes, Unreadable, OtherHomeAddress, Flagged, NoRecord0, OverCapacity}
+use Rattle.dasd_archive.specs.declared.findings.Problem.TheVariants.{SameIdentifier, OtherIdentifier, EndOfFile, BytesBehindEnd}
 use Rattle.dasd_archive.specs.declared.findings.Place.{Place}
 use Rattle.dasd_archive.specs.declared.findings.Place.TheVariants as place
 use Rattle.dasd_archive.specs.declared.findings.Finding.{Finding}
@@ -98,7 +100,8 @@ strict_text style path earlier g slots =
     finding_lines style path (strict_findings g slots) ++ tally_line style path (tally_of (earlier ++ strict_findings g slots))
 
 -- these findings of a volume were printed and counted; with a fault only the first bytes of their lines, if its slots are known
-abbrev pub PrintsFindingsOf : {A : Type 0} → Result A VolumeFault → (Geometry → List (List ℕ) → List Finding) → KnownVolume → Style → (path : List ℕ) → (before after : Stream) → (tally tally_now : Tally) → Type 0
+abbrev pub PrintsFindingsOf : {A : Type 0} → Result A VolumeFault → (Geometry → List (List ℕ) → List Finding) → KnownVolume → Style → (path : List ℕ)
+    → (before after : Stream) → (tally tally_now : Tally) → Type 0
 PrintsFindingsOf result found v style path before after tally tally_now =
     (slots : List (List ℕ)) → v.slots ≡ Some slots → PrintsFindings result style path (found v.geometry slots) before after tally tally_now
 

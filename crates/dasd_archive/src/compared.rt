@@ -6,7 +6,8 @@ ghost use Rattle.std.specs.Io.KnownBytes.{Appends};
 ghost use Rattle.ckd_track.specs.Track.{track_of, track_in, record_in};
 ghost use Rattle.ckd_track.specs.Changes.{end_offset};
 ghost use Rattle.dasd_volumes.specs.Volumes.{of_each};
-ghost use Rattle.dasd_archive.specs.Compare.{difference_line, where_not, same_length, record_differences, rest_differences, readable_differences, differences_of, track_lines, changed};
+ghost use Rattle.dasd_archive.specs.Compare.{difference_line, where_not, same_length, record_differences, rest_differences, readable_differences};
+ghost use Rattle.dasd_archive.specs.Compare.{differences_of, track_lines, changed};
 
 use crate::compares::Comparison;
 use crate::differences::Difference;
@@ -41,7 +42,8 @@ pub(crate) fn compare_track<W: Write>(
     ensures number { IfOk result (λ n. n ≡ length (changed slot.now other_slot.now)) }
     ensures few { IfOk result (λ n. n ≤ 1) }
     ensures lines { OnOk result (Appends (W.contents writer.old) (W.contents writer.new)
-        (track_lines lines.now.form.style lines.now.form.path.now lines.now.form.other.now lines.now.form.lists lines.now.address.cylinder lines.now.address.head slot.now other_slot.now)) }
+        (track_lines lines.now.form.style lines.now.form.path.now lines.now.form.other.now lines.now.form.lists lines.now.address.cylinder
+        lines.now.address.head slot.now other_slot.now)) }
 {
     if slot == other_slot {
         return Ok(0);
@@ -58,7 +60,8 @@ fn write_listed<W: Write>(
     other_slot: &[u8],
 ) -> io::Result<()>
     ensures { OnOk result (Appends (W.contents writer.old) (W.contents writer.new)
-        (if lines.now.form.lists then flat_map (difference_line lines.now.form.style lines.now.form.path.now lines.now.form.other.now lines.now.address.cylinder lines.now.address.head)
+        (if lines.now.form.lists then flat_map (difference_line lines.now.form.style lines.now.form.path.now lines.now.form.other.now lines.now.address.cylinder
+        lines.now.address.head)
         (differences_of slot.now other_slot.now (track_of slot.now) (track_of other_slot.now)) else [])) }
 {
     if lines.form.lists {
@@ -108,7 +111,8 @@ fn write_difference<W: Write>(
     difference: Difference,
 ) -> io::Result<()>
     ensures { OnOk result (Appends (W.contents writer.old) (W.contents writer.new)
-        (flat_map (difference_line lines.now.form.style lines.now.form.path.now lines.now.form.other.now lines.now.address.cylinder lines.now.address.head) (difference ∷ []))) }
+        (flat_map (difference_line lines.now.form.style lines.now.form.path.now lines.now.form.other.now lines.now.address.cylinder lines.now.address.head)
+        (difference ∷ []))) }
 {
     write_line(writer, lines, difference)
 }
@@ -139,7 +143,8 @@ fn write_unless<W: Write>(
     difference: Difference,
 ) -> io::Result<()>
     ensures { OnOk result (Appends (W.contents writer.old) (W.contents writer.new)
-        (flat_map (difference_line lines.now.form.style lines.now.form.path.now lines.now.form.other.now lines.now.address.cylinder lines.now.address.head) (where_not is_same difference))) }
+        (flat_map (difference_line lines.now.form.style lines.now.form.path.now lines.now.form.other.now lines.now.address.cylinder lines.now.address.head)
+        (where_not is_same difference))) }
 {
     if is_same {
         Ok(())
@@ -269,7 +274,8 @@ fn compare_identifiers<W: Write>(
     requires second { i < length other.now.records }
     ensures { OnOk result (Appends (W.contents writer.old) (W.contents writer.new)
         (flat_map (difference_line lines.now.form.style lines.now.form.path.now lines.now.form.other.now lines.now.address.cylinder lines.now.address.head)
-        (where_not (bytes_eq (record_in one.now i).id (record_in other.now i).id) (Difference.Identifier i (record_in one.now i).id (record_in other.now i).id)))) }
+        (where_not (bytes_eq (record_in one.now i).id (record_in other.now i).id) (Difference.Identifier i (record_in one.now i).id
+        (record_in other.now i).id)))) }
 {
     let first = identifier(one, i);
     let second = identifier(other, i);
@@ -289,7 +295,8 @@ fn compare_keys<W: Write>(
     requires second { i < length other.now.records }
     ensures { OnOk result (Appends (W.contents writer.old) (W.contents writer.new)
         (flat_map (difference_line lines.now.form.style lines.now.form.path.now lines.now.form.other.now lines.now.address.cylinder lines.now.address.head)
-        (where_not (bytes_eq (record_in one.now i).key_area (record_in other.now i).key_area) (Difference.Key i (same_length (record_in one.now i).key_area (record_in other.now i).key_area))))) }
+        (where_not (bytes_eq (record_in one.now i).key_area (record_in other.now i).key_area)
+        (Difference.Key i (same_length (record_in one.now i).key_area (record_in other.now i).key_area))))) }
 {
     let first = one.key_of(i);
     let second = other.key_of(i);
@@ -309,7 +316,8 @@ fn compare_contents<W: Write>(
     requires second { i < length other.now.records }
     ensures { OnOk result (Appends (W.contents writer.old) (W.contents writer.new)
         (flat_map (difference_line lines.now.form.style lines.now.form.path.now lines.now.form.other.now lines.now.address.cylinder lines.now.address.head)
-        (where_not (bytes_eq (record_in one.now i).data_area (record_in other.now i).data_area) (Difference.Contents i (same_length (record_in one.now i).data_area (record_in other.now i).data_area))))) }
+        (where_not (bytes_eq (record_in one.now i).data_area (record_in other.now i).data_area)
+        (Difference.Contents i (same_length (record_in one.now i).data_area (record_in other.now i).data_area))))) }
 {
     let first = one.data_of(i);
     let second = other.data_of(i);
@@ -333,7 +341,8 @@ fn compare_rests<W: Write>(
     other: &[u8],
 ) -> io::Result<()>
     ensures { OnOk result (Appends (W.contents writer.old) (W.contents writer.new)
-        (flat_map (difference_line lines.now.form.style lines.now.form.path.now lines.now.form.other.now lines.now.address.cylinder lines.now.address.head) (rest_differences one.now other.now))) }
+        (flat_map (difference_line lines.now.form.style lines.now.form.path.now lines.now.form.other.now lines.now.address.cylinder lines.now.address.head)
+        (rest_differences one.now other.now))) }
 {
     let same = same_length(one, other);
     let shorter = one.len().min(other.len());

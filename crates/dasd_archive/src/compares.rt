@@ -7,7 +7,8 @@ ghost use Rattle.ckd_track.specs.Geometry.{tracks_of};
 ghost use Rattle.dasd_volumes.specs.Printing.{CountsWrites};
 ghost use Rattle.dasd_volumes.specs.Reading.{IsSlotOf};
 ghost use Rattle.dasd_archive.specs.Printed.{PrintsBytes};
-ghost use Rattle.dasd_archive.specs.Compare.{track_lines, changed, cylinder_differences, changed_on, volume_differences, changed_in, number_line, compare_text, PrintsBoth, NumberOfBoth};
+ghost use Rattle.dasd_archive.specs.Compare.{track_lines, changed, cylinder_differences, changed_on, volume_differences, changed_in, number_line, compare_text};
+ghost use Rattle.dasd_archive.specs.Compare.{PrintsBoth, NumberOfBoth};
 
 use crate::compared::{TrackForm, compare_track};
 use crate::printed::{print_flushed, print_lines};

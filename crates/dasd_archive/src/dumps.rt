@@ -9,7 +9,8 @@ ghost use Rattle.dasd_volumes.specs.Printing.{PrintsText, CountsWrites};
 ghost use Rattle.dasd_volumes.specs.Reading.{IsRead};
 ghost use Rattle.dasd_volumes.specs.Lines.{record_line};
 ghost use Rattle.dasd_archive.specs.Printed.{PrintsBytes};
-ghost use Rattle.dasd_archive.specs.Dump.{holds, place_text, areas_text, object_text, record_dump, record_text, home_address_line, unreadable_line, track_dump, cylinder_dump, dump_text, IsPartOf};
+ghost use Rattle.dasd_archive.specs.Dump.{holds, place_text, areas_text, object_text, record_dump, record_text, home_address_line, unreadable_line, track_dump};
+ghost use Rattle.dasd_archive.specs.Dump.{cylinder_dump, dump_text, IsPartOf};
 
 use crate::printed::print_lines;
 use crate::reports::{Form, Style};

@@ -7,7 +7,8 @@ ghost use Rattle.ckd_track.specs.Changes.{end_offset};
 ghost use Rattle.ckd_track.specs.NewVolume.{address};
 ghost use Rattle.dasd_volumes.specs.Volumes.{of_each};
 ghost use Rattle.dasd_archive.specs.Reports.{Reports};
-ghost use Rattle.dasd_archive.specs.Strict.{where_so, is_own, home_address_findings, begins_with_record_0, track_findings, record_findings, first_set, rest_findings, findings_of, findings_in_slot, findings_in_header};
+ghost use Rattle.dasd_archive.specs.Strict.{where_so, is_own, home_address_findings, begins_with_record_0, track_findings, record_findings, first_set};
+ghost use Rattle.dasd_archive.specs.Strict.{rest_findings, findings_of, findings_in_slot, findings_in_header};
 
 use crate::findings::{Finding, Place, Problem};
 use crate::reports::{Form, Tally, report};

@@ -31,7 +31,8 @@ works_two machine.Idle = refl
 works_two (machine.Working device script) = refl
 works_two (machine.Pending device csw) = refl
 
-pub runs_at : (s : Storage) (o : Option ChannelState) (t : Condition (Unit {0})) → TestsAt (answer_seen (answer.Tch t)) s o → RunsAt (is_two t) s o
+pub runs_at : (s : Storage) (o : Option ChannelState) (t : Condition (Unit {0})) → TestsAt (answer_seen (answer.Tch t)) s o
+    → RunsAt (is_two t) s o
 runs_at s None t h = told_two t ∙ ap has_two h
 runs_at s (Some c) t h = λ m stands. told_two t ∙ ap has_two (h m stands).answers ∙ works_two m.subchannel
 

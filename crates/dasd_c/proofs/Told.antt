@@ -32,12 +32,14 @@ not_both a h = cc
 -- An answer that is there only where the channel is: what it was, and that there was none.
 module _ {A : Type 0} (To : Option A → ChannelState → ChannelState → Type 0) (number : ℕ) (old new : ChannelsState) where
   pub there : (Other : ChannelState → ChannelState → Type 0) (Lacking : Type 0) (r : Option A) (a : A) → r ≡ Some a
-      → ((c d : ChannelState) → To (Some a) c d → Other c d) → OnChannel number (To r) (r ≡ None) old new → OnChannel number Other Lacking old new
+      → ((c d : ChannelState) → To (Some a) c d → Other c d) → OnChannel number (To r) (r ≡ None) old new
+      → OnChannel number Other Lacking old new
   there Other Lacking r a is does h =
       told (To (Some a)) Other (◌≡◌ {A = Option A} (Some a) None) Lacking number old new does (λ e. absurd (not_both a e))
       (subst (λ (r : Option A). OnChannel number (To r) (r ≡ None) old new) is h)
 
-  pub nobody : (Other : ChannelState → ChannelState → Type 0) (Lacking : Type 0) (r : Option A) → r ≡ None → ((c d : ChannelState) → To None c d → ⊥)
+  pub nobody : (Other : ChannelState → ChannelState → Type 0) (Lacking : Type 0) (r : Option A) → r ≡ None
+      → ((c d : ChannelState) → To None c d → ⊥)
       → Lacking → OnChannel number (To r) (r ≡ None) old new → OnChannel number Other Lacking old new
   nobody Other Lacking r is none lacks h =
       told (To None) Other (◌≡◌ {A = Option A} None None) Lacking number old new (λ c d h. absurd (none c d h)) (λ e. lacks)

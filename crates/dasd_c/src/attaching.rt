@@ -35,7 +35,8 @@ pub extern "C" fn dasd_attach(
     address: u16,
     files: &[&[u8]],
 ) -> i32
-    ensures { Calls handle.old.slot.held handle.new.slot.held result (λ old new. DoneOrRefused result old new (Attaches address (map (λ file. file.now) files.now) old new)
+    ensures { Calls handle.old.slot.held handle.new.slot.held result (λ old new. DoneOrRefused result old new
+        (Attaches address (map (λ file. file.now) files.now) old new)
         (TellsWhy refusal_code (NotAttached (channel_at (address / 256) old) (address % 256) (map (λ file. file.now) files.now)) result)) }
 {
     let Some(mut subsystem) = take(handle, alloc) else {
@@ -47,7 +48,8 @@ pub extern "C" fn dasd_attach(
 }
 
 fn attach(subsystem: &mut Subsystem, alloc: Global, address: u16, files: &[&[u8]]) -> i32
-    ensures { DoneOrRefused result subsystem.old.channels subsystem.new.channels (Attaches address (map (λ file. file.now) files.now) subsystem.old.channels subsystem.new.channels)
+    ensures { DoneOrRefused result subsystem.old.channels subsystem.new.channels (Attaches address (map (λ file. file.now) files.now) subsystem.old.channels
+        subsystem.new.channels)
         (TellsWhy refusal_code (NotAttached (channel_at (address / 256) subsystem.old.channels) (address % 256) (map (λ file. file.now) files.now)) result) }
 {
     match subsystem.attach(alloc, address, files) {
@@ -65,7 +67,8 @@ pub extern "C" fn dasd_attach_new(
     model: u16,
     cylinders: u16,
 ) -> i32
-    ensures { Calls handle.old.slot.held handle.new.slot.held result (λ old new. DoneOrRefused result old new (AttachesOf (model_of model) address cylinders old new)
+    ensures { Calls handle.old.slot.held handle.new.slot.held result (λ old new. DoneOrRefused result old new
+        (AttachesOf (model_of model) address cylinders old new)
         (RefusesOf (model_of model) address cylinders result old)) }
 {
     let Some(mut subsystem) = take(handle, alloc) else {
@@ -83,7 +86,8 @@ fn attach_new(
     model: u16,
     cylinders: u16,
 ) -> i32
-    ensures { DoneOrRefused result subsystem.old.channels subsystem.new.channels (AttachesOf (model_of model) address cylinders subsystem.old.channels subsystem.new.channels)
+    ensures { DoneOrRefused result subsystem.old.channels subsystem.new.channels (AttachesOf (model_of model) address cylinders subsystem.old.channels
+        subsystem.new.channels)
         (RefusesOf (model_of model) address cylinders result subsystem.old.channels) }
 {
     let Some(model) = model_of(model) else {
@@ -108,7 +112,8 @@ fn model_of(number: u16) -> Option<DriveModel>
 /// Takes a drive off its channel, and frees its volume.
 #[unsafe(no_mangle)]
 pub extern "C" fn dasd_detach(handle: &mut Handle, alloc: Global, address: u16) -> i32
-    ensures { Calls handle.old.slot.held handle.new.slot.held result (λ old new. DoneOrRefused result old new (Detached address old new) (RefusesDetach address result old)) }
+    ensures { Calls handle.old.slot.held handle.new.slot.held result (λ old new. DoneOrRefused result old new (Detached address old new)
+        (RefusesDetach address result old)) }
 {
     let Some(mut subsystem) = take(handle, alloc) else {
         return NOTHING_HELD;

@@ -15,7 +15,8 @@ use std::alloc::Global;
 /// Start I/O.
 #[unsafe(no_mangle)]
 pub extern "C" fn dasd_sio(handle: &mut Handle, alloc: Global, address: u16) -> i32
-    ensures { Calls handle.old.slot.held handle.new.slot.held result (λ old new. Tells (address / 256) (machine.Sio address) (machine.WithCode Three) result old new × TellsMissing address result old) }
+    ensures { Calls handle.old.slot.held handle.new.slot.held result (λ old new. Tells (address / 256) (machine.Sio address) (machine.WithCode Three) result old
+        new × TellsMissing address result old) }
 {
     let Some(mut subsystem) = take(handle, alloc) else {
         return NOTHING_HELD;
@@ -34,7 +35,8 @@ fn sio(channels: &mut Channels<VolumeFile>, address: u16) -> i32
 /// Test I/O.
 #[unsafe(no_mangle)]
 pub extern "C" fn dasd_tio(handle: &mut Handle, alloc: Global, address: u16) -> i32
-    ensures { Calls handle.old.slot.held handle.new.slot.held result (λ old new. Tells (address / 256) (machine.Tio address) (machine.WithCode Three) result old new × TellsMissing address result old) }
+    ensures { Calls handle.old.slot.held handle.new.slot.held result (λ old new. Tells (address / 256) (machine.Tio address) (machine.WithCode Three) result old
+        new × TellsMissing address result old) }
 {
     let Some(mut subsystem) = take(handle, alloc) else {
         return NOTHING_HELD;
@@ -53,7 +55,8 @@ fn tio(channels: &mut Channels<VolumeFile>, address: u16) -> i32
 /// Halt I/O.
 #[unsafe(no_mangle)]
 pub extern "C" fn dasd_hio(handle: &mut Handle, alloc: Global, address: u16) -> i32
-    ensures { Calls handle.old.slot.held handle.new.slot.held result (λ old new. TellsOf (address / 256) (machine.Hio address) (machine.WithCode Three) result old new × TellsMissing address result old) }
+    ensures { Calls handle.old.slot.held handle.new.slot.held result (λ old new. TellsOf (address / 256) (machine.Hio address) (machine.WithCode Three) result
+        old new × TellsMissing address result old) }
 {
     let Some(mut subsystem) = take(handle, alloc) else {
         return NOTHING_HELD;
@@ -64,7 +67,8 @@ pub extern "C" fn dasd_hio(handle: &mut Handle, alloc: Global, address: u16) -> 
 }
 
 fn hio(channels: &mut Channels<VolumeFile>, address: u16) -> i32
-    ensures { TellsOf (address / 256) (machine.Hio address) (machine.WithCode Three) result channels.old channels.new × TellsMissing address result channels.old }
+    ensures { TellsOf (address / 256) (machine.Hio address) (machine.WithCode Three) result channels.old channels.new
+        × TellsMissing address result channels.old }
 {
     of_status(channels.hio(address))
 }

@@ -3,7 +3,8 @@
 ghost use Rattle.std.specs.Prelude.{◌≡◌, ◌/◌, ◌%◌, Some, length};
 ghost use Rattle.s360_channels.specs.Channels.{channel_at};
 ghost use Rattle.dasd_c.specs.Calls.{Calls};
-ghost use Rattle.dasd_c.specs.Shown.{RunsAt, ShowsDriveOf, ShowsFileIn, ShowsFileOf, ShowsState, ShowsStateOf, arm_shown, drive_shown, drives_shown, is_two, number_of_arm, number_of_model, numbers_of, unit_shown};
+ghost use Rattle.dasd_c.specs.Shown.{RunsAt, ShowsDriveOf, ShowsFileIn, ShowsFileOf, ShowsState, ShowsStateOf, arm_shown, drive_shown, drives_shown, is_two};
+ghost use Rattle.dasd_c.specs.Shown.{number_of_arm, number_of_model, numbers_of, unit_shown};
 
 use crate::handle::{Handle, put, take};
 use crate::tell::{DONE, NO_CHANNEL, NO_DRIVE, NO_FILE, NOTHING_HELD, PROGRAM_RUNS};
@@ -121,7 +122,8 @@ pub extern "C" fn dasd_show_drive(
     address: u16,
     shown: &mut Drive,
 ) -> i32
-    ensures { Calls handle.old.slot.held handle.new.slot.held result (λ old new. (new ≡ old) × ShowsDriveOf (channel_at (address / 256) old) (address % 256) result shown.old shown.new) }
+    ensures { Calls handle.old.slot.held handle.new.slot.held result (λ old new. (new ≡ old) × ShowsDriveOf (channel_at (address / 256) old)
+        (address % 256) result shown.old shown.new) }
 {
     let Some(subsystem) = take(handle, alloc) else {
         return NOTHING_HELD;
@@ -192,7 +194,8 @@ pub extern "C" fn dasd_show_channel(
     channel: u8,
     shown: &mut State,
 ) -> i32
-    ensures { Calls handle.old.slot.held handle.new.slot.held result (λ old new. (new ≡ old) × ShowsStateOf (channel_at channel old) old.storage result shown.old shown.new) }
+    ensures { Calls handle.old.slot.held handle.new.slot.held result (λ old new. (new ≡ old)
+        × ShowsStateOf (channel_at channel old) old.storage result shown.old shown.new) }
 {
     let Some(subsystem) = take(handle, alloc) else {
         return NOTHING_HELD;

@@ -24,7 +24,8 @@ pub extern "C" fn dasd_step(
     units: u32,
     done: &mut u32,
 ) -> i32
-    ensures { Calls handle.old.slot.held handle.new.slot.held result (λ old new. OnChannel channel (StepsFor units result done.new) ((result ≡ no_channel) × (done.new ≡ done.old)) old new) }
+    ensures { Calls handle.old.slot.held handle.new.slot.held result (λ old new. OnChannel channel (StepsFor units result done.new) ((result ≡ no_channel)
+        × (done.new ≡ done.old)) old new) }
 {
     let Some(mut subsystem) = take(handle, alloc) else {
         return NOTHING_HELD;
@@ -66,7 +67,8 @@ pub extern "C" fn dasd_run_on(
     units: u32,
     ran: &mut Ran,
 ) -> i32
-    ensures { Calls handle.old.slot.held handle.new.slot.held result (λ old new. OnChannel channel (RunsFor units result ran.new) ((result ≡ no_channel) × (ran.new ≡ ran.old)) old new) }
+    ensures { Calls handle.old.slot.held handle.new.slot.held result (λ old new. OnChannel channel (RunsFor units result ran.new) ((result ≡ no_channel)
+        × (ran.new ≡ ran.old)) old new) }
 {
     let Some(mut subsystem) = take(handle, alloc) else {
         return NOTHING_HELD;
@@ -104,7 +106,8 @@ fn ran_of(ran: RunOn) -> Ran
 /// The arm of the drive at an address arrives: 1, if it moved, and else 0.
 #[unsafe(no_mangle)]
 pub extern "C" fn dasd_arrive(handle: &mut Handle, alloc: Global, address: u16) -> i32
-    ensures { Calls handle.old.slot.held handle.new.slot.held result (λ old new. Tells (address / 256) (machine.Arrive address) (machine.HasArrived false) result old new) }
+    ensures { Calls handle.old.slot.held handle.new.slot.held result (λ old new. Tells (address / 256) (machine.Arrive address)
+        (machine.HasArrived false) result old new) }
 {
     let Some(mut subsystem) = take(handle, alloc) else {
         return NOTHING_HELD;
@@ -181,7 +184,8 @@ pub extern "C" fn dasd_reset(
     channel: u8,
     unsaved: &mut Track,
 ) -> i32
-    ensures { Calls handle.old.slot.held handle.new.slot.held result (λ old new. OnChannel channel (ResetsFor result unsaved.old unsaved.new) ((result ≡ no_channel) × (unsaved.new ≡ unsaved.old)) old new) }
+    ensures { Calls handle.old.slot.held handle.new.slot.held result (λ old new. OnChannel channel (ResetsFor result unsaved.old unsaved.new)
+        ((result ≡ no_channel) × (unsaved.new ≡ unsaved.old)) old new) }
 {
     let Some(mut subsystem) = take(handle, alloc) else {
         return NOTHING_HELD;

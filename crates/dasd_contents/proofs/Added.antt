@@ -1,5 +1,6 @@
 -- Lists that grow by what each element says.
-use Rattle.std.proofs.Common.{◌≡◌, ◌∙◌, ap, sym, ℕ, ◌+◌, ◌<◌, ◌≤◌, List, [], ◌∷◌, ◌++◌, length, take, get_or, flat_map, append_assoc, append-nil}
+use Rattle.std.proofs.Common.{◌≡◌, ◌∙◌, ap, sym, ℕ, ◌+◌, ◌<◌, ◌≤◌, List, [], ◌∷◌, ◌++◌, length, take, get_or, flat_map, append_assoc}
+use Rattle.std.proofs.Common.{append-nil}
 use Rattle.std.proofs.lemmas.List.{flat_map_more, take_more, take_all}
 use Rattle.dasd_volumes.specs.Volumes.{of_each}
 use Rattle.dasd_volumes.proofs.Appended.{of_none, of_one_more}
@@ -27,7 +28,8 @@ adds_none f of wrong = record {
   findings = rw (of_none wrong) (sym (append-nil f.findings.items));
 }
 
-pub adds_more : (a b c : Found) (of : ℕ → List Block) (wrong : ℕ → List Finding) (n : ℕ) → Adds a b (of_each of n) (of_each wrong n) → Adds b c (of n) (wrong n)
+pub adds_more : (a b c : Found) (of : ℕ → List Block) (wrong : ℕ → List Finding) (n : ℕ) → Adds a b (of_each of n) (of_each wrong n)
+    → Adds b c (of n) (wrong n)
     → Adds a c (of_each of (n + 1)) (of_each wrong (n + 1))
 adds_more a b c of wrong n first next = record {
   blocks =

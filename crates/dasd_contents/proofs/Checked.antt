@@ -6,7 +6,8 @@ use Rattle.volume_labels.specs.declared.fields.FreeTracks.{FreeTracks}
 use Rattle.volume_labels.specs.declared.fields.RecordAddress.{RecordAddress}
 use Rattle.dasd_contents.specs.declared.blocks.Block.{Block}
 use Rattle.dasd_contents.specs.Claims.{claim_of, claimed_by}
-use Rattle.dasd_contents.specs.Checks.{found_at, extent_findings, piece_findings, free_claim_of, claimed_by_free, sets_findings, block_findings, claimed_by_block}
+use Rattle.dasd_contents.specs.Checks.{found_at, extent_findings, piece_findings, free_claim_of, claimed_by_free, sets_findings}
+use Rattle.dasd_contents.specs.Checks.{block_findings, claimed_by_block}
 
 pub no_extent : (g : Geometry) (place : RecordAddress) (marks : List ℕ) → extent_findings g place marks [] ≡ []
 unfolding extent_findings
@@ -22,7 +23,8 @@ unfolding piece_findings
 no_piece g place marks = refl
 
 pub more_pieces : (g : Geometry) (place : RecordAddress) (marks : List ℕ) (f : FreeTracks) (more : List FreeTracks)
-    → piece_findings g place marks (f ∷ more) ≡ found_at place (free_claim_of g marks f) ++ piece_findings g place (claimed_by_free g marks f) more
+    → piece_findings g place marks (f ∷ more) ≡ found_at place (free_claim_of g marks f) ++ piece_findings g place
+    (claimed_by_free g marks f) more
 unfolding piece_findings
 more_pieces g place marks f more = refl
 
@@ -31,6 +33,7 @@ unfolding sets_findings
 no_set g blocks marks = refl
 
 pub more_sets : (g : Geometry) (blocks : List Block) (marks : List ℕ) (b : Block) (more : List Block)
-    → sets_findings g blocks marks (b ∷ more) ≡ block_findings g blocks marks b ++ sets_findings g blocks (claimed_by_block g blocks marks b) more
+    → sets_findings g blocks marks (b ∷ more) ≡ block_findings g blocks marks b ++ sets_findings g blocks
+    (claimed_by_block g blocks marks b) more
 unfolding sets_findings
 more_sets g blocks marks b more = refl

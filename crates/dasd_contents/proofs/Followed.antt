@@ -1,5 +1,6 @@
 -- Chains of control blocks that are followed step by step.
-use Rattle.std.proofs.Common.{◌≡◌, ◌∙◌, ap, sym, subst, refl, ℕ, zero, suc, ◌+◌, ◌-◌, ◌<◌, ◌≤◌, List, [], ◌∷◌, ◌++◌, append_assoc, append-nil, Bool, Option, None, Some, arith}
+use Rattle.std.proofs.Common.{◌≡◌, ◌∙◌, ap, sym, subst, refl, ℕ, zero, suc, ◌+◌, ◌-◌, ◌<◌, ◌≤◌, List, [], ◌∷◌, ◌++◌, append_assoc}
+use Rattle.std.proofs.Common.{append-nil, Bool, Option, None, Some, arith}
 use Rattle.volume_labels.specs.declared.fields.RecordAddress.{RecordAddress}
 use Rattle.dasd_contents.specs.declared.blocks.Block.{Block}
 use Rattle.dasd_contents.specs.declared.chains.Chain.{Chain}
@@ -16,7 +17,8 @@ abbrev pub Followed : (most counter : ℕ) → (is_free : Bool) → List Block �
 Followed most counter is_free blocks first next links =
     (left : ℕ) → counter + left ≡ most → links_from most is_free blocks first ≡ behind links (links_from left is_free blocks next)
 
-pub none_followed : (most : ℕ) (is_free : Bool) (blocks : List Block) (first : RecordAddress) → Followed most 0 is_free blocks first first []
+pub none_followed : (most : ℕ) (is_free : Bool) (blocks : List Block) (first : RecordAddress)
+    → Followed most 0 is_free blocks first first []
 none_followed most is_free blocks first left all = ap (λ n. links_from n is_free blocks first) (same most left all)
   where
     same : (most left : ℕ) → 0 + left ≡ most → most ≡ left
@@ -27,11 +29,13 @@ linked : (is_free : Bool) (blocks : List Block) (next : RecordAddress) (b : Bloc
 unfolding links_from
 linked is_free blocks next b left is = ap (λ s. from_step s (links_from left is_free blocks)) (sym is)
 
-ends_here : (is_free : Bool) (blocks : List Block) (next : RecordAddress) (left : ℕ) → End ≡ step_to is_free blocks next → links_from (suc left) is_free blocks next ≡ ended None
+ends_here : (is_free : Bool) (blocks : List Block) (next : RecordAddress) (left : ℕ) → End ≡ step_to is_free blocks next
+    → links_from (suc left) is_free blocks next ≡ ended None
 unfolding links_from
 ends_here is_free blocks next left is = ap (λ s. from_step s (links_from left is_free blocks)) (sym is)
 
-faults_here : (is_free : Bool) (blocks : List Block) (next : RecordAddress) (f : ChainFault) (left : ℕ) → Fault f ≡ step_to is_free blocks next
+faults_here : (is_free : Bool) (blocks : List Block) (next : RecordAddress) (f : ChainFault) (left : ℕ)
+    → Fault f ≡ step_to is_free blocks next
     → links_from (suc left) is_free blocks next ≡ ended (Some f)
 unfolding links_from
 faults_here is_free blocks next f left is = ap (λ s. from_step s (links_from left is_free blocks)) (sym is)
@@ -41,13 +45,15 @@ unfolding links_from
 none_left is_free blocks next = refl
 
 -- one block more
-pub one_followed : (most counter : ℕ) (is_free : Bool) (blocks : List Block) (first next : RecordAddress) (links now : List Block) (b : Block)
+pub one_followed : (most counter : ℕ) (is_free : Bool) (blocks : List Block) (first next : RecordAddress) (links now : List Block)
+    (b : Block)
     → Followed most counter is_free blocks first next links → Link b ≡ step_to is_free blocks next → now ≡ links ++ b ∷ []
     → Followed most (counter + 1) is_free blocks first (next_of b) now
 one_followed most counter is_free blocks first next links now b f is more left all =
     f (suc left) (one_left most counter left all)
     ∙ ap (behind links) (linked is_free blocks next b left is)
-    ∙ ap (λ l. record { links = l; fault = (links_from left is_free blocks (next_of b)).fault }) (sym (append_assoc links (b ∷ []) (links_from left is_free blocks (next_of b)).links))
+    ∙ ap (λ l. record { links = l; fault = (links_from left is_free blocks (next_of b)).fault })
+    (sym (append_assoc links (b ∷ []) (links_from left is_free blocks (next_of b)).links))
     ∙ ap (λ l. behind l (links_from left is_free blocks (next_of b))) (sym more)
   where
     one_left : (most counter left : ℕ) → counter + 1 + left ≡ most → counter + suc left ≡ most
@@ -72,12 +78,15 @@ followed_to_end most counter is_free blocks first next c f inside is same =
     (f (suc (most - suc counter)) (counted most counter inside) ∙ ap (behind c.links.items) (ends_here is_free blocks next _ is)) same
 
 -- what stands there is wrong
-pub followed_to_fault : (most counter : ℕ) (is_free : Bool) (blocks : List Block) (first next : RecordAddress) (c : Chain) (fault : ChainFault)
-    → Followed most counter is_free blocks first next c.links.items → counter < most → Fault fault ≡ step_to is_free blocks next → c.fault ≡ Some fault
+pub followed_to_fault : (most counter : ℕ) (is_free : Bool) (blocks : List Block) (first next : RecordAddress) (c : Chain)
+    (fault : ChainFault)
+    → Followed most counter is_free blocks first next c.links.items → counter < most → Fault fault ≡ step_to is_free blocks next
+    → c.fault ≡ Some fault
     → ChainOf most is_free blocks first c
 followed_to_fault most counter is_free blocks first next c fault f inside is same =
     chain_is most is_free blocks first c (Some fault)
-    (f (suc (most - suc counter)) (counted most counter inside) ∙ ap (behind c.links.items) (faults_here is_free blocks next fault _ is)) same
+    (f (suc (most - suc counter)) (counted most counter inside) ∙ ap (behind c.links.items) (faults_here is_free blocks next fault _ is))
+    same
 
 -- as many blocks as there may be
 pub followed_all : (most counter : ℕ) (is_free : Bool) (blocks : List Block) (first next : RecordAddress) (c : Chain)

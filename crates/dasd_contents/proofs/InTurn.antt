@@ -1,12 +1,14 @@
 -- What is found of the elements of a list, each of which leaves a state for the next.
-use Rattle.std.proofs.Common.{◌≡◌, ◌∙◌, ◌+◌, ◌<◌, ◌≤◌, ◌++◌, [], ◌∷◌, ap, sym, ℕ, List, length, drop, get_or, fold, append_assoc, append-nil}
+use Rattle.std.proofs.Common.{◌≡◌, ◌∙◌, ◌+◌, ◌<◌, ◌≤◌, ◌++◌, [], ◌∷◌, ap, sym, ℕ, List, length, drop, get_or, fold, append_assoc}
+use Rattle.std.proofs.Common.{append-nil}
 use Rattle.std.proofs.lemmas.List.{drop_more, drop_all}
 
 module _ {S A B : Type 0} (out : S → A → List B) (next : S → A → S) (all : S → List A → List B) (none : (s : S) → all s [] ≡ [])
     (more : (s : S) (x : A) (xs : List A) → all s (x ∷ xs) ≡ out s x ++ all (next s x) xs) where
   -- one more was found
   pub one_found : (found now total : List B) (s : S) (xs : List A) (i : ℕ) (d : A) → i < length xs
-      → now ≡ found ++ out s (get_or xs i d) → found ++ all s (drop i xs) ≡ total → now ++ all (next s (get_or xs i d)) (drop (i + 1) xs) ≡ total
+      → now ≡ found ++ out s (get_or xs i d) → found ++ all s (drop i xs) ≡ total → now ++ all (next s (get_or xs i d)) (drop (i + 1) xs)
+      ≡ total
   one_found found now total s xs i d inside is known =
       ap (λ l. l ++ all (next s (get_or xs i d)) (drop (i + 1) xs)) is
       ∙ append_assoc found (out s (get_or xs i d)) (all (next s (get_or xs i d)) (drop (i + 1) xs))

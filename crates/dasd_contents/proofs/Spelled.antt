@@ -22,14 +22,17 @@ pub year_and_day : (wide : Bool) (d : Date) (year : ℕ) → is_date d ≡ true 
 year_and_day wide d year there is = rw (is, there, zeros_before d.day, append-nil (three_digits d.day)) refl
 
 -- the problems whose words end with a number
-pub other_number : (p : Problem) (found said : ℕ) → p ≡ OtherNumber found said → decimal found ++ (codes " extents, and not " ++ decimal said) ≡ problem_text p
+pub other_number : (p : Problem) (found said : ℕ) → p ≡ OtherNumber found said
+    → decimal found ++ (codes " extents, and not " ++ decimal said) ≡ problem_text p
 other_number p found said is = rw (is, append-nil (decimal said)) refl
 
 pub unknown_format : (p : Problem) (format : ℕ) → p ≡ UnknownFormat format
-    → codes "control block of unknown format " ++ padded_integral (format_spec 32 0 4 2 (2 ^ 64 - 1)) false [] (digits 16 true format) ≡ problem_text p
+    → codes "control block of unknown format " ++ padded_integral (format_spec 32 0 4 2 (2 ^ 64 - 1)) false [] (digits 16 true format)
+    ≡ problem_text p
 unknown_format p format is = rw (is, padded_hexadecimal 2 format, append-nil (hexadecimal 2 format)) refl
 
 -- one character more
 pub one_more_shown : (quoted : Bool) (bytes : List ℕ) (k : ℕ) → k < length bytes
     → text_of quoted (take k bytes) ++ in_text quoted (shown (get_or bytes k 0)) ≡ text_of quoted (take (k + 1) bytes)
-one_more_shown quoted bytes k inside = rw (take_more bytes k 0 inside) (flat_map_more (λ b. in_text quoted (shown b)) [] (take k bytes) (get_or bytes k 0))
+one_more_shown quoted bytes k inside = rw (take_more bytes k 0 inside) (flat_map_more (λ b. in_text quoted (shown b)) [] (take k bytes)
+    (get_or bytes k 0))

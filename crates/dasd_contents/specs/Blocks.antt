@@ -1,11 +1,13 @@
 -- The control blocks of a track, and what is wrong with its records.
-use Rattle.std.specs.Prelude.{◌≡◌, ℕ, ◌+◌, ◌-◌, ◌==◌, Bool, true, false, ◌&&◌, not, if◌then◌else◌, List, [], ◌∷◌, ◌++◌, length, slice_index, Option, Some, None, Result, Ok, Err}
+use Rattle.std.specs.Prelude.{◌≡◌, ℕ, ◌+◌, ◌-◌, ◌==◌, Bool, true, false, ◌&&◌, not, if◌then◌else◌, List, [], ◌∷◌, ◌++◌, length, slice_index, Option, Some, None}
+use Rattle.std.specs.Prelude.{Result, Ok, Err}
 use Rattle.ckd_track.specs.declared.fault.SlotFault.{SlotFault}
 use Rattle.ckd_track.specs.Track.{Record, Track, record_in}
 use Rattle.volume_labels.specs.declared.fields.TrackAddress.{TrackAddress}
 use Rattle.volume_labels.specs.declared.fields.RecordAddress.{RecordAddress}
 use Rattle.volume_labels.specs.declared.blocks.BlockKind.{BlockKind}
-use Rattle.volume_labels.specs.declared.blocks.BlockKind.TheVariants.{Free, DataSet, IndexedSequential, MoreExtents, Contents, FreeSpace, SharedCylinders, Unknown}
+use Rattle.volume_labels.specs.declared.blocks.BlockKind.TheVariants.{Free, DataSet, IndexedSequential, MoreExtents, Contents, FreeSpace, SharedCylinders}
+use Rattle.volume_labels.specs.declared.blocks.BlockKind.TheVariants.{Unknown}
 use Rattle.volume_labels.specs.Labels.{block_kind_of}
 use Rattle.volume_labels.specs.Blocks.{has_key_of}
 use Rattle.dasd_volumes.specs.Volumes.{of_each}

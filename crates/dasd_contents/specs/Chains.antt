@@ -3,7 +3,8 @@ use Rattle.std.specs.Prelude.{◌≡◌, ℕ, zero, suc, ◌==◌, Bool, true, f
 use Rattle.std.specs.List.{position}
 use Rattle.volume_labels.specs.declared.fields.RecordAddress.{RecordAddress}
 use Rattle.volume_labels.specs.declared.blocks.BlockKind.{BlockKind}
-use Rattle.volume_labels.specs.declared.blocks.BlockKind.TheVariants.{Free, DataSet, IndexedSequential, MoreExtents, Contents, FreeSpace, SharedCylinders, Unknown}
+use Rattle.volume_labels.specs.declared.blocks.BlockKind.TheVariants.{Free, DataSet, IndexedSequential, MoreExtents, Contents, FreeSpace, SharedCylinders}
+use Rattle.volume_labels.specs.declared.blocks.BlockKind.TheVariants.{Unknown}
 use Rattle.volume_labels.specs.Fields.{record_address_at}
 use Rattle.dasd_contents.specs.declared.blocks.Block.{Block}
 use Rattle.dasd_contents.specs.declared.chains.Chain.{Chain}

@@ -1,5 +1,6 @@
 -- What is wrong with data sets and free tracks: each extent, and then all free tracks, against those that claim tracks before it.
-use Rattle.std.specs.Prelude.{◌≡◌, ℕ, ◌+◌, ◌-◌, ◌==◌, Bool, ◌||◌, nat_lt, if◌then◌else◌, List, [], ◌∷◌, ◌++◌, length, replicate, count_by, fold, Option, Some, None}
+use Rattle.std.specs.Prelude.{◌≡◌, ℕ, ◌+◌, ◌-◌, ◌==◌, Bool, ◌||◌, nat_lt, if◌then◌else◌, List, [], ◌∷◌, ◌++◌, length, replicate, count_by, fold, Option, Some}
+use Rattle.std.specs.Prelude.{None}
 use Rattle.ckd_track.specs.declared.geometries.Geometry.{Geometry}
 use Rattle.ckd_track.specs.Geometry.{tracks_of}
 use Rattle.volume_labels.specs.declared.fields.Extent.{Extent}

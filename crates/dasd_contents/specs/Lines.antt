@@ -1,5 +1,6 @@
 -- The lines of `dasd vtoc`.
-use Rattle.std.specs.Prelude.{ℕ, ◌+◌, ◌-◌, ◌^◌, ◌==◌, min, true, false, not, ◌||◌, ◌&&◌, if◌then◌else◌, List, [], ◌∷◌, ◌++◌, length, replicate, sum_by, codes, Option, Some, None}
+use Rattle.std.specs.Prelude.{ℕ, ◌+◌, ◌-◌, ◌^◌, ◌==◌, min, true, false, not, ◌||◌, ◌&&◌, if◌then◌else◌, List, [], ◌∷◌, ◌++◌, length, replicate, sum_by, codes}
+use Rattle.std.specs.Prelude.{Option, Some, None}
 use Rattle.std.specs.List.{concat, flat_map}
 use Rattle.std.specs.Fmt.{decimal}
 use Rattle.ckd_track.specs.declared.geometries.Geometry.{Geometry}
@@ -61,12 +62,14 @@ heading = codes "Data set                                     Created  Expires  
 -- its name, when it was made, when it may be scratched, and its organisation
 unfoldable pub name_columns : DataSetBlock → List ℕ
 name_columns d = concat (
-    text_of false d.name ∷ codes " " ∷ day_text true d.created ∷ codes " " ∷ day_text true d.expires ∷ codes " " ∷ organisation_text true d.organisation ∷ codes " " ∷ [])
+    text_of false d.name ∷ codes " " ∷ day_text true d.created ∷ codes " " ∷ day_text true d.expires ∷ codes " " ∷ organisation_text true d.organisation
+    ∷ codes " " ∷ [])
 
 -- the lengths of its records and blocks, its tracks, those of them that are used, and how many extents it has
 unfoldable pub number_columns : Geometry → DataSetBlock → List Extent → List ℕ
 number_columns g d extents = concat (
-    codes " " ∷ at_right 5 (decimal d.record_length) ∷ codes " " ∷ at_right 5 (decimal d.block_length) ∷ codes " " ∷ at_right 6 (decimal (tracks_owned g extents))
+    codes " " ∷ at_right 5 (decimal d.record_length) ∷ codes " " ∷ at_right 5 (decimal d.block_length) ∷ codes " "
+    ∷ at_right 6 (decimal (tracks_owned g extents))
     ∷ codes " " ∷ at_right 6 (decimal (tracks_used d.last)) ∷ codes " " ∷ at_right 7 (decimal (length extents)) ∷ line_feed ∷ [])
 
 abbrev pub set_line : Geometry → DataSetBlock → List Extent → List ℕ

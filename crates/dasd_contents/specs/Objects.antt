@@ -26,7 +26,8 @@ quoted_text bytes = text_of true (without_blanks bytes)
 -- an extent as a list of cylinder, head, cylinder and head
 abbrev pub four_text : Extent → List ℕ
 four_text e = concat (
-    codes "[" ∷ decimal e.first.cylinder ∷ codes "," ∷ decimal e.first.head ∷ codes "," ∷ decimal e.last.cylinder ∷ codes "," ∷ decimal e.last.head ∷ codes "]" ∷ [])
+    codes "[" ∷ decimal e.first.cylinder ∷ codes "," ∷ decimal e.first.head ∷ codes "," ∷ decimal e.last.cylinder ∷ codes "," ∷ decimal e.last.head ∷ codes "]"
+    ∷ [])
 
 -- a date as a string, or null where there is none
 abbrev pub day_or_null : Date → List ℕ
@@ -61,7 +62,8 @@ name_members d = concat (
 -- the lengths of its records, blocks and keys, its tracks, and those of them that are used
 unfoldable pub number_members : Geometry → DataSetBlock → List Extent → List ℕ
 number_members g d extents = concat (
-    codes ",\"record_length\":" ∷ decimal d.record_length ∷ codes ",\"block_length\":" ∷ decimal d.block_length ∷ codes ",\"key_length\":" ∷ decimal d.key_length
+    codes ",\"record_length\":" ∷ decimal d.record_length ∷ codes ",\"block_length\":" ∷ decimal d.block_length ∷ codes ",\"key_length\":"
+    ∷ decimal d.key_length
     ∷ codes ",\"tracks\":" ∷ decimal (tracks_owned g extents) ∷ codes ",\"used\":" ∷ decimal (tracks_used d.last) ∷ codes ",\"extents\":[" ∷ [])
 
 -- its extents, with commas between them

@@ -7,7 +7,8 @@ use Rattle.volume_labels.specs.declared.fields.Extent.{Extent}
 use Rattle.volume_labels.specs.declared.fields.FreeTracks.{FreeTracks}
 use Rattle.volume_labels.specs.declared.fields.RecordAddress.{RecordAddress}
 use Rattle.volume_labels.specs.declared.blocks.BlockKind.{BlockKind}
-use Rattle.volume_labels.specs.declared.blocks.BlockKind.TheVariants.{Free, DataSet, IndexedSequential, MoreExtents, Contents, FreeSpace, SharedCylinders, Unknown}
+use Rattle.volume_labels.specs.declared.blocks.BlockKind.TheVariants.{Free, DataSet, IndexedSequential, MoreExtents, Contents, FreeSpace, SharedCylinders}
+use Rattle.volume_labels.specs.declared.blocks.BlockKind.TheVariants.{Unknown}
 use Rattle.volume_labels.specs.declared.blocks.DataSetBlock.{DataSetBlock}
 use Rattle.volume_labels.specs.Labels.{data_set_block_of}
 use Rattle.volume_labels.specs.Blocks.{extents_block_of, free_space_block_of}

@@ -1,5 +1,6 @@
 -- The words in which labels, control blocks and findings are printed.
-use Rattle.std.specs.Prelude.{ℕ, ◌+◌, ◌-◌, ◌==◌, Bool, false, ◌&&◌, ◌||◌, not, if◌then◌else◌, List, [], ◌∷◌, ◌++◌, length, replicate, bit_and, codes, encode_utf8}
+use Rattle.std.specs.Prelude.{ℕ, ◌+◌, ◌-◌, ◌==◌, Bool, false, ◌&&◌, ◌||◌, not, if◌then◌else◌, List, [], ◌∷◌, ◌++◌, length, replicate, bit_and, codes}
+use Rattle.std.specs.Prelude.{encode_utf8}
 use Rattle.std.specs.List.{concat, flat_map}
 use Rattle.std.specs.Fmt.{decimal}
 use Rattle.volume_labels.specs.declared.fields.TrackAddress.{TrackAddress}
@@ -13,7 +14,8 @@ use Rattle.dasd_volumes.specs.Lines.{address_text, fault_text, hexadecimal}
 use Rattle.dasd_contents.specs.declared.chains.ChainFault.{ChainFault}
 use Rattle.dasd_contents.specs.declared.chains.ChainFault.TheVariants.{Missing, OtherFormat, Endless}
 use Rattle.dasd_contents.specs.declared.findings.Problem.{Problem}
-use Rattle.dasd_contents.specs.declared.findings.Problem.TheVariants.{NoLabel, NoContents, BadContents, Unreadable, NoBlock, UnknownFormat, OtherKey, Chain, OtherNumber, BadExtent, ExtentOutside, Overlap, FreeOutside, FreeInUse}
+use Rattle.dasd_contents.specs.declared.findings.Problem.TheVariants.{NoLabel, NoContents, BadContents, Unreadable, NoBlock, UnknownFormat, OtherKey, Chain}
+use Rattle.dasd_contents.specs.declared.findings.Problem.TheVariants.{OtherNumber, BadExtent, ExtentOutside, Overlap, FreeOutside, FreeInUse}
 
 -- Places.
 

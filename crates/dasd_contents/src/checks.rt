@@ -2,7 +2,9 @@
 
 ghost use Rattle.std.specs.Prelude.{◌≡◌, ◌<◌, ◌++◌, length, IfOk, OnOk, OnErr};
 ghost use Rattle.ckd_track.specs.Geometry.{tracks_of};
-ghost use Rattle.dasd_contents.specs.Checks.{is_for_labels, is_number, found_at, chain_findings, number_findings, extent_findings, claimed_behind, block_findings, claimed_by_block, sets_findings, claimed_by_sets, free_claim_of, claimed_by_free, piece_findings, free_findings, findings_of, AddsFront};
+ghost use Rattle.dasd_contents.specs.Checks.{is_for_labels, is_number, found_at, chain_findings, number_findings, extent_findings, claimed_behind};
+ghost use Rattle.dasd_contents.specs.Checks.{block_findings, claimed_by_block, sets_findings, claimed_by_sets, free_claim_of, claimed_by_free, piece_findings};
+ghost use Rattle.dasd_contents.specs.Checks.{free_findings, findings_of, AddsFront};
 ghost use Rattle.dasd_contents.specs.Sets.{number_of_free};
 
 use crate::blocks::{Block, add_finding};

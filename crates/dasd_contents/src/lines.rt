@@ -7,7 +7,8 @@ ghost use Rattle.counted_io.specs.Streams.{seen_by, Takes, TakesFront, IsFlushed
 ghost use Rattle.dasd_volumes.specs.Printing.{CountsWrites};
 ghost use Rattle.dasd_contents.specs.Sets.{is_data_set, number_of_free};
 ghost use Rattle.dasd_contents.specs.Words.{format_text};
-ghost use Rattle.dasd_contents.specs.Lines.{tracks_in, tracks_owned, tracks_used, tracks_free, at_left, label_line, label_alone, heading, name_columns, number_columns, set_line, block_line, free_line, finding_line, volume_lines, contents_lines};
+ghost use Rattle.dasd_contents.specs.Lines.{tracks_in, tracks_owned, tracks_used, tracks_free, at_left, label_line, label_alone, heading, name_columns};
+ghost use Rattle.dasd_contents.specs.Lines.{number_columns, set_line, block_line, free_line, finding_line, volume_lines, contents_lines};
 
 use crate::blocks::Block;
 use crate::checks::number_of_free;

@@ -5,7 +5,9 @@ ghost use Rattle.std.specs.List.{flat_map};
 ghost use Rattle.std.specs.Io.KnownBytes.{Appends};
 ghost use Rattle.counted_io.specs.Streams.{seen_by, Takes, TakesFront, IsFlushed};
 ghost use Rattle.dasd_volumes.specs.Printing.{CountsWrites};
-ghost use Rattle.dasd_contents.specs.Objects.{quoted_text, four_text, day_or_null, path_text, label_members, alone_members, volume_object, name_members, number_members, comma_before, listed_extent, extents_text, listed_type, types_text, set_object, block_object, finding_members, finding_object, volume_objects, contents_objects};
+ghost use Rattle.dasd_contents.specs.Objects.{quoted_text, four_text, day_or_null, path_text, label_members, alone_members, volume_object, name_members};
+ghost use Rattle.dasd_contents.specs.Objects.{number_members, comma_before, listed_extent, extents_text, listed_type, types_text, set_object, block_object};
+ghost use Rattle.dasd_contents.specs.Objects.{finding_members, finding_object, volume_objects, contents_objects};
 
 use crate::blocks::Block;
 use crate::findings::Finding;

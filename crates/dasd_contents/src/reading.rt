@@ -6,7 +6,8 @@ ghost use Rattle.ckd_track.specs.Track.{track_of};
 ghost use Rattle.ckd_image.specs.Store.{Counts};
 ghost use Rattle.dasd_volumes.specs.Reading.{IsRead, IsSlotOf};
 ghost use Rattle.dasd_contents.specs.Runs.{exists_on};
-ghost use Rattle.dasd_contents.specs.Contents.{label_in, label_on, table_in, table_on, bad_extent, label_place, said_with, IsContents, SaysOf, SaysOfSlots, IsOfSlots, AddsOfSlots, AddsOfTrack};
+ghost use Rattle.dasd_contents.specs.Contents.{label_in, label_on, table_in, table_on, bad_extent, label_place, said_with, IsContents, SaysOf, SaysOfSlots};
+ghost use Rattle.dasd_contents.specs.Contents.{IsOfSlots, AddsOfSlots, AddsOfTrack};
 
 use crate::blocks::{Block, add_finding, find_block, read_track};
 use crate::findings::{Finding, Problem};

@@ -2,7 +2,8 @@
 
 ghost use Rattle.std.specs.Prelude.{◌≡◌, ◌++◌, IfOk};
 ghost use Rattle.std.specs.List.{position};
-ghost use Rattle.dasd_contents.specs.Sets.{has_name, extents_in, is_extent, is_piece, is_free_space, used_extents, used_pieces, DataSetOf, FreeSpaceOf, FoundOf};
+ghost use Rattle.dasd_contents.specs.Sets.{has_name, extents_in, is_extent, is_piece, is_free_space, used_extents, used_pieces, DataSetOf, FreeSpaceOf};
+ghost use Rattle.dasd_contents.specs.Sets.{FoundOf};
 
 use crate::blocks::Block;
 use crate::chains::{ChainFault, LONGEST_CHAIN, follow_chain};

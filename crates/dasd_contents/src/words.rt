@@ -3,7 +3,8 @@
 ghost use Rattle.std.specs.Prelude.{◌≡◌, ◌≤◌, [], ◌∷◌, Some, length, codes};
 ghost use Rattle.std.specs.List.{concat};
 ghost use Rattle.std.specs.Fmt.{WritesOnOk, decimal};
-ghost use Rattle.dasd_contents.specs.Words.{owner_text, track_text, place_text, extent_text, piece_text, in_text, text_of, is_date, day_text, organisation_of, unmovable, organisation_text, form_of, where_set, format_text, chain_text, problem_text, kind_text};
+ghost use Rattle.dasd_contents.specs.Words.{owner_text, track_text, place_text, extent_text, piece_text, in_text, text_of, is_date, day_text, organisation_of};
+ghost use Rattle.dasd_contents.specs.Words.{unmovable, organisation_text, form_of, where_set, format_text, chain_text, problem_text, kind_text};
 
 use crate::chains::ChainFault;
 use crate::findings::Problem;

@@ -27,7 +27,8 @@ next_written w next a b c stop first second =
     rw (and_then_none w next (sym first.stop)) (record { bytes = Appends-trans a b c _ _ first.bytes second.bytes; stop = second.stop })
 
 -- one more of them
-pub one_more : (of : ℕ → Written) (n : ℕ) (a b c : Option (List ℕ)) (stop : Option Stop) → Writes (until_stop of n) a b None → Writes (of n) b c stop
+pub one_more : (of : ℕ → Written) (n : ℕ) (a b c : Option (List ℕ)) (stop : Option Stop) → Writes (until_stop of n) a b None
+    → Writes (of n) b c stop
     → Writes (until_stop of (n + 1)) a c stop
 one_more of n a b c stop first second = rw (until_one_more of n) (next_written (until_stop of n) (of n) a b c stop first second)
 
@@ -44,7 +45,8 @@ stays_for of n zero s is = let e : n + 0 ≡ n = omega arith in ap (until_stop o
 stays_for of n (suc k) s is =
     let before = stays_for of n k s is in
     let e : n + suc k ≡ (n + k) + 1 = omega arith in
-    ap (until_stop of) e ∙ until_one_more of (n + k) ∙ ended_stays (until_stop of (n + k)) (of (n + k)) s (ap (λ (w : Written). w.stop) before ∙ is) ∙ before
+    ap (until_stop of) e ∙ until_one_more of (n + k) ∙ ended_stays (until_stop of (n + k)) (of (n + k)) s
+    (ap (λ (w : Written). w.stop) before ∙ is) ∙ before
 
 -- what ended before so many is what is written of so many
 pub stays : (of : ℕ → Written) (n most : ℕ) (a b : Option (List ℕ)) (s : Stop) → n ≤ most → Writes (until_stop of n) a b (Some s)

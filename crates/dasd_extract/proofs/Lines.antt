@@ -1,5 +1,6 @@
 -- The records of a block, written one after another.
-use Rattle.std.proofs.Common.{ℕ, suc, ◌+◌, ◌-◌, ◌<◌, ◌≤◌, ◌≡◌, ◌∙◌, List, [], ◌++◌, length, Option, None, Result, ap, sym, refl, append-nil, append_assoc, arith}
+use Rattle.std.proofs.Common.{ℕ, suc, ◌+◌, ◌-◌, ◌<◌, ◌≤◌, ◌≡◌, ◌∙◌, List, [], ◌++◌, length, Option, None, Result, ap, sym, refl, append-nil}
+use Rattle.std.proofs.Common.{append_assoc, arith}
 use Rattle.std.specs.Io.KnownBytes.{Appends}
 use Rattle.data_sets.specs.declared.records.RecordForm.{RecordForm}
 use Rattle.data_sets.specs.declared.records.RecordFault.{RecordFault}
@@ -10,7 +11,8 @@ use Rattle.dasd_extract.specs.Written.{Written, nothing, behind, Writes}
 use Rattle.dasd_extract.specs.Blocks.{lines_from, on_piece}
 
 module _ (form : RecordForm) (track number : ℕ) (block : List ℕ) where
-  more_lines : (most at : ℕ) → lines_from (suc most) form track number block at ≡ on_piece track number block (next_record form block at) (lines_from most form track number block)
+  more_lines : (most at : ℕ) → lines_from (suc most) form track number block at ≡ on_piece track number block (next_record form block at)
+      (lines_from most form track number block)
   unfolding lines_from
   more_lines most at = refl
 
@@ -27,7 +29,8 @@ module _ (form : RecordForm) (track number : ℕ) (block : List ℕ) where
 
     -- the next step, by what stands there
     pub this_step : (r : Result (Option Piece) RecordFault) → r ≡ next_record form block at → k < length block
-        → lines_from (length block - k) form track number block at ≡ on_piece track number block r (lines_from (length block - (k + 1)) form track number block)
+        → lines_from (length block - k) form track number block at ≡ on_piece track number block r
+        (lines_from (length block - (k + 1)) form track number block)
     this_step r is inside =
         let e : length block - k ≡ suc (length block - (k + 1)) = omega (arith, inside) in
         ap (λ m. lines_from m form track number block at) e ∙ more_lines (length block - (k + 1)) at
@@ -35,7 +38,8 @@ module _ (form : RecordForm) (track number : ℕ) (block : List ℕ) where
 
 module _ (w rest : Written) (before : List ℕ) (whole : w ≡ behind None before rest) where
   -- nothing more is written, and it ended so
-  pub no_more : (a b : Option (List ℕ)) (ended : Option Stop) → rest ≡ record { bytes = []; stop = ended } → Appends a b before → Writes w a b ended
+  pub no_more : (a b : Option (List ℕ)) (ended : Option Stop) → rest ≡ record { bytes = []; stop = ended } → Appends a b before
+      → Writes w a b ended
   no_more a b ended is written =
       let all : w ≡ behind None before (record { bytes = []; stop = ended }) = whole ∙ ap (behind None before) is in
       rw (all, append-nil before) (record { bytes = written; stop = refl })

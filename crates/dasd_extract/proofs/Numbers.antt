@@ -11,5 +11,6 @@ module _ {X : Type 0} (p : X → Bool) (xs : List X) (d : X) where
 
   pub found_nowhere : (n : ℕ) → length xs ≤ n → ((k : ℕ) → k < n → p (get_or xs k d) ≡ false) → position p xs ≡ None
   found_nowhere n passed all =
-      let e = position_or_len_is p xs (length xs) d (omega arith) (λ k below. all k (omega (arith, below, passed))) (λ below. absurd (omega (arith, below))) in
+      let e = position_or_len_is p xs (length xs) d (omega arith) (λ k below. all k (omega (arith, below, passed)))
+      (λ below. absurd (omega (arith, below))) in
       rw (e) (search (rules, tests))

@@ -1,5 +1,6 @@
 -- Something that is printed up to where it ends, or of which the first bytes are.
-use Rattle.std.proofs.Common.{ℕ, zero, suc, ◌+◌, ◌-◌, ◌<◌, ◌≤◌, ◌≡◌, ◌∙◌, List, [], ◌++◌, Option, Some, None, Result, Ok, Err, ap, sym, subst, refl, arith}
+use Rattle.std.proofs.Common.{ℕ, zero, suc, ◌+◌, ◌-◌, ◌<◌, ◌≤◌, ◌≡◌, ◌∙◌, List, [], ◌++◌, Option, Some, None, Result, Ok, Err, ap, sym}
+use Rattle.std.proofs.Common.{subst, refl, arith}
 use Rattle.counted_io.specs.Streams.{Stream, Takes, TakesFront}
 use Rattle.counted_io.proofs.Written.{takes_nothing, takes_more}
 use Rattle.dasd_volumes.specs.declared.fault.VolumeFault.{VolumeFault}
@@ -20,17 +21,20 @@ pub begun : (of : ℕ → Written) (a : Stream) → Printed (until_stop of 0) a 
 begun of a = rw (until_none of) (takes_nothing a, refl)
 
 -- one, and then the next
-next_printed : (w next : Written) (a b c : Stream) (ended : Option Stop) → Printed w a b None → Printed next b c ended → Printed (and_then w next) a c ended
+next_printed : (w next : Written) (a b c : Stream) (ended : Option Stop) → Printed w a b None → Printed next b c ended
+    → Printed (and_then w next) a c ended
 next_printed w next a b c ended first second =
     rw (and_then_none w next (sym first.1)) (takes_more a b c w.bytes next.bytes first.0 second.0, second.1)
 
 -- one more of them
-pub one_more : (of : ℕ → Written) (n : ℕ) (a b c : Stream) (ended : Option Stop) → Printed (until_stop of n) a b None → Printed (of n) b c ended
+pub one_more : (of : ℕ → Written) (n : ℕ) (a b c : Stream) (ended : Option Stop) → Printed (until_stop of n) a b None
+    → Printed (of n) b c ended
     → Printed (until_stop of (n + 1)) a c ended
 one_more of n a b c ended first second = rw (until_one_more of n) (next_printed (until_stop of n) (of n) a b c ended first second)
 
 -- what ended before so many is what is printed of so many
-pub stays : (of : ℕ → Written) (n most : ℕ) (a b : Stream) (s : Stop) → n ≤ most → Printed (until_stop of n) a b (Some s) → Printed (until_stop of most) a b (Some s)
+pub stays : (of : ℕ → Written) (n most : ℕ) (a b : Stream) (s : Stop) → n ≤ most → Printed (until_stop of n) a b (Some s)
+    → Printed (until_stop of most) a b (Some s)
 stays of n most a b s within printed =
     let e : n + (most - n) ≡ most = omega (arith, within) in
     let same = stays_for of n (most - n) s (sym printed.1) in
@@ -52,12 +56,14 @@ begins_further : (a b c : List ℕ) → Begins a b → Begins b c → Begins a c
 begins_further a b c h k = subst (Begins a) (sym k.whole) (begins_before a b k.rest h)
 
 begins_for : (of : ℕ → Written) (n k : ℕ) → Begins (until_stop of n).bytes (until_stop of (n + k)).bytes
-begins_for of n zero = subst (λ m. Begins (until_stop of n).bytes (until_stop of m).bytes) {x = n} {y = n + 0} (omega arith) (begins_with_all (until_stop of n).bytes)
+begins_for of n zero = subst (λ m. Begins (until_stop of n).bytes (until_stop of m).bytes) {x = n} {y = n + 0} (omega arith)
+    (begins_with_all (until_stop of n).bytes)
 begins_for of n (suc k) =
     let e : (n + k) + 1 ≡ n + suc k = omega arith in
     subst (λ m. Begins (until_stop of n).bytes (until_stop of m).bytes) e
     (subst (λ (w : Written). Begins (until_stop of n).bytes w.bytes) (sym (until_one_more of (n + k)))
-    (begins_further (until_stop of n).bytes (until_stop of (n + k)).bytes (and_then (until_stop of (n + k)) (of (n + k))).bytes (begins_for of n k) (begins_first (until_stop of (n + k)) (of (n + k)))))
+    (begins_further (until_stop of n).bytes (until_stop of (n + k)).bytes (and_then (until_stop of (n + k)) (of (n + k))).bytes
+    (begins_for of n k) (begins_first (until_stop of (n + k)) (of (n + k)))))
 
 begins_with : (of : ℕ → Written) (n most : ℕ) → n ≤ most → Begins (until_stop of n).bytes (until_stop of most).bytes
 begins_with of n most within =
@@ -65,7 +71,8 @@ begins_with of n most within =
     subst (λ m. Begins (until_stop of n).bytes (until_stop of m).bytes) e (begins_for of n (most - n))
 
 -- so many are printed, and the first bytes of the next one
-pub front_of_next : (of : ℕ → Written) (next : Written) (n most : ℕ) (a b c : Stream) → n < most → Printed (until_stop of n) a b None → TakesFront b c (of n).bytes
+pub front_of_next : (of : ℕ → Written) (next : Written) (n most : ℕ) (a b c : Stream) → n < most → Printed (until_stop of n) a b None
+    → TakesFront b c (of n).bytes
     → TakesFront a c (and_then (until_stop of most) next).bytes
 front_of_next of next n most a b c inside first second =
     let here : (until_stop of (n + 1)).bytes ≡ (until_stop of n).bytes ++ (of n).bytes =
@@ -75,8 +82,10 @@ front_of_next of next n most a b c inside first second =
     (subst (TakesFront a c) (sym here) (front_behind a b c (until_stop of n).bytes (of n).bytes first.0 second)))
 
 -- what was written into memory is printed, or its first bytes are
-pub all_printed : (w : Written) (ended : Option Stop) (a b : Stream) (bytes : List ℕ) → bytes ≡ w.bytes → ended ≡ w.stop → Takes a b bytes → PrintsWritten w (Ok ended) a b
+pub all_printed : (w : Written) (ended : Option Stop) (a b : Stream) (bytes : List ℕ) → bytes ≡ w.bytes → ended ≡ w.stop → Takes a b bytes
+    → PrintsWritten w (Ok ended) a b
 all_printed w ended a b bytes is stop taken = (subst (Takes a b) is taken, stop)
 
-pub some_printed : (w : Written) (fault : VolumeFault) (a b : Stream) (bytes : List ℕ) → bytes ≡ w.bytes → TakesFront a b bytes → PrintsWritten w (Err fault) a b
+pub some_printed : (w : Written) (fault : VolumeFault) (a b : Stream) (bytes : List ℕ) → bytes ≡ w.bytes → TakesFront a b bytes
+    → PrintsWritten w (Err fault) a b
 some_printed w fault a b bytes is taken = subst (TakesFront a b) is taken

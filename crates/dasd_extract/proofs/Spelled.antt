@@ -1,5 +1,6 @@
 -- Bytes of EBCDIC that are written as text, some after others.
-use Rattle.std.proofs.Common.{ℕ, ◌+◌, ◌/◌, ◌%◌, ◌<◌, ◌≤◌, ◌≡◌, ◌∙◌, List, [], ◌∷◌, ◌++◌, length, take, drop, get_or, ap, sym, refl, subst, flat_map, append_assoc, append-nil, take-append-drop, Option, arith, le-ltb, lt-ltb}
+use Rattle.std.proofs.Common.{ℕ, ◌+◌, ◌/◌, ◌%◌, ◌<◌, ◌≤◌, ◌≡◌, ◌∙◌, List, [], ◌∷◌, ◌++◌, length, take, drop, get_or, ap, sym, refl, subst}
+use Rattle.std.proofs.Common.{flat_map, append_assoc, append-nil, take-append-drop, Option, arith, le-ltb, lt-ltb}
 use Rattle.std.proofs.lemmas.List.{flat_map_more, take_more}
 use Rattle.std.proofs.lemmas.List.Concat.{flat_map-append}
 use Rattle.std.proofs.KnownBytes.{Appends-trans, Appends-nil}
@@ -16,24 +17,28 @@ pub record AreLeft (before now : Option (List ℕ)) (bytes rest : List ℕ) : Ty
 pub all_left : (a : Option (List ℕ)) (bytes : List ℕ) → AreLeft a a bytes bytes
 all_left a bytes = record { front = []; whole = refl; written = Appends-nil a }
 
-pub fewer_left : (a b c : Option (List ℕ)) (bytes rest chunk behind : List ℕ) (n : ℕ) → chunk ≡ take n rest → behind ≡ drop n rest → AreLeft a b bytes rest → Appends b c (text_of chunk)
+pub fewer_left : (a b c : Option (List ℕ)) (bytes rest chunk behind : List ℕ) (n : ℕ) → chunk ≡ take n rest → behind ≡ drop n rest
+    → AreLeft a b bytes rest → Appends b c (text_of chunk)
     → AreLeft a c bytes behind
 fewer_left a b c bytes rest chunk behind n these those h written = record {
   front = h.front ++ take n rest;
-  whole = h.whole ∙ ap (λ l. h.front ++ l) (sym (take-append-drop n rest)) ∙ sym (append_assoc h.front (take n rest) (drop n rest)) ∙ ap (λ l. (h.front ++ take n rest) ++ l) (sym those);
+  whole = h.whole ∙ ap (λ l. h.front ++ l) (sym (take-append-drop n rest)) ∙ sym (append_assoc h.front (take n rest) (drop n rest))
+      ∙ ap (λ l. (h.front ++ take n rest) ++ l) (sym those);
   written = subst (Appends a c) (sym (flat_map-append (λ x. encode_utf8 (text_character x)) h.front (take n rest)))
       (Appends-trans a b c _ _ h.written (subst (λ l. Appends b c (text_of l)) these written));
 }
 
 pub none_left : (a b : Option (List ℕ)) (bytes rest : List ℕ) → rest ≡ [] → AreLeft a b bytes rest → Appends a b (text_of bytes)
-none_left a b bytes rest e h = subst (λ l. Appends a b (text_of l)) (sym (h.whole ∙ ap (λ l. h.front ++ l) e ∙ append-nil h.front)) h.written
+none_left a b bytes rest e h = subst (λ l. Appends a b (text_of l)) (sym (h.whole ∙ ap (λ l. h.front ++ l) e ∙ append-nil h.front))
+    h.written
 
 -- a character more
 pub character_more : (before bytes : List ℕ) (k : ℕ) → k < length bytes
     → (before ++ text_of (take k bytes)) ++ encode_utf8 (text_character (get_or bytes k 0)) ≡ before ++ text_of (take (k + 1) bytes)
 character_more before bytes k inside =
     append_assoc before (text_of (take k bytes)) (encode_utf8 (text_character (get_or bytes k 0)))
-    ∙ ap (λ l. before ++ l) (rw (take_more bytes k 0 inside) (flat_map_more (λ x. encode_utf8 (text_character x)) [] (take k bytes) (get_or bytes k 0)))
+    ∙ ap (λ l. before ++ l) (rw (take_more bytes k 0 inside) (flat_map_more (λ x. encode_utf8 (text_character x)) [] (take k bytes)
+    (get_or bytes k 0)))
 
 -- UTF-8 of one byte, and of two
 pub one_byte : (c : ℕ) → c < 128 → encode_utf8 c ≡ c ∷ []

@@ -1,7 +1,8 @@
 -- Defective tracks, and the alternates that hold their blocks (component descriptions of the 2841 and the 2314, 'Track Format'): the flag
 -- byte of a home address says in bit 6 that its track is defective, and in bit 7 that it is an alternate; record 0 of a defective track
 -- names its alternate, by the cylinder and the head in its count area.
-use Rattle.std.specs.Prelude.{ℕ, ◌/◌, ◌%◌, ◌==◌, ◌<◌, Bool, false, ◌&&◌, not, nat_lt, if◌then◌else◌, List, [], length, slice_index, slice_index_or, Result, Ok, Err}
+use Rattle.std.specs.Prelude.{ℕ, ◌/◌, ◌%◌, ◌==◌, ◌<◌, Bool, false, ◌&&◌, not, nat_lt, if◌then◌else◌, List, [], length, slice_index, slice_index_or, Result, Ok}
+use Rattle.std.specs.Prelude.{Err}
 use Rattle.ckd_track.specs.declared.geometries.Geometry.{Geometry}
 use Rattle.ckd_track.specs.declared.fault.SlotFault.{SlotFault}
 use Rattle.ckd_track.specs.Model.{heads_of}

@@ -1,5 +1,6 @@
 -- What is written of a block: its data, or its records as lines of text.
-use Rattle.std.specs.Prelude.{ℕ, zero, suc, Bool, ◌&&◌, ◌||◌, ◌==◌, nat_lt, nat_le, if◌then◌else◌, List, [], ◌∷◌, ◌++◌, length, flat_map, slice_range, slice_index, encode_utf8, Option, Some, None, Result, Ok, Err}
+use Rattle.std.specs.Prelude.{ℕ, zero, suc, Bool, ◌&&◌, ◌||◌, ◌==◌, nat_lt, nat_le, if◌then◌else◌, List, [], ◌∷◌, ◌++◌, length, flat_map, slice_range}
+use Rattle.std.specs.Prelude.{slice_index, encode_utf8, Option, Some, None, Result, Ok, Err}
 use Rattle.ckd_track.specs.Track.{Record}
 use Rattle.volume_labels.specs.Ebcdic.{character_of}
 use Rattle.data_sets.specs.declared.records.RecordForm.{RecordForm}

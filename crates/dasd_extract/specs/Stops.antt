@@ -6,7 +6,8 @@ use Rattle.data_sets.specs.declared.records.RecordFault.{RecordFault}
 use Rattle.data_sets.specs.declared.records.RecordFault.TheVariants.{ShortRecord, NoDescriptor, BlockLength, RecordLength, SegmentCode}
 use Rattle.dasd_volumes.specs.Lines.{fault_text}
 use Rattle.dasd_extract.specs.declared.stops.Cause.{Cause}
-use Rattle.dasd_extract.specs.declared.stops.Cause.TheVariants.{EndOfFile, EndBehindAlternates, PastExtents, Outside, BadExtent, NoTrack, NoAlternate, NotAlternate, Unreadable, NoBlock, NotDirectory, NoRecord, TooManyTracks}
+use Rattle.dasd_extract.specs.declared.stops.Cause.TheVariants.{EndOfFile, EndBehindAlternates, PastExtents, Outside, BadExtent, NoTrack, NoAlternate}
+use Rattle.dasd_extract.specs.declared.stops.Cause.TheVariants.{NotAlternate, Unreadable, NoBlock, NotDirectory, NoRecord, TooManyTracks}
 use Rattle.dasd_extract.specs.declared.stops.Stop.{Stop}
 
 -- why bytes are no record

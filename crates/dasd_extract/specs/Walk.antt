@@ -1,5 +1,6 @@
 -- The blocks of a data set, over its extents and tracks.
-use Rattle.std.specs.Prelude.{◌≡◌, ℕ, zero, suc, ◌+◌, ◌-◌, ◌==◌, nat_lt, if◌then◌else◌, List, [], length, position, slice_index_or, Option, Some, None, Result, Ok, Err}
+use Rattle.std.specs.Prelude.{◌≡◌, ℕ, zero, suc, ◌+◌, ◌-◌, ◌==◌, nat_lt, if◌then◌else◌, List, [], length, position, slice_index_or, Option, Some, None, Result}
+use Rattle.std.specs.Prelude.{Ok, Err}
 use Rattle.ckd_track.specs.declared.geometries.Geometry.{Geometry}
 use Rattle.ckd_track.specs.declared.fault.SlotFault.{SlotFault}
 use Rattle.ckd_track.specs.Model.{heads_of}
@@ -14,7 +15,8 @@ use Rattle.counted_io.specs.Streams.{Stream}
 use Rattle.dasd_volumes.specs.declared.fault.VolumeFault.{VolumeFault}
 use Rattle.dasd_volumes.specs.Reading.{KnownVolume}
 use Rattle.dasd_extract.specs.declared.stops.Cause.{Cause}
-use Rattle.dasd_extract.specs.declared.stops.Cause.TheVariants.{PastExtents, Outside, BadExtent, NoTrack, NoAlternate, NotAlternate, Unreadable, NoBlock, TooManyTracks}
+use Rattle.dasd_extract.specs.declared.stops.Cause.TheVariants.{PastExtents, Outside, BadExtent, NoTrack, NoAlternate, NotAlternate, Unreadable, NoBlock}
+use Rattle.dasd_extract.specs.declared.stops.Cause.TheVariants.{TooManyTracks}
 use Rattle.dasd_extract.specs.declared.stops.Stop.{Stop}
 use Rattle.dasd_extract.specs.declared.blocks.Form.{Form}
 use Rattle.dasd_extract.specs.declared.tracks.Part.{Part}

@@ -68,7 +68,8 @@ fn write_readable<W: Write>(
     part: Part,
     view: &TrackView,
 ) -> io::Result<Option<Stop>>
-    ensures { IfOk result (Writes (blocks_or_none part.form part.track part.number view.now (first_block part.number view.now)) (W.contents writer.old) (W.contents writer.new)) }
+    ensures { IfOk result (Writes (blocks_or_none part.form part.track part.number view.now (first_block part.number view.now)) (W.contents writer.old)
+        (W.contents writer.new)) }
 {
     let Part {
         form,

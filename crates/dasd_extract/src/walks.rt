@@ -9,7 +9,8 @@ ghost use Rattle.dasd_volumes.specs.Printing.{CountsWrites};
 ghost use Rattle.dasd_volumes.specs.Reading.{IsRead, IsSlotOf};
 ghost use Rattle.dasd_extract.specs.Written.{PrintsWritten};
 ghost use Rattle.dasd_extract.specs.Alternates.{read_from};
-ghost use Rattle.dasd_extract.specs.Walk.{past_end, number_on, slot_written, found_read_from, track_read_from, wanted, PrintsSource, PrintsTrack, PrintsSlot, PrintsAlternate, Reads};
+ghost use Rattle.dasd_extract.specs.Walk.{past_end, number_on, slot_written, found_read_from, track_read_from, wanted, PrintsSource, PrintsTrack, PrintsSlot};
+ghost use Rattle.dasd_extract.specs.Walk.{PrintsAlternate, Reads};
 
 use crate::alternates::{Holder, holder_of, is_other};
 use crate::blocks::Form;

@@ -1,5 +1,6 @@
 -- Files that are written back one after another.
-use Rattle.std.proofs.Common.{ℕ, ◌+◌, ◌<◌, ◌≤◌, ◌≡◌, ◌∙◌, ◌⊎◌, inl, inr, List, ◌++◌, ap, sym, subst, Option, append_assoc, append-nil, arith}
+use Rattle.std.proofs.Common.{ℕ, ◌+◌, ◌<◌, ◌≤◌, ◌≡◌, ◌∙◌, ◌⊎◌, inl, inr, List, ◌++◌, ap, sym, subst, Option, append_assoc, append-nil}
+use Rattle.std.proofs.Common.{arith}
 use Rattle.std.proofs.lemmas.Bool.{cases_lt}
 use Rattle.ckd_image.specs.Files.{file_at}
 use Rattle.dasd_files.specs.Files.{FileState}
@@ -12,7 +13,8 @@ pub none_yet : {A : Type 0} (before : List A) (of : ℕ → List A) → before �
 none_yet before of = sym (append-nil before) ∙ ap (λ l. before ++ l) (sym (of_none of))
 
 -- one more
-pub and_one : {A : Type 0} (before now after : List A) (of : ℕ → List A) (n : ℕ) → now ≡ before ++ of_each of n → after ≡ now ++ of n → after ≡ before ++ of_each of (n + 1)
+pub and_one : {A : Type 0} (before now after : List A) (of : ℕ → List A) (n : ℕ) → now ≡ before ++ of_each of n → after ≡ now ++ of n
+    → after ≡ before ++ of_each of (n + 1)
 and_one before now after of n first next =
     next ∙ ap (λ l. l ++ of n) first ∙ append_assoc before (of_each of n) (of n) ∙ ap (λ l. before ++ l) (sym (of_one_more of n))
 

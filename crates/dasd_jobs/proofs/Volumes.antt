@@ -1,8 +1,11 @@
 -- Volumes in files that were opened.
-use Rattle.std.proofs.Common.{◌≡◌, ◌∙◌, ℕ, zero, suc, ◌+◌, ◌-◌, ◌*◌, ◌/◌, ◌<◌, ◌≤◌, ◌^◌, List, [], ◌∷◌, ◌++◌, length, take, drop, map, replicate, get_or, set, slice_range, nat_lt, true, Option, Some, None, IsSome, Result, Ok, Err, option_map, ◌⊎◌, inl, inr, refl, sym, ap, subst, arith, length-append, add-one, append_assoc, append-nil}
+use Rattle.std.proofs.Common.{◌≡◌, ◌∙◌, ℕ, zero, suc, ◌+◌, ◌-◌, ◌*◌, ◌/◌, ◌<◌, ◌≤◌, ◌^◌, List, [], ◌∷◌, ◌++◌, length, take, drop, map}
+use Rattle.std.proofs.Common.{replicate, get_or, set, slice_range, nat_lt, true, Option, Some, None, IsSome, Result, Ok, Err, option_map}
+use Rattle.std.proofs.Common.{◌⊎◌, inl, inr, refl, sym, ap, subst, arith, length-append, add-one, append_assoc, append-nil}
 use Rattle.std.specs.List.{AllZip, AllByRecursion}
 use Rattle.std.proofs.lemmas.Bool.{cases_lt, lt-ltb}
-use Rattle.std.proofs.lemmas.List.{take_at, take_all, take_more, length-take-le, length-replicate, length-set, map-append, map-set, set-get_or, get_or-map}
+use Rattle.std.proofs.lemmas.List.{take_at, take_all, take_more, length-take-le, length-replicate, length-set, map-append, map-set}
+use Rattle.std.proofs.lemmas.List.{set-get_or, get_or-map}
 use Rattle.std.proofs.Math.Seq.{take-append-add}
 use Rattle.std.proofs.Math.Nat.{mul-div_cancel}
 use Rattle.ckd_track.specs.declared.geometries.Geometry.{Geometry}
@@ -18,13 +21,15 @@ use Rattle.ckd_image.proofs.Writes.{range_is}
 use Rattle.ckd_image.proofs.ImageLemmas.{tracks_held, slot_is, slots_of}
 use Rattle.dasd_volumes.specs.Reading.{IsSlotOf}
 use Rattle.dasd_jobs.specs.declared.reasons.Head.{Head}
-use Rattle.dasd_jobs.specs.Sources.{Content, SourceFile, IsLength, StandsIn, IsWhole, OpensPaths, Mounts, NotMounted, sources, known, volume_in}
+use Rattle.dasd_jobs.specs.Sources.{Content, SourceFile, IsLength, StandsIn, IsWhole, OpensPaths, Mounts, NotMounted, sources, known}
+use Rattle.dasd_jobs.specs.Sources.{volume_in}
 use Rattle.dasd_jobs.specs.Opening.{IsHeadOf, AreTracks, AddsFile, Lies, alone}
 
 -- Lists.
 
 -- one more item of two lists that go together
-pub and_both : {A B : Type 0} (R : A → B → Type 0) (xs : List A) (ys : List B) (x : A) (y : B) → AllZip R xs ys → R x y → AllZip R (xs ++ x ∷ []) (ys ++ y ∷ [])
+pub and_both : {A B : Type 0} (R : A → B → Type 0) (xs : List A) (ys : List B) (x : A) (y : B) → AllZip R xs ys → R x y
+    → AllZip R (xs ++ x ∷ []) (ys ++ y ∷ [])
 and_both R [] [] x y all one = (one, tt)
 and_both R [] (b ∷ ys) x y all one = absurd all
 and_both R (a ∷ xs) [] x y all one = absurd all
@@ -64,9 +69,14 @@ some_held (Some file) some = refl
 length_alone : (head : Head) → length (alone head) ≡ head.len
 length_alone head =
     length-take-le head.len (head.header ++ replicate head.len 0)
-    (let all = length-append head.header (replicate head.len 0) in let zeros = length-replicate {A = ℕ} head.len 0 in omega (arith, all, zeros))
+    (let all = length-append head.header (replicate head.len 0) in let zeros = length-replicate {A = ℕ} head.len 0 in
+    omega (arith, all, zeros))
 
-same_seen : (a b : List ℕ) (n m : ℕ) → a ≡ b → n ≡ m → ◌≡◌ {A = mounting.Head} (record { header = a; len = n }) (record { header = b; len = m })
+same_seen : (a b : List ℕ) (n m : ℕ) → a ≡ b → n ≡ m → ◌≡◌ {A = mounting.Head} (record { header = a; len = n }) (record {
+  header = b;
+  len =
+      m;
+})
 same_seen a b n m same_bytes same_number = rw (same_bytes, same_number) refl
 
 -- a file with this header and length is looked at as its header with zeros behind it
@@ -80,7 +90,8 @@ same_head file head is enough =
     let whole : alone head ≡ head.header ++ take (head.len - 512) zeros =
     ap (λ (n : ℕ). take n (head.header ++ zeros)) split ∙ take-append-add head.header zeros (head.len - 512) in
     let front : take 512 (alone head) ≡ head.header = ap (take 512) whole ∙ take_at head.header (take (head.len - 512) zeros) 512 long in
-    same_seen (take 512 file) (take 512 (alone head)) (length file) (length (alone head)) (sym first ∙ sym front) (sym its.0 ∙ sym (length_alone head))
+    same_seen (take 512 file) (take 512 (alone head)) (length file) (length (alone head)) (sym first ∙ sym front) (sym its.0
+    ∙ sym (length_alone head))
 
 -- how long a file is whose header with zeros is whole
 len_whole : (size : ℕ) (head : Head) (w : HoldsWhole size (alone head)) → head.len ≡ 512 + w.tracks * size
@@ -120,13 +131,16 @@ pub mount_same : (files : List (List ℕ)) (heads : List Head) → AllZip IsHead
 mount_same files heads are = ap (λ r. then_with r volume_of) (headers_same [] files heads are)
 
 -- the tracks that were counted of one file
-one_held : (size : ℕ) (file : List ℕ) (head : Head) (n : ℕ) → IsHeadOf (Some file) head → AreTracks size head n → HoldsWhole size (alone head) → length file ≡ 512 + n * size
+one_held : (size : ℕ) (file : List ℕ) (head : Head) (n : ℕ) → IsHeadOf (Some file) head → AreTracks size head n
+    → HoldsWhole size (alone head) → length file ≡ 512 + n * size
 one_held size file head n is counts w =
     let len = len_whole size head w in
     let same : n ≡ w.tracks = counts.are w.tracks w.most len in
     sym (is file refl).0 ∙ len ∙ ap (λ (k : ℕ). 512 + k * size) (sym same)
 
-hold : (size : ℕ) (files : List (List ℕ)) (heads : List Head) (tracks : List ℕ) → AllZip IsHeadOf (map Some files) heads → AllZip (AreTracks size) heads tracks → AllByRecursion (HoldsWhole size) (map alone heads) → HoldTracks (λ (file : List ℕ). file) size (map Some files) tracks
+hold : (size : ℕ) (files : List (List ℕ)) (heads : List Head) (tracks : List ℕ) → AllZip IsHeadOf (map Some files) heads
+    → AllZip (AreTracks size) heads tracks → AllByRecursion (HoldsWhole size) (map alone heads)
+    → HoldTracks (λ (file : List ℕ). file) size (map Some files) tracks
 hold size [] heads tracks are counts whole = tt
 hold size (file ∷ files) [] tracks are counts whole = absurd are
 hold size (file ∷ files) (head ∷ heads) [] are counts whole = absurd counts
@@ -134,7 +148,8 @@ hold size (file ∷ files) (head ∷ heads) (n ∷ tracks) are counts whole =
     (one_held size file head n are.0 counts.0 whole.0, hold size files heads tracks are.1 counts.1 whole.1)
 
 -- files whose headers are mounted hold the volume
-pub mounted_files : (g : Geometry) (contents : List Content) (heads : List Head) → AllZip IsHeadOf contents heads → mount_of (map alone heads) ≡ Ok g → Mounts contents g
+pub mounted_files : (g : Geometry) (contents : List Content) (heads : List Head) → AllZip IsHeadOf contents heads
+    → mount_of (map alone heads) ≡ Ok g → Mounts contents g
 mounted_files g contents heads are mounts files is =
     let those = subst (λ (l : List Content). AllZip IsHeadOf l heads) (all_known contents files is) are in
     mount_same files heads those ∙ mounts
@@ -146,30 +161,41 @@ broken_files broken contents heads are breaks files is =
     mount_same files heads (subst (λ (l : List Content). AllZip IsHeadOf l heads) (all_known contents files is) are) ∙ breaks
 
 -- a volume has as many tracks as were counted
-pub lies : (g : Geometry) (contents : List Content) (heads : List Head) (tracks : List ℕ) → AllZip IsHeadOf contents heads → AllZip (AreTracks g.track_size) heads tracks → mount_of (map alone heads) ≡ Ok g → Lies g contents tracks
+pub lies : (g : Geometry) (contents : List Content) (heads : List Head) (tracks : List ℕ) → AllZip IsHeadOf contents heads
+    → AllZip (AreTracks g.track_size) heads tracks → mount_of (map alone heads) ≡ Ok g → Lies g contents tracks
 lies g contents heads tracks are counts mounts files is =
-    let those = subst (λ (l : List Content). AllZip IsHeadOf l heads) (all_known contents files is) are in
-    (mounted_files g contents heads are mounts files is, hold g.track_size files heads tracks those counts (mount_fits (map alone heads) g mounts).whole)
+    let those = subst (λ (l : List Content). AllZip IsHeadOf l heads) (all_known contents files is) are in (
+      mounted_files g contents heads are mounts files is,
+      hold g.track_size files heads tracks those counts
+          (mount_fits (map alone heads) g mounts).whole,
+    )
 
 -- how many slots stand behind a header
 pub counted : (size n len : ℕ) → 0 < size → len ≡ 512 + n * size → (len - 512) / size ≡ n
 counted size n len some is = let behind : len - 512 ≡ n * size = omega arith in rw behind (mul-div_cancel n some)
 
 -- one more file is counted
-pub next_counted : (size : ℕ) (heads : List Head) (tracks now : List ℕ) (i : ℕ) (d : Head) (n : ℕ) → i < length heads → now ≡ tracks ++ n ∷ [] → AllZip (AreTracks size) (take i heads) tracks → AreTracks size (get_or heads i d) n → AllZip (AreTracks size) (take (i + 1) heads) now
+pub next_counted : (size : ℕ) (heads : List Head) (tracks now : List ℕ) (i : ℕ) (d : Head) (n : ℕ) → i < length heads
+    → now ≡ tracks ++ n ∷ [] → AllZip (AreTracks size) (take i heads) tracks → AreTracks size (get_or heads i d) n
+    → AllZip (AreTracks size) (take (i + 1) heads) now
 next_counted size heads tracks now i d n inside is so_far one =
-    rw is (subst (λ (l : List Head). AllZip (AreTracks size) l (tracks ++ n ∷ [])) (sym (take_more heads i d inside)) (and_both (AreTracks size) (take i heads) tracks (get_or heads i d) n so_far one))
+    rw is (subst (λ (l : List Head). AllZip (AreTracks size) l (tracks ++ n ∷ [])) (sym (take_more heads i d inside))
+    (and_both (AreTracks size) (take i heads) tracks (get_or heads i d) n so_far one))
 
 -- what was read of a header, and of one that is too short
-pub head_read : (content : Content) (header : List ℕ) (len : ℕ) → IsLength content len → StandsIn content 0 header → length header ≡ 512 → IsHeadOf content (record { header = header; len = len })
+pub head_read : (content : Content) (header : List ℕ) (len : ℕ) → IsLength content len → StandsIn content 0 header → length header ≡ 512
+    → IsHeadOf content (record { header = header; len = len })
 head_read content header len is stands long bytes e =
     (is bytes e, λ enough. stands bytes e ∙ ap (λ (n : ℕ). slice_range bytes 0 (0 + n)) long ∙ range_is bytes 0 512)
 
-pub short_head : (content : Content) (header : List ℕ) (len : ℕ) → IsLength content len → len < 512 → IsHeadOf content (record { header = header; len = len })
-short_head content header len is short bytes e = (is bytes e, λ enough. absurd (let same = is bytes e in omega (arith, same, short, enough)))
+pub short_head : (content : Content) (header : List ℕ) (len : ℕ) → IsLength content len → len < 512
+    → IsHeadOf content (record { header = header; len = len })
+short_head content header len is short bytes e =
+    (is bytes e, λ enough. absurd (let same = is bytes e in omega (arith, same, short, enough)))
 
 -- one more header with zeros behind it
-pub next_alone : (heads : List Head) (i : ℕ) (d : Head) (before now : List (List ℕ)) (one : List ℕ) → i < length heads → before ≡ map alone (take i heads) → now ≡ before ++ one ∷ [] → one ≡ alone (get_or heads i d) → now ≡ map alone (take (i + 1) heads)
+pub next_alone : (heads : List Head) (i : ℕ) (d : Head) (before now : List (List ℕ)) (one : List ℕ) → i < length heads
+    → before ≡ map alone (take i heads) → now ≡ before ++ one ∷ [] → one ≡ alone (get_or heads i d) → now ≡ map alone (take (i + 1) heads)
 next_alone heads i d before now one inside so_far is one_is =
     is ∙ ap (λ (l : List (List ℕ)). l ++ one ∷ []) so_far ∙ ap (λ (x : List ℕ). map alone (take i heads) ++ x ∷ []) one_is
     ∙ sym (ap (map alone) (take_more heads i d inside) ∙ map-append alone (take i heads) (get_or heads i d ∷ []))
@@ -177,26 +203,36 @@ next_alone heads i d before now one inside so_far is one_is =
 -- One of several files.
 
 module _ {O : Type 0} (content : O → Content) where
-  pub read_there : (files : List O) (place : ℕ) (file : O) → place < length files → file ≡ get_or files place file → get_or (map content files) place None ≡ content file
+  pub read_there : (files : List O) (place : ℕ) (file : O) → place < length files → file ≡ get_or files place file
+      → get_or (map content files) place None ≡ content file
   read_there files place file inside is = get_or-map content files place file None inside ∙ ap content (sym is)
 
-  pub kept_there : (files : List O) (place : ℕ) (file new : O) → place < length files → file ≡ get_or files place file → content new ≡ content file → map content (set files place new) ≡ map content files
+  pub kept_there : (files : List O) (place : ℕ) (file new : O) → place < length files → file ≡ get_or files place file
+      → content new ≡ content file → map content (set files place new) ≡ map content files
   kept_there files place file new inside is same =
-      map-set content files place new ∙ ap (set (map content files) place) (same ∙ sym (read_there files place file inside is)) ∙ set-get_or (map content files) place None
+      map-set content files place new ∙ ap (set (map content files) place) (same ∙ sym (read_there files place file inside is))
+      ∙ set-get_or (map content files) place None
 
   -- files that were lent stand again in their place
-  pub lent_kept : (files new : List O) (len : ℕ) → length new ≡ length files → len ≡ length files → map content new ≡ map content files → map content (take len (new ++ drop (length new) files)) ≡ map content files
+  pub lent_kept : (files new : List O) (len : ℕ) → length new ≡ length files → len ≡ length files → map content new ≡ map content files
+      → map content (take len (new ++ drop (length new) files)) ≡ map content files
   lent_kept files new len long is kept = ap (map content) (take_at new (drop (length new) files) len (long ∙ sym is)) ∙ kept
 
   -- one of several files that were lent was read
-  pub one_read : (files lent : List O) (len place : ℕ) (file new : O) → lent ≡ files → len ≡ length files → place < length lent → file ≡ get_or lent place file → content new ≡ content file → map content (take len (set lent place new ++ drop (length (set lent place new)) files)) ≡ map content files
+  pub one_read : (files lent : List O) (len place : ℕ) (file new : O) → lent ≡ files → len ≡ length files → place < length lent
+      → file ≡ get_or lent place file → content new ≡ content file
+      → map content (take len (set lent place new ++ drop (length (set lent place new)) files)) ≡ map content files
   one_read files lent len place file new is count inside there same =
-      lent_kept files (set lent place new) len (length-set lent place new ∙ ap length is) count (kept_there lent place file new inside there same ∙ ap (map content) is)
+      lent_kept files (set lent place new) len (length-set lent place new ∙ ap length is) count
+      (kept_there lent place file new inside there same ∙ ap (map content) is)
 
 -- Slots.
 
 -- what stands in the place of a track is its slot
-pub slot_read : (g : Geometry) (contents : List Content) (tracks : List ℕ) (track : ℕ) (slot : List ℕ) → Lies g contents tracks → length contents ≡ length tracks → track < tracks_of g → length slot ≡ g.track_size → StandsIn (get_or contents (place_in tracks track).file None) (512 + (place_in tracks track).track * g.track_size) slot → IsSlotOf (volume_in g contents) track slot
+pub slot_read : (g : Geometry) (contents : List Content) (tracks : List ℕ) (track : ℕ) (slot : List ℕ) → Lies g contents tracks
+    → length contents ≡ length tracks → track < tracks_of g → length slot ≡ g.track_size
+    → StandsIn (get_or contents (place_in tracks track).file None) (512 + (place_in tracks track).track * g.track_size) slot
+    → IsSlotOf (volume_in g contents) track slot
 slot_read g contents tracks track slot lie count exists size stands slots e =
     let content : List ℕ → List ℕ = λ file. file in
     let m = made (λ (files : List (List ℕ)). slots_of g files) (known contents) slots e in
@@ -211,15 +247,18 @@ slot_read g contents tracks track slot lie count exists size stands slots e =
     let at = 512 + p.track * g.track_size in
     let there = located_at content g.track_size stores tracks track p l.1 counted (rw sum_is exists) refl in
     let file = held content [] (file_at stores p.file) in
-    let here : get_or contents p.file None ≡ Some file = ap (λ (c : List Content). get_or c p.file None) all ∙ some_held (file_at stores p.file) there.there in
+    let here : get_or contents p.file None ≡ Some file = ap (λ (c : List Content). get_or c p.file None) all
+    ∙ some_held (file_at stores p.file) there.there in
     stands file here ∙ ap (λ (n : ℕ). slice_range file at (at + n)) size
     ∙ range_located content g.track_size stores track at p there refl
-    ∙ ap (λ (cs : List (List ℕ)). slice_range (slot_bytes cs) (track * g.track_size) (track * g.track_size + g.track_size)) (each_some files)
+    ∙ ap (λ (cs : List (List ℕ)). slice_range (slot_bytes cs) (track * g.track_size) (track * g.track_size + g.track_size))
+    (each_some files)
     ∙ slot_is g files track exists ∙ ap (λ (s : List (List ℕ)). get_or s track []) (sym m.is)
 
 -- Files that are opened one after another.
 
-sources_more : (paths : List (List ℕ)) (contents : List Content) (path : List ℕ) (content : Content) → length contents ≡ length paths → sources (paths ++ path ∷ []) (contents ++ content ∷ []) ≡ sources paths contents ++ record { path = path; content = content } ∷ []
+sources_more : (paths : List (List ℕ)) (contents : List Content) (path : List ℕ) (content : Content) → length contents ≡ length paths
+    → sources (paths ++ path ∷ []) (contents ++ content ∷ []) ≡ sources paths contents ++ record { path = path; content = content } ∷ []
 sources_more [] [] path content count = refl
 sources_more [] (c ∷ contents) path content count = absurd (omega arith)
 sources_more (p ∷ paths) [] path content count = absurd (omega arith)
@@ -231,13 +270,19 @@ pub none_opened : (before : List SourceFile) → OpensPaths [] [] before before
 none_opened before = record { opened = sym (append-nil before); count = refl }
 
 -- one more
-pub one_more_opened : (paths : List (List ℕ)) (contents : List Content) (path : List ℕ) (content : Content) (before between now : List SourceFile) → OpensPaths paths contents before between → now ≡ between ++ record { path = path; content = content } ∷ [] → OpensPaths (paths ++ path ∷ []) (contents ++ content ∷ []) before now
+pub one_more_opened : (paths : List (List ℕ)) (contents : List Content) (path : List ℕ) (content : Content)
+    (before between now : List SourceFile) → OpensPaths paths contents before between → now ≡ between ++ record {
+      path = path;
+      content =
+          content;
+    } ∷ [] → OpensPaths (paths ++ path ∷ []) (contents ++ content ∷ []) before now
 one_more_opened paths contents path content before between now so_far one = record {
   opened =
       one ∙ ap (λ (l : List SourceFile). l ++ record { path = path; content = content } ∷ []) so_far.opened
       ∙ append_assoc before (sources paths contents) (record { path = path; content = content } ∷ [])
       ∙ ap (λ (l : List SourceFile). before ++ l) (sym (sources_more paths contents path content so_far.count));
-  count = let c = so_far.count in let a = length-append contents (content ∷ []) in let b = length-append paths (path ∷ []) in omega (arith, a, b, c);
+  count = let c = so_far.count in let a = length-append contents (content ∷ []) in let b = length-append paths (path ∷ []) in
+      omega (arith, a, b, c);
 }
 
 -- one more file was opened
@@ -245,10 +290,15 @@ pub record NextOpened (paths : List (List ℕ)) (contents : List Content) (heads
   pub opens : OpensPaths paths contents before now
   pub are : AllZip IsHeadOf contents heads
 
-pub next_opened : {P : Type 0} (path : P → List ℕ) (paths : List P) (i : ℕ) (d : P) (contents more : List Content) (heads more_heads : List Head) (before between now : List SourceFile) → i < length paths → OpensPaths (map path (take i paths)) contents before between → AllZip IsHeadOf contents heads → AddsFile (path (get_or paths i d)) contents more heads more_heads between now → NextOpened (map path (take (i + 1) paths)) more more_heads before now
+pub next_opened : {P : Type 0} (path : P → List ℕ) (paths : List P) (i : ℕ) (d : P) (contents more : List Content)
+    (heads more_heads : List Head) (before between now : List SourceFile) → i < length paths
+    → OpensPaths (map path (take i paths)) contents before between → AllZip IsHeadOf contents heads
+    → AddsFile (path (get_or paths i d)) contents more heads more_heads between now
+    → NextOpened (map path (take (i + 1) paths)) more more_heads before now
 next_opened path paths i d contents more heads more_heads before between now inside so_far are a =
     let p = path (get_or paths i d) in
-    let paths_are : map path (take (i + 1) paths) ≡ map path (take i paths) ++ p ∷ [] = ap (map path) (take_more paths i d inside) ∙ map-append path (take i paths) (get_or paths i d ∷ []) in
+    let paths_are : map path (take (i + 1) paths) ≡ map path (take i paths) ++ p ∷ [] = ap (map path) (take_more paths i d inside)
+    ∙ map-append path (take i paths) (get_or paths i d ∷ []) in
     record {
       opens =
           subst (λ (ps : List (List ℕ)). OpensPaths ps more before now) (sym paths_are)
@@ -260,7 +310,8 @@ next_opened path paths i d contents more heads more_heads before between now ins
           (and_both IsHeadOf contents heads a.content a.adds.head are a.adds.is_head));
     }
 
-at_both : {A B : Type 0} (R : A → B → Type 0) (xs : List A) (ys : List B) (i : ℕ) (x : A) (y : B) → AllZip R xs ys → i < length xs → R (get_or xs i x) (get_or ys i y)
+at_both : {A B : Type 0} (R : A → B → Type 0) (xs : List A) (ys : List B) (i : ℕ) (x : A) (y : B) → AllZip R xs ys → i < length xs
+    → R (get_or xs i x) (get_or ys i y)
 at_both R [] ys i x y all inside = absurd (omega arith)
 at_both R (a ∷ xs) [] i x y all inside = absurd all
 at_both R (a ∷ xs) (b ∷ ys) zero x y all inside = all.0
@@ -275,12 +326,17 @@ both_long R (a ∷ xs) (b ∷ ys) all = let more = both_long R xs ys all.1 in om
 -- Files that are read whole.
 
 -- the first bytes of a file, as many as its header's length says, are all
-whole_of : (content : Content) (head : Head) (bytes : List ℕ) → IsHeadOf content head → StandsIn content 0 bytes → length bytes ≡ head.len → IsWhole content bytes
+whole_of : (content : Content) (head : Head) (bytes : List ℕ) → IsHeadOf content head → StandsIn content 0 bytes → length bytes ≡ head.len
+    → IsWhole content bytes
 whole_of content head bytes is stands count file e =
     stands file e ∙ range_is file 0 (length bytes) ∙ take_all (length bytes) file (let same = (is file e).0 in omega (arith, same, count))
 
 -- one more file
-pub whole_more : (contents : List Content) (heads : List Head) (i : ℕ) (h : Head) (read : List (List ℕ)) (bytes : List ℕ) → i < length contents → AllZip IsHeadOf contents heads → AllZip IsWhole (take i contents) read → StandsIn (get_or contents i None) 0 bytes → length bytes ≡ (get_or heads i h).len → AllZip IsWhole (take (i + 1) contents) (read ++ bytes ∷ [])
+pub whole_more : (contents : List Content) (heads : List Head) (i : ℕ) (h : Head) (read : List (List ℕ)) (bytes : List ℕ)
+    → i < length contents → AllZip IsHeadOf contents heads → AllZip IsWhole (take i contents) read
+    → StandsIn (get_or contents i None) 0 bytes → length bytes ≡ (get_or heads i h).len
+    → AllZip IsWhole (take (i + 1) contents) (read ++ bytes ∷ [])
 whole_more contents heads i h read bytes inside are so_far stands count =
     subst (λ (l : List Content). AllZip IsWhole l (read ++ bytes ∷ [])) (sym (take_more contents i None inside))
-    (and_both IsWhole (take i contents) read (get_or contents i None) bytes so_far (whole_of (get_or contents i None) (get_or heads i h) bytes (at_both IsHeadOf contents heads i None h are inside) stands count))
+    (and_both IsWhole (take i contents) read (get_or contents i None) bytes so_far (whole_of (get_or contents i None)
+    (get_or heads i h) bytes (at_both IsHeadOf contents heads i None h are inside) stands count))

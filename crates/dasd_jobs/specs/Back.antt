@@ -35,7 +35,8 @@ WritesChanged (Ok _) path store before now = (now ≡ before ++ changed_file pat
 WritesChanged (Err _) path store before now = now ≡ before
 
 -- the changed files were written; or those before one of them, at which it stopped
-abbrev pub WritesStores : {A : Type 0} → Result A JobFault → (paths : List (List ℕ)) → (stores : List (Option FileState)) → (before now : List Replaced) → Type 0
+abbrev pub WritesStores : {A : Type 0} → Result A JobFault → (paths : List (List ℕ)) → (stores : List (Option FileState)) → (before now : List Replaced)
+    → Type 0
 WritesStores (Ok _) paths stores before now = (now ≡ before ++ changed_files paths stores (length paths)) × AreKept stores (length paths)
 WritesStores (Err _) paths stores before now =
     (n : ℕ) × (n < length paths) × (now ≡ before ++ changed_files paths stores n) × AreKept stores n

@@ -14,7 +14,8 @@ CountsLines _ before after = NoneFailed before after
 
 -- The files at these paths were opened, and no other, and this text of the volume that they hold was printed, where that is known; or
 -- its first bytes, with a fault. Or the volume is not opened, and nothing is printed.
-abbrev pub PrintsFiles : {A : Type 0} → Result A JobFault → (text : Geometry → List (List ℕ) → List ℕ) → (paths : List (List ℕ)) → (opened_before opened : List SourceFile) → (before after : Stream) → Type 0
+abbrev pub PrintsFiles : {A : Type 0} → Result A JobFault → (text : Geometry → List (List ℕ) → List ℕ) → (paths : List (List ℕ))
+    → (opened_before opened : List SourceFile) → (before after : Stream) → Type 0
 PrintsFiles (Ok _) text paths opened_before opened before after =
     OfVolume paths opened_before opened (λ v. (slots : List (List ℕ)) → v.slots ≡ Some slots → Takes before after (text v.geometry slots))
 PrintsFiles (Err fault) text paths opened_before opened before after =

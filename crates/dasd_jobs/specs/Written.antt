@@ -28,12 +28,14 @@ WritesNew (Err _) path model cylinders before now = now ≡ before
 
 -- A format is done where the new image is at its path and its line is written. With a write fault the image may be there and a write
 -- of the line has failed; with every other fault nothing is there, and nothing is printed.
-abbrev pub Formats : {A : Type 0} → Result A JobFault → (path : List ℕ) → DriveModel → (cylinders : ℕ) → (before now : List Replaced) → (printed_before printed : Stream) → Type 0
+abbrev pub Formats : {A : Type 0} → Result A JobFault → (path : List ℕ) → DriveModel → (cylinders : ℕ) → (before now : List Replaced)
+    → (printed_before printed : Stream) → Type 0
 Formats (Ok _) path model cylinders before now printed_before printed =
     (now ≡ with_new before path model cylinders) × Takes printed_before printed (formatted_line model cylinders) × NoneFailed printed_before printed
 Formats (Err fault) path model cylinders before now printed_before printed =
     ((now ≡ before) × (printed ≡ printed_before))
-    ⊎ ((fault ≡ Write) × (now ≡ with_new before path model cylinders) × TakesFront printed_before printed (formatted_line model cylinders) × OneFailed printed_before printed)
+    ⊎ ((fault ≡ Write) × (now ≡ with_new before path model cylinders) × TakesFront printed_before printed (formatted_line model cylinders)
+    × OneFailed printed_before printed)
 
 -- a file of these bytes was put at a path, or nothing was
 abbrev pub WritesFile : {A : Type 0} → Result A JobFault → (path bytes : List ℕ) → (before now : List Replaced) → Type 0

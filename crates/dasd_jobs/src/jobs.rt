@@ -71,7 +71,8 @@ fn write_formatted<W: Write, P: Progress>(
     volume: NewVolume,
 ) -> Result<(), WriteFault>
     requires { P.is_shown _progress.now ≡ false }
-    ensures written { WritesWhole result (seen_by W.contents writer.old) (seen_by W.contents writer.new) (formatted_line volume.entry.model volume.entry.cylinders) }
+    ensures written { WritesWhole result (seen_by W.contents writer.old) (seen_by W.contents writer.new)
+        (formatted_line volume.entry.model volume.entry.cylinders) }
     ensures flushed { OnOk result (IsFlushed (seen_by W.contents writer.new)) }
 {
     let mut line: ArrayString<40> = ArrayString::new();

@@ -1,6 +1,7 @@
 //! The volume in files that are read in place.
 
-ghost use Rattle.std.specs.Prelude.{◌≡◌, ◌≢◌, ◌⊎◌, ◌+◌, ◌*◌, ◌<◌, ◌≤◌, ◌++◌, ◌∷◌, vec_len, length, map, slice_index_or, All, IsSome, [], None, Ok, IfOk, IfErr, IfSome, OnOk};
+ghost use Rattle.std.specs.Prelude.{◌≡◌, ◌≢◌, ◌⊎◌, ◌+◌, ◌*◌, ◌<◌, ◌≤◌, ◌++◌, ◌∷◌, vec_len, length, map, slice_index_or, All, IsSome, [], None, Ok, IfOk, IfErr};
+ghost use Rattle.std.specs.Prelude.{IfSome, OnOk};
 ghost use Rattle.std.specs.List.{AllZip};
 ghost use Rattle.arrayvec.specs.ArrayVec.{array_vec_len};
 ghost use Rattle.ckd_track.specs.Geometry.{IsGeometry};
@@ -42,7 +43,8 @@ impl<O: OpenedFile> Model for OpenedVolume<O> {
 
     ghost view = { λ v. record { geometry = v.geometry; contents = map O.content v.files.items; failures = v.failed } };
 
-    ghost invariant = { λ v. IsGeometry v.geometry × (length v.files.items ≡ length v.tracks.items) × Lies v.geometry (map O.content v.files.items) v.tracks.items };
+    ghost invariant = { λ v. IsGeometry v.geometry × (length v.files.items ≡ length v.tracks.items)
+        × Lies v.geometry (map O.content v.files.items) v.tracks.items };
 }
 
 impl<O: OpenedFile> SlotReader for OpenedVolume<O> {

@@ -1,5 +1,6 @@
 -- Drives that are attached one after another.
-use Rattle.std.proofs.Common.{◌≡◌, ◌∙◌, ◌+◌, ◌<◌, ◌==◌, ℕ, suc, Bool, true, false, List, [], ◌∷◌, ◌++◌, take, drop, length, get_or, position, is_some, inl, inr, add-one, take-append-drop, ap, sym, subst, refl, arith}
+use Rattle.std.proofs.Common.{◌≡◌, ◌∙◌, ◌+◌, ◌<◌, ◌==◌, ℕ, suc, Bool, true, false, List, [], ◌∷◌, ◌++◌, take, drop, length, get_or}
+use Rattle.std.proofs.Common.{position, is_some, inl, inr, add-one, take-append-drop, ap, sym, subst, refl, arith}
 use Rattle.std.specs.List.{AllZip, position_or_len}
 use Rattle.std.proofs.Math.Seq.{take-suc, drop-cons}
 use Rattle.std.proofs.lemmas.Bool.Decides.{nat_tests}
@@ -27,7 +28,8 @@ opens_more (w ∷ vs) (x ∷ us) v u before between now so_far one =
     (so_far.0, so_far.1, opens_more vs us v u so_far.0 between now so_far.2 one)
 
 -- one more, where the volumes are looked at up to a place
-pub opens_next : (vs : List Volume) (us zs : List AttachedState) (i : ℕ) (v : Volume) (u : AttachedState) (before between now : List SourceFile)
+pub opens_next : (vs : List Volume) (us zs : List AttachedState) (i : ℕ) (v : Volume) (u : AttachedState)
+    (before between now : List SourceFile)
     → i < length vs → v ≡ get_or vs i v → zs ≡ us ++ u ∷ [] → OpensVolumes (take i vs) us before between → IsDriveOf v u between now
     → OpensVolumes (take (i + 1) vs) zs before now
 opens_next vs us zs i v u before between now inside is more so_far one =
@@ -55,7 +57,8 @@ still_new size number v old new before now h one = record {
 
 -- a list at one of its places
 parted : {A : Type 0} (xs : List A) (i : ℕ) (x : A) → i < length xs → x ≡ get_or xs i x → xs ≡ take i xs ++ x ∷ drop (suc i) xs
-parted {A} xs i x inside is = sym (take-append-drop i xs) ∙ ap (λ l. take i xs ++ l) (drop-cons xs i x inside ∙ ap (λ (y : A). y ∷ drop (suc i) xs) (sym is))
+parted {A} xs i x inside is = sym (take-append-drop i xs) ∙ ap (λ l. take i xs ++ l) (drop-cons xs i x inside
+    ∙ ap (λ (y : A). y ∷ drop (suc i) xs) (sym is))
 
 -- the volume at a place gets no drive
 pub stops_at : (f : ProgramFault) (size number : ℕ) (vs before : List Volume) (i : ℕ) (v : Volume) (us : List AttachedState)

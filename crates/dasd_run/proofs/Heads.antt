@@ -1,5 +1,6 @@
 -- Headers of files that were opened.
-use Rattle.std.proofs.Common.{◌≡◌, ◌∙◌, ◌⊎◌, ℕ, ◌+◌, ◌<◌, List, [], ◌∷◌, ◌++◌, length, take, map, get_or, refl, ap, sym, subst, arith, append_assoc, append-nil, length-append}
+use Rattle.std.proofs.Common.{◌≡◌, ◌∙◌, ◌⊎◌, ℕ, ◌+◌, ◌<◌, List, [], ◌∷◌, ◌++◌, length, take, map, get_or, refl, ap, sym, subst, arith}
+use Rattle.std.proofs.Common.{append_assoc, append-nil, length-append}
 use Rattle.std.specs.List.{AllZip}
 use Rattle.std.proofs.lemmas.List.{take_more, map-append}
 use Rattle.dasd_jobs.specs.Sources.{Content, SourceFile, OpensMaybe, OpensPaths, sources, with_source}
@@ -26,14 +27,17 @@ sources_more (p ∷ paths) (c ∷ contents) path content count =
     ap (λ (l : List SourceFile). record { path = p; content = c } ∷ l) (sources_more paths contents path content (omega arith))
 
 -- one more file was opened
-one_more_opened : (paths : List (List ℕ)) (contents : List Content) (path : List ℕ) (content : Content) (before between now : List SourceFile)
-    → OpensPaths paths contents before between → now ≡ with_source between path content → OpensPaths (paths ++ path ∷ []) (contents ++ content ∷ []) before now
+one_more_opened : (paths : List (List ℕ)) (contents : List Content) (path : List ℕ) (content : Content)
+    (before between now : List SourceFile)
+    → OpensPaths paths contents before between → now ≡ with_source between path content
+    → OpensPaths (paths ++ path ∷ []) (contents ++ content ∷ []) before now
 one_more_opened paths contents path content before between now so_far one = record {
   opened =
       one ∙ ap (λ (l : List SourceFile). with_source l path content) so_far.opened
       ∙ append_assoc before (sources paths contents) (record { path = path; content = content } ∷ [])
       ∙ ap (λ (l : List SourceFile). before ++ l) (sym (sources_more paths contents path content so_far.count));
-  count = let c = so_far.count in let a = length-append contents (content ∷ []) in let b = length-append paths (path ∷ []) in omega (arith, a, b, c);
+  count = let c = so_far.count in let a = length-append contents (content ∷ []) in let b = length-append paths (path ∷ []) in
+      omega (arith, a, b, c);
 }
 
 -- no header yet
@@ -41,8 +45,10 @@ pub no_heads : (before : List SourceFile) → ReadsHeads [] [] before before
 no_heads before = record { contents = []; opens = record { opened = sym (append-nil before); count = refl }; are_heads = tt }
 
 -- one more
-pub one_more_head : {P : Type 0} (path : P → List ℕ) (paths : List P) (i : ℕ) (d : P) (heads more : List (List ℕ)) (head : List ℕ) (before between now : List SourceFile)
-    → i < length paths → ReadsHeads (map path (take i paths)) heads before between → OpensHead (path (get_or paths i d)) between now head → more ≡ heads ++ head ∷ []
+pub one_more_head : {P : Type 0} (path : P → List ℕ) (paths : List P) (i : ℕ) (d : P) (heads more : List (List ℕ)) (head : List ℕ)
+    (before between now : List SourceFile)
+    → i < length paths → ReadsHeads (map path (take i paths)) heads before between → OpensHead (path (get_or paths i d)) between now head
+    → more ≡ heads ++ head ∷ []
     → ReadsHeads (map path (take (i + 1) paths)) more before now
 one_more_head path paths i d heads more head before between now inside so_far one is =
     let p = path (get_or paths i d) in

@@ -21,11 +21,13 @@ use Rattle.dasd_run.specs.declared.commands.Ending.{Ending}
 use Rattle.dasd_run.specs.declared.fault.ProgramFault.{ProgramFault}
 use Rattle.dasd_run.specs.declared.fault.ProgramFault.TheVariants as fault
 use Rattle.dasd_run.specs.Faults.{printing_fault}
-use Rattle.dasd_run.specs.Held.{SaysWith, SaysAll, all_findings, said_text, contents_text, CountsFault, PrintsHeld, json_path, ListsContents}
+use Rattle.dasd_run.specs.Held.{SaysWith, SaysAll, all_findings, said_text, contents_text, CountsFault, PrintsHeld, json_path}
+use Rattle.dasd_run.specs.Held.{ListsContents}
 use Rattle.dasd_run.specs.Printed.{paths_of, ending_of}
 
 -- the text of what was read is that of what the volume says
-text_is : (json : Option (List ℕ)) (g : Geometry) (s : Said) (all : List Finding) (c : Contents) → SaysWith s all c → contents_text json g c ≡ said_text json g s all
+text_is : (json : Option (List ℕ)) (g : Geometry) (s : Said) (all : List Finding) (c : Contents) → SaysWith s all c
+    → contents_text json g c ≡ said_text json g s all
 text_is None g s all c w =
     ap (λ (l : List Block). volume_lines g l c.label c.table ++ flat_map finding_line c.found.findings.items) w.blocks
     ∙ ap (λ l. volume_lines g s.blocks l c.table ++ flat_map finding_line c.found.findings.items) w.label
@@ -39,20 +41,26 @@ text_is (Some path) g s all c w =
 
 -- all of it was printed, or its first bytes
 module _ (json : Option (List ℕ)) (v : KnownVolume) (c : Contents) (is : SaysAll v c) (a b : Stream) where
-  pub all_held : (ending : Ending) → ending ≡ ending_of (length c.found.findings.items) → Takes a b (contents_text json v.geometry c) → NoneFailed a b → IsFlushed b
+  pub all_held : (ending : Ending) → ending ≡ ending_of (length c.found.findings.items) → Takes a b (contents_text json v.geometry c)
+      → NoneFailed a b → IsFlushed b
       → PrintsHeld (Ok ending) json v a b
   all_held ending ends took none flushed = (
     λ slots known.
         let s = contents_of v.geometry slots in
-        let w = is slots known in
-        (subst (Takes a b) (text_is json v.geometry s (all_findings v.geometry s) c w) took, ends ∙ ap (λ (l : List Finding). ending_of (length l)) w.findings),
+        let w = is slots known in (
+          subst (Takes a b) (text_is json v.geometry s (all_findings v.geometry s) c w) took,
+          ends
+              ∙ ap (λ (l : List Finding). ending_of (length l)) w.findings,
+        ),
     none,
     flushed,
   )
 
-  pub some_held : (f : VolumeFault) → TakesFront a b (contents_text json v.geometry c) → CountsWrites {A = Unit {0}} (Err f) a b → PrintsHeld (Err (printing_fault f)) json v a b
+  pub some_held : (f : VolumeFault) → TakesFront a b (contents_text json v.geometry c) → CountsWrites {A = Unit {0}} (Err f) a b
+      → PrintsHeld (Err (printing_fault f)) json v a b
   some_held f took counted = (
-    λ slots known. let s = contents_of v.geometry slots in subst (TakesFront a b) (text_is json v.geometry s (all_findings v.geometry s) c (is slots known)) took,
+    λ slots known. let s = contents_of v.geometry slots in subst (TakesFront a b) (text_is json v.geometry s (all_findings v.geometry s) c
+        (is slots known)) took,
     counts f counted,
   ) where
     counts : (f : VolumeFault) → CountsWrites {A = Unit {0}} (Err f) a b → CountsFault (printing_fault f) a b
@@ -61,12 +69,29 @@ module _ (json : Option (List ℕ)) (v : KnownVolume) (c : Contents) (is : SaysA
     counts volume.Write k = inr (refl, k)
 
 -- nothing was printed, with another fault than that of a write
-pub none_held : (json : Option (List ℕ)) (v : KnownVolume) (f : ProgramFault) (a : Stream) → f ≢ fault.Job job.Write → PrintsHeld (Err f) json v a a
+pub none_held : (json : Option (List ℕ)) (v : KnownVolume) (f : ProgramFault) (a : Stream) → f ≢ fault.Job job.Write
+    → PrintsHeld (Err f) json v a a
 none_held json v f a other = (λ slots known. record { front = []; rest = _; whole = refl; taken = takes_nothing a }, inl (other, refl))
 
 -- the volume in files that were opened
-pub listed : (r : Result Ending ProgramFault) (asked : PrintedVolume) (opened_before opened : List SourceFile) (x : OpenedState) (a b : Stream)
-    → OpensPaths (paths_of asked) x.contents opened_before opened → Mounts x.contents x.geometry → PrintsHeld r (json_path asked) (volume_in x.geometry x.contents) a b
+pub listed : (r : Result Ending ProgramFault) (asked : PrintedVolume) (opened_before opened : List SourceFile) (x : OpenedState)
+    (a b : Stream)
+    → OpensPaths (paths_of asked) x.contents opened_before opened → Mounts x.contents x.geometry
+    → PrintsHeld r (json_path asked) (volume_in x.geometry x.contents) a b
     → ListsContents r asked opened_before opened a b
-listed (Ok ending) asked opened_before opened x a b opens mounts so = record { geometry = x.geometry; contents = x.contents; opens = opens; mounts = mounts; so = so }
-listed (Err f) asked opened_before opened x a b opens mounts so = inr (record { geometry = x.geometry; contents = x.contents; opens = opens; mounts = mounts; so = so })
+listed (Ok ending) asked opened_before opened x a b opens mounts so = record {
+  geometry = x.geometry;
+  contents = x.contents;
+  opens =
+      opens;
+  mounts = mounts;
+  so = so;
+}
+listed (Err f) asked opened_before opened x a b opens mounts so = inr (record {
+  geometry = x.geometry;
+  contents = x.contents;
+  opens =
+      opens;
+  mounts = mounts;
+  so = so;
+})

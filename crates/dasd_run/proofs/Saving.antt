@@ -1,5 +1,6 @@
 -- Volumes that are saved one after another.
-use Rattle.std.proofs.Common.{ℕ, ◌+◌, ◌<◌, ◌≤◌, ◌≡◌, ◌∙◌, ◌⊎◌, inl, inr, List, [], ◌∷◌, length, get_or, drop, ap, sym, subst, refl, Option, Some, None, Result, Ok, Err, add-one, suc, false, IfErr, arith, rules}
+use Rattle.std.proofs.Common.{ℕ, ◌+◌, ◌<◌, ◌≤◌, ◌≡◌, ◌∙◌, ◌⊎◌, inl, inr, List, [], ◌∷◌, length, get_or, drop, ap, sym, subst, refl, Option}
+use Rattle.std.proofs.Common.{Some, None, Result, Ok, Err, add-one, suc, false, IfErr, arith, rules}
 use Rattle.std.specs.List.{zip}
 use Rattle.std.proofs.Math.Seq.{drop-cons}
 use Rattle.std.proofs.lemmas.Bool.{cases_lt, false≢true}
@@ -19,7 +20,8 @@ abbrev pub Given : Type 0
 Given = Option (ℕ × ImageState)
 
 -- the pairs from a place on, where there is one
-from_pair : {A B : Type 0} (xs : List A) (ys : List B) (i : ℕ) (x : A) (y : B) → i < length xs → i < length ys → drop i (zip xs ys) ≡ (get_or xs i x, get_or ys i y) ∷ drop (i + 1) (zip xs ys)
+from_pair : {A B : Type 0} (xs : List A) (ys : List B) (i : ℕ) (x : A) (y : B) → i < length xs → i < length ys
+    → drop i (zip xs ys) ≡ (get_or xs i x, get_or ys i y) ∷ drop (i + 1) (zip xs ys)
 from_pair xs ys i x y in_xs in_ys =
     rw add-one (drop-cons (zip xs ys) i (x, y) (omega (arith, length-zip xs ys))
     ∙ ap (λ p. p ∷ drop (suc i) (zip xs ys)) (get_or-zip xs ys i (x, y) in_xs in_ys))
@@ -37,7 +39,9 @@ is_within ys i y there = by (cases_lt i (length ys))
     by (inr past) = let none : get_or ys i None ≡ None = get_or_past ys i None past in cc
 
 -- a volume beside which no image stands
-pub none_there : (r : Result (Unit {0}) ProgramFault) (vs : List Volume) (ds : List Given) (i : ℕ) (before now : List Replaced) → i < length vs → get_or ds i None ≡ None → SavesAll r (drop (i + 1) (zip vs ds)) before now → SavesAll r (drop i (zip vs ds)) before now
+pub none_there : (r : Result (Unit {0}) ProgramFault) (vs : List Volume) (ds : List Given) (i : ℕ) (before now : List Replaced)
+    → i < length vs → get_or ds i None ≡ None → SavesAll r (drop (i + 1) (zip vs ds)) before now
+    → SavesAll r (drop i (zip vs ds)) before now
 none_there r [] ds i before now inside none rest = absurd (omega arith)
 none_there r (v ∷ others) ds i before now inside none rest = by (cases_lt i (length ds))
   where
@@ -53,25 +57,32 @@ none_there r (v ∷ others) ds i before now inside none rest = by (cases_lt i (l
         (no_pair vs ds (i + 1) (omega arith) ∙ sym (no_pair vs ds i past)) rest
 
 -- the pairs from one on that has an image
-pair_there : (vs : List Volume) (ds : List Given) (i : ℕ) (v : Volume) (d : ℕ × ImageState) → i < length vs → get_or ds i None ≡ Some d → drop i (zip vs ds) ≡ (get_or vs i v, Some d) ∷ drop (i + 1) (zip vs ds)
+pair_there : (vs : List Volume) (ds : List Given) (i : ℕ) (v : Volume) (d : ℕ × ImageState) → i < length vs → get_or ds i None ≡ Some d
+    → drop i (zip vs ds) ≡ (get_or vs i v, Some d) ∷ drop (i + 1) (zip vs ds)
 pair_there vs ds i v d inside there =
     from_pair vs ds i v None inside (is_within ds i d there)
     ∙ ap (λ (e : Given). (get_or vs i v, e) ∷ drop (i + 1) (zip vs ds)) there
 
 -- a volume that is saved before the others
-pub saved_there : (r : Result (Unit {0}) ProgramFault) (vs : List Volume) (ds : List Given) (i : ℕ) (v : Volume) (d : ℕ × ImageState) (before between now : List Replaced) → i < length vs → get_or ds i None ≡ Some d → SavesVolume (Ok tt) (get_or vs i v) d.1 before between → SavesAll r (drop (i + 1) (zip vs ds)) between now → SavesAll r (drop i (zip vs ds)) before now
+pub saved_there : (r : Result (Unit {0}) ProgramFault) (vs : List Volume) (ds : List Given) (i : ℕ) (v : Volume) (d : ℕ
+    × ImageState) (before between now : List Replaced) → i < length vs → get_or ds i None ≡ Some d
+    → SavesVolume (Ok tt) (get_or vs i v) d.1 before between → SavesAll r (drop (i + 1) (zip vs ds)) between now
+    → SavesAll r (drop i (zip vs ds)) before now
 saved_there r vs ds i v d before between now inside there here rest =
     subst (λ (l : List (Volume × Given)). SavesAll r l before now) (sym (pair_there vs ds i v d inside there))
     (inl (between, here, rest))
 
 -- a volume that can't be
-pub stops_there : (f : JobFault) (vs : List Volume) (ds : List Given) (i : ℕ) (v : Volume) (d : ℕ × ImageState) (before now : List Replaced) → i < length vs → get_or ds i None ≡ Some d → SavesVolume (Err f) (get_or vs i v) d.1 before now → SavesAll (Err (Save f)) (drop i (zip vs ds)) before now
+pub stops_there : (f : JobFault) (vs : List Volume) (ds : List Given) (i : ℕ) (v : Volume) (d : ℕ × ImageState) (before now : List Replaced)
+    → i < length vs → get_or ds i None ≡ Some d → SavesVolume (Err f) (get_or vs i v) d.1 before now
+    → SavesAll (Err (Save f)) (drop i (zip vs ds)) before now
 stops_there f vs ds i v d before now inside there here =
     subst (λ (l : List (Volume × Given)). SavesAll (Err (Save f)) l before now) (sym (pair_there vs ds i v d inside there))
     (inr (f, refl, here))
 
 -- and behind the last one
-pub none_left : (vs : List Volume) (ds : List Given) (i : ℕ) (now : List Replaced) → length vs ≤ i → SavesAll (Ok tt) (drop i (zip vs ds)) now now
+pub none_left : (vs : List Volume) (ds : List Given) (i : ℕ) (now : List Replaced) → length vs ≤ i
+    → SavesAll (Ok tt) (drop i (zip vs ds)) now now
 none_left vs ds i now past =
     subst (λ (l : List (Volume × Given)). SavesAll (Ok tt) l now now)
     (sym (drop_all i (zip vs ds) (omega (arith, length-zip vs ds)))) (refl, refl)
@@ -80,7 +91,8 @@ none_left vs ds i now past =
 fault_of_file : (e : ProgramFault) (f : JobFault) → ◌≡◌ {A = Result (Unit {0}) ProgramFault} (Err e) (Err (Save f)) → keeps_files e ≡ false
 fault_of_file e f told = let same : e ≡ Save f = cc in rw same refl
 
-pub fault_of_files : (r : Result (Unit {0}) ProgramFault) (ps : List (Volume × Given)) (before now : List Replaced) → SavesAll r ps before now → IfErr r (λ e. keeps_files e ≡ false)
+pub fault_of_files : (r : Result (Unit {0}) ProgramFault) (ps : List (Volume × Given)) (before now : List Replaced)
+    → SavesAll r ps before now → IfErr r (λ e. keeps_files e ≡ false)
 fault_of_files (Ok done) ps before now saved = search rules
 fault_of_files (Err e) [] before now saved = absurd (false≢true saved.0)
 fault_of_files (Err e) ((v, None) ∷ rest) before now saved = fault_of_files (Err e) rest before now saved

@@ -14,17 +14,20 @@ use Rattle.dasd_run.specs.declared.fault.ProgramFault.{ProgramFault}
 use Rattle.dasd_run.specs.Faults.{keeps_of_job, keeps_files}
 
 -- what is seen of a value that stays does so too
-pub stays_seen : {A B : Type 0} (seen : A → B) (r : Result (Unit {0}) RunFault) (old new : A) → StaysUnlessRun r old new → StaysUnlessRun r (seen old) (seen new)
+pub stays_seen : {A B : Type 0} (seen : A → B) (r : Result (Unit {0}) RunFault) (old new : A) → StaysUnlessRun r old new
+    → StaysUnlessRun r (seen old) (seen new)
 stays_seen seen (Ok done) old new stays = tt
 stays_seen seen (Err run.Write) old new stays = tt
 stays_seen seen (Err run.Read) old new stays = ap seen stays
 stays_seen seen (Err (run.Deck f)) old new stays = ap seen stays
 
 -- a format with another fault than that of a write has written nothing
-pub kept_unless_write : (f : JobFault) (path : List ℕ) (model : DriveModel) (cylinders : ℕ) (before now : List Replaced) (printed_before printed : Stream)
+pub kept_unless_write : (f : JobFault) (path : List ℕ) (model : DriveModel) (cylinders : ℕ) (before now : List Replaced)
+    (printed_before printed : Stream)
     → Formats {A = Unit {0}} (Err f) path model cylinders before now printed_before printed → keeps_of_job f ≡ true → now ≡ before
 kept_unless_write f path model cylinders before now printed_before printed (inl none) keeps = none.0
-kept_unless_write f path model cylinders before now printed_before printed (inr written) keeps = absurd (false≢true (sym (ap keeps_of_job written.0) ∙ keeps))
+kept_unless_write f path model cylinders before now printed_before printed (inr written) keeps =
+    absurd (false≢true (sym (ap keeps_of_job written.0) ∙ keeps))
 
 -- The fault that is told first is that of the files, which stayed where it says so; that of the trace says no such thing.
 pub kept_if_told : (before now : List Replaced) (concluded traced : Result (Unit {0}) ProgramFault) (ending : Ending)

@@ -15,7 +15,8 @@ writes_told A B Store a b h = h
 writes_told A B Write a b h = h
 
 -- one behind a call that had none
-pub writes_behind : (A : Type 0) (f : VolumeFault) (a b c : Stream) → NoneFailed a b → CountsWrites {A = A} (Err f) b c → CountsWrites {A = A} (Err f) a c
+pub writes_behind : (A : Type 0) (f : VolumeFault) (a b c : Stream) → NoneFailed a b → CountsWrites {A = A} (Err f) b c
+    → CountsWrites {A = A} (Err f) a c
 writes_behind A OutOfMemory a b c none h = h ∙ none
 writes_behind A Store a b c none h = h ∙ none
 writes_behind A Write a b c none h = h ∙ ap (λ (n : ℕ). n + 1) none

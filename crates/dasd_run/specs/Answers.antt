@@ -39,14 +39,16 @@ FormatsVolume result asked before now printed_before printed =
     × Formats job asked.path.now asked.model asked.cylinders before now printed_before printed × OnOk job (IsFlushed printed)
 
 -- the volume of the files at these paths is printed, and none of it held back
-abbrev pub ListsVolume : Result Ending ProgramFault → (paths : List (List ℕ)) → (opened_before opened : List SourceFile) → (printed_before printed : Stream) → Type 0
+abbrev pub ListsVolume : Result Ending ProgramFault → (paths : List (List ℕ)) → (opened_before opened : List SourceFile) → (printed_before printed : Stream)
+    → Type 0
 ListsVolume result paths opened_before opened printed_before printed =
     (job : Result (Unit {0}) JobFault) × (result ≡ ended (λ done. Done) job)
     × PrintsFiles job volume_text paths opened_before opened printed_before printed × CountsLines job printed_before printed
     × OnOk job (IsFlushed printed)
 
 -- its tracks that can't be read are printed, and it has findings where there are some
-abbrev pub ChecksVolume : Result Ending ProgramFault → (paths : List (List ℕ)) → (opened_before opened : List SourceFile) → (printed_before printed : Stream) → Type 0
+abbrev pub ChecksVolume : Result Ending ProgramFault → (paths : List (List ℕ)) → (opened_before opened : List SourceFile) → (printed_before printed : Stream)
+    → Type 0
 ChecksVolume result paths opened_before opened printed_before printed =
     (job : Result ℕ JobFault) × (result ≡ ended ending_of job)
     × IfOk job (λ n. OfVolume paths opened_before opened (λ v. NumberIn v n))

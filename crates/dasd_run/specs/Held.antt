@@ -44,7 +44,8 @@ pub record SaysWith (s : Said) (all : List Finding) (c : Contents) : Type 0 wher
   pub findings : c.found.findings.items ≡ all
 
 abbrev pub SaysAll : KnownVolume → Contents → Type 0
-SaysAll v c = (slots : List (List ℕ)) → v.slots ≡ Some slots → SaysWith (contents_of v.geometry slots) (all_findings v.geometry (contents_of v.geometry slots)) c
+SaysAll v c = (slots : List (List ℕ)) → v.slots ≡ Some slots → SaysWith (contents_of v.geometry slots) (all_findings v.geometry (contents_of v.geometry slots))
+    c
 
 abbrev pub held_ending : Geometry → (slots : List (List ℕ)) → Ending
 held_ending g slots = ending_of (length (all_findings g (contents_of g slots)))

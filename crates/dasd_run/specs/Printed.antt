@@ -1,5 +1,6 @@
 -- What a command prints of the volume of files, and which part of it words ask for.
-use Rattle.std.specs.Prelude.{◌≡◌, ◌≤◌, ◌<◌, ◌⊎◌, ◌-◌, ◌==◌, ℕ, Bool, true, false, if◌then◌else◌, List, map, Option, Some, None, Result, Ok, Err, IfOk, IfErr, OnOk}
+use Rattle.std.specs.Prelude.{◌≡◌, ◌≤◌, ◌<◌, ◌⊎◌, ◌-◌, ◌==◌, ℕ, Bool, true, false, if◌then◌else◌, List, map, Option, Some, None, Result, Ok, Err, IfOk, IfErr}
+use Rattle.std.specs.Prelude.{OnOk}
 use Rattle.counted_io.specs.Streams.{Stream, IsFlushed}
 use Rattle.ckd_track.specs.declared.geometries.Geometry.{Geometry}
 use Rattle.dasd_volumes.specs.declared.fault.VolumeFault.{VolumeFault}

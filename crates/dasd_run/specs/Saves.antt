@@ -45,7 +45,8 @@ pub record SavesRun (result : Result (Unit {0}) ProgramFault) (volumes : List Vo
 
 -- What becomes of the files behind a deck: of one that was run the volumes are saved, and that its answers can't be written is told
 -- where no file's fault is; of one that was not run no file is written, and its fault is told.
-abbrev pub Concludes : (run : Result (Unit {0}) RunFault) → (result : Result (Unit {0}) ProgramFault) → List Volume → ChannelState → (before now : List Replaced) → Type 0
+abbrev pub Concludes : (run : Result (Unit {0}) RunFault) → (result : Result (Unit {0}) ProgramFault) → List Volume → ChannelState
+    → (before now : List Replaced) → Type 0
 Concludes (Ok done) result volumes channel before now = SavesRun result volumes channel before now
 Concludes (Err run.Write) result volumes channel before now =
     (saved : Result (Unit {0}) ProgramFault) × SavesRun saved volumes channel before now × (result ≡ result_and saved (Err (fault.Run run.Write)))

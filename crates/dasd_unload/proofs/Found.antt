@@ -13,17 +13,27 @@ use Rattle.dasd_unload.specs.Asked.{AskedSet, SetOf, NamesMember, MemberOf}
 use Rattle.dasd_unload.specs.Causes.{WhyNoStart, WhyNot}
 
 -- a member, or that there is none
-names_member : (text name : List ℕ) (v : KnownVolume) (extents : List Extent) (members : Members) (found : Option DirectoryEntry) → Names text name → MembersOf extents v members
+names_member : (text name : List ℕ) (v : KnownVolume) (extents : List Extent) (members : Members) (found : Option DirectoryEntry)
+    → Names text name → MembersOf extents v members
     → found ≡ find (λ e. bytes_eq e.name name) members.entries.items → NamesMember text v extents found
-names_member text name v extents members found named of_set is = record { name = name; named = named; members = members; of_set = of_set; first = sym is }
+names_member text name v extents members found named of_set is = record {
+  name = name;
+  named = named;
+  members = members;
+  of_set =
+      of_set;
+  first = sym is;
+}
 
-pub member_of : (text name : List ℕ) (v : KnownVolume) (extents : List Extent) (members : Members) (found : Option DirectoryEntry) → Names text name → MembersOf extents v members
+pub member_of : (text name : List ℕ) (v : KnownVolume) (extents : List Extent) (members : Members) (found : Option DirectoryEntry)
+    → Names text name → MembersOf extents v members
     → found ≡ find (λ e. bytes_eq e.name name) members.entries.items → MemberOf text v extents found
 member_of text name v extents members (Some entry) named of_set is = names_member text name v extents members (Some entry) named of_set is
 member_of text name v extents members None named of_set is = λ _. names_member text name v extents members None named of_set is
 
 -- a data set is there, and what is asked for of it begins nowhere
-pub why_no_start : (f : UnloadFault) (a : AskedSet) (v : KnownVolume) (d : DataSet) → SetOf a.name v (Some d) → WhyNoStart f v d a.member → WhyNot f a v
+pub why_no_start : (f : UnloadFault) (a : AskedSet) (v : KnownVolume) (d : DataSet) → SetOf a.name v (Some d) → WhyNoStart f v d a.member
+    → WhyNot f a v
 why_no_start fault.NoMember a v d named why = record { set = d; named = named; is_so = why }
 why_no_start fault.NoMemberNamed a v d named why = record { set = d; named = named; is_so = why }
 why_no_start (fault.Job _) a v d named why = tt

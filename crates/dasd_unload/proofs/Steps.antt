@@ -1,5 +1,6 @@
 -- Steps that were done one after another.
-use Rattle.std.proofs.Common.{arith, ◌≡◌, ◌∙◌, inl, inr, refl, sym, ap, subst, ℕ, ◌+◌, ◌<◌, ◌≤◌, List, [], ◌∷◌, ◌++◌, map, length, drop, get_or, Some, Result, Ok, Err, OnOk, append_assoc, append-nil}
+use Rattle.std.proofs.Common.{arith, ◌≡◌, ◌∙◌, inl, inr, refl, sym, ap, subst, ℕ, ◌+◌, ◌<◌, ◌≤◌, List, [], ◌∷◌, ◌++◌, map, length, drop}
+use Rattle.std.proofs.Common.{get_or, Some, Result, Ok, Err, OnOk, append_assoc, append-nil}
 use Rattle.std.specs.List.{flat_map, fold}
 use Rattle.std.proofs.lemmas.List.{map-append, drop_more, drop_all}
 use Rattle.std.proofs.lemmas.List.Concat.{flat_map-append}
@@ -15,7 +16,8 @@ use Rattle.dasd_unload.specs.declared.fault.UnloadFault.TheVariants.{Job}
 use Rattle.dasd_unload.specs.declared.report.Tally.{Tally}
 use Rattle.dasd_unload.specs.Unloads.{Outcome, outcome}
 use Rattle.dasd_unload.specs.Told.{TellsText, WhyNotTold}
-use Rattle.dasd_unload.specs.Volumes.{Plan, Unloading, unloading, Step, Done, files_of, text_of, counted_of, DoesUpTo, DoesSome, DoesOrStops, CountsReport, DoesOfVolume}
+use Rattle.dasd_unload.specs.Volumes.{Plan, Unloading, unloading, Step, Done, files_of, text_of, counted_of, DoesUpTo, DoesSome}
+use Rattle.dasd_unload.specs.Volumes.{DoesOrStops, CountsReport, DoesOfVolume}
 
 module _ (u : Unloading) (steps : List Step) where
   -- none was done

@@ -1,5 +1,6 @@
 -- The steps of a volume, as they were done.
-use Rattle.std.proofs.Common.{◌≡◌, ◌∙◌, inl, inr, sym, ap, subst, ℕ, Bool, true, false, if◌then◌else◌, List, [], ◌∷◌, ◌++◌, map, codes, length, Option, Some, None, Result, Ok, Err, IfOk, OnOk, append-nil}
+use Rattle.std.proofs.Common.{◌≡◌, ◌∙◌, inl, inr, sym, ap, subst, ℕ, Bool, true, false, if◌then◌else◌, List, [], ◌∷◌, ◌++◌, map, codes}
+use Rattle.std.proofs.Common.{length, Option, Some, None, Result, Ok, Err, IfOk, OnOk, append-nil}
 use Rattle.std.specs.List.{flat_map, fold}
 use Rattle.std.proofs.lemmas.List.Concat.{flat_map_single}
 use Rattle.counted_io.specs.Streams.{Stream, Takes, TakesFront}
@@ -31,8 +32,11 @@ use Rattle.dasd_unload.specs.declared.report.Tally.{Tally}
 use Rattle.dasd_unload.specs.declared.sets.Unloaded.{Unloaded}
 use Rattle.dasd_unload.specs.Unloads.{Outcome, outcome, Unloads, file_name}
 use Rattle.dasd_unload.specs.Asked.{form_of, is_partitioned, beginning}
-use Rattle.dasd_unload.specs.Told.{Line, FileLine, FindingLine, finding_lines, line_text, count_line, no_line, total_text, contents_texts, chain_texts, directory_texts, end_texts, TellsText}
-use Rattle.dasd_unload.specs.Volumes.{Plan, Unloading, unloading, Step, Unload, Tell, Done, path_in, member_step, partitioned_steps, steps_of_form, set_steps, block_steps, volume_steps, unloaded_lines, DoesOfVolume, UnloadsKnown, UnloadsVolume}
+use Rattle.dasd_unload.specs.Told.{Line, FileLine, FindingLine, finding_lines, line_text, count_line, no_line, total_text, contents_texts}
+use Rattle.dasd_unload.specs.Told.{chain_texts, directory_texts, end_texts, TellsText}
+use Rattle.dasd_unload.specs.Volumes.{Plan, Unloading, unloading, Step, Unload, Tell, Done, path_in, member_step, partitioned_steps}
+use Rattle.dasd_unload.specs.Volumes.{steps_of_form, set_steps, block_steps, volume_steps, unloaded_lines, DoesOfVolume, UnloadsKnown}
+use Rattle.dasd_unload.specs.Volumes.{UnloadsVolume}
 use Rattle.dasd_unload.proofs.Steps.{SoFar, one, counts_told, nothing, finished, with_more, stop_in, with_last, same, of_steps}
 
 abbrev Result0 : Type 0

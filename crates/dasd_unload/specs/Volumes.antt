@@ -25,7 +25,8 @@ use Rattle.dasd_unload.specs.declared.fault.UnloadFault.TheVariants.{Job}
 use Rattle.dasd_unload.specs.declared.report.Tally.{Tally}
 use Rattle.dasd_unload.specs.Unloads.{Outcome, file_name}
 use Rattle.dasd_unload.specs.Asked.{form_of, is_partitioned, beginning}
-use Rattle.dasd_unload.specs.Told.{Line, FileLine, finding_lines, line_text, count_line, no_line, total_text, chain_texts, end_texts, directory_texts, contents_texts}
+use Rattle.dasd_unload.specs.Told.{Line, FileLine, finding_lines, line_text, count_line, no_line, total_text, chain_texts, end_texts, directory_texts}
+use Rattle.dasd_unload.specs.Told.{contents_texts}
 
 -- how a volume is unloaded: the folder of the files, whether records are written as lines of text, and the paths of the volume as a
 -- string of JSON, where what is told are objects of JSON
@@ -62,7 +63,8 @@ member_step data_set extents form e = Unload (file_name data_set (Some e.name)) 
 -- what is wrong with a directory, by what was read of it, is told, and then each of its members is unloaded
 abbrev pub directory_steps : (data_set : List ℕ) → List Extent → Form → (directory : Written) → List Step
 directory_steps data_set extents form w =
-    Tell (file_name data_set None) (directory_texts (entries_of w.bytes).fault ++ end_texts w.stop) ∷ map (member_step data_set extents form) (entries_of w.bytes).entries
+    Tell (file_name data_set None) (directory_texts (entries_of w.bytes).fault ++ end_texts w.stop) ∷ map (member_step data_set extents form)
+    (entries_of w.bytes).entries
 
 abbrev pub partitioned_steps : Unloading → (data_set : List ℕ) → List Extent → Form → List Step
 partitioned_steps u data_set extents form = directory_steps data_set extents form (source_written (directory extents) u.volume.geometry u.slots)
@@ -161,7 +163,8 @@ CountsReport (Ok _) before after = NoneFailed before after
 CountsReport (Err fault) before after = NoneFailed before after ⊎ ((fault ≡ Job job.Write) × OneFailed before after)
 
 -- the same of the steps of a volume, if its slots are known
-pub record DoesOfVolume {A : Type 0} (r : Result A UnloadFault) (v : KnownVolume) (p : Plan) (steps : Unloading → List Step) (before now : Outcome) (told_before told : Tally) : Type 0 where
+pub record DoesOfVolume {A : Type 0} (r : Result A UnloadFault) (v : KnownVolume) (p : Plan) (steps : Unloading → List Step) (before now : Outcome)
+    (told_before told : Tally) : Type 0 where
   pub counts : CountsReport r before.printed now.printed
   pub does : (slots : List (List ℕ)) → v.slots ≡ Some slots → DoesOrStops r (unloading v slots p) (steps (unloading v slots p)) before now told_before told
 

@@ -5,7 +5,8 @@ ghost use Rattle.std.specs.List.{flat_map, fold};
 ghost use Rattle.std.specs.Option.{option_copied};
 ghost use Rattle.std.specs.Io.KnownBytes.{Appends};
 ghost use Rattle.counted_io.specs.Streams.{seen_by, IsFlushed};
-ghost use Rattle.dasd_unload.specs.Told.{FileLine, FindingLine, finding_lines, line_text, count_line, no_line, total_text, wrong_text, contents_texts, chain_texts, directory_texts, directory_text, end_texts, is_end, TellsText};
+ghost use Rattle.dasd_unload.specs.Told.{FileLine, FindingLine, finding_lines, line_text, count_line, no_line, total_text, wrong_text, contents_texts};
+ghost use Rattle.dasd_unload.specs.Told.{chain_texts, directory_texts, directory_text, end_texts, is_end, TellsText};
 
 use crate::fault::{NO_MEMORY, UnloadFault};
 use crate::sets::Unloaded;

@@ -5,7 +5,8 @@ ghost use Rattle.std.specs.Option.{option_copied};
 ghost use Rattle.counted_io.specs.Streams.{seen_by, IsFlushed};
 ghost use Rattle.dasd_extract.specs.Walk.{PrintsSource, wanted};
 ghost use Rattle.dasd_unload.specs.Unloads.{UnloadsTo, CountsPrinted, outcome, is_of_job, leaves_a_file};
-ghost use Rattle.dasd_unload.specs.Asked.{asked_by, beginning, form_of, is_partitioned, SetOf, MemberOf, StartsAt, Asks, PutsBlocks, PrintsFirst, StopsPrinting, CountsSet, UnloadsSet};
+ghost use Rattle.dasd_unload.specs.Asked.{asked_by, beginning, form_of, is_partitioned, SetOf, MemberOf, StartsAt, Asks, PutsBlocks, PrintsFirst};
+ghost use Rattle.dasd_unload.specs.Asked.{StopsPrinting, CountsSet, UnloadsSet};
 ghost use Rattle.dasd_unload.specs.Causes.{WhyNoStart, WhyNot, UnloadsOrTells};
 
 use crate::fault::{NO_MEMORY, UnloadFault, of_reading, of_volume};

@@ -8,7 +8,8 @@ ghost use Rattle.counted_io.specs.Streams.{seen_by, IsFlushed};
 ghost use Rattle.dasd_contents.specs.Sets.{is_data_set};
 ghost use Rattle.dasd_extract.specs.Walk.{wanted};
 ghost use Rattle.dasd_unload.specs.Unloads.{AddsIn, IsFileName, outcome, file_name, is_of_job};
-ghost use Rattle.dasd_unload.specs.Volumes.{plan, plan_of, Unload, path_in, block_steps, partitioned_steps, set_steps, volume_steps, DoesOfVolume, CountsReport, UnloadsVolume};
+ghost use Rattle.dasd_unload.specs.Volumes.{plan, plan_of, Unload, path_in, block_steps, partitioned_steps, set_steps, volume_steps, DoesOfVolume};
+ghost use Rattle.dasd_unload.specs.Volumes.{CountsReport, UnloadsVolume};
 
 use crate::fault::{NO_MEMORY, UnloadFault, of_reading};
 use crate::report::{Named, Report, Wrong};

@@ -1,5 +1,6 @@
 -- What the holes of a format write.
-use Rattle.std.proofs.Common.{ℕ, ◌-◌, ◌+◌, ◌*◌, ◌^◌, ◌≡◌, ◌∙◌, List, [], ◌∷◌, ◌++◌, append_assoc, true, false, length, take, drop, ap, sym, refl, codes, arith, length-drop}
+use Rattle.std.proofs.Common.{ℕ, ◌-◌, ◌+◌, ◌*◌, ◌^◌, ◌≡◌, ◌∙◌, List, [], ◌∷◌, ◌++◌, append_assoc, true, false, length, take, drop, ap, sym}
+use Rattle.std.proofs.Common.{refl, codes, arith, length-drop}
 use Rattle.std.proofs.Math.Nat.{sub-zero}
 use Rattle.std.proofs.lemmas.List.{take_at, append-nil, take-take, drop-take, take_min, take-append-drop}
 use Rattle.std.proofs.lemmas.List.Concat.{flat_map-append}
@@ -10,7 +11,8 @@ use Rattle.dasd_volumes.specs.Lines.{hexadecimal, bytes_text, address_text, line
 use Rattle.ckd_track.specs.Track.{Record, IsRecord, count_area}
 
 -- `{n:0widthX}`
-pub padded_hexadecimal : (width n : ℕ) → padded_integral (format_spec 32 0 4 width (2 ^ 64 - 1)) false [] (digits 16 true n) ≡ hexadecimal width n
+pub padded_hexadecimal : (width n : ℕ) → padded_integral (format_spec 32 0 4 width (2 ^ 64 - 1)) false [] (digits 16 true n)
+    ≡ hexadecimal width n
 unfolding padded_integral char_count
 padded_hexadecimal width n = simp (append-nil, sub-zero)
 
@@ -19,7 +21,8 @@ pub one_piece_more : (bytes : List ℕ) (i size : ℕ) → size ≡ min 32 (leng
     → bytes_text (take (32 * i) bytes) ++ bytes_text (slice_range bytes (32 * i) (32 * i + size)) ≡ bytes_text (take (32 * (i + 1)) bytes)
 one_piece_more bytes i size is =
     sym (flat_map-append (hexadecimal 2) (take (32 * i) bytes) (slice_range bytes (32 * i) (32 * i + size)))
-    ∙ ap bytes_text (ap (λ (l : List ℕ). take (32 * i) bytes ++ l) piece ∙ front ∙ ap (λ n. take n bytes) {x = 32 * i + 32} {y = 32 * (i + 1)} (omega arith))
+    ∙ ap bytes_text (ap (λ (l : List ℕ). take (32 * i) bytes ++ l) piece ∙ front ∙ ap (λ n. take n bytes) {x = 32 * i + 32} {y =
+    32 * (i + 1)} (omega arith))
   where
     piece : slice_range bytes (32 * i) (32 * i + size) ≡ take 32 (drop (32 * i) bytes)
     piece =

@@ -1,5 +1,6 @@
 -- Texts of which the first bytes are written.
-use Rattle.std.proofs.Common.{◌≡◌, ◌+◌, ◌-◌, ◌<◌, ◌≤◌, ℕ, zero, suc, List, [], ◌++◌, take, drop, get_or, length, sym, ap, subst, ◌∙◌, append_assoc, append-nil, take-append-drop, arith, add-one, flat_map}
+use Rattle.std.proofs.Common.{◌≡◌, ◌+◌, ◌-◌, ◌<◌, ◌≤◌, ℕ, zero, suc, List, [], ◌++◌, take, drop, get_or, length, sym, ap, subst, ◌∙◌}
+use Rattle.std.proofs.Common.{append_assoc, append-nil, take-append-drop, arith, add-one, flat_map}
 use Rattle.std.proofs.lemmas.List.{flat_map_more, take_more}
 use Rattle.std.proofs.lemmas.List.Concat.{flat_map-append}
 use Rattle.counted_io.specs.Streams.{Stream, Takes, TakesFront}
@@ -27,7 +28,8 @@ begins_with_each : (of : ℕ → List ℕ) (i k : ℕ) → Begins (of_each of i)
 begins_with_each of i zero = subst (λ n. Begins (of_each of i) (of_each of n)) (omega arith) (begins_with_all (of_each of i))
 begins_with_each of i (suc k) =
     subst (λ n. Begins (of_each of i) (of_each of n)) (omega arith)
-    (subst (Begins (of_each of i)) (sym (of_one_more of (i + k))) (begins_before (of_each of i) (of_each of (i + k)) (of (i + k)) (begins_with_each of i k)))
+    (subst (Begins (of_each of i)) (sym (of_one_more of (i + k))) (begins_before (of_each of i) (of_each of (i + k)) (of (i + k))
+    (begins_with_each of i k)))
 
 pub begins_with_some : (of : ℕ → List ℕ) (i n : ℕ) → i ≤ n → Begins (of_each of i) (of_each of n)
 begins_with_some of i n h = subst (λ m. Begins (of_each of i) (of_each of m)) (omega (arith, h)) (begins_with_each of i (n - i))
@@ -71,26 +73,33 @@ pub front_of_next : (a b c : Stream) (before : List ℕ) (of : ℕ → List ℕ)
     → Takes a b (before ++ of_each of i) → TakesFront b c (of i) → TakesFront a c (before ++ of_each of n)
 front_of_next a b c before of i n inside first second =
     front_more a c ((before ++ of_each of i) ++ of i) (before ++ of_each of n)
-    (subst (λ l. Begins l (before ++ of_each of n)) (sym (append_assoc before (of_each of i) (of i))) (begins_behind before (of_each of i ++ of i) (of_each of n) (begins_with_more of i n inside)))
+    (subst (λ l. Begins l (before ++ of_each of n)) (sym (append_assoc before (of_each of i) (of i)))
+    (begins_behind before (of_each of i ++ of i) (of_each of n) (begins_with_more of i n inside)))
     (front_behind a b c (before ++ of_each of i) (of i) first second)
 
 -- so many texts are written, and no more
-pub front_so_far : (a b : Stream) (before : List ℕ) (of : ℕ → List ℕ) (i n : ℕ) → i ≤ n → Takes a b (before ++ of_each of i) → TakesFront a b (before ++ of_each of n)
-front_so_far a b before of i n h w = front_of a b (before ++ of_each of i) (before ++ of_each of n) (begins_behind before (of_each of i) (of_each of n) (begins_with_some of i n h)) w
+pub front_so_far : (a b : Stream) (before : List ℕ) (of : ℕ → List ℕ) (i n : ℕ) → i ≤ n → Takes a b (before ++ of_each of i)
+    → TakesFront a b (before ++ of_each of n)
+front_so_far a b before of i n h w = front_of a b (before ++ of_each of i) (before ++ of_each of n) (begins_behind before (of_each of i)
+    (of_each of n) (begins_with_some of i n h)) w
 
 -- none, and one more
 pub begun : (a b : Stream) (before : List ℕ) (of : ℕ → List ℕ) → Takes a b before → Takes a b (before ++ of_each of 0)
 begun a b before of w = subst (Takes a b) (sym (append-nil before) ∙ ap (λ l. before ++ l) (sym (of_none of))) w
 
-pub one_more : (a b c : Stream) (before : List ℕ) (of : ℕ → List ℕ) (n : ℕ) → Takes a b (before ++ of_each of n) → Takes b c (of n) → Takes a c (before ++ of_each of (n + 1))
+pub one_more : (a b c : Stream) (before : List ℕ) (of : ℕ → List ℕ) (n : ℕ) → Takes a b (before ++ of_each of n) → Takes b c (of n)
+    → Takes a c (before ++ of_each of (n + 1))
 one_more a b c before of n first next =
-    subst (Takes a c) (append_assoc before (of_each of n) (of n) ∙ ap (λ l. before ++ l) (sym (of_one_more of n))) (takes_more a b c (before ++ of_each of n) (of n) first next)
+    subst (Takes a c) (append_assoc before (of_each of n) (of n) ∙ ap (λ l. before ++ l) (sym (of_one_more of n)))
+    (takes_more a b c (before ++ of_each of n) (of n) first next)
 
 -- the text of one more element; and the first bytes of the next
 pub one_more_text : {X : Type 0} (a b c : Stream) (text : X → List ℕ) (before : List ℕ) (xs : List X) (i : ℕ) (d : X) → i < length xs
-    → Takes a b (before ++ flat_map text (take i xs)) → Takes b c (text (get_or xs i d)) → Takes a c (before ++ flat_map text (take (i + 1) xs))
+    → Takes a b (before ++ flat_map text (take i xs)) → Takes b c (text (get_or xs i d))
+    → Takes a c (before ++ flat_map text (take (i + 1) xs))
 one_more_text a b c text before xs i d inside first next =
-    subst (Takes a c) (flat_map_more text before (take i xs) (get_or xs i d) ∙ ap (λ l. before ++ flat_map text l) (sym (take_more xs i d inside)))
+    subst (Takes a c) (flat_map_more text before (take i xs) (get_or xs i d)
+    ∙ ap (λ l. before ++ flat_map text l) (sym (take_more xs i d inside)))
     (takes_more a b c _ _ first next)
 
 pub front_of_text : {X : Type 0} (a b c : Stream) (text : X → List ℕ) (before : List ℕ) (xs : List X) (i : ℕ) (d : X) → i < length xs
@@ -114,19 +123,25 @@ module _ {X : Type 0} (line : X → List ℕ) (of : ℕ → List X) where
   unfolding of_each
   each_line zero = ap (flat_map line) (of_none of) ∙ sym (of_none lines_of)
   each_line (suc n) =
-      ap (λ k. flat_map line (of_each of k)) (sym (add-one n)) ∙ ap (flat_map line) (of_one_more of n) ∙ flat_map-append line (of_each of n) (of n)
+      ap (λ k. flat_map line (of_each of k)) (sym (add-one n)) ∙ ap (flat_map line) (of_one_more of n)
+      ∙ flat_map-append line (of_each of n) (of n)
       ∙ ap (λ l. l ++ flat_map line (of n)) (each_line n) ∙ sym (of_one_more lines_of n) ∙ ap (of_each lines_of) (add-one n)
 
   pub no_lines : (a : Stream) → Takes a a (flat_map line (of_each of 0))
   no_lines a = subst (Takes a a) (sym (ap (flat_map line) (of_none of))) (takes_nothing a)
 
-  pub more_lines : (a b c : Stream) (n : ℕ) → Takes a b (flat_map line (of_each of n)) → Takes b c (flat_map line (of n)) → Takes a c (flat_map line (of_each of (n + 1)))
+  pub more_lines : (a b c : Stream) (n : ℕ) → Takes a b (flat_map line (of_each of n)) → Takes b c (flat_map line (of n))
+      → Takes a c (flat_map line (of_each of (n + 1)))
   more_lines a b c n first next =
-      subst (Takes a c) (sym (ap (flat_map line) (of_one_more of n) ∙ flat_map-append line (of_each of n) (of n))) (takes_more a b c _ _ first next)
+      subst (Takes a c) (sym (ap (flat_map line) (of_one_more of n) ∙ flat_map-append line (of_each of n) (of n)))
+      (takes_more a b c _ _ first next)
 
-  pub front_of_lines : (a b c : Stream) (i n : ℕ) → i < n → Takes a b (flat_map line (of_each of i)) → TakesFront b c (flat_map line (of i)) → TakesFront a c (flat_map line (of_each of n))
+  pub front_of_lines : (a b c : Stream) (i n : ℕ) → i < n → Takes a b (flat_map line (of_each of i)) → TakesFront b c (flat_map line (of i))
+      → TakesFront a c (flat_map line (of_each of n))
   front_of_lines a b c i n inside first second =
       subst (TakesFront a c) (sym (each_line n)) (front_of_next a b c [] lines_of i n inside (subst (Takes a b) (each_line i) first) second)
 
-  pub lines_so_far : (a b : Stream) (i n : ℕ) → i ≤ n → Takes a b (flat_map line (of_each of i)) → TakesFront a b (flat_map line (of_each of n))
-  lines_so_far a b i n h w = subst (TakesFront a b) (sym (each_line n)) (front_so_far a b [] lines_of i n h (subst (Takes a b) (each_line i) w))
+  pub lines_so_far : (a b : Stream) (i n : ℕ) → i ≤ n → Takes a b (flat_map line (of_each of i))
+      → TakesFront a b (flat_map line (of_each of n))
+  lines_so_far a b i n h w = subst (TakesFront a b) (sym (each_line n)) (front_so_far a b [] lines_of i n h
+      (subst (Takes a b) (each_line i) w))

@@ -131,7 +131,8 @@ fn check_track<W: Write, P: Progress>(
 ) -> Result<u32, WriteFault>
     ensures number { IfOk result (λ n. n ≡ length (findings_at address.cylinder address.head (track_of slot.now))) }
     ensures few { IfOk result (λ n. n ≤ 1) }
-    ensures lines { CountsFindings result (seen_by W.contents writer.old) (seen_by W.contents writer.new) (findings_at address.cylinder address.head (track_of slot.now)) }
+    ensures lines { CountsFindings result (seen_by W.contents writer.old) (seen_by W.contents writer.new) (findings_at address.cylinder address.head
+        (track_of slot.now)) }
 {
     let Err(fault) = read_slot(slot) else {
         return Ok(0);

@@ -109,7 +109,8 @@ fn list_track<W: Write>(
     address: TrackAddress,
     slot: &[u8],
 ) -> Result<(), WriteFault>
-    ensures { WritesWhole result (seen_by W.contents writer.old) (seen_by W.contents writer.new) (track_lines geometry.model address.cylinder address.head (track_of slot.now)) }
+    ensures { WritesWhole result (seen_by W.contents writer.old) (seen_by W.contents writer.new) (track_lines geometry.model address.cylinder address.head
+        (track_of slot.now)) }
 {
     match read_slot(slot) {
         Ok(track) => list_records(writer, geometry, address, &track),
@@ -157,7 +158,8 @@ fn list_home_address<W: Write>(
     address: TrackAddress,
     track: &TrackView,
 ) -> Result<(), WriteFault>
-    ensures { WritesWhole result (seen_by W.contents writer.old) (seen_by W.contents writer.new) (track_line geometry.model address.cylinder address.head track.now) }
+    ensures { WritesWhole result (seen_by W.contents writer.old) (seen_by W.contents writer.new)
+        (track_line geometry.model address.cylinder address.head track.now) }
 {
     let mut line: ArrayString<LINE> = ArrayString::new();
     put_address(&mut line, address);

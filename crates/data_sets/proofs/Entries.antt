@@ -1,5 +1,6 @@
 -- A walk over the entries of a directory.
-use Rattle.std.proofs.Common.{ℕ, suc, ◌+◌, ◌-◌, ◌<◌, ◌≤◌, ◌≡◌, ◌∙◌, List, [], ◌∷◌, ◌++◌, length, Option, Some, None, ap, sym, refl, append-nil, append_assoc, arith}
+use Rattle.std.proofs.Common.{ℕ, suc, ◌+◌, ◌-◌, ◌<◌, ◌≤◌, ◌≡◌, ◌∙◌, List, [], ◌∷◌, ◌++◌, length, Option, Some, None, ap, sym, refl}
+use Rattle.std.proofs.Common.{append-nil, append_assoc, arith}
 use Rattle.data_sets.specs.declared.directories.DirectoryEntry.{DirectoryEntry}
 use Rattle.data_sets.specs.declared.directories.DirectoryFault.{DirectoryFault}
 use Rattle.data_sets.specs.declared.directories.DirectoryStep.{DirectoryStep}
@@ -16,7 +17,8 @@ module _ (bytes : List ℕ) where
   no_steps at = refl
 
   module _ (k at : ℕ) where
-    pub one_step : k < length bytes → entries_from (length bytes - k) bytes at ≡ from_step (step_at bytes at) (entries_from (length bytes - (k + 1)) bytes)
+    pub one_step : k < length bytes → entries_from (length bytes - k) bytes at ≡ from_step (step_at bytes at)
+        (entries_from (length bytes - (k + 1)) bytes)
     one_step inside =
         let e : length bytes - k ≡ suc (length bytes - (k + 1)) = omega (arith, inside) in
         ap (λ m. entries_from m bytes at) e ∙ more_steps (length bytes - (k + 1)) at

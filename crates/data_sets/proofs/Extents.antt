@@ -10,7 +10,8 @@ use Rattle.data_sets.specs.declared.addresses.Step.TheVariants.{Found, Left}
 use Rattle.data_sets.specs.Addresses.{track_of, step_over, unless_found}
 
 module _ (heads : ℕ) (es : List Extent) (i n : ℕ) where
-  pub first_extent : (e : Extent) (rest : List Extent) → track_of heads (e ∷ rest) n ≡ unless_found (step_over heads e n) (track_of heads rest)
+  pub first_extent : (e : Extent) (rest : List Extent) → track_of heads (e ∷ rest) n ≡ unless_found (step_over heads e n)
+      (track_of heads rest)
   unfolding track_of
   first_extent e rest = refl
 

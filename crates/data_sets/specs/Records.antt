@@ -1,6 +1,7 @@
 -- The records of a block (Data Management Services, 'Record Formats'): fixed length, variable length with a block descriptor word
 -- before the first and a record descriptor word before each, or undefined length.
-use Rattle.std.specs.Prelude.{ℕ, ◌+◌, ◌-◌, ◌*◌, ◌/◌, ◌%◌, ◌≤◌, ◌<◌, ◌==◌, Bool, true, false, ◌&&◌, ◌||◌, not, nat_lt, if◌then◌else◌, List, length, slice_index, Option, Some, None, Result, Ok, Err}
+use Rattle.std.specs.Prelude.{ℕ, ◌+◌, ◌-◌, ◌*◌, ◌/◌, ◌%◌, ◌≤◌, ◌<◌, ◌==◌, Bool, true, false, ◌&&◌, ◌||◌, not, nat_lt, if◌then◌else◌, List, length, slice_index}
+use Rattle.std.specs.Prelude.{Option, Some, None, Result, Ok, Err}
 use Rattle.data_sets.specs.declared.records.RecordForm.{RecordForm}
 use Rattle.data_sets.specs.declared.records.RecordForm.TheVariants.{Fixed, Variable, Spanned, Undefined}
 use Rattle.data_sets.specs.declared.records.Segment.{Segment}

@@ -1,7 +1,8 @@
 //! Relative track addresses over the extents of a data set.
 
 ghost use Rattle.std.specs.Prelude.{◌≡◌, ◌<◌, ◌≤◌, ◌+◌, ◌-◌, ◌*◌, true};
-ghost use Rattle.data_sets.specs.Addresses.{is_unused, is_split, is_in_order, is_run, number_of_track, heads_in, tracks_of_extent, split_track, track_in, track_of, step_over};
+ghost use Rattle.data_sets.specs.Addresses.{is_unused, is_split, is_in_order, is_run, number_of_track, heads_in, tracks_of_extent, split_track, track_in};
+ghost use Rattle.data_sets.specs.Addresses.{track_of, step_over};
 
 use volume_labels::{Extent, TrackAddress};
 

@@ -4,7 +4,8 @@ use Rattle.s360_events.specs.declared.answers.Answer.{Answer}
 use Rattle.s360_events.specs.declared.events.Event.{Event}
 use Rattle.s360_events.specs.Answered.{IsAnswered, AllAnswered}
 
-pub all_answered_one_more : (events : List Event) (answers : List Answer) (e : Event) (a : Answer) → AllAnswered events answers → IsAnswered e a → AllAnswered (events ++ e ∷ []) (answers ++ a ∷ [])
+pub all_answered_one_more : (events : List Event) (answers : List Answer) (e : Event) (a : Answer) → AllAnswered events answers
+    → IsAnswered e a → AllAnswered (events ++ e ∷ []) (answers ++ a ∷ [])
 all_answered_one_more [] [] e a h i = (i, tt)
 all_answered_one_more [] (b ∷ answers) e a h i = absurd h
 all_answered_one_more (d ∷ events) [] e a h i = absurd h

@@ -1,5 +1,6 @@
 -- From what a channel shows after a call to what the call does: input/output instructions, arms that arrive, interruptions.
-use Rattle.std.proofs.Common.{◌≡◌, ℕ, ◌≤◌, ◌/◌, ◌%◌, refl, sym, ap, subst, ◌∙◌, cond, ◌==◌, List, [], ◌∷◌, map, length, Option, Some, None, true, false, ◌+◌, ◌*◌, ◌<◌, Bool, ◌++◌, append_assoc}
+use Rattle.std.proofs.Common.{◌≡◌, ℕ, ◌≤◌, ◌/◌, ◌%◌, refl, sym, ap, subst, ◌∙◌, cond, ◌==◌, List, [], ◌∷◌, map, length, Option, Some, None}
+use Rattle.std.proofs.Common.{true, false, ◌+◌, ◌*◌, ◌<◌, Bool, ◌++◌, append_assoc}
 use Rattle.std.proofs.lemmas.Bool.{eq-eqb}
 use Rattle.std.proofs.lemmas.List.{length-map}
 use Rattle.std.proofs.lemmas.Option.{slice_get_within}
@@ -16,7 +17,9 @@ use Rattle.s360_laws.specs.declared.arm.Arm.{Arm}
 use Rattle.s360_laws.specs.declared.arm.Arm.TheVariants.{InMotion, Arrived}
 use Rattle.s360_laws.specs.declared.condition.ConditionCode.TheVariants.{Two, Three}
 use Rattle.s360_laws.specs.Events.{Event, Sio, Tio, Answer, WithCode, CswStored, Arrive, HasArrived, Interrupt, Interrupted}
-use Rattle.s360_laws.specs.Machine.{Machine, react, on_channel, start_io, start_device, test_io, test_device, device_at, tested, with_subchannel, Device, with_arm, is_in_motion, interrupt_device, interrupt_program, lowest, has_arrived, asked_by, run_of, start_of, with_csw, goes_on, interrupted}
+use Rattle.s360_laws.specs.Machine.{Machine, react, on_channel, start_io, start_device, test_io, test_device, device_at, tested}
+use Rattle.s360_laws.specs.Machine.{with_subchannel, Device, with_arm, is_in_motion, interrupt_device, interrupt_program, lowest}
+use Rattle.s360_laws.specs.Machine.{has_arrived, asked_by, run_of, start_of, with_csw, goes_on, interrupted}
 use Rattle.s360_laws.specs.Machine as machine
 use Rattle.s360_laws.specs.Soundness.{AreDistinct}
 use Rattle.s360_laws.proofs.FindDevices.{different}
@@ -36,13 +39,16 @@ use Rattle.s360_channel.proofs.Works.{seen_there}
 
 -- what a quiet call does, from what the channel shows afterwards; it names the parts of the channel before and behind,
 -- since many calls come here, each of which changes other parts
-pub quiet : (e : Event) (m : Machine) (answer : Answer) (number : ℕ) (s : Storage) (sub : Subchannel) (us : List AttachedState) (s' : Storage) (sub' : Subchannel) (us' : List AttachedState)
-    → StandsFor (of_parts number s sub us) m → images us' ≡ images us → ShowsNext (react e None m) answer (of_parts number s' sub' us') → DoesQuietly e m answer (of_parts number s' sub' us')
+pub quiet : (e : Event) (m : Machine) (answer : Answer) (number : ℕ) (s : Storage) (sub : Subchannel) (us : List AttachedState)
+    (s' : Storage) (sub' : Subchannel) (us' : List AttachedState)
+    → StandsFor (of_parts number s sub us) m → images us' ≡ images us → ShowsNext (react e None m) answer (of_parts number s' sub' us')
+    → DoesQuietly e m answer (of_parts number s' sub' us')
 quiet e m answer number s sub us s' sub' us' st same h = record {
   answers = h.answers;
   stands = record {
     number = st.number;
-    few = subst (λ n. n ≤ 8) (sym (length-map us (λ (u : AttachedState). u.drive.image)) ∙ ap length (sym same) ∙ length-map us' (λ (u : AttachedState). u.drive.image)) st.few;
+    few = subst (λ n. n ≤ 8) (sym (length-map us (λ (u : AttachedState). u.drive.image)) ∙ ap length (sym same)
+        ∙ length-map us' (λ (u : AttachedState). u.drive.image)) st.few;
     shows = h.shows;
     sound = stays_sound m ((e, None) ∷ []) st.sound;
   };
@@ -56,7 +62,8 @@ unchanged e m answer number s sub us st h = quiet e m answer number s sub us s s
   shows = subst (λ m. Shows (of_parts number s sub us) m sub) (sym (ap (λ (r : Answer × Machine). r.1) h)) st.shows;
 })
 
-module _ (a number : ℕ) (s : Storage) (sub : Subchannel) (us : List AttachedState) (m : Machine) (st : StandsFor (of_parts number s sub us) m) where
+module _ (a number : ℕ) (s : Storage) (sub : Subchannel) (us : List AttachedState) (m : Machine)
+    (st : StandsFor (of_parts number s sub us) m) where
   channel_there : m.channel ≡ number
   channel_there = (seen_by (of_parts number s sub us) m sub st.shows).channel
 
@@ -70,20 +77,23 @@ module _ (a number : ℕ) (s : Storage) (sub : Subchannel) (us : List AttachedSt
   pub start_other : (a / 256 ≡ number → ⊥) → DoesQuietly (Sio a) m (WithCode Three) (of_parts number s sub us)
   start_other h = unchanged (Sio a) m (WithCode Three) number s sub us st (off_channel (start_io (a % 256) m m.subchannel) h)
 
-  start_two : (sub : Subchannel) → (sub ≡ Idle → ⊥) → Shows (of_parts number s sub us) m sub → start_io (a % 256) m m.subchannel ≡ (WithCode Two, m)
+  start_two : (sub : Subchannel) → (sub ≡ Idle → ⊥) → Shows (of_parts number s sub us) m sub → start_io (a % 256) m m.subchannel
+      ≡ (WithCode Two, m)
   start_two Idle h shows = absurd (h refl)
   start_two (Working place r) h shows = ap (λ (n : Machine). start_io (a % 256) m n.subchannel) shows.machine
   start_two (Pending device csw) h shows = ap (λ (n : Machine). start_io (a % 256) m n.subchannel) shows.0
 
   -- at a channel that is not available,
   pub start_busy : a / 256 ≡ number → (sub ≡ Idle → ⊥) → DoesQuietly (Sio a) m (WithCode Two) (of_parts number s sub us)
-  start_busy e h = unchanged (Sio a) m (WithCode Two) number s sub us st (at_channel (start_io (a % 256) m m.subchannel) e ∙ start_two sub h st.shows)
+  start_busy e h = unchanged (Sio a) m (WithCode Two) number s sub us st (at_channel (start_io (a % 256) m m.subchannel) e
+      ∙ start_two sub h st.shows)
 
   pub test_other : (a / 256 ≡ number → ⊥) → DoesQuietly (Tio a) m (WithCode Three) (of_parts number s sub us)
   test_other h = unchanged (Tio a) m (WithCode Three) number s sub us st (off_channel (test_io (a % 256) m m.subchannel) h)
 
 -- and at one that is: where there is no such device, and where there is one.
-module _ (a number : ℕ) (s : Storage) (us : List AttachedState) (m : Machine) (st : StandsFor (of_parts number s Idle us) m) (on : a / 256 ≡ number) where
+module _ (a number : ℕ) (s : Storage) (us : List AttachedState) (m : Machine) (st : StandsFor (of_parts number s Idle us) m)
+    (on : a / 256 ≡ number) where
   distinct : AreDistinct (map device_of us)
   distinct = distinct_drives (of_parts number s Idle us) m (seen_by (of_parts number s Idle us) m Idle st.shows) st.sound
 
@@ -93,53 +103,72 @@ module _ (a number : ℕ) (s : Storage) (us : List AttachedState) (m : Machine) 
   idle_there : m.subchannel ≡ machine.Idle
   idle_there = ap (λ (m : Machine). m.subchannel) st.shows.0
 
-  start_there : (x : Option machine.Device) → find (λ d. d.device == a % 256) (map device_of us) ≡ x → react (Sio a) None m ≡ start_device (a % 256) m x
-  start_there x h = at_channel a number s Idle us m st (start_io (a % 256) m m.subchannel) on ∙ ap (start_io (a % 256) m) idle_there ∙ ap (start_device (a % 256) m) (devices_there ∙ h)
+  start_there : (x : Option machine.Device) → find (λ d. d.device == a % 256) (map device_of us) ≡ x
+      → react (Sio a) None m ≡ start_device (a % 256) m x
+  start_there x h = at_channel a number s Idle us m st (start_io (a % 256) m m.subchannel) on ∙ ap (start_io (a % 256) m) idle_there
+      ∙ ap (start_device (a % 256) m) (devices_there ∙ h)
 
   pub start_none : position (is_at (a % 256)) us ≡ None → DoesQuietly (Sio a) m (WithCode Three) (of_parts number s Idle us)
   start_none h = unchanged (Sio a) m (WithCode Three) number s Idle us st (start_there None (none_found (a % 256) us h))
 
-  pub start_at : (place : ℕ) (answer : Answer) (s' : Storage) (sub' : Subchannel) (us' : List AttachedState) → position (is_at (a % 256)) us ≡ Some place
-      → DoesAt place (λ u m. start_device u.device m (Some (device_of u))) answer s us s' sub' us' → images us' ≡ images us → DoesQuietly (Sio a) m answer (of_parts number s' sub' us')
+  pub start_at : (place : ℕ) (answer : Answer) (s' : Storage) (sub' : Subchannel) (us' : List AttachedState) → position (is_at (a % 256)) us
+      ≡ Some place
+      → DoesAt place (λ u m. start_device u.device m (Some (device_of u))) answer s us s' sub' us' → images us' ≡ images us
+      → DoesQuietly (Sio a) m answer (of_parts number s' sub' us')
   start_at place answer s' sub' us' h does same =
       let f : FoundAt (a % 256) us place = found_by (a % 256) us place h in
       quiet (Sio a) m answer number s Idle us s' sub' us' st same
       (subst (λ r. ShowsNext r answer (of_parts number s' sub' us'))
-      (ap (λ device. start_device device (idle_machine number s us) (Some (device_of f.attached))) f.same_device ∙ ap (λ m. start_device (a % 256) m (Some (device_of f.attached))) (sym st.shows.0) ∙ sym (start_there (Some (device_of f.attached)) f.found))
+      (ap (λ device. start_device device (idle_machine number s us) (Some (device_of f.attached))) f.same_device
+      ∙ ap (λ m. start_device (a % 256) m (Some (device_of f.attached))) (sym st.shows.0)
+      ∙ sym (start_there (Some (device_of f.attached)) f.found))
       (does f.attached f.is_there number st.shows.1 distinct))
 
-  pub test_at : (answer : Answer) (s' : Storage) (us' : List AttachedState) → DoesIdle (λ m. test_device (a % 256) m (device_at m (a % 256))) answer s us s' Idle us' → images us' ≡ images us → DoesQuietly (Tio a) m answer (of_parts number s' Idle us')
+  pub test_at : (answer : Answer) (s' : Storage) (us' : List AttachedState)
+      → DoesIdle (λ m. test_device (a % 256) m (device_at m (a % 256))) answer s us s' Idle us' → images us' ≡ images us
+      → DoesQuietly (Tio a) m answer (of_parts number s' Idle us')
   test_at answer s' us' does same =
       quiet (Tio a) m answer number s Idle us s' Idle us' st same
       (subst (λ r. ShowsNext r answer (of_parts number s' Idle us'))
-      (ap (λ m. test_device (a % 256) m (device_at m (a % 256))) (sym st.shows.0) ∙ sym (at_channel a number s Idle us m st (test_io (a % 256) m m.subchannel) on ∙ ap (test_io (a % 256) m) idle_there))
+      (ap (λ m. test_device (a % 256) m (device_at m (a % 256))) (sym st.shows.0)
+      ∙ sym (at_channel a number s Idle us m st (test_io (a % 256) m m.subchannel) on ∙ ap (test_io (a % 256) m) idle_there))
       (does number st.shows.1 distinct))
 
 -- Test I/O while a program runs, and while one's channel status word pends.
-pub test_working : (a number : ℕ) (s : Storage) (place : ℕ) (r : RunningState) (us : List AttachedState) (m : Machine) → StandsFor (of_parts number s (Working place r) us) m → a / 256 ≡ number
+pub test_working : (a number : ℕ) (s : Storage) (place : ℕ) (r : RunningState) (us : List AttachedState) (m : Machine)
+    → StandsFor (of_parts number s (Working place r) us) m → a / 256 ≡ number
     → DoesQuietly (Tio a) m (WithCode Two) (of_parts number s (Working place r) us)
 test_working a number s place r us m st on = unchanged (Tio a) m (WithCode Two) number s (Working place r) us st
-    (at_channel a number s (Working place r) us m st (test_io (a % 256) m m.subchannel) on ∙ ap (λ (n : Machine). test_io (a % 256) m n.subchannel) st.shows.machine)
+    (at_channel a number s (Working place r) us m st (test_io (a % 256) m m.subchannel) on
+    ∙ ap (λ (n : Machine). test_io (a % 256) m n.subchannel) st.shows.machine)
 
-module _ (a number : ℕ) (s : Storage) (device : ℕ) (csw : Csw) (us : List AttachedState) (m : Machine) (st : StandsFor (of_parts number s (Pending device csw) us) m) (on : a / 256 ≡ number) where
+module _ (a number : ℕ) (s : Storage) (device : ℕ) (csw : Csw) (us : List AttachedState) (m : Machine)
+    (st : StandsFor (of_parts number s (Pending device csw) us) m) (on : a / 256 ≡ number) where
   there : react (Tio a) None m ≡ cond (a % 256 == device) (tested csw (with_subchannel machine.Idle m)) (WithCode Two, m)
-  there = at_channel a number s (Pending device csw) us m st (test_io (a % 256) m m.subchannel) on ∙ ap (λ (n : Machine). test_io (a % 256) m n.subchannel) st.shows.0
+  there = at_channel a number s (Pending device csw) us m st (test_io (a % 256) m m.subchannel) on
+      ∙ ap (λ (n : Machine). test_io (a % 256) m n.subchannel) st.shows.0
 
   pub test_pending_other : (a % 256 ≡ device → ⊥) → DoesQuietly (Tio a) m (WithCode Two) (of_parts number s (Pending device csw) us)
   test_pending_other h = unchanged (Tio a) m (WithCode Two) number s (Pending device csw) us st
       (there ∙ ap (λ b. cond b (tested csw (with_subchannel machine.Idle m)) (WithCode Two, m)) (different (a % 256) device h))
 
-  pub test_pending : a % 256 ≡ device → (s' : Storage) → s' ≡ changed (csw_stored csw) s → DoesQuietly (Tio a) m (CswStored csw) (of_parts number s' Idle us)
+  pub test_pending : a % 256 ≡ device → (s' : Storage) → s' ≡ changed (csw_stored csw) s
+      → DoesQuietly (Tio a) m (CswStored csw) (of_parts number s' Idle us)
   test_pending h s' stored = quiet (Tio a) m (CswStored csw) number s (Pending device csw) us s' Idle us st refl
       (subst (λ r. ShowsNext r (CswStored csw) (of_parts number s' Idle us))
       (sym (there ∙ ap (λ b. cond b (tested csw (with_subchannel machine.Idle m)) (WithCode Two, m)) (eq-eqb (a % 256) device h)))
       (record {
         answers = refl;
-        shows = (ap (λ (m : Machine). (tested csw (with_subchannel machine.Idle m)).1) st.shows.0 ∙ ap (λ s. idle_machine number s us) (sym stored), st.shows.1);
+        shows = (
+          ap (λ (m : Machine). (tested csw (with_subchannel machine.Idle m)).1) st.shows.0
+              ∙ ap (λ s. idle_machine number s us) (sym stored),
+          st.shows.1,
+        );
       }))
 
 -- the drive at the place of an address rests, where the channel is available
-pub rests_there : (device number : ℕ) (s : Storage) (us : List AttachedState) (place : ℕ) → IsChannel (of_parts number s Idle us) → position (is_at device) us ≡ Some place → DriveIs place Rests us
+pub rests_there : (device number : ℕ) (s : Storage) (us : List AttachedState) (place : ℕ) → IsChannel (of_parts number s Idle us)
+    → position (is_at device) us ≡ Some place → DriveIs place Rests us
 rests_there device number s us place is h =
     let f : FoundAt device us place = found_by device us place h in
     record { attached = f.attached; is_there = f.is_there; holds = rests_at us place f.attached is.stands.shows.1 f.is_there }
@@ -150,60 +179,81 @@ stays e m answer new d = record { machine = (react e None m).1; stands = d.stand
 
 -- Arms that arrive.
 
-module _ (a number : ℕ) (s : Storage) (sub : Subchannel) (us : List AttachedState) (m : Machine) (st : StandsFor (of_parts number s sub us) m) where
+module _ (a number : ℕ) (s : Storage) (sub : Subchannel) (us : List AttachedState) (m : Machine)
+    (st : StandsFor (of_parts number s sub us) m) where
   abbrev seen_here : SeenBy (of_parts number s sub us) m
   seen_here = seen_by (of_parts number s sub us) m sub st.shows
 
   pub arrive_other : (a / 256 ≡ number → ⊥) → DoesQuietly (Arrive a) m (HasArrived false) (of_parts number s sub us)
   arrive_other h = unchanged (Arrive a) m (HasArrived false) number s sub us st
-      (ap (λ b. cond b (machine.arrive (a % 256) m (device_at m (a % 256))) (HasArrived false, m)) (ap (λ n. a / 256 == n) seen_here.channel ∙ different (a / 256) number h))
+      (ap (λ b. cond b (machine.arrive (a % 256) m (device_at m (a % 256))) (HasArrived false, m)) (ap (λ n. a / 256 == n) seen_here.channel
+      ∙ different (a / 256) number h))
 
-  by_device : a / 256 ≡ number → (x : Option Device) → find (λ d. d.device == a % 256) (map device_of us) ≡ x → react (Arrive a) None m ≡ machine.arrive (a % 256) m (option_map seen_here.through x)
+  by_device : a / 256 ≡ number → (x : Option Device) → find (λ d. d.device == a % 256) (map device_of us) ≡ x
+      → react (Arrive a) None m ≡ machine.arrive (a % 256) m (option_map seen_here.through x)
   by_device on x h =
-      ap (λ b. cond b (machine.arrive (a % 256) m (device_at m (a % 256))) (HasArrived false, m)) (ap (λ n. a / 256 == n) seen_here.channel ∙ eq-eqb (a / 256) number on)
+      ap (λ b. cond b (machine.arrive (a % 256) m (device_at m (a % 256))) (HasArrived false, m)) (ap (λ n. a / 256 == n) seen_here.channel
+      ∙ eq-eqb (a / 256) number on)
       ∙ ap (machine.arrive (a % 256) m) (device_seen (of_parts number s sub us) m seen_here (a % 256) x h)
 
-  pub arrive_none : a / 256 ≡ number → position (is_at (a % 256)) us ≡ None → DoesQuietly (Arrive a) m (HasArrived false) (of_parts number s sub us)
+  pub arrive_none : a / 256 ≡ number → position (is_at (a % 256)) us ≡ None
+      → DoesQuietly (Arrive a) m (HasArrived false) (of_parts number s sub us)
   arrive_none on h = unchanged (Arrive a) m (HasArrived false) number s sub us st (by_device on None (none_found (a % 256) us h))
 
-  module _ (on : a / 256 ≡ number) (place : ℕ) (h : position (is_at (a % 256)) us ≡ Some place) (arm : Arm) (is_arm : Some arm ≡ option_map (λ (u : AttachedState). u.arm) (slice_get us place)) where
+  module _ (on : a / 256 ≡ number) (place : ℕ) (h : position (is_at (a % 256)) us ≡ Some place) (arm : Arm) (is_arm : Some arm
+      ≡ option_map (λ (u : AttachedState). u.arm) (slice_get us place)) where
     abbrev f : FoundAt (a % 256) us place
     f = found_by (a % 256) us place h
 
     by_arm : react (Arrive a) None m ≡ cond (is_in_motion arm) (HasArrived true, with_arm Arrived (a % 256) m) (HasArrived false, m)
     by_arm = by_device on (Some (device_of f.attached)) f.found
-        ∙ ap (λ arm. cond (is_in_motion arm) (HasArrived true, with_arm Arrived (a % 256) m) (HasArrived false, m)) (seen_here.arm (device_of f.attached) ∙ arm_there us place f.attached arm f.is_there is_arm)
+        ∙ ap (λ arm. cond (is_in_motion arm) (HasArrived true, with_arm Arrived (a % 256) m) (HasArrived false, m))
+        (seen_here.arm (device_of f.attached) ∙ arm_there us place f.attached arm f.is_there is_arm)
 
     pub arrive_still : is_in_motion arm ≡ false → DoesQuietly (Arrive a) m (HasArrived false) (of_parts number s sub us)
-    arrive_still k = unchanged (Arrive a) m (HasArrived false) number s sub us st (by_arm ∙ ap (λ b. cond b (HasArrived true, with_arm Arrived (a % 256) m) (HasArrived false, m)) k)
+    arrive_still k = unchanged (Arrive a) m (HasArrived false) number s sub us st (by_arm
+        ∙ ap (λ b. cond b (HasArrived true, with_arm Arrived (a % 256) m) (HasArrived false, m)) k)
 
-    pub arrive_moves : (us' : List AttachedState) → arm ≡ InMotion → ArmChanges place Arrived us us' → DoesQuietly (Arrive a) m (HasArrived true) (of_parts number s sub us')
+    pub arrive_moves : (us' : List AttachedState) → arm ≡ InMotion → ArmChanges place Arrived us us'
+        → DoesQuietly (Arrive a) m (HasArrived true) (of_parts number s sub us')
     arrive_moves us' k c = quiet (Arrive a) m (HasArrived true) number s sub us s sub us' st
-        (ap images c.becomes ∙ map_same (λ (u : AttachedState). u.drive.image) us place c.attached (record c.attached { arm = Arrived }) c.was refl)
-        (subst (λ r. ShowsNext r (HasArrived true) (of_parts number s sub us')) (sym (by_arm ∙ ap (λ arm. cond (is_in_motion arm) (HasArrived true, with_arm Arrived (a % 256) m) (HasArrived false, m)) k))
+        (ap images c.becomes ∙ map_same (λ (u : AttachedState). u.drive.image) us place c.attached (record c.attached {
+          arm =
+              Arrived;
+        }) c.was refl)
+        (subst (λ r. ShowsNext r (HasArrived true) (of_parts number s sub us'))
+        (sym (by_arm ∙ ap (λ arm. cond (is_in_motion arm) (HasArrived true, with_arm Arrived (a % 256) m) (HasArrived false, m)) k))
         (record {
           answers = refl;
           shows = subst (λ us. Shows (of_parts number s sub us) (with_arm Arrived (a % 256) m) sub) (sym in_place)
-              (subst (λ device. Shows (of_parts number s sub (slice_set us place (record f.attached { arm = Arrived }))) (with_arm Arrived device m) sub) f.same_device
-              (shows_armed (of_parts number s sub us) m place f.attached Arrived (distinct_drives (of_parts number s sub us) m seen_here st.sound) f.is_there sub st.shows));
+              (subst (λ device. Shows (of_parts number s sub (slice_set us place (record f.attached { arm = Arrived })))
+              (with_arm Arrived device m) sub) f.same_device
+              (shows_armed (of_parts number s sub us) m place f.attached Arrived
+              (distinct_drives (of_parts number s sub us) m seen_here st.sound) f.is_there sub st.shows));
         }))
       where
         in_place : us' ≡ slice_set us place (record f.attached { arm = Arrived })
-        in_place = c.becomes ∙ ap (λ (v : AttachedState). slice_set us place (record v { arm = Arrived })) (inside c.attached f.attached (sym c.was ∙ f.is_there))
+        in_place = c.becomes ∙ ap (λ (v : AttachedState). slice_set us place (record v { arm = Arrived }))
+            (inside c.attached f.attached (sym c.was ∙ f.is_there))
 
 -- Interruptions, by what the subchannel does.
 
 -- while the channel is available; it names the parts of the channel before and behind, as the code has them at hand
-pub interrupt_idle : (number : ℕ) (s : Storage) (us : List AttachedState) (m : Machine) (told : Option (ℕ × Csw)) (s' : Storage) (us' : List AttachedState) → StandsFor (of_parts number s Idle us) m
-    → DoesOn number (λ m. interrupt_device m (lowest (filter has_arrived m.devices))) (Interrupted told) s us s' Idle us' → images us' ≡ images us → DoesQuietly Interrupt m (Interrupted told) (of_parts number s' Idle us')
+pub interrupt_idle : (number : ℕ) (s : Storage) (us : List AttachedState) (m : Machine) (told : Option (ℕ × Csw)) (s' : Storage)
+    (us' : List AttachedState) → StandsFor (of_parts number s Idle us) m
+    → DoesOn number (λ m. interrupt_device m (lowest (filter has_arrived m.devices))) (Interrupted told) s us s' Idle us'
+    → images us' ≡ images us → DoesQuietly Interrupt m (Interrupted told) (of_parts number s' Idle us')
 interrupt_idle number s us m told s' us' st does same = quiet Interrupt m (Interrupted told) number s Idle us s' Idle us' st same
     (subst (λ m. ShowsNext (react Interrupt None m) (Interrupted told) (of_parts number s' Idle us')) (sym st.shows.0)
     (does st.shows.1 (distinct_drives (of_parts number s Idle us) m (seen_by (of_parts number s Idle us) m Idle st.shows) st.sound)))
 
 -- while a channel status word pends; it names the parts of the channel before and behind, as the code has them at hand
-pub interrupt_pending : (number : ℕ) (s : Storage) (device : ℕ) (csw : Csw) (us : List AttachedState) (m : Machine) (told : ℕ × Csw) (s' : Storage) → StandsFor (of_parts number s (Pending device csw) us) m
-    → told ≡ (256 * number + device, csw) → s' ≡ changed (csw_stored csw) s → DoesQuietly Interrupt m (Interrupted (Some told)) (of_parts number s' Idle us)
-interrupt_pending number s device csw us m told s' st is stored = quiet Interrupt m (Interrupted (Some told)) number s (Pending device csw) us s' Idle us st refl
+pub interrupt_pending : (number : ℕ) (s : Storage) (device : ℕ) (csw : Csw) (us : List AttachedState) (m : Machine) (told : ℕ
+    × Csw) (s' : Storage) → StandsFor (of_parts number s (Pending device csw) us) m
+    → told ≡ (256 * number + device, csw) → s' ≡ changed (csw_stored csw) s → DoesQuietly Interrupt m (Interrupted (Some told))
+    (of_parts number s' Idle us)
+interrupt_pending number s device csw us m told s' st is stored = quiet Interrupt m (Interrupted (Some told)) number s
+    (Pending device csw) us s' Idle us st refl
     (subst (λ m. ShowsNext (react Interrupt None m) (Interrupted (Some told)) (of_parts number s' Idle us)) (sym st.shows.0)
     (record { answers = ap (λ t. Interrupted (Some t)) is; shows = (ap (λ s. idle_machine number s us) (sym stored), st.shows.1) }))
 
@@ -222,11 +272,13 @@ none_taken key (Between p) h = ap (λ place. Between (record p { place = place }
 none_taken key (Looking o r) h = ap (λ place. Looking o (record r { place = place })) (not_asked r.place _ h)
 none_taken key (Moving o t) h = ap (λ place. Moving o (record t { place = place })) (not_asked t.place _ h)
 
-module _ (taking : StandsAfterInterruption) (changing : StandsAfterChange) (number : ℕ) (s : Storage) (place : ℕ) (r : RunningState) (us : List AttachedState) (m : Machine) (st : StandsFor (of_parts number s (Working place r) us) m) where
+module _ (taking : StandsAfterInterruption) (changing : StandsAfterChange) (number : ℕ) (s : Storage) (place : ℕ) (r : RunningState)
+    (us : List AttachedState) (m : Machine) (st : StandsFor (of_parts number s (Working place r) us) m) where
   abbrev w : WorksFor (of_parts number s (Working place r) us) place r m
   w = st.shows
 
-  module _ (told : Option (ℕ × Csw)) (r' : RunningState) (s' : Storage) (device : ℕ) (is_device : Some device ≡ option_map (λ (u : AttachedState). u.device) (slice_get us place)) (t : TakesProgram number device told r r' s s') where
+  module _ (told : Option (ℕ × Csw)) (r' : RunningState) (s' : Storage) (device : ℕ) (is_device : Some device
+      ≡ option_map (λ (u : AttachedState). u.device) (slice_get us place)) (t : TakesProgram number device told r r' s s') where
     same_device : device ≡ w.attached.device
     same_device = inside device w.attached.device (is_device ∙ ap (option_map (λ (u : AttachedState). u.device)) w.is_there)
 
@@ -234,13 +286,16 @@ module _ (taking : StandsAfterInterruption) (changing : StandsAfterChange) (numb
     asks : asked_by (run_of m w.attached.device w.script) ≡ (standing_in r.key (phase_in r s w.attached.drive)).interruption
     asks = ap asked_by (seen_there (of_parts number s (Working place r) us) place r m w st.sound)
 
-    reacts : (x : Option Csw) → (standing_in r.key (phase_in r s w.attached.drive)).interruption ≡ x → react Interrupt None m ≡ interrupt_program w.attached.device w.script m x
-    reacts x h = ap (λ (n : Machine). machine.interrupt m n.subchannel) w.machine ∙ ap (interrupt_program w.attached.device w.script m) (asks ∙ h)
+    reacts : (x : Option Csw) → (standing_in r.key (phase_in r s w.attached.drive)).interruption ≡ x
+        → react Interrupt None m ≡ interrupt_program w.attached.device w.script m x
+    reacts x h = ap (λ (n : Machine). machine.interrupt m n.subchannel) w.machine ∙ ap (interrupt_program w.attached.device w.script m)
+        (asks ∙ h)
 
     number_there : m.channel ≡ number
     number_there = ap (λ (m : Machine). m.channel) w.machine
 
-    by_asked : (x : Option Csw) → (standing_in r.key (phase_in r s w.attached.drive)).interruption ≡ x → told ≡ option_map (λ csw. (256 * number + device, csw)) x
+    by_asked : (x : Option Csw) → (standing_in r.key (phase_in r s w.attached.drive)).interruption ≡ x
+        → told ≡ option_map (λ csw. (256 * number + device, csw)) x
         → ShowsNext (interrupt_program w.attached.device w.script m x) (Interrupted told) (of_parts number s' (Working place r') us)
     by_asked None h is = record {
       answers = ap Interrupted is;
@@ -251,35 +306,44 @@ module _ (taking : StandsAfterInterruption) (changing : StandsAfterChange) (numb
         drive = w.drive;
         script = w.script;
         machine = w.machine;
-        runs = subst (λ s'. StandsAtRun (start_of m w.drive) w.script r' s' w.attached.drive) (sym (t.storage ∙ ap (λ told. storage_told told s) is)) (record {
-          together = t.stands w.attached.drive w.runs.together;
-          run = subst (λ key. StandsAt (start_of m w.drive) w.script key (phase_in r' s w.attached.drive)) (sym t.key)
-              (subst (StandsAt (start_of m w.drive) w.script r.key) (sym (t.taken s w.attached.drive ∙ none_taken r.key (phase_in r s w.attached.drive) h)) w.runs.run);
-        });
+        runs = subst (λ s'. StandsAtRun (start_of m w.drive) w.script r' s' w.attached.drive) (sym (t.storage
+            ∙ ap (λ told. storage_told told s) is)) (record {
+              together = t.stands w.attached.drive w.runs.together;
+              run = subst (λ key. StandsAt (start_of m w.drive) w.script key (phase_in r' s w.attached.drive)) (sym t.key)
+                  (subst (StandsAt (start_of m w.drive) w.script r.key) (sym (t.taken s w.attached.drive
+                  ∙ none_taken r.key (phase_in r s w.attached.drive) h)) w.runs.run);
+            });
         others = w.others;
       };
     }
     by_asked (Some csw) h is = record {
-      answers = ap Interrupted (is ∙ ap (λ n. Some (n, csw)) (ap (λ device. 256 * number + device) same_device ∙ ap (λ channel. 256 * channel + w.attached.device) (sym number_there)));
+      answers = ap Interrupted (is ∙ ap (λ n. Some (n, csw)) (ap (λ device. 256 * number + device) same_device
+          ∙ ap (λ channel. 256 * channel + w.attached.device) (sym number_there)));
       shows = record {
         attached = w.attached;
         is_there = w.is_there;
         storage = w.storage;
         drive = w.drive;
         script = w.script ++ TakesInterruption ∷ Outside (csw_stored csw) ∷ [];
-        machine = ap (with_subchannel (machine.Working w.attached.device (w.script ++ TakesInterruption ∷ Outside (csw_stored csw) ∷ []))) w.machine;
-        runs = subst (λ s'. StandsAtRun (start_of m w.drive) (w.script ++ TakesInterruption ∷ Outside (csw_stored csw) ∷ []) r' s' w.attached.drive) (sym (t.storage ∙ ap (λ told. storage_told told s) is))
-            (subst (λ script. StandsAtRun (start_of m w.drive) script r' (changed (csw_stored csw) s) w.attached.drive) (append_assoc w.script (TakesInterruption ∷ []) (Outside (csw_stored csw) ∷ []))
+        machine = ap (with_subchannel (machine.Working w.attached.device (w.script ++ TakesInterruption ∷ Outside (csw_stored csw) ∷ [])))
+            w.machine;
+        runs = subst (λ s'. StandsAtRun (start_of m w.drive) (w.script ++ TakesInterruption ∷ Outside (csw_stored csw)
+            ∷ []) r' s' w.attached.drive) (sym (t.storage ∙ ap (λ told. storage_told told s) is))
+            (subst (λ script. StandsAtRun (start_of m w.drive) script r' (changed (csw_stored csw) s) w.attached.drive)
+            (append_assoc w.script (TakesInterruption ∷ []) (Outside (csw_stored csw) ∷ []))
             (changing (start_of m w.drive) (w.script ++ TakesInterruption ∷ []) r' s w.attached.drive (csw_stored csw)
-            (taking (start_of m w.drive) w.script r r' s w.attached.drive w.runs t.key (t.stands w.attached.drive w.runs.together) (t.taken s w.attached.drive))));
+            (taking (start_of m w.drive) w.script r r' s w.attached.drive w.runs t.key (t.stands w.attached.drive w.runs.together)
+            (t.taken s w.attached.drive))));
         others = w.others;
       };
     }
 
     pub interrupt_working : DoesQuietly Interrupt m (Interrupted told) (of_parts number s' (Working place r') us)
     interrupt_working = quiet Interrupt m (Interrupted told) number s (Working place r) us s' (Working place r') us st refl
-        (subst (λ q. ShowsNext q (Interrupted told) (of_parts number s' (Working place r') us)) (sym (reacts _ refl)) (by_asked _ refl (t.told s w.attached.drive)))
+        (subst (λ q. ShowsNext q (Interrupted told) (of_parts number s' (Working place r') us)) (sym (reacts _ refl))
+        (by_asked _ refl (t.told s w.attached.drive)))
 
 -- the place of the program that runs is one of the drives
-pub place_within : (number : ℕ) (s : Storage) (place : ℕ) (r : RunningState) (us : List AttachedState) → IsChannel (of_parts number s (Working place r) us) → place < length us
+pub place_within : (number : ℕ) (s : Storage) (place : ℕ) (r : RunningState) (us : List AttachedState)
+    → IsChannel (of_parts number s (Working place r) us) → place < length us
 place_within number s place r us is = slice_get_within us place is.stands.shows.attached is.stands.shows.is_there

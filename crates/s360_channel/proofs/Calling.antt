@@ -1,5 +1,6 @@
 -- Steps, cuts and resets at a channel, by what its subchannel is.
-use Rattle.std.proofs.Common.{◌≡◌, ℕ, zero, suc, ◌+◌, ◌*◌, ◌/◌, ◌%◌, ◌≤◌, ◌⊎◌, inl, inr, refl, sym, ap, subst, ◌∙◌, arith, true, false, Bool, cond, ◌==◌, List, [], ◌∷◌, map, length, Option, Some, None, ◌<◌}
+use Rattle.std.proofs.Common.{◌≡◌, ℕ, zero, suc, ◌+◌, ◌*◌, ◌/◌, ◌%◌, ◌≤◌, ◌⊎◌, inl, inr, refl, sym, ap, subst, ◌∙◌, arith, true, false}
+use Rattle.std.proofs.Common.{Bool, cond, ◌==◌, List, [], ◌∷◌, map, length, Option, Some, None, ◌<◌}
 use Rattle.std.proofs.lemmas.Bool.{eq-eqb}
 use Rattle.std.proofs.lemmas.List.{length-map, length-set}
 use Rattle.std.proofs.lemmas.Option.{slice_get_within}
@@ -18,7 +19,8 @@ use Rattle.s360_program.specs.declared.program.Ran.{Ran}
 use Rattle.s360_program.specs.Stands.{RunningState, phase_in, Stands}
 use Rattle.s360_laws.specs.declared.condition.ConditionCode.TheVariants.{Two, Three, Zero}
 use Rattle.s360_laws.specs.Events.{Answer, Hio, Reset, WithCode, WasReset, StepBy, Stepped, StatusStored}
-use Rattle.s360_laws.specs.Machine.{Machine, react, ended, cut, halt_io, fault_in, reset, unsaved_at, address_of, all_at_rest, at_rest, is_working, step, device_at, with_status}
+use Rattle.s360_laws.specs.Machine.{Machine, react, ended, cut, halt_io, fault_in, reset, unsaved_at, address_of, all_at_rest, at_rest}
+use Rattle.s360_laws.specs.Machine.{is_working, step, device_at, with_status}
 use Rattle.s360_laws.specs.Machine as machine
 use Rattle.s360_laws.specs.NothingTold.{TellsNoTrack}
 use Rattle.s360_laws.specs.Steps.{EndedByFault, ToldByReset}
@@ -36,7 +38,9 @@ use Rattle.s360_channel.specs.declared.subchannel.Subchannel.TheVariants.{Idle, 
 use Rattle.s360_channel.specs.DriveCalls.{at_rest_attached, DriveChanges, DriveIs, AdvancesAt, CutsAt}
 use Rattle.s360_channel.specs.Ends.{arm_told, IsOver, MayBeCut, CutsProgram, LosesProgram, halted_idle, storage_halted}
 use Rattle.s360_channel.proofs.Changing.{seen_by}
-use Rattle.s360_channel.proofs.Stepping.{with_drive, with_both, channel_with, same_failures, one_failure, few_drives, does_this, fault_told, met_in, over, over_machine, over_rest, over_fault, calls_at_most, failures_told, cut_calls, runs_of, goes_on_does, ends_does}
+use Rattle.s360_channel.proofs.Stepping.{with_drive, with_both, channel_with, same_failures, one_failure, few_drives, does_this, fault_told}
+use Rattle.s360_channel.proofs.Stepping.{met_in, over, over_machine, over_rest, over_fault, calls_at_most, failures_told, cut_calls}
+use Rattle.s360_channel.proofs.Stepping.{runs_of, goes_on_does, ends_does}
 use Rattle.s360_channel.proofs.Places.{devices, all_of_others, inside, get_set, set_twice, both_found}
 use Rattle.s360_channel.proofs.Quiet.{images, none_fails, quiet_does, calls_then_none, none_calls, nothing_does}
 use Rattle.s360_channel.proofs.Works.{subchannel_of, channel_of, seen_there, storage_seen}
@@ -67,7 +71,8 @@ abbrev pub reset_with : ChannelState → List AttachedState → ChannelState
 reset_with c us = record { number = c.number; storage = c.storage; subchannel = Idle; drives = map at_rest_attached us }
 
 -- A reset while no program runs.
-pub idle_reset : (c : ChannelState) (m : Machine) (s : machine.Subchannel) → StandsFor c m → is_working s ≡ false → m ≡ machine_of c s → AllRest c.drives → Does Reset m (WasReset None) c (reset_with c c.drives)
+pub idle_reset : (c : ChannelState) (m : Machine) (s : machine.Subchannel) → StandsFor c m → is_working s ≡ false → m ≡ machine_of c s
+    → AllRest c.drives → Does Reset m (WasReset None) c (reset_with c c.drives)
 idle_reset c m s stands calm is rest = quiet_does Reset m (WasReset None) c (reset_with c c.drives) stands (record {
   answers = sym (ap (λ (a : Answer × Machine). a.0) (was s calm is));
   stands = record {
@@ -78,26 +83,37 @@ idle_reset c m s stands calm is rest = quiet_does Reset m (WasReset None) c (res
   };
 }) (rest_images c.drives)
   where
-    resets : (s : machine.Subchannel) → is_working s ≡ false → react Reset None (machine_of c s) ≡ (WasReset None, all_at_rest (machine_of c s))
+    resets : (s : machine.Subchannel) → is_working s ≡ false → react Reset None (machine_of c s) ≡ (
+      WasReset None,
+      all_at_rest (machine_of c s),
+    )
     resets machine.Idle h = refl
     resets (machine.Pending p csw) h = refl
     resets (machine.Working p script) h = absurd (cc)
 
-    was : (s : machine.Subchannel) → is_working s ≡ false → m ≡ machine_of c s → react Reset None m ≡ (WasReset None, machine_of (reset_with c c.drives) machine.Idle)
-    was s h is = ap (react Reset None) is ∙ resets s h ∙ ap (λ ds. (WasReset None, record { channel = c.number; storage = c.storage; subchannel = machine.Idle; devices = ds })) (rest_devices c.drives)
+    was : (s : machine.Subchannel) → is_working s ≡ false → m ≡ machine_of c s
+        → react Reset None m ≡ (WasReset None, machine_of (reset_with c c.drives) machine.Idle)
+    was s h is = ap (react Reset None) is ∙ resets s h
+        ∙ ap (λ ds. (WasReset None, record { channel = c.number; storage = c.storage; subchannel = machine.Idle; devices = ds }))
+        (rest_devices c.drives)
 
 module _ (c : ChannelState) (place : ℕ) (r : RunningState) (m : Machine) (w : WorksFor c place r m) (stands : StandsFor c m)
-    (told : Csw × Bool × Option (ℕ × ℕ)) (new : DriveState) (how : Cuts r.key (phase_in r c.storage w.attached.drive) told w.attached.drive new) (tells : CutTellsOf told w.attached.drive new) where
+    (told : Csw × Bool × Option (ℕ × ℕ)) (new : DriveState) (how : Cuts r.key (phase_in r c.storage w.attached.drive) told w.attached.drive
+    new) (tells : CutTellsOf told w.attached.drive new) where
   abbrev ending : Ending
   ending = (standing_in r.key (phase_in r c.storage w.attached.drive)).cut how.fault
 
-  is_cut : (f : Option Fault) → how.fault ≡ f → cut (fault_in (met_in 0 f)) w.attached.device m (machine.run_of m w.attached.device w.script) ≡ ended w.attached.device c.storage ending m
+  is_cut : (f : Option Fault) → how.fault ≡ f → cut (fault_in (met_in 0 f)) w.attached.device m
+      (machine.run_of m w.attached.device w.script) ≡ ended w.attached.device c.storage ending m
   is_cut f is =
       ap (cut (fault_in (met_in 0 f)) w.attached.device m) (seen_there c place r m w stands.sound)
-      ∙ (ap (λ f. ended w.attached.device (standing_in r.key (phase_in r c.storage w.attached.drive)).storage ((standing_in r.key (phase_in r c.storage w.attached.drive)).cut f) m) (fault_back f ∙ sym is)
-      ∙ ap (λ s. ended w.attached.device s ending m) (storage_seen r.key r.stage r.place c.storage w.attached.drive.state w.attached.drive.work))
+      ∙ (ap (λ f. ended w.attached.device (standing_in r.key (phase_in r c.storage w.attached.drive)).storage
+      ((standing_in r.key (phase_in r c.storage w.attached.drive)).cut f) m) (fault_back f ∙ sym is)
+      ∙ ap (λ s. ended w.attached.device s ending m) (storage_seen r.key r.stage r.place c.storage w.attached.drive.state
+      w.attached.drive.work))
 
-  over_machine_now : ended w.attached.device c.storage ending m ≡ machine_of (over c place w.attached c.storage told.0 told.1 new) (machine.Pending w.attached.device told.0)
+  over_machine_now : ended w.attached.device c.storage ending m ≡ machine_of (over c place w.attached c.storage told.0 told.1 new)
+      (machine.Pending w.attached.device told.0)
   over_machine_now = over_machine c place r m w stands.sound c.storage (told.0, told.1) new ending how.is_ending
 
   -- Halt I/O.
@@ -108,24 +124,30 @@ module _ (c : ChannelState) (place : ℕ) (r : RunningState) (m : Machine) (w : 
 
     halt_by : (f : Option Fault) → how.fault ≡ f → react (Hio a) (met_in 0 f) m ≡ (WithCode Two, ended w.attached.device c.storage ending m)
     halt_by f is =
-        ap (λ n. cond (a / 256 == n) (halt_io (fault_in (met_in 0 f)) (a % 256) m m.subchannel) (WithCode Three, m)) (channel_of c place r m w)
+        ap (λ n. cond (a / 256 == n) (halt_io (fault_in (met_in 0 f)) (a % 256) m m.subchannel) (WithCode Three, m))
+        (channel_of c place r m w)
         ∙ ap (λ b. cond b (halt_io (fault_in (met_in 0 f)) (a % 256) m m.subchannel) (WithCode Three, m)) here
         ∙ ap (halt_io (fault_in (met_in 0 f)) (a % 256) m) (subchannel_of c place r m w)
         ∙ ap (λ n. (WithCode Two, n)) (is_cut f is)
 
     halt_met : (f : Option Fault) → program.IsMet f w.attached.drive new → IsMet (met_in 0 f) (WithCode Two) c now_over
-    halt_met None h = same_failures c c.storage (Pending w.attached.device told.0) place w.attached (with_both w.attached told.1 new) w.is_there h
-    halt_met (Some f) h = one_failure c c.storage (Pending w.attached.device told.0) place w.attached (with_both w.attached told.1 new) w.is_there h
+    halt_met None h = same_failures c c.storage (Pending w.attached.device told.0) place w.attached (with_both w.attached told.1 new)
+        w.is_there h
+    halt_met (Some f) h = one_failure c c.storage (Pending w.attached.device told.0) place w.attached (with_both w.attached told.1 new)
+        w.is_there h
 
     halt_told : (f : Option Fault) → how.fault ≡ f → program.IsMet f w.attached.drive new → Reports (Hio a) m (met_in 0 f)
     halt_told None is h = no_fault_none_told m (Hio a) (runs_of m stands.sound)
     halt_told (Some f) is h = subst (λ a. EndedByFault a (WithCode Two)) (sym (halt_by (Some f) is))
-        (over_fault c place r m w stands.sound c.storage (told.0, told.1) new ending how.is_ending (WithCode Two) (fault_told (told.0, told.1) w.attached.drive new tells.fault h))
+        (over_fault c place r m w stands.sound c.storage (told.0, told.1) new ending how.is_ending (WithCode Two)
+        (fault_told (told.0, told.1) w.attached.drive new tells.fault h))
 
     pub halt_does : Does (Hio a) m (WithCode Two) c now_over
-    halt_does = does_this (Hio a) m (WithCode Two) c now_over (met_in 0 how.fault) (ended w.attached.device c.storage ending m) stands (halt_by how.fault refl) refl
+    halt_does = does_this (Hio a) m (WithCode Two) c now_over (met_in 0 how.fault) (ended w.attached.device c.storage ending m) stands
+        (halt_by how.fault refl) refl
         (few_drives c c.storage (Pending w.attached.device told.0) place w.attached (with_both w.attached told.1 new) w.is_there stands.few)
-        (over_machine_now, over_rest c place r m w stands.sound c.storage (told.0, told.1) new ending how.is_ending) (halt_met how.fault how.met) (halt_told how.fault refl how.met)
+        (over_machine_now, over_rest c place r m w stands.sound c.storage (told.0, told.1) new ending how.is_ending)
+        (halt_met how.fault how.met) (halt_told how.fault refl how.met)
 
   -- A reset.
 
@@ -136,19 +158,28 @@ module _ (c : ChannelState) (place : ℕ) (r : RunningState) (m : Machine) (w : 
   abbrev lost : Option (ℕ × ℕ × ℕ)
   lost = option_map (λ t. (256 * c.number + w.attached.device, t.0, t.1)) told.2
 
-  reset_by : (f : Option Fault) → how.fault ≡ f → react Reset (met_in 0 f) m ≡ (WasReset lost, all_at_rest (ended w.attached.device c.storage ending m))
+  reset_by : (f : Option Fault) → how.fault ≡ f → react Reset (met_in 0 f) m ≡ (
+    WasReset lost,
+    all_at_rest (ended w.attached.device c.storage ending m),
+  )
   reset_by f is =
       ap (reset (fault_in (met_in 0 f)) m) (subchannel_of c place r m w)
-      ∙ ap (λ n. (WasReset (unsaved_at (address_of m w.attached.device) (fault_in (met_in 0 f)) (machine.run_of m w.attached.device w.script)), all_at_rest n)) (is_cut f is)
+      ∙ ap (λ n. (
+        WasReset (unsaved_at (address_of m w.attached.device) (fault_in (met_in 0 f))
+            (machine.run_of m w.attached.device w.script)),
+        all_at_rest n,
+      )) (is_cut f is)
       ∙ ap (λ t. (WasReset t, all_at_rest (ended w.attached.device c.storage ending m))) (
       ap (unsaved_at (address_of m w.attached.device) (fault_in (met_in 0 f))) (seen_there c place r m w stands.sound)
-      ∙ ap (λ f. option_map (λ t. (address_of m w.attached.device, t.0, t.1)) ((standing_in r.key (phase_in r c.storage w.attached.drive)).cut f).unsaved) (fault_back f ∙ sym is)
+      ∙ ap (λ f. option_map (λ t. (address_of m w.attached.device, t.0, t.1))
+      ((standing_in r.key (phase_in r c.storage w.attached.drive)).cut f).unsaved) (fault_back f ∙ sym is)
       ∙ ap (λ n. option_map (λ t. (256 * n + w.attached.device, t.0, t.1)) ending.unsaved) (channel_of c place r m w)
       ∙ ap (option_map (λ t. (256 * c.number + w.attached.device, t.0, t.1))) (sym how.unsaved)
       )
 
   -- the arm does not matter then
-  same_rest : (us : List AttachedState) (n : ℕ) (u v : AttachedState) → at_rest (device_of u) ≡ at_rest (device_of v) → map at_rest (devices (slice_set us n u)) ≡ map at_rest (devices (slice_set us n v))
+  same_rest : (us : List AttachedState) (n : ℕ) (u v : AttachedState) → at_rest (device_of u) ≡ at_rest (device_of v)
+      → map at_rest (devices (slice_set us n u)) ≡ map at_rest (devices (slice_set us n v))
   same_rest [] n u v h = refl
   same_rest (x ∷ us) zero u v h = ap (λ d. d ∷ map at_rest (devices us)) h
   same_rest (x ∷ us) (suc n) u v h = ap (λ ds. at_rest (device_of x) ∷ ds) (same_rest us n u v h)
@@ -160,17 +191,21 @@ module _ (c : ChannelState) (place : ℕ) (r : RunningState) (m : Machine) (w : 
       (same_rest c.drives place (with_both w.attached told.1 new) (with_drive w.attached new) refl ∙ rest_devices drives_then)
 
   reset_met : (f : Option Fault) → program.IsMet f w.attached.drive new → IsMet (met_in 0 f) (WasReset lost) c (reset_with c drives_then)
-  reset_met None h = none_fails (channel_with c c.storage Idle place (with_drive w.attached new)) (reset_with c drives_then) (rest_images drives_then) ∙ same_failures c c.storage Idle place w.attached (with_drive w.attached new) w.is_there h
-  reset_met (Some f) h = none_fails (channel_with c c.storage Idle place (with_drive w.attached new)) (reset_with c drives_then) (rest_images drives_then) ∙ one_failure c c.storage Idle place w.attached (with_drive w.attached new) w.is_there h
+  reset_met None h = none_fails (channel_with c c.storage Idle place (with_drive w.attached new)) (reset_with c drives_then)
+      (rest_images drives_then) ∙ same_failures c c.storage Idle place w.attached (with_drive w.attached new) w.is_there h
+  reset_met (Some f) h = none_fails (channel_with c c.storage Idle place (with_drive w.attached new)) (reset_with c drives_then)
+      (rest_images drives_then) ∙ one_failure c c.storage Idle place w.attached (with_drive w.attached new) w.is_there h
 
   -- where no fault is met no track is reported
   untold : react Reset None m ≡ react Reset (met_in 0 how.fault) m → is_some told.2 ≡ true → ⊥
-  untold same some = none_some told.2 (no_track lost (ap (λ (a : Answer × Machine). a.0) (same ∙ reset_by how.fault refl)) (no_fault_none_told m Reset (runs_of m stands.sound)).0) some
+  untold same some = none_some told.2 (no_track lost (ap (λ (a : Answer × Machine). a.0) (same ∙ reset_by how.fault refl))
+      (no_fault_none_told m Reset (runs_of m stands.sound)).0) some
     where
       no_track : (t : Option (ℕ × ℕ × ℕ)) → (react Reset None m).0 ≡ WasReset t → TellsNoTrack (react Reset None m).0 → t ≡ None
       no_track t h n = subst TellsNoTrack h n
 
-      none_some : (t : Option (ℕ × ℕ)) → option_map {U = ℕ × ℕ × ℕ} (λ t. (256 * c.number + w.attached.device, t.0, t.1)) t ≡ None → is_some t ≡ true → ⊥
+      none_some : (t : Option (ℕ × ℕ)) → option_map {U = ℕ × ℕ × ℕ} (λ t. (256 * c.number + w.attached.device, t.0, t.1)) t ≡ None
+          → is_some t ≡ true → ⊥
       none_some None h s = cc
       none_some (Some t) h s = cc
 
@@ -179,41 +214,51 @@ module _ (c : ChannelState) (place : ℕ) (r : RunningState) (m : Machine) (w : 
   reset_told (Some f) is h = go (fault_told_by_reset m (record { units = 0; fault = f }) (runs_of m stands.sound)) tells.unsaved
     where
       go : ((react Reset (met_in 0 (Some f)) m ≡ react Reset None m) ⊎ ToldByReset m (react Reset (met_in 0 (Some f)) m))
-          → ((new.image.failures ≡ w.attached.drive.image.failures) ⊎ (is_some told.2 ≡ true)) → ToldByReset m (react Reset (met_in 0 (Some f)) m)
+          → ((new.image.failures ≡ w.attached.drive.image.failures) ⊎ (is_some told.2 ≡ true))
+          → ToldByReset m (react Reset (met_in 0 (Some f)) m)
       go (inr t) u = t
       go (inl same) (inl stays) = absurd (omega (arith, stays, h))
       go (inl same) (inr some) = absurd (untold (sym same ∙ ap (λ f. react Reset (met_in 0 f) m) (sym is)) some)
 
   pub reset_does : Does Reset m (WasReset lost) c (reset_with c drives_then)
-  reset_does = does_this Reset m (WasReset lost) c (reset_with c drives_then) (met_in 0 how.fault) (all_at_rest (ended w.attached.device c.storage ending m)) stands (reset_by how.fault refl) refl
+  reset_does = does_this Reset m (WasReset lost) c (reset_with c drives_then) (met_in 0 how.fault)
+      (all_at_rest (ended w.attached.device c.storage ending m)) stands (reset_by how.fault refl) refl
       (rest_few drives_then (few_drives c c.storage Idle place w.attached (with_drive w.attached new) w.is_there stands.few))
-      (reset_machine, rest_all drives_then (all_of_others c.drives place (with_drive w.attached new) w.others how.is_ending.drive.rests)) (reset_met how.fault how.met) (reset_told how.fault refl how.met)
+      (reset_machine, rest_all drives_then (all_of_others c.drives place (with_drive w.attached new) w.others how.is_ending.drive.rests))
+      (reset_met how.fault how.met) (reset_told how.fault refl how.met)
 
 -- Steps, cuts and resets at a channel, by what its subchannel is.
 
-pub works : (c : ChannelState) (m : Machine) (place : ℕ) (r : RunningState) → c.subchannel ≡ Working place r → StandsFor c m → WorksFor c place r m
+pub works : (c : ChannelState) (m : Machine) (place : ℕ) (r : RunningState) → c.subchannel ≡ Working place r → StandsFor c m
+    → WorksFor c place r m
 works c m place r is s = subst (Shows c m) is s.shows
 
-pub there : (c : ChannelState) (m : Machine) (place : ℕ) (r : RunningState) → c.subchannel ≡ Working place r → StandsFor c m → DriveIs place (Stands r) c.drives
+pub there : (c : ChannelState) (m : Machine) (place : ℕ) (r : RunningState) → c.subchannel ≡ Working place r → StandsFor c m
+    → DriveIs place (Stands r) c.drives
 there c m place r is s = let w = works c m place r is s in record { attached = w.attached; is_there = w.is_there; holds = w.runs.together }
 
 -- the drive at a place
-at_attached : (place : ℕ) (How : DriveState → DriveState → Type 0) (old new : List AttachedState) (u : AttachedState) → DriveChanges place How old new → slice_get old place ≡ Some u
+at_attached : (place : ℕ) (How : DriveState → DriveState → Type 0) (old new : List AttachedState) (u : AttachedState)
+    → DriveChanges place How old new → slice_get old place ≡ Some u
     → (drive : DriveState) × (new ≡ slice_set old place (with_drive u drive)) × How u.drive drive
 at_attached place How old new u d at =
     let e : d.attached ≡ u = inside d.attached u (sym d.was ∙ at) in
     (d.drive, d.becomes ∙ ap (λ u. slice_set old place (with_drive u d.drive)) e, subst (λ u. How u.drive d.drive) e d.how)
 
-pub still_there : (place : ℕ) (How : DriveState → DriveState → Type 0) (old new : List AttachedState) → DriveChanges place How old new → place < length new
-still_there place How old new d = subst (λ n. place < n) (sym (ap length d.becomes ∙ length-set old place (with_drive d.attached d.drive))) (slice_get_within old place d.attached d.was)
+pub still_there : (place : ℕ) (How : DriveState → DriveState → Type 0) (old new : List AttachedState) → DriveChanges place How old new
+    → place < length new
+still_there place How old new d = subst (λ n. place < n) (sym (ap length d.becomes ∙ length-set old place (with_drive d.attached d.drive)))
+    (slice_get_within old place d.attached d.was)
 
 -- a program that is over, at the drive that it changed; it names the drives before, between and behind, since it joins
 -- two changes of them
-over_at : (place : ℕ) (csw : Csw) (motion : Bool) (old between new : List AttachedState) (u : AttachedState) (drive : DriveState) (subchannel : Subchannel) → IsOver place csw motion between new subchannel
+over_at : (place : ℕ) (csw : Csw) (motion : Bool) (old between new : List AttachedState) (u : AttachedState) (drive : DriveState)
+    (subchannel : Subchannel) → IsOver place csw motion between new subchannel
     → slice_get old place ≡ Some u → between ≡ slice_set old place (with_drive u drive)
     → (new ≡ slice_set old place (with_both u motion drive)) × (subchannel ≡ Pending u.device csw)
 over_at place csw motion old between new u drive subchannel o at is = (
-  o.becomes ∙ ap (λ v. slice_set between place (record v { arm = arm_told motion })) e ∙ ap (λ us. slice_set us place (with_both u motion drive)) is ∙ set_twice old place (with_drive u drive) (with_both u motion drive),
+  o.becomes ∙ ap (λ v. slice_set between place (record v { arm = arm_told motion })) e
+      ∙ ap (λ us. slice_set us place (with_both u motion drive)) is ∙ set_twice old place (with_drive u drive) (with_both u motion drive),
   o.pends ∙ ap (λ v. Pending v.device csw) e,
 )
   where
@@ -222,50 +267,81 @@ over_at place csw motion old between new u drive subchannel o at is = (
 
 -- Steps.
 
-none_steps : (c : ChannelState) (m : Machine) (k : ℕ) → ((place : ℕ) (r : RunningState) → c.subchannel ≡ Working place r → ⊥) → (s : Subchannel) → c.subchannel ≡ s → Shows c m s → react (StepBy k) None m ≡ (Stepped 0, m)
+none_steps : (c : ChannelState) (m : Machine) (k : ℕ) → ((place : ℕ) (r : RunningState) → c.subchannel ≡ Working place r → ⊥)
+    → (s : Subchannel) → c.subchannel ≡ s → Shows c m s → react (StepBy k) None m ≡ (Stepped 0, m)
 none_steps c m k never Idle is h = ap (step k None m) (ap (λ (m : Machine). m.subchannel) h.0)
 none_steps c m k never (Pending device csw) is h = ap (step k None m) (ap (λ (m : Machine). m.subchannel) h.0)
 none_steps c m k never (Working place r) is h = absurd (never place r is)
 
-pub no_step_does : (c : ChannelState) (m : Machine) (k : ℕ) → ((place : ℕ) (r : RunningState) → c.subchannel ≡ Working place r → ⊥) → StandsFor c m → Does (StepBy k) m (Stepped 0) c c × CallsAtMost 0 c c
-no_step_does c m k never s = (nothing_does (StepBy k) m c (Stepped 0) s (none_steps c m k never c.subchannel refl s.shows), none_calls 0 c c refl)
+pub no_step_does : (c : ChannelState) (m : Machine) (k : ℕ) → ((place : ℕ) (r : RunningState) → c.subchannel ≡ Working place r → ⊥)
+    → StandsFor c m → Does (StepBy k) m (Stepped 0) c c × CallsAtMost 0 c c
+no_step_does c m k never s = (
+  nothing_does (StepBy k) m c (Stepped 0) s (none_steps c m k never c.subchannel refl s.shows),
+  none_calls 0 c c refl,
+)
 
-module _ (c : ChannelState) (m : Machine) (place : ℕ) (r : RunningState) (is : c.subchannel ≡ Working place r) (s : StandsFor c m) (k : ℕ) (a : Ran) (r' : RunningState) (st : Storage) (drives : List AttachedState)
+module _ (c : ChannelState) (m : Machine) (place : ℕ) (r : RunningState) (is : c.subchannel ≡ Working place r) (s : StandsFor c m) (k : ℕ)
+    (a : Ran) (r' : RunningState) (st : Storage) (drives : List AttachedState)
     (d : DriveChanges place (AdvancesAt r c.storage k a r' st) c.drives drives) where
   w : WorksFor c place r m
   w = works c m place r is s
 
-  y : (drive : DriveState) × (drives ≡ slice_set c.drives place (with_drive w.attached drive)) × AdvancesAt r c.storage k a r' st w.attached.drive drive
+  y : (drive : DriveState) × (drives ≡ slice_set c.drives place (with_drive w.attached drive))
+      × AdvancesAt r c.storage k a r' st w.attached.drive drive
   y = at_attached place (AdvancesAt r c.storage k a r' st) c.drives drives w.attached d w.is_there
 
-  calls_most : (subchannel : Subchannel) (u : AttachedState) → u.drive ≡ y.0 → CallsAtMost (2 * a.done) c (channel_with c st subchannel place u)
+  calls_most : (subchannel : Subchannel) (u : AttachedState) → u.drive ≡ y.0
+      → CallsAtMost (2 * a.done) c (channel_with c st subchannel place u)
   calls_most subchannel u e =
-      calls_at_most c st subchannel place w.attached u w.is_there (2 * a.done) (rw (sym e) at y.2.calls) (rw (sym e) at (failures_told a.ending w.attached.drive y.0 y.2.tells))
+      calls_at_most c st subchannel place w.attached u w.is_there (2 * a.done) (rw (sym e) at y.2.calls)
+      (rw (sym e) at (failures_told a.ending w.attached.drive y.0 y.2.tells))
 
   pub step_most : a.done ≤ k
   step_most = go a.ending y.2.advances
     where
-      go : (e : Option (Csw × Bool)) → AdvancesTo r.key (phase_in r c.storage w.attached.drive) k a.done e r' st w.attached.drive y.0 → a.done ≤ k
+      go : (e : Option (Csw × Bool)) → AdvancesTo r.key (phase_in r c.storage w.attached.drive) k a.done e r' st w.attached.drive y.0
+          → a.done ≤ k
       go None h = omega (arith, h.done)
       go (Some told) h = h.done
 
-  pub step_goes_on : a.ending ≡ None → Does (StepBy k) m (Stepped a.done) c (record { number = c.number; storage = st; subchannel = Working place r'; drives = drives })
+  pub step_goes_on : a.ending ≡ None → Does (StepBy k) m (Stepped a.done) c (record {
+    number = c.number;
+    storage = st;
+    subchannel =
+        Working place r';
+    drives = drives;
+  })
       × CallsAtMost (2 * a.done) c (record { number = c.number; storage = st; subchannel = Working place r'; drives = drives })
   step_goes_on e =
-      let now : List AttachedState → ChannelState = λ us. record { number = c.number; storage = st; subchannel = Working place r'; drives = us } in
+      let now : List AttachedState → ChannelState = λ us. record {
+        number = c.number;
+        storage = st;
+        subchannel = Working place r';
+        drives =
+            us;
+      } in
       subst (λ us. Does (StepBy k) m (Stepped a.done) c (now us) × CallsAtMost (2 * a.done) c (now us)) (sym y.1) (
-        goes_on_does c place r m w s k a.done st y.0 r' (subst (λ e. AdvancesTo r.key (phase_in r c.storage w.attached.drive) k a.done e r' st w.attached.drive y.0) e y.2.advances),
+        goes_on_does c place r m w s k a.done st y.0 r'
+            (subst (λ e. AdvancesTo r.key (phase_in r c.storage w.attached.drive) k a.done e r' st w.attached.drive y.0) e y.2.advances),
         calls_most (Working place r') (with_drive w.attached y.0) refl,
       )
 
-  pub step_ends : (csw : Csw) (motion : Bool) → a.ending ≡ Some (csw, motion) → (drives' : List AttachedState) (subchannel : Subchannel) → IsOver place csw motion drives drives' subchannel
+  pub step_ends : (csw : Csw) (motion : Bool) → a.ending ≡ Some (csw, motion) → (drives' : List AttachedState) (subchannel : Subchannel)
+      → IsOver place csw motion drives drives' subchannel
       → Does (StepBy k) m (Stepped a.done) c (record { number = c.number; storage = st; subchannel = subchannel; drives = drives' })
       × CallsAtMost (2 * a.done) c (record { number = c.number; storage = st; subchannel = subchannel; drives = drives' })
   step_ends csw motion e drives' subchannel o =
       let z = over_at place csw motion c.drives drives drives' w.attached y.0 subchannel o w.is_there y.1 in
-      let now : Subchannel → List AttachedState → ChannelState = λ sub us. record { number = c.number; storage = st; subchannel = sub; drives = us } in
+      let now : Subchannel → List AttachedState → ChannelState = λ sub us. record {
+        number = c.number;
+        storage = st;
+        subchannel =
+            sub;
+        drives = us;
+      } in
       subst (λ us. Does (StepBy k) m (Stepped a.done) c (now subchannel us) × CallsAtMost (2 * a.done) c (now subchannel us)) (sym z.0)
-      (subst (λ sub. Does (StepBy k) m (Stepped a.done) c (now sub (slice_set c.drives place (with_both w.attached motion y.0))) × CallsAtMost (2 * a.done) c (now sub (slice_set c.drives place (with_both w.attached motion y.0)))) (sym z.1) (
+      (subst (λ sub. Does (StepBy k) m (Stepped a.done) c (now sub (slice_set c.drives place (with_both w.attached motion y.0)))
+      × CallsAtMost (2 * a.done) c (now sub (slice_set c.drives place (with_both w.attached motion y.0)))) (sym z.1) (
         ends_does c place r m w s k a.done st y.0 (csw, motion) (subst (λ e. TellsOf e w.attached.drive y.0) e y.2.tells)
             (subst (λ e. AdvancesTo r.key (phase_in r c.storage w.attached.drive) k a.done e r' st w.attached.drive y.0) e y.2.advances),
         calls_most (Pending w.attached.device csw) (with_both w.attached motion y.0) refl,
@@ -281,19 +357,23 @@ may_be_cut c m h (Working place r) is = there c m place r is h
 pub cut_allowed : (c : ChannelState) (m : Machine) → StandsFor c m → MayBeCut c.subchannel c.drives
 cut_allowed c m h = may_be_cut c m h c.subchannel refl
 
-on_this : (c : ChannelState) (m : Machine) (a : ℕ) (b : Bool) → StandsFor c m → (a / 256 == c.number) ≡ b → react (Hio a) None m ≡ cond b (halt_io None (a % 256) m m.subchannel) (WithCode Three, m)
+on_this : (c : ChannelState) (m : Machine) (a : ℕ) (b : Bool) → StandsFor c m → (a / 256 == c.number) ≡ b
+    → react (Hio a) None m ≡ cond b (halt_io None (a % 256) m m.subchannel) (WithCode Three, m)
 on_this c m a b s is =
     ap (λ n. cond (a / 256 == n) (halt_io None (a % 256) m m.subchannel) (WithCode Three, m)) (seen_by c m c.subchannel s.shows).channel
     ∙ ap (λ b. cond b (halt_io None (a % 256) m m.subchannel) (WithCode Three, m)) is
 
 -- an address of another channel
-pub halts_elsewhere : (c : ChannelState) (m : Machine) (a : ℕ) → StandsFor c m → (a / 256 ≡ c.number → ⊥) → Does (Hio a) m (WithCode Three) c c
+pub halts_elsewhere : (c : ChannelState) (m : Machine) (a : ℕ) → StandsFor c m → (a / 256 ≡ c.number → ⊥)
+    → Does (Hio a) m (WithCode Three) c c
 halts_elsewhere c m a s other = nothing_does (Hio a) m c (WithCode Three) s (on_this c m a false s (different (a / 256) c.number other))
 
 -- a channel status word that pends stays
-pub halts_pending : (c : ChannelState) (m : Machine) (a device : ℕ) (csw : Csw) → StandsFor c m → a / 256 ≡ c.number → c.subchannel ≡ Pending device csw → Does (Hio a) m (WithCode Zero) c c
+pub halts_pending : (c : ChannelState) (m : Machine) (a device : ℕ) (csw : Csw) → StandsFor c m → a / 256 ≡ c.number
+    → c.subchannel ≡ Pending device csw → Does (Hio a) m (WithCode Zero) c c
 halts_pending c m a device csw s here is = nothing_does (Hio a) m c (WithCode Zero) s
-    (on_this c m a true s (eq-eqb _ _ here) ∙ ap (halt_io None (a % 256) m) (ap (λ (m : Machine). m.subchannel) (subst (Shows c m) is s.shows).0))
+    (on_this c m a true s (eq-eqb _ _ here)
+    ∙ ap (halt_io None (a % 256) m) (ap (λ (m : Machine). m.subchannel) (subst (Shows c m) is s.shows).0))
 
 -- while the channel is available
 module _ (c : ChannelState) (m : Machine) (a : ℕ) (s : StandsFor c m) (here : a / 256 ≡ c.number) (is : c.subchannel ≡ Idle) where
@@ -304,12 +384,21 @@ module _ (c : ChannelState) (m : Machine) (a : ℕ) (s : StandsFor c m) (here : 
   shown = subst (Shows c m) is s.shows
 
   reacts : (b : Bool) → is_some (device_at (machine_of c machine.Idle) (a % 256)) ≡ b
-      → react (Hio a) None m ≡ cond b (StatusStored no_unit_status no_channel_status, with_status no_unit_status no_channel_status (machine_of c machine.Idle)) (WithCode Three, machine_of c machine.Idle)
+      → react (Hio a) None m ≡ cond b (
+        StatusStored no_unit_status no_channel_status,
+        with_status no_unit_status no_channel_status
+            (machine_of c machine.Idle),
+      ) (WithCode Three, machine_of c machine.Idle)
   reacts b found =
       on_this c m a true s (eq-eqb _ _ here) ∙ ap (λ m. halt_io None (a % 256) m m.subchannel) shown.0
-      ∙ ap (λ b. cond b (StatusStored no_unit_status no_channel_status, with_status no_unit_status no_channel_status (machine_of c machine.Idle)) (WithCode Three, machine_of c machine.Idle)) found
+      ∙ ap (λ b. cond b (
+        StatusStored no_unit_status no_channel_status,
+        with_status no_unit_status no_channel_status
+            (machine_of c machine.Idle),
+      ) (WithCode Three, machine_of c machine.Idle)) found
 
-  halts : (b : Bool) → react (Hio a) None m ≡ (condition_seen status_seen (halted_idle b), machine_of (halted b) machine.Idle) → Does (Hio a) m (condition_seen status_seen (halted_idle b)) c (halted b)
+  halts : (b : Bool) → react (Hio a) None m ≡ (condition_seen status_seen (halted_idle b), machine_of (halted b) machine.Idle)
+      → Does (Hio a) m (condition_seen status_seen (halted_idle b)) c (halted b)
   halts b h = quiet_does (Hio a) m (condition_seen status_seen (halted_idle b)) c (halted b) s (record {
     answers = sym (ap (λ (a : Answer × Machine). a.0) h);
     stands = record {
@@ -320,36 +409,56 @@ module _ (c : ChannelState) (m : Machine) (a : ℕ) (s : StandsFor c m) (here : 
     };
   }) refl
 
-  idle_halts : Does (Hio a) m (condition_seen status_seen (halted_idle (is_some (position (is_at (a % 256)) c.drives)))) c (halted (is_some (position (is_at (a % 256)) c.drives)))
-  idle_halts = subst (λ b. Does (Hio a) m (condition_seen status_seen (halted_idle b)) c (halted b)) (sym (both_found (a % 256) c.drives)) (go (is_some (device_at (machine_of c machine.Idle) (a % 256))) refl)
+  idle_halts : Does (Hio a) m (condition_seen status_seen (halted_idle (is_some (position (is_at (a % 256)) c.drives)))) c
+      (halted (is_some (position (is_at (a % 256)) c.drives)))
+  idle_halts = subst (λ b. Does (Hio a) m (condition_seen status_seen (halted_idle b)) c (halted b)) (sym (both_found (a % 256) c.drives))
+      (go (is_some (device_at (machine_of c machine.Idle) (a % 256))) refl)
     where
-      go : (b : Bool) → is_some (device_at (machine_of c machine.Idle) (a % 256)) ≡ b → Does (Hio a) m (condition_seen status_seen (halted_idle b)) c (halted b)
+      go : (b : Bool) → is_some (device_at (machine_of c machine.Idle) (a % 256)) ≡ b
+          → Does (Hio a) m (condition_seen status_seen (halted_idle b)) c (halted b)
       go true found = halts true (reacts true found)
       go false found = halts false (reacts false found)
 
-  pub halts_idle : (result : Condition Status) (st : Storage) → result ≡ halted_idle (is_some (position (is_at (a % 256)) c.drives)) → st ≡ storage_halted (is_some (position (is_at (a % 256)) c.drives)) c.storage
+  pub halts_idle : (result : Condition Status) (st : Storage) → result ≡ halted_idle (is_some (position (is_at (a % 256)) c.drives))
+      → st ≡ storage_halted (is_some (position (is_at (a % 256)) c.drives)) c.storage
       → Does (Hio a) m (condition_seen status_seen result) c (record c { storage = st }) × CallsAtMost 1 c (record c { storage = st })
   halts_idle result st answer left = (
     subst (λ r. Does (Hio a) m (condition_seen status_seen r) c (record c { storage = st })) (sym answer)
-        (subst (λ st. Does (Hio a) m (condition_seen status_seen (halted_idle (is_some (position (is_at (a % 256)) c.drives)))) c (record c { storage = st })) (sym left) idle_halts),
+        (subst (λ st. Does (Hio a) m (condition_seen status_seen (halted_idle (is_some (position (is_at (a % 256)) c.drives)))) c
+        (record c { storage = st })) (sym left) idle_halts),
     none_calls 1 c (record c { storage = st }) refl,
   )
 
 -- the program that runs is cut; by all that the answer clause of the code has at hand, a premise each
-pub halts_working : (c : ChannelState) (m : Machine) (place : ℕ) (r : RunningState) → c.subchannel ≡ Working place r → StandsFor c m → (drives : List AttachedState) (subchannel : Subchannel) → CutsProgram c.subchannel c.drives drives subchannel
-    → (a : ℕ) → a / 256 ≡ c.number → Does (Hio a) m (WithCode Two) c (record { number = c.number; storage = c.storage; subchannel = subchannel; drives = drives })
+pub halts_working : (c : ChannelState) (m : Machine) (place : ℕ) (r : RunningState) → c.subchannel ≡ Working place r → StandsFor c m
+    → (drives : List AttachedState) (subchannel : Subchannel) → CutsProgram c.subchannel c.drives drives subchannel
+    → (a : ℕ) → a / 256 ≡ c.number → Does (Hio a) m (WithCode Two) c (record {
+      number = c.number;
+      storage = c.storage;
+      subchannel =
+          subchannel;
+      drives = drives;
+    })
     × CallsAtMost 1 c (record { number = c.number; storage = c.storage; subchannel = subchannel; drives = drives })
 halts_working c m place r is s drives subchannel h a here =
     let w = works c m place r is s in
     let cuts = subst (λ sub. CutsProgram sub c.drives drives subchannel) is h in
     let y = at_attached place (CutsAt r cuts.told) c.drives cuts.between w.attached cuts.cut w.is_there in
     let z = over_at place cuts.told.0 cuts.told.1 c.drives cuts.between drives w.attached y.0 subchannel cuts.over w.is_there y.1 in
-    let now : Subchannel → List AttachedState → ChannelState = λ sub us. record { number = c.number; storage = c.storage; subchannel = sub; drives = us } in
+    let now : Subchannel → List AttachedState → ChannelState = λ sub us. record {
+      number = c.number;
+      storage = c.storage;
+      subchannel =
+          sub;
+      drives = us;
+    } in
     let u = with_both w.attached cuts.told.1 y.0 in
     subst (λ us. Does (Hio a) m (WithCode Two) c (now subchannel us) × CallsAtMost 1 c (now subchannel us)) (sym z.0)
-    (subst (λ sub. Does (Hio a) m (WithCode Two) c (now sub (slice_set c.drives place u)) × CallsAtMost 1 c (now sub (slice_set c.drives place u))) (sym z.1) (
+    (subst (λ sub. Does (Hio a) m (WithCode Two) c (now sub (slice_set c.drives place u))
+    × CallsAtMost 1 c (now sub (slice_set c.drives place u))) (sym z.1) (
       halt_does c place r m w s cuts.told y.0 (y.2.cut c.storage) y.2.tells a (eq-eqb _ _ here),
-      calls_at_most c c.storage (Pending w.attached.device cuts.told.0) place w.attached u w.is_there 1 (cut_calls _ w.attached.drive y.0 (y.2.calls c.storage))
+      calls_at_most c c.storage (Pending w.attached.device cuts.told.0) place w.attached u w.is_there 1 (cut_calls _ w.attached.drive y.0
+          (y.2.calls c.storage))
           (failures_told (Some (cuts.told.0, cuts.told.1)) w.attached.drive y.0 y.2.tells.fault),
     ))
 
@@ -361,9 +470,15 @@ module _ (c : ChannelState) (m : Machine) (s : StandsFor c m) where
   Resets us unsaved = AllRest us × Does Reset m (WasReset unsaved) c (reset_with c us) × CallsAtMost 1 c (reset_with c us)
 
   module _ (drives : List AttachedState) (unsaved : Option (ℕ × ℕ × ℕ)) where
-    calm : (sub : machine.Subchannel) → is_working sub ≡ false → (m ≡ machine_of c sub) × AllRest c.drives → (drives ≡ c.drives) × (unsaved ≡ None) → Resets drives unsaved
+    calm : (sub : machine.Subchannel) → is_working sub ≡ false → (m ≡ machine_of c sub) × AllRest c.drives → (drives ≡ c.drives)
+        × (unsaved ≡ None) → Resets drives unsaved
     calm sub quiet y h = subst (λ us. Resets us unsaved) (sym h.0)
-        (subst (Resets c.drives) (sym h.1) (y.1, idle_reset c m sub s quiet y.0 y.1, none_calls 1 c (reset_with c c.drives) (rest_images c.drives)))
+        (subst (Resets c.drives) (sym h.1) (
+          y.1,
+          idle_reset c m sub s quiet y.0 y.1,
+          none_calls 1 c (reset_with c c.drives)
+              (rest_images c.drives),
+        ))
 
     resets_by : (sub : Subchannel) → c.subchannel ≡ sub → LosesProgram sub c.number c.drives drives unsaved → Resets drives unsaved
     resets_by Idle is h = calm machine.Idle refl (subst (Shows c m) is s.shows) h
@@ -372,13 +487,15 @@ module _ (c : ChannelState) (m : Machine) (s : StandsFor c m) where
         let w = works c m place r is s in
         let y = at_attached place (CutsAt r h.told) c.drives drives w.attached h.cut w.is_there in
         let e : h.attached ≡ w.attached = inside h.attached w.attached (sym h.was ∙ w.is_there) in
-        let t : unsaved ≡ option_map (λ t. (256 * c.number + w.attached.device, t.0, t.1)) h.told.2 = h.tells ∙ ap (λ (u : AttachedState). option_map {U = ℕ × ℕ × ℕ} (λ t. (256 * c.number + u.device, t.0, t.1)) h.told.2) e in
+        let t : unsaved ≡ option_map (λ t. (256 * c.number + w.attached.device, t.0, t.1)) h.told.2 = h.tells
+        ∙ ap (λ (u : AttachedState). option_map {U = ℕ × ℕ × ℕ} (λ t. (256 * c.number + u.device, t.0, t.1)) h.told.2) e in
         let u = with_drive w.attached y.0 in
         subst (λ us. Resets us unsaved) (sym y.1) (subst (Resets (slice_set c.drives place u)) (sym t) (
           all_of_others c.drives place u w.others (y.2.cut c.storage).is_ending.drive.rests,
           reset_does c place r m w s h.told y.0 (y.2.cut c.storage) y.2.tells,
           calls_then_none 1 c (channel_with c c.storage Idle place u) (reset_with c (slice_set c.drives place u))
-              (calls_at_most c c.storage Idle place w.attached u w.is_there 1 (cut_calls _ w.attached.drive y.0 (y.2.calls c.storage)) (failures_told (Some (h.told.0, h.told.1)) w.attached.drive y.0 y.2.tells.fault))
+              (calls_at_most c c.storage Idle place w.attached u w.is_there 1 (cut_calls _ w.attached.drive y.0 (y.2.calls c.storage))
+              (failures_told (Some (h.told.0, h.told.1)) w.attached.drive y.0 y.2.tells.fault))
               (rest_images (slice_set c.drives place u)),
         ))
 
@@ -386,8 +503,15 @@ module _ (c : ChannelState) (m : Machine) (s : StandsFor c m) where
     resets h = resets_by c.subchannel refl h
 
     -- as the code leaves the subchannel and the drives
-    pub resets_to : LosesProgram c.subchannel c.number c.drives drives unsaved → (subchannel : Subchannel) (now : List AttachedState) → subchannel ≡ Idle → now ≡ map at_rest_attached drives
-        → Does Reset m (WasReset unsaved) c (record c { subchannel = subchannel; drives = now }) × CallsAtMost 1 c (record c { subchannel = subchannel; drives = now })
+    pub resets_to : LosesProgram c.subchannel c.number c.drives drives unsaved → (subchannel : Subchannel) (now : List AttachedState)
+        → subchannel ≡ Idle → now ≡ map at_rest_attached drives
+        → Does Reset m (WasReset unsaved) c (record c { subchannel = subchannel; drives = now })
+        × CallsAtMost 1 c (record c { subchannel = subchannel; drives = now })
     resets_to lost subchannel now idle rest =
-        subst (λ us. Does Reset m (WasReset unsaved) c (record c { subchannel = subchannel; drives = us }) × CallsAtMost 1 c (record c { subchannel = subchannel; drives = us })) (sym rest)
-        (subst (λ sub. Does Reset m (WasReset unsaved) c (record c { subchannel = sub; drives = map at_rest_attached drives }) × CallsAtMost 1 c (record c { subchannel = sub; drives = map at_rest_attached drives })) (sym idle) ((resets lost).1, (resets lost).2))
+        subst (λ us. Does Reset m (WasReset unsaved) c (record c { subchannel = subchannel; drives = us })
+        × CallsAtMost 1 c (record c { subchannel = subchannel; drives = us })) (sym rest)
+        (subst (λ sub. Does Reset m (WasReset unsaved) c (record c { subchannel = sub; drives = map at_rest_attached drives })
+        × CallsAtMost 1 c (record c { subchannel = sub; drives = map at_rest_attached drives })) (sym idle) (
+          (resets lost).1,
+          (resets lost).2,
+        ))

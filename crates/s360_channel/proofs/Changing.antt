@@ -1,5 +1,6 @@
 -- Drives that change between two units, and the devices of the machine, which change with them: arms, and a drive more.
-use Rattle.std.proofs.Common.{◌≡◌, ℕ, ◌+◌, [], ◌∷◌, refl, sym, ap, ◌∙◌, subst, true, false, Bool, cond, ◌==◌, List, map, Some, Option, zero, suc, ◌≤◌, ◌<◌, arith, ◌++◌, length, None}
+use Rattle.std.proofs.Common.{◌≡◌, ℕ, ◌+◌, [], ◌∷◌, refl, sym, ap, ◌∙◌, subst, true, false, Bool, cond, ◌==◌, List, map, Some, Option, zero}
+use Rattle.std.proofs.Common.{suc, ◌≤◌, ◌<◌, arith, ◌++◌, length, None}
 use Rattle.std.proofs.lemmas.Bool.{eqb-true, eqb-false}
 use Rattle.std.proofs.lemmas.List.{map-id, map-append, length_push}
 use Rattle.std.proofs.lemmas.List.Folds.{find-append}
@@ -20,26 +21,33 @@ use Rattle.s360_laws.specs.Machine as machine
 use Rattle.s360_laws.specs.Soundness.{AreDistinct, IsRunning, IsSound, IsSoundIn, device_owes}
 use Rattle.s360_laws.proofs.FindDevices.{Keeps, set_drive, found_map, keeps_one, set_arm, different}
 use Rattle.s360_channel.specs.Attaches.{NotRefused}
-use Rattle.s360_channel.specs.Channel.{AllRest, AttachedState, ChannelState, OthersRest, WorksFor, machine_of, Shows, device_of, is_at, StandsFor, new_attached, attached}
+use Rattle.s360_channel.specs.Channel.{AllRest, AttachedState, ChannelState, OthersRest, WorksFor, machine_of, Shows, device_of, is_at}
+use Rattle.s360_channel.specs.Channel.{StandsFor, new_attached, attached}
 use Rattle.s360_channel.specs.declared.subchannel.Subchannel.{Subchannel}
 use Rattle.s360_channel.specs.declared.subchannel.Subchannel.TheVariants.{Idle, Working, Pending}
 use Rattle.s360_channel.specs.Packs.{pends_for, runs_at, volume_in}
-use Rattle.s360_channel.proofs.Places.{changes, devices, all_set, devices_set, distinct_before, get_other, get_set, inside, others_put, rests_at, all_push, false_is_true, is_found, none_found, none_is_some, others_push, same_number}
+use Rattle.s360_channel.proofs.Places.{changes, devices, all_set, devices_set, distinct_before, get_other, get_set, inside, others_put}
+use Rattle.s360_channel.proofs.Places.{rests_at, all_push, false_is_true, is_found, none_found, none_is_some, others_push, same_number}
 
 -- Drives that change between two units, and the devices of the machine, which change with them.
 
 -- what an image holds that has the volume of its drive
-pub volume_given : (d : DriveState) (image : ImageState) → image ≡ d.image → d.image.geometry ≡ d.state.volume.geometry → d.image.slots ≡ d.state.volume.slots → volume_in image ≡ d.state.volume
-volume_given d image same geometry slots = ap volume_in same ∙ (ap (λ g. record (volume_in d.image) { geometry = g }) geometry ∙ ap (λ s. record d.state.volume { slots = s }) slots)
+pub volume_given : (d : DriveState) (image : ImageState) → image ≡ d.image → d.image.geometry ≡ d.state.volume.geometry
+    → d.image.slots ≡ d.state.volume.slots → volume_in image ≡ d.state.volume
+volume_given d image same geometry slots = ap volume_in same ∙ (ap (λ g. record (volume_in d.image) { geometry = g }) geometry
+    ∙ ap (λ s. record d.state.volume { slots = s }) slots)
 
 -- A machine whose devices change stays sound, where they are still distinct and all but one are found as they were, whose program
 -- doesn't run; where that one's channel status word pends, its arm owes what it owed.
-pub sound_with : (m : Machine) (device : ℕ) (ds : List Device) → AreDistinct ds → ((n : ℕ) → (n == device) ≡ false → find (λ d. d.device == n) ds ≡ find (λ d. d.device == n) m.devices)
-    → runs_at device m.subchannel ≡ false → (pends_for device m.subchannel ≡ true → device_owes (find (λ d. d.device == device) ds) ≡ device_owes (find (λ d. d.device == device) m.devices))
+pub sound_with : (m : Machine) (device : ℕ) (ds : List Device) → AreDistinct ds → ((n : ℕ) → (n == device) ≡ false
+    → find (λ d. d.device == n) ds ≡ find (λ d. d.device == n) m.devices)
+    → runs_at device m.subchannel ≡ false → (pends_for device m.subchannel ≡ true → device_owes (find (λ d. d.device == device) ds)
+    ≡ device_owes (find (λ d. d.device == device) m.devices))
     → IsSound m → IsSound (record m { devices = ds })
 sound_with m device ds distinct same off owes s = (distinct, go m.subchannel off owes s.1)
   where
-    go : (x : machine.Subchannel) → runs_at device x ≡ false → (pends_for device x ≡ true → device_owes (find (λ d. d.device == device) ds) ≡ device_owes (find (λ d. d.device == device) m.devices))
+    go : (x : machine.Subchannel) → runs_at device x ≡ false → (pends_for device x ≡ true → device_owes (find (λ d. d.device == device) ds)
+        ≡ device_owes (find (λ d. d.device == device) m.devices))
         → IsSoundIn m x → IsSoundIn (record m { devices = ds }) x
     go machine.Idle a b h = tt
     go (machine.Working d script) a b h = (
@@ -48,15 +56,19 @@ sound_with m device ds distinct same off owes s = (distinct, go m.subchannel off
     )
     go (machine.Pending d csw) a b h = (h.0, ap (λ n. cond (tells csw.unit DEVICE_END) 1 0 + n) (owed (d == device) refl) ∙ h.1)
       where
-        owed : (x : Bool) → (d == device) ≡ x → device_owes (find (λ o. o.device == d) ds) ≡ device_owes (find (λ o. o.device == d) m.devices)
-        owed true e = subst (λ n. device_owes (find (λ o. o.device == n) ds) ≡ device_owes (find (λ o. o.device == n) m.devices)) (sym (eqb-true d device e)) (b e)
+        owed : (x : Bool) → (d == device) ≡ x → device_owes (find (λ o. o.device == d) ds) ≡ device_owes (find (λ o. o.device ==
+            d) m.devices)
+        owed true e = subst (λ n. device_owes (find (λ o. o.device == n) ds) ≡ device_owes (find (λ o. o.device == n) m.devices))
+            (sym (eqb-true d device e)) (b e)
         owed false e = ap device_owes (same d e)
 
 -- changes of different devices, or of different parts of one, come to the same in either order
-pub changes_apart : (a b : ℕ) (f g : Device → Device) → Keeps f → Keeps g → (a ≡ b → (d : Device) → f (g d) ≡ g (f d)) → (ds : List Device) → map (changes a f) (map (changes b g) ds) ≡ map (changes b g) (map (changes a f) ds)
+pub changes_apart : (a b : ℕ) (f g : Device → Device) → Keeps f → Keeps g → (a ≡ b → (d : Device) → f (g d) ≡ g (f d)) → (ds : List Device)
+    → map (changes a f) (map (changes b g) ds) ≡ map (changes b g) (map (changes a f) ds)
 changes_apart a b f g k l h [] = refl
 changes_apart a b f g k l h (d ∷ ds) =
-    ap (λ x. x ∷ map (changes a f) (map (changes b g) ds)) (go (d.device == a) (d.device == b) refl refl) ∙ ap (λ r. changes b g (changes a f d) ∷ r) (changes_apart a b f g k l h ds)
+    ap (λ x. x ∷ map (changes a f) (map (changes b g) ds)) (go (d.device == a) (d.device == b) refl refl)
+    ∙ ap (λ r. changes b g (changes a f d) ∷ r) (changes_apart a b f g k l h ds)
   where
     go : (x y : Bool) → (d.device == a) ≡ x → (d.device == b) ≡ y → changes a f (cond y (g d) d) ≡ changes b g (cond x (f d) d)
     go x false e i = ap (λ b. cond b (f d) d) e ∙ sym (off x e)
@@ -77,14 +89,21 @@ pub record StillAt (place : ℕ) (us : List AttachedState) (w : AttachedState) :
   pub same_drive : attached.drive ≡ w.drive
   pub others : OthersRest place us
 
-module _ (c : ChannelState) (m : Machine) (us : List AttachedState) (change : List Device → List Device) (now : devices us ≡ change (devices c.drives)) where
+module _ (c : ChannelState) (m : Machine) (us : List AttachedState) (change : List Device → List Device) (now : devices us
+    ≡ change (devices c.drives)) where
   -- while no program runs
-  pub rests_changed : (s : machine.Subchannel) → m ≡ machine_of c s → AllRest us → (record m { devices = change m.devices } ≡ machine_of (record c { drives = us }) s) × AllRest us
-  rests_changed s h r = (ap (λ (m : Machine). record m { devices = change m.devices }) h ∙ ap (λ ds. record (machine_of c s) { devices = ds }) (sym now), r)
+  pub rests_changed : (s : machine.Subchannel) → m ≡ machine_of c s → AllRest us
+      → (record m { devices = change m.devices } ≡ machine_of (record c { drives = us }) s) × AllRest us
+  rests_changed s h r = (
+    ap (λ (m : Machine). record m { devices = change m.devices }) h
+        ∙ ap (λ ds. record (machine_of c s) { devices = ds }) (sym now),
+    r,
+  )
 
   -- and while one does, whose start the change doesn't concern
   pub works_changed : (sub : Subchannel) (p q : ℕ) (r : RunningState) (w : WorksFor c p r m) → StillAt q us w.attached
-      → change (map (changes w.attached.device (set_drive w.drive)) (devices c.drives)) ≡ map (changes w.attached.device (set_drive w.drive)) (change (devices c.drives))
+      → change (map (changes w.attached.device (set_drive w.drive)) (devices c.drives))
+      ≡ map (changes w.attached.device (set_drive w.drive)) (change (devices c.drives))
       → WorksFor (record c { subchannel = sub; drives = us }) q r (record m { devices = change m.devices })
   works_changed sub p q r w k apart = record {
     attached = k.attached;
@@ -93,8 +112,13 @@ module _ (c : ChannelState) (m : Machine) (us : List AttachedState) (change : Li
     drive = w.drive;
     script = w.script;
     machine = ap (λ (m : Machine). record m { devices = change m.devices }) w.machine
-        ∙ (ap (λ ds. record (machine_of c (machine.Working w.attached.device w.script)) { storage = w.storage; devices = ds }) (apart ∙ ap (map (changes w.attached.device (set_drive w.drive))) (sym now))
-        ∙ ap (λ n. record (machine_of c (machine.Working n w.script)) { storage = w.storage; devices = map (changes n (set_drive w.drive)) (devices us) }) (sym k.same_device));
+        ∙ (ap (λ ds. record (machine_of c (machine.Working w.attached.device w.script)) { storage = w.storage; devices = ds }) (apart
+        ∙ ap (map (changes w.attached.device (set_drive w.drive))) (sym now))
+        ∙ ap (λ n. record (machine_of c (machine.Working n w.script)) {
+          storage = w.storage;
+          devices =
+              map (changes n (set_drive w.drive)) (devices us);
+        }) (sym k.same_device));
     runs = subst (StandsAtRun (start_of m w.drive) w.script r c.storage) (sym k.same_drive) w.runs;
     others = k.others;
   }
@@ -139,14 +163,17 @@ pub distinct_drives : (c : ChannelState) (m : Machine) → SeenBy c m → IsSoun
 distinct_drives c m b sound = distinct_before b.through b.keeps (map device_of c.drives) (subst AreDistinct b.devices sound.0)
 
 -- the device at an address is the drive's there
-pub device_seen : (c : ChannelState) (m : Machine) (b : SeenBy c m) (device : ℕ) (x : Option Device) → find (λ d. d.device == device) (map device_of c.drives) ≡ x → device_at m device ≡ option_map b.through x
+pub device_seen : (c : ChannelState) (m : Machine) (b : SeenBy c m) (device : ℕ) (x : Option Device)
+    → find (λ d. d.device == device) (map device_of c.drives) ≡ x → device_at m device ≡ option_map b.through x
 device_seen c m b device x h =
-    ap (find (λ d. d.device == device)) b.devices ∙ found_map (λ d. d == device) b.through b.keeps (map device_of c.drives) ∙ ap (option_map b.through) h
+    ap (find (λ d. d.device == device)) b.devices ∙ found_map (λ d. d == device) b.through b.keeps (map device_of c.drives)
+    ∙ ap (option_map b.through) h
 
 -- The arm of a drive.
 
 -- the drive of a program that runs is where it was, also where its own arm changes
-still_armed : (us : List AttachedState) (place p : ℕ) (u w : AttachedState) (arm : Arm) → slice_get us place ≡ Some u → slice_get us p ≡ Some w → OthersRest p us → StillAt p (slice_set us place (record u { arm = arm })) w
+still_armed : (us : List AttachedState) (place p : ℕ) (u w : AttachedState) (arm : Arm) → slice_get us place ≡ Some u
+    → slice_get us p ≡ Some w → OthersRest p us → StillAt p (slice_set us place (record u { arm = arm })) w
 still_armed us place p u w arm h k r = go (p == place) refl
   where
     others : OthersRest p (slice_set us place (record u { arm = arm }))
@@ -162,13 +189,21 @@ still_armed us place p u w arm h k r = go (p == place) refl
           same_drive = ap (λ (u : AttachedState). u.drive) same;
           others = others;
         }
-    go false e = record { attached = w; is_there = get_other us place p (record u { arm = arm }) (eqb-false p place e) ∙ k; same_device = refl; same_drive = refl; others = others }
+    go false e = record {
+      attached = w;
+      is_there = get_other us place p (record u { arm = arm }) (eqb-false p place e) ∙ k;
+      same_device =
+          refl;
+      same_drive = refl;
+      others = others;
+    }
 
 abbrev pub armed : (c : ChannelState) (place : ℕ) (u : AttachedState) → Arm → ChannelState
 armed c place u arm = record c { drives = slice_set c.drives place (record u { arm = arm }) }
 
 -- The arm of the drive at a place does something else from now on, and so does that of the machine's device.
-module _ (c : ChannelState) (m : Machine) (place : ℕ) (u : AttachedState) (arm : Arm) (distinct : AreDistinct (devices c.drives)) (there : slice_get c.drives place ≡ Some u) where
+module _ (c : ChannelState) (m : Machine) (place : ℕ) (u : AttachedState) (arm : Arm) (distinct : AreDistinct (devices c.drives))
+    (there : slice_get c.drives place ≡ Some u) where
   abbrev drives_then : List AttachedState
   drives_then = slice_set c.drives place (record u { arm = arm })
 
@@ -179,9 +214,12 @@ module _ (c : ChannelState) (m : Machine) (place : ℕ) (u : AttachedState) (arm
   now = devices_set c.drives place u (record u { arm = arm }) (set_arm arm) distinct there refl
 
   pub shows_armed : (sub : Subchannel) → Shows c m sub → Shows (armed c place u arm) (with_arm arm u.device m) sub
-  shows_armed Idle h = rests_changed c m drives_then change now machine.Idle h.0 (all_set c.drives place (record u { arm = arm }) h.1 (rests_at c.drives place u h.1 there))
-  shows_armed (Pending device csw) h = rests_changed c m drives_then change now (machine.Pending device csw) h.0 (all_set c.drives place (record u { arm = arm }) h.1 (rests_at c.drives place u h.1 there))
-  shows_armed (Working p r) w = works_changed c m drives_then change now c.subchannel p p r w (still_armed c.drives place p u w.attached arm there w.is_there w.others)
+  shows_armed Idle h = rests_changed c m drives_then change now machine.Idle h.0 (all_set c.drives place (record u { arm = arm }) h.1
+      (rests_at c.drives place u h.1 there))
+  shows_armed (Pending device csw) h = rests_changed c m drives_then change now (machine.Pending device csw) h.0
+      (all_set c.drives place (record u { arm = arm }) h.1 (rests_at c.drives place u h.1 there))
+  shows_armed (Working p r) w = works_changed c m drives_then change now c.subchannel p p r w
+      (still_armed c.drives place p u w.attached arm there w.is_there w.others)
       (changes_apart u.device w.attached.device (set_arm arm) (set_drive w.drive) (λ d. refl) (λ d. refl) (λ e d. refl) (devices c.drives))
 
 -- A channel with one drive more.
@@ -195,7 +233,8 @@ new_rests device image = record { idle = refl; unwritten = refl }
 -- Lists of devices.
 
 -- another device is found as it was
-found_other : (n : ℕ) (ds : List Device) (d : Device) → (n == d.device) ≡ false → find (λ o. o.device == n) (ds ++ d ∷ []) ≡ find (λ o. o.device == n) ds
+found_other : (n : ℕ) (ds : List Device) (d : Device) → (n == d.device) ≡ false → find (λ o. o.device == n) (ds ++ d ∷ [])
+    ≡ find (λ o. o.device == n) ds
 found_other n ds d e = find-append (λ o. o.device == n) ds (d ∷ []) ∙ go (find (λ o. o.device == n) ds)
   where
     go : (x : Option Device) → option_or x (cond (d.device == n) (Some d) None) ≡ x
@@ -206,23 +245,31 @@ distinct_push : (ds : List Device) (d : Device) → AreDistinct ds → find (λ 
 distinct_push [] d a h = (refl, tt)
 distinct_push (x ∷ ds) d a h = go (x.device == d.device) refl h (distinct_push ds d a.1)
   where
-    go : (b : Bool) → (x.device == d.device) ≡ b → cond b (Some x) (find (λ o. o.device == d.device) ds) ≡ None → (find (λ o. o.device == d.device) ds ≡ None → AreDistinct (ds ++ d ∷ [])) → AreDistinct (x ∷ ds ++ d ∷ [])
+    go : (b : Bool) → (x.device == d.device) ≡ b → cond b (Some x) (find (λ o. o.device == d.device) ds) ≡ None
+        → (find (λ o. o.device == d.device) ds ≡ None → AreDistinct (ds ++ d ∷ [])) → AreDistinct (x ∷ ds ++ d ∷ [])
     go true e h k = none_is_some (sym h)
     go false e h k = (found_other x.device ds d e ∙ a.0, k h)
 
 -- an address that no device has is not that of a program that runs
-not_running : (device : ℕ) (m : Machine) (x : machine.Subchannel) → find (λ o. o.device == device) m.devices ≡ None → IsSoundIn m x → runs_at device x ≡ false
+not_running : (device : ℕ) (m : Machine) (x : machine.Subchannel) → find (λ o. o.device == device) m.devices ≡ None → IsSoundIn m x
+    → runs_at device x ≡ false
 not_running device m machine.Idle none s = refl
 not_running device m (machine.Pending d csw) none s = refl
-not_running device m (machine.Working d script) none s = different d device (λ e. subst (λ x. IsRunning (option_map (λ (d : Device). run script (start_of m d.drive)) x)) (ap (λ n. find (λ o. o.device == n) m.devices) e ∙ none) s.0)
+not_running device m (machine.Working d script) none s =
+    different d device (λ e. subst (λ x. IsRunning (option_map (λ (d : Device). run script (start_of m d.drive)) x))
+    (ap (λ n. find (λ o. o.device == n) m.devices) e ∙ none) s.0)
 
-sound_push : (device : ℕ) (image : ImageState) (m : Machine) → IsSound m → find (λ o. o.device == device) m.devices ≡ None → IsSound (attached device image m)
+sound_push : (device : ℕ) (image : ImageState) (m : Machine) → IsSound m → find (λ o. o.device == device) m.devices ≡ None
+    → IsSound (attached device image m)
 sound_push device image m s none =
-    sound_with m device (m.devices ++ new_device device image ∷ []) (distinct_push m.devices (new_device device image) s.0 none) (λ n e. found_other n m.devices (new_device device image) e)
+    sound_with m device (m.devices ++ new_device device image ∷ []) (distinct_push m.devices (new_device device image) s.0 none)
+    (λ n e. found_other n m.devices (new_device device image) e)
     (not_running device m m.subchannel none s.1) (λ p. owes) s
   where
-    owes : device_owes (find (λ o. o.device == device) (m.devices ++ new_device device image ∷ [])) ≡ device_owes (find (λ o. o.device == device) m.devices)
-    owes = ap device_owes (find-append (λ o. o.device == device) m.devices (new_device device image ∷ []) ∙ ap (λ x. option_or x (find (λ o. o.device == device) (new_device device image ∷ []))) none)
+    owes : device_owes (find (λ o. o.device == device) (m.devices ++ new_device device image ∷ [])) ≡ device_owes (find (λ o. o.device ==
+        device) m.devices)
+    owes = ap device_owes (find-append (λ o. o.device == device) m.devices (new_device device image ∷ [])
+        ∙ ap (λ x. option_or x (find (λ o. o.device == device) (new_device device image ∷ []))) none)
         ∙ (ap (λ b. device_owes (cond b (Some (new_device device image)) None)) (same_number device) ∙ sym (ap device_owes none))
 
 -- The channel.
@@ -232,7 +279,8 @@ get_push [] place u v h = none_is_some h
 get_push (w ∷ us) zero u v h = h
 get_push (w ∷ us) (suc place) u v h = get_push us place u v h
 
-module _ (device : ℕ) (image : ImageState) (c : ChannelState) (m : Machine) (free : find (λ o. o.device == device) (devices c.drives) ≡ None) where
+module _ (device : ℕ) (image : ImageState) (c : ChannelState) (m : Machine) (free : find (λ o. o.device == device) (devices c.drives)
+    ≡ None) where
   abbrev drives_more : List AttachedState
   drives_more = c.drives ++ new_attached device image ∷ []
 
@@ -243,8 +291,10 @@ module _ (device : ℕ) (image : ImageState) (c : ChannelState) (m : Machine) (f
   now_more = map-append device_of c.drives (new_attached device image ∷ [])
 
   shows_push : (s : Subchannel) → Shows c m s → Shows (record c { drives = drives_more }) (attached device image m) s
-  shows_push Idle h = rests_changed c m drives_more with_this now_more machine.Idle h.0 (all_push c.drives (new_attached device image) h.1 (new_rests device image))
-  shows_push (Pending d csw) h = rests_changed c m drives_more with_this now_more (machine.Pending d csw) h.0 (all_push c.drives (new_attached device image) h.1 (new_rests device image))
+  shows_push Idle h = rests_changed c m drives_more with_this now_more machine.Idle h.0 (all_push c.drives (new_attached device image) h.1
+      (new_rests device image))
+  shows_push (Pending d csw) h = rests_changed c m drives_more with_this now_more (machine.Pending d csw) h.0
+      (all_push c.drives (new_attached device image) h.1 (new_rests device image))
   shows_push (Working place r) w = works_changed c m drives_more with_this now_more c.subchannel place place r w (record {
     attached = w.attached;
     is_there = get_push c.drives place w.attached (new_attached device image) w.is_there;
@@ -252,19 +302,23 @@ module _ (device : ℕ) (image : ImageState) (c : ChannelState) (m : Machine) (f
     same_drive = refl;
     others = others_push c.drives place w.attached (new_attached device image) w.is_there w.others (new_rests device image);
   }) (
-      ap (λ d. map (changes w.attached.device (set_drive w.drive)) (devices c.drives) ++ d ∷ []) (sym (ap (λ b. cond b (set_drive w.drive (new_device device image)) (new_device device image)) other))
+      ap (λ d. map (changes w.attached.device (set_drive w.drive)) (devices c.drives) ++ d ∷ [])
+      (sym (ap (λ b. cond b (set_drive w.drive (new_device device image)) (new_device device image)) other))
       ∙ sym (map-append (changes w.attached.device (set_drive w.drive)) (devices c.drives) (new_device device image ∷ []))
       )
     where
       other : (device == w.attached.device) ≡ false
-      other = different device w.attached.device (λ e. false_is_true (sym (ap is_some free) ∙ (ap (λ n. is_some (find (λ o. o.device == n) (devices c.drives))) e ∙ is_found c.drives place w.attached w.is_there)))
+      other = different device w.attached.device (λ e. false_is_true (sym (ap is_some free)
+          ∙ (ap (λ n. is_some (find (λ o. o.device == n) (devices c.drives))) e ∙ is_found c.drives place w.attached w.is_there)))
 
 -- The channel's parts, after a drive was added.
 pub stands_push : (device : ℕ) (image : ImageState) (c : ChannelState) (m : Machine) (drives : List AttachedState) → NotRefused device c
-    → drives ≡ c.drives ++ new_attached device image ∷ [] → StandsFor c m → StandsFor (record c { drives = drives }) (attached device image m)
+    → drives ≡ c.drives ++ new_attached device image ∷ [] → StandsFor c m
+    → StandsFor (record c { drives = drives }) (attached device image m)
 stands_push device image c m drives n e s = subst (λ us. StandsFor (record c { drives = us }) (attached device image m)) (sym e) (record {
   number = s.number;
-  few = subst (λ k. k ≤ 8) (sym (length_push c.drives (new_attached device image))) (below (length c.drives) s.few (eqb-false (length c.drives) 8 n.1));
+  few = subst (λ k. k ≤ 8) (sym (length_push c.drives (new_attached device image)))
+      (below (length c.drives) s.few (eqb-false (length c.drives) 8 n.1));
   shows = shows_push device image c m free c.subchannel s.shows;
   sound = sound_push device image m s.sound (device_seen c m (seen_by c m c.subchannel s.shows) device None free);
 })
@@ -280,7 +334,8 @@ stands_push device image c m drives n e s = subst (λ us. StandsFor (record c { 
     below n l h = grind (arith, l, h)
 
 -- what the code asks of the place and the number
-pub may_attach : (device : ℕ) (c : ChannelState) (place : Option ℕ) (n : ℕ) → place ≡ position (is_at device) c.drives → is_some place ≡ false → n ≡ length c.drives → (n ≡ 8 → ⊥) → NotRefused device c
+pub may_attach : (device : ℕ) (c : ChannelState) (place : Option ℕ) (n : ℕ) → place ≡ position (is_at device) c.drives
+    → is_some place ≡ false → n ≡ length c.drives → (n ≡ 8 → ⊥) → NotRefused device c
 may_attach device c place n e h l k = (sym (ap is_some e) ∙ h, different (length c.drives) 8 (λ q. k (l ∙ q)))
 
 pub has_place : (n u : ℕ) → n ≡ u → (n ≡ 8 → ⊥) → u ≤ 8 → u < 8

@@ -23,7 +23,8 @@ get_front zero us = refl
 get_front (suc i) [] = refl
 get_front (suc i) (u ∷ us) = get_front i us
 
-set_front : (i : ℕ) (us : List AttachedState) (u : AttachedState) → slice_get us i ≡ Some u → slice_set (front i us) i (at_rest_attached u) ≡ front (suc i) us
+set_front : (i : ℕ) (us : List AttachedState) (u : AttachedState) → slice_get us i ≡ Some u → slice_set (front i us) i (at_rest_attached u)
+    ≡ front (suc i) us
 set_front zero [] u h = none_is_some h
 set_front zero (w ∷ us) u h = ap (λ x. at_rest_attached x ∷ us) (sym (inside w u h))
 set_front (suc i) [] u h = none_is_some h
@@ -44,7 +45,8 @@ rests_next us now i e l r = let t = there us i l in record {
 
 pub one_more : (us now next : List AttachedState) (i : ℕ) → now ≡ front i us → RestsAt i now next → next ≡ front (i + 1) us
 one_more us now next i e r =
-    r.becomes ∙ (ap (λ us. slice_set us i (at_rest_attached r.attached)) e ∙ (set_front i us r.attached (sym (get_front i us) ∙ (ap (λ us. slice_get us i) (sym e) ∙ r.was)) ∙ ap (λ n. front n us) (more i)))
+    r.becomes ∙ (ap (λ us. slice_set us i (at_rest_attached r.attached)) e
+    ∙ (set_front i us r.attached (sym (get_front i us) ∙ (ap (λ us. slice_get us i) (sym e) ∙ r.was)) ∙ ap (λ n. front n us) (more i)))
   where
     more : (i : ℕ) → suc i ≡ i + 1
     more i = omega arith

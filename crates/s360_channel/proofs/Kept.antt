@@ -1,5 +1,6 @@
 -- What the processor does to storage, at a channel and at the machine that it stands for; and a channel that finds another storage.
-use Rattle.std.proofs.Common.{◌≡◌, ℕ, ◌+◌, refl, sym, ap, subst, ◌∙◌, true, false, Bool, cond, ◌||◌, ◌==◌, List, [], ◌∷◌, ◌++◌, length, None, suc, ◌*◌, ◌/◌, ◌%◌, ◌≤◌, ◌<◌, arith, ◌&&◌}
+use Rattle.std.proofs.Common.{◌≡◌, ℕ, ◌+◌, refl, sym, ap, subst, ◌∙◌, true, false, Bool, cond, ◌||◌, ◌==◌, List, [], ◌∷◌, ◌++◌, length}
+use Rattle.std.proofs.Common.{None, suc, ◌*◌, ◌/◌, ◌%◌, ◌≤◌, ◌<◌, arith, ◌&&◌}
 use Rattle.std.proofs.lemmas.Bool.{eqb-true, lt-ltb}
 use Rattle.std.proofs.lemmas.List.{length-set}
 use Rattle.std.specs.Prelude.{nat_lt, nat_le, slice_set, ◌||◌}
@@ -11,7 +12,8 @@ use Rattle.s360_runs.specs.Scripts.{Outside}
 use Rattle.s360_runs.specs.Writes.{OutcomeKeepsSize}
 use Rattle.s360_program.proofs.Ties.{after_change, seen}
 use Rattle.s360_laws.specs.Events.{Event, Store, SetKey, Show, Shown, WasKept, Answer}
-use Rattle.s360_laws.specs.Machine.{Machine, react, keep, change, part_of, storage_of, start_of, with_device, with_subchannel, after_all, plain}
+use Rattle.s360_laws.specs.Machine.{Machine, react, keep, change, part_of, storage_of, start_of, with_device, with_subchannel, after_all}
+use Rattle.s360_laws.specs.Machine.{plain}
 use Rattle.s360_laws.specs.Machine as machine
 use Rattle.s360_laws.proofs.LedgerLists.{stays}
 use Rattle.s360_channel.specs.Calls.{DoesQuietly}
@@ -30,7 +32,8 @@ size_in c m Idle h = ap (λ (m : Machine). length m.storage.bytes) (sym h.0)
 size_in c m (Pending device csw) h = ap (λ (m : Machine). length m.storage.bytes) (sym h.0)
 size_in c m (Working place r) w =
     ap (λ s. length s.bytes) (sym (storage_seen r.key r.stage r.place c.storage w.attached.drive.state w.attached.drive.work))
-    ∙ subst (OutcomeKeepsSize m.storage) (seen (start_of m w.drive) w.script r c.storage w.attached.drive w.runs) (keeps_size (start_of m w.drive) w.script)
+    ∙ subst (OutcomeKeepsSize m.storage) (seen (start_of m w.drive) w.script r c.storage w.attached.drive w.runs)
+    (keeps_size (start_of m w.drive) w.script)
 
 within_size : (change : Change) (s t : Storage) → length s.bytes ≡ length t.bytes → is_within change s ≡ is_within change t
 within_size (Bytes at bytes) s t e = ap (λ n. (length bytes == 0) || nat_le (at + length bytes) n) e
@@ -38,19 +41,21 @@ within_size (KeyOf at key) s t e = ap (nat_lt at) e
 
 -- A change of storage.
 
-shows_changed : (c : ChannelState) (m : Machine) (x : Change) (s : Subchannel) → Shows c m s → Shows (with_storage c (changed x c.storage)) (change x m m.subchannel) s
+shows_changed : (c : ChannelState) (m : Machine) (x : Change) (s : Subchannel) → Shows c m s → Shows (with_storage c (changed x c.storage))
+    (change x m m.subchannel) s
 shows_changed c m x Idle h = (ap (λ (m : Machine). change x m m.subchannel) h.0, h.1)
 shows_changed c m x (Pending device csw) h = (ap (λ (m : Machine). change x m m.subchannel) h.0, h.1)
-shows_changed c m x (Working place r) w = subst (λ s. WorksFor (with_storage c (changed x c.storage)) place r (change x m s)) (sym (subchannel_of c place r m w)) (record {
-  attached = w.attached;
-  is_there = w.is_there;
-  storage = w.storage;
-  drive = w.drive;
-  script = w.script ++ Outside x ∷ [];
-  machine = ap (λ m. with_subchannel (machine.Working w.attached.device (w.script ++ Outside x ∷ [])) m) w.machine;
-  runs = after_change goes_by (start_of m w.drive) w.script r c.storage w.attached.drive x w.runs;
-  others = w.others;
-})
+shows_changed c m x (Working place r) w = subst (λ s. WorksFor (with_storage c (changed x c.storage)) place r (change x m s))
+    (sym (subchannel_of c place r m w)) (record {
+      attached = w.attached;
+      is_there = w.is_there;
+      storage = w.storage;
+      drive = w.drive;
+      script = w.script ++ Outside x ∷ [];
+      machine = ap (λ m. with_subchannel (machine.Working w.attached.device (w.script ++ Outside x ∷ [])) m) w.machine;
+      runs = after_change goes_by (start_of m w.drive) w.script r c.storage w.attached.drive x w.runs;
+      others = w.others;
+    })
 
 pub keeps : (e : Event) (x : Change) → ((m : Machine) → react e None m ≡ keep x m) → (c : ChannelState) (m : Machine) → StandsFor c m
     → DoesQuietly e m (WasKept (is_within x c.storage)) (with_storage c (cond (is_within x c.storage) (changed x c.storage) c.storage))
@@ -65,11 +70,16 @@ keeps e x is_keep c m h = go (is_within x c.storage) (within_size x m.storage c.
       stands = record {
         number = h.number;
         few = h.few;
-        shows = subst (λ (r : Answer × Machine). Shows (with_storage c (changed x c.storage)) r.1 c.subchannel) (sym (reacts true k)) (shows_changed c m x c.subchannel h.shows);
+        shows = subst (λ (r : Answer × Machine). Shows (with_storage c (changed x c.storage)) r.1 c.subchannel) (sym (reacts true k))
+            (shows_changed c m x c.subchannel h.shows);
         sound = stays m e None h.sound;
       };
     }
-    go false k = record { answers = ap (λ (r : Answer × Machine). r.0) (sym (reacts false k)); stands = subst (λ (r : Answer × Machine). StandsFor c r.1) (sym (reacts false k)) h }
+    go false k = record {
+      answers = ap (λ (r : Answer × Machine). r.0) (sym (reacts false k));
+      stands =
+          subst (λ (r : Answer × Machine). StandsFor c r.1) (sym (reacts false k)) h;
+    }
 
 -- A look at storage.
 
@@ -81,7 +91,8 @@ storage_in c m h = go c.subchannel h.shows
     go (Pending device csw) k = ap (λ (m : Machine). storage_of m m.subchannel) k.0
     go (Working place r) w = storage_there c place r m w h.sound
 
-pub shows_part : (at len : ℕ) (c : ChannelState) (m : Machine) → StandsFor c m → DoesQuietly (Show at len) m (Shown (part_of c.storage at len)) c
+pub shows_part : (at len : ℕ) (c : ChannelState) (m : Machine) → StandsFor c m
+    → DoesQuietly (Show at len) m (Shown (part_of c.storage at len)) c
 shows_part at len c m h = record { answers = ap (λ s. Shown (part_of s at len)) (sym (storage_in c m h)); stands = h }
 
 -- What a call that may refuse the change leaves and answers.
@@ -91,7 +102,8 @@ module _ (e : Event) (x : Change) (is_keep : (m : Machine) → react e None m �
   pub does_kept : (m : Machine) → StandsFor c m → DoesQuietly e m (WasKept ok) (with_storage c new)
   does_kept m h =
       subst (λ s. DoesQuietly e m (WasKept ok) (with_storage c s)) (sym (becomes ∙ ap (λ b. cond b (changed x c.storage) c.storage) within))
-      (subst (λ b. DoesQuietly e m (WasKept b) (with_storage c (cond (is_within x c.storage) (changed x c.storage) c.storage))) (sym (told ∙ within)) (keeps e x is_keep c m h))
+      (subst (λ b. DoesQuietly e m (WasKept b) (with_storage c (cond (is_within x c.storage) (changed x c.storage) c.storage)))
+      (sym (told ∙ within)) (keeps e x is_keep c m h))
 
   pub channel_kept : IsChannel c → IsChannel (with_storage c new)
   channel_kept h = record { machine = (react e None h.machine).1; stands = (does_kept h.machine h.stands).stands }
@@ -126,7 +138,8 @@ step b = omega arith
 
 set_behind : (x : ℕ) (old : List ℕ) (block : ℕ) (ks : List ℕ) → set_keys (x ∷ old) (suc block) ks ≡ x ∷ set_keys old block ks
 set_behind x old block [] = refl
-set_behind x old block (k ∷ ks) = ap (λ n. set_keys (x ∷ slice_set old block k) n ks) (step block) ∙ set_behind x (slice_set old block k) (block + 1) ks
+set_behind x old block (k ∷ ks) = ap (λ n. set_keys (x ∷ slice_set old block k) n ks) (step block)
+    ∙ set_behind x (slice_set old block k) (block + 1) ks
 
 all_set : (old ks : List ℕ) → length ks ≡ length old → set_keys old 0 ks ≡ ks
 all_set [] [] e = refl
@@ -137,16 +150,21 @@ all_set (x ∷ xs) (k ∷ ks) e = set_behind k xs 0 ks ∙ ap (λ r. k ∷ r) (a
 block_of : (b : ℕ) → 2048 * b / 2048 ≡ b
 block_of b = omega arith
 
-keys_found : (ks : List ℕ) (block : ℕ) (c : ChannelState) (m : Machine) → block + length ks ≤ length c.storage.keys → length c.storage.bytes ≡ 2048 * length c.storage.keys
-    → StandsFor c m → StandsFor (with_storage c (record c.storage { keys = set_keys c.storage.keys block ks })) (after_all (plain (keys_set block ks)) m)
+keys_found : (ks : List ℕ) (block : ℕ) (c : ChannelState) (m : Machine) → block + length ks ≤ length c.storage.keys
+    → length c.storage.bytes ≡ 2048 * length c.storage.keys
+    → StandsFor c m → StandsFor (with_storage c (record c.storage { keys = set_keys c.storage.keys block ks }))
+    (after_all (plain (keys_set block ks)) m)
 keys_found [] block c m l e s = s
 keys_found (k ∷ ks) block c m l e s =
     let one : Storage = record c.storage { keys = slice_set c.storage.keys block k } in
     let d = keeps (SetKey (2048 * block) k) (KeyOf (2048 * block) k) (λ m. refl) c m s in
     let there : StandsFor (with_storage c one) (react (SetKey (2048 * block) k) None m).1 =
-    subst (λ n. StandsFor (with_storage c (record c.storage { keys = slice_set c.storage.keys n k })) (react (SetKey (2048 * block) k) None m).1) (block_of block)
-    (subst (λ b. StandsFor (with_storage c (cond b (changed (KeyOf (2048 * block) k) c.storage) c.storage)) (react (SetKey (2048 * block) k) None m).1)
-    (lt-ltb (2048 * block) (length c.storage.bytes) (within block (length ks) (length c.storage.keys) (length c.storage.bytes) l e)) d.stands) in
+    subst (λ n. StandsFor (with_storage c (record c.storage { keys = slice_set c.storage.keys n k }))
+    (react (SetKey (2048 * block) k) None m).1) (block_of block)
+    (subst (λ b. StandsFor (with_storage c (cond b (changed (KeyOf (2048 * block) k) c.storage) c.storage))
+    (react (SetKey (2048 * block) k) None m).1)
+    (lt-ltb (2048 * block) (length c.storage.bytes) (within block (length ks) (length c.storage.keys) (length c.storage.bytes) l e))
+    d.stands) in
     keys_found ks (block + 1) (with_storage c one) (react (SetKey (2048 * block) k) None m).1
     (subst (λ n. block + 1 + length ks ≤ n) (sym (length-set c.storage.keys block k)) (more block (length ks) (length c.storage.keys) l))
     (e ∙ ap (λ n. 2048 * n) (sym (length-set c.storage.keys block k))) there
@@ -162,10 +180,13 @@ finds_another c m s large h =
     let d = keeps (Store 0 s.bytes) (Bytes 0 s.bytes) (λ m. refl) c m h in
     let one : Storage = record c.storage { bytes = s.bytes } in
     let there : StandsFor (with_storage c one) (react (Store 0 s.bytes) None m).1 =
-    subst (λ bytes. StandsFor (with_storage c (record c.storage { bytes = bytes })) (react (Store 0 s.bytes) None m).1) (all_overwritten c.storage.bytes s.bytes large.bytes)
-    (subst (λ b. StandsFor (with_storage c (cond b (changed (Bytes 0 s.bytes) c.storage) c.storage)) (react (Store 0 s.bytes) None m).1) (within_all (length s.bytes) (length c.storage.bytes) large.bytes) d.stands) in
+    subst (λ bytes. StandsFor (with_storage c (record c.storage { bytes = bytes })) (react (Store 0 s.bytes) None m).1)
+    (all_overwritten c.storage.bytes s.bytes large.bytes)
+    (subst (λ b. StandsFor (with_storage c (cond b (changed (Bytes 0 s.bytes) c.storage) c.storage)) (react (Store 0 s.bytes) None m).1)
+    (within_all (length s.bytes) (length c.storage.bytes) large.bytes) d.stands) in
     subst (λ keys. StandsFor (with_storage c (record one { keys = keys })) (finding s m)) (all_set c.storage.keys s.keys large.keys)
-    (keys_found s.keys 0 (with_storage c one) (react (Store 0 s.bytes) None m).1 (within_keys (length s.keys) (length c.storage.keys) large.keys) (large.blocks ∙ ap (λ n. 2048 * n) large.keys) there)
+    (keys_found s.keys 0 (with_storage c one) (react (Store 0 s.bytes) None m).1
+    (within_keys (length s.keys) (length c.storage.keys) large.keys) (large.blocks ∙ ap (λ n. 2048 * n) large.keys) there)
   where
     within_keys : (a b : ℕ) → a ≡ b → 0 + a ≤ b
     within_keys a b e = omega (arith, e)
@@ -184,7 +205,8 @@ blocks_of n h = go (nat_le 4096 n) (nat_le n 16777216) (n % 2048 == 0) refl h
     go false b c e h = absurd (cc)
 
 -- two storages whose sizes are alike; by all that the code has read of both, a premise each
-pub as_large : (s t : Storage) (a b : ℕ) → a ≡ length s.bytes → is_size a ≡ true → length s.keys ≡ a / 2048 → b ≡ length t.bytes → length t.keys ≡ b / 2048 → a ≡ b → IsAsLarge s t
+pub as_large : (s t : Storage) (a b : ℕ) → a ≡ length s.bytes → is_size a ≡ true → length s.keys ≡ a / 2048 → b ≡ length t.bytes
+    → length t.keys ≡ b / 2048 → a ≡ b → IsAsLarge s t
 as_large s t a b e z k f l h = record {
   bytes = sym e ∙ (h ∙ f);
   keys = k ∙ (ap (λ n. n / 2048) h ∙ sym l);

@@ -1,6 +1,8 @@
 -- Lists of events at a channel, one event more at a time.
-use Rattle.std.proofs.Common.{◌≡◌, ◌<◌, ◌≤◌, take, drop, length, length-drop, get_or, ℕ, ◌+◌, List, [], ◌∷◌, ◌++◌, map, Option, Some, None, refl, sym, ap, ◌∙◌, subst, arith}
-use Rattle.s360_laws.specs.Events.{Event, Answer, WithCode, StatusStored, CswStored, Stepped, HasArrived, Interrupted, WasReset, WasKept, Shown, FaultAfter, Input}
+use Rattle.std.proofs.Common.{◌≡◌, ◌<◌, ◌≤◌, take, drop, length, length-drop, get_or, ℕ, ◌+◌, List, [], ◌∷◌, ◌++◌, map, Option, Some, None}
+use Rattle.std.proofs.Common.{refl, sym, ap, ◌∙◌, subst, arith}
+use Rattle.s360_laws.specs.Events.{Event, Answer, WithCode, StatusStored, CswStored, Stepped, HasArrived, Interrupted, WasReset, WasKept}
+use Rattle.s360_laws.specs.Events.{Shown, FaultAfter, Input}
 use Rattle.s360_laws.specs.Machine.{Machine, react, answers, after_all, plain}
 use Rattle.s360_laws.proofs.Headlines.{headline}
 use Rattle.std.proofs.lemmas.List.{append-nil, map-append, map_more, take_all}
@@ -59,7 +61,8 @@ faults_one_more [] e (Some x) = refl
 faults_one_more ((d, None) ∷ es) e x = faults_one_more es e x
 faults_one_more ((d, Some y) ∷ es) e x = let h = faults_one_more es e x in omega (arith, h)
 
-answers_one_more : (es : List Input) (i : Input) (m : Machine) → answers (es ++ i ∷ []) m ≡ answers es m ++ (react i.0 i.1 (after_all es m)).0 ∷ []
+answers_one_more : (es : List Input) (i : Input) (m : Machine) → answers (es ++ i ∷ []) m ≡ answers es m
+    ++ (react i.0 i.1 (after_all es m)).0 ∷ []
 answers_one_more [] i m = refl
 answers_one_more (e ∷ es) i m = ap (λ l. (react e.0 e.1 m).0 ∷ l) (answers_one_more es i (react e.0 e.1 m).1)
 
@@ -67,29 +70,36 @@ after_one_more : (es : List Input) (i : Input) (m : Machine) → after_all (es +
 after_one_more [] i m = refl
 after_one_more (e ∷ es) i m = after_one_more es i (react e.0 e.1 m).1
 
-reported_one_more : (es : List Input) (i : Input) (m : Machine) → AllReported es m → Reports i.0 (after_all es m) i.1 → AllReported (es ++ i ∷ []) m
+reported_one_more : (es : List Input) (i : Input) (m : Machine) → AllReported es m → Reports i.0 (after_all es m) i.1
+    → AllReported (es ++ i ∷ []) m
 reported_one_more [] i m h r = (r, tt)
 reported_one_more (e ∷ es) i m h r = (h.0, reported_one_more es i (react e.0 e.1 m).1 h.1 r)
 
 -- it names the channel before, between and behind, since it joins what was met and one event more
 met_one_more : (m : Machine) (es : List Input) (given : List Answer) (old mid new : ChannelState) (i : Input) (a : Answer)
-    → AllMet m es given old mid → IsMet i.1 a mid new → CallsAtMost (most_calls i.0 a) mid new → StandsFor new (react i.0 i.1 (after_all es m)).1
+    → AllMet m es given old mid → IsMet i.1 a mid new → CallsAtMost (most_calls i.0 a) mid new
+    → StandsFor new (react i.0 i.1 (after_all es m)).1
     → AllMet m (es ++ i ∷ []) (given ++ a ∷ []) old new
-met_one_more m [] [] old mid new i a h k l s = (new, subst (λ old. IsMet i.1 a old new) h k, subst (λ old. CallsAtMost (most_calls i.0 a) old new) h l, s, refl)
+met_one_more m [] [] old mid new i a h k l s =
+    (new, subst (λ old. IsMet i.1 a old new) h k, subst (λ old. CallsAtMost (most_calls i.0 a) old new) h l, s, refl)
 met_one_more m [] (b ∷ given) old mid new i a h k l s = absurd h
 met_one_more m (e ∷ es) [] old mid new i a h k l s = absurd h
-met_one_more m (e ∷ es) (b ∷ given) old mid new i a h k l s = (h.0, h.1, h.2, h.3, met_one_more (react e.0 e.1 m).1 es given h.0 mid new i a h.4 k l s)
+met_one_more m (e ∷ es) (b ∷ given) old mid new i a h k l s =
+    (h.0, h.1, h.2, h.3, met_one_more (react e.0 e.1 m).1 es given h.0 mid new i a h.4 k l s)
 
 -- what stays at each call stays along the list
-along : {A : Type 0} (f : AttachedState → A) → ((most : ℕ) (old new : ChannelState) → CallsAtMost most old new → map f new.drives ≡ map f old.drives)
-    → (m : Machine) (es : List Input) (given : List Answer) (old new : ChannelState) → AllMet m es given old new → map f new.drives ≡ map f old.drives
+along : {A : Type 0} (f : AttachedState → A) → ((most : ℕ) (old new : ChannelState) → CallsAtMost most old new
+    → map f new.drives ≡ map f old.drives)
+    → (m : Machine) (es : List Input) (given : List Answer) (old new : ChannelState) → AllMet m es given old new
+    → map f new.drives ≡ map f old.drives
 along f kept m [] [] old new h = ap (λ (c : ChannelState). map f c.drives) h
 along f kept m [] (b ∷ given) old new h = absurd h
 along f kept m (e ∷ es) [] old new h = absurd h
 along f kept m (e ∷ es) (b ∷ given) old new h = along f kept (react e.0 e.1 m).1 es given h.0 new h.4 ∙ kept _ _ _ h.2
 
 -- it names the channel before, between and behind, since it joins a list of events and one more
-does_one_more : (m : Machine) (events : List Event) (given : List Answer) (old mid new : ChannelState) (d : Drove m events given old mid) (e : Event) (a : Answer)
+does_one_more : (m : Machine) (events : List Event) (given : List Answer) (old mid new : ChannelState) (d : Drove m events given old mid)
+    (e : Event) (a : Answer)
     → Does e (after_all d.inputs m) a mid new → CallsAtMost (most_calls e a) mid new → Drove m (events ++ e ∷ []) (given ++ a ∷ []) old new
 does_one_more m events given old mid new d e a does calls =
     let i : Input = (e, does.fault) in
@@ -98,27 +108,31 @@ does_one_more m events given old mid new d e a does calls =
       are_these = map-append (λ (i : Input). i.0) d.inputs (i ∷ []) ∙ ap (λ l. l ++ e ∷ []) d.are_these;
       faults = omega (arith, d.faults, met_counts does.fault a mid new does.met, faults_one_more d.inputs e does.fault);
       met = met_one_more m d.inputs given old mid new i a d.met does.met calls does.stands;
-      same_answers = ap (λ l. l ++ a ∷ []) d.same_answers ∙ ap (λ b. answers d.inputs m ++ b ∷ []) does.answers ∙ sym (answers_one_more d.inputs i m);
+      same_answers = ap (λ l. l ++ a ∷ []) d.same_answers ∙ ap (λ b. answers d.inputs m ++ b ∷ []) does.answers
+          ∙ sym (answers_one_more d.inputs i m);
       stands = subst (StandsFor new) (sym (after_one_more d.inputs i m)) does.stands;
       reported = reported_one_more d.inputs i m d.reported does.reports;
     }
 
 -- one event more; it names the channel before, between and behind, since it joins a list of events and that one
 pub drove_one_more : (m : Machine) (events : List Event) (given : List Answer) (old mid new : ChannelState) (e : Event) (a : Answer)
-    → ((now : Machine) → StandsFor mid now → Does e now a mid new) → CallsAtMost (most_calls e a) mid new → Drove m events given old mid → Drove m (events ++ e ∷ []) (given ++ a ∷ []) old new
+    → ((now : Machine) → StandsFor mid now → Does e now a mid new) → CallsAtMost (most_calls e a) mid new → Drove m events given old mid
+    → Drove m (events ++ e ∷ []) (given ++ a ∷ []) old new
 drove_one_more m events given old mid new e a does calls d =
     does_one_more m events given old mid new d e a (does (after_all d.inputs m) d.stands) calls
 
 -- one event more of a list of a deck's events; it names the channel before, between and behind, since it joins the
 -- events up to there and that one
-pub goes_on : (m : Machine) (events : List deck_event.Event) (i : ℕ) (d : deck_event.Event) (given : List deck_answer.Answer) (old mid new : ChannelState) (a : deck_answer.Answer)
+pub goes_on : (m : Machine) (events : List deck_event.Event) (i : ℕ) (d : deck_event.Event) (given : List deck_answer.Answer)
+    (old mid new : ChannelState) (a : deck_answer.Answer)
     → i < length events → ((now : Machine) → StandsFor mid now → Does (event_seen (get_or events i d)) now (answer_seen a) mid new)
     → CallsAtMost (most_calls (event_seen (get_or events i d)) (answer_seen a)) mid new
     → Drove m (map event_seen (take i events)) (map answer_seen given) old mid
     → Drove m (map event_seen (take (i + 1) events)) (map answer_seen (given ++ a ∷ [])) old new
 goes_on m events i d given old mid new a within does calls drove =
     subst (λ es. Drove m es (map answer_seen (given ++ a ∷ [])) old new) (sym (map_more event_seen events i d within))
-    (subst (λ all. Drove m (map event_seen (take i events) ++ event_seen (get_or events i d) ∷ []) all old new) (sym (map-append answer_seen given (a ∷ [])))
+    (subst (λ all. Drove m (map event_seen (take i events) ++ event_seen (get_or events i d) ∷ []) all old new)
+    (sym (map-append answer_seen given (a ∷ [])))
     (drove_one_more m _ _ old mid new _ _ does calls drove))
 
 -- where no fault is met, the events come without faults
@@ -127,12 +141,14 @@ none_met [] h = refl
 none_met ((e, None) ∷ es) h = ap (λ l. (e, None) ∷ l) (none_met es h)
 none_met ((e, Some x) ∷ es) h = absurd (omega (arith, h))
 
-are_plain : (m : Machine) (events : List Event) (given : List Answer) (old new : ChannelState) (d : Drove m events given old new) → failures_of new ≡ failures_of old → d.inputs ≡ plain events
+are_plain : (m : Machine) (events : List Event) (given : List Answer) (old new : ChannelState) (d : Drove m events given old new)
+    → failures_of new ≡ failures_of old → d.inputs ≡ plain events
 are_plain m events given old new d same =
     none_met d.inputs (omega (arith, d.faults, same)) ∙ ap plain d.are_these
 
 -- what follows from it
-pub drove_follows : (m : Machine) (events : List Event) (given : List Answer) (old new : ChannelState) → StandsFor old m → Drove m events given old new → Follows m events given old new
+pub drove_follows : (m : Machine) (events : List Event) (given : List Answer) (old new : ChannelState) → StandsFor old m
+    → Drove m events given old new → Follows m events given old new
 drove_follows m events given old new stands d = record {
   inputs = d.inputs;
   are_these = d.are_these;
@@ -154,11 +170,20 @@ drove_follows m events given old new stands d = record {
 }
 
 -- room for the answers that are left
-pub room_for_one : {A : Type 0} (answers room i : ℕ) (events : List A) → i < length events → answers + length (drop i events) ≤ room → answers < room
+pub room_for_one : {A : Type 0} (answers room i : ℕ) (events : List A) → i < length events → answers + length (drop i events) ≤ room
+    → answers < room
 room_for_one answers room i events within h = omega (arith, length-drop i events, within, h)
 
-pub room_for_others : {A : Type 0} (answers room more i : ℕ) (events : List A) → i < length events → answers + length (drop i events) ≤ room → room ≤ more → answers + 1 + length (drop (i + 1) events) ≤ more
-room_for_others answers room more i events within h grows = omega (arith, length-drop i events, length-drop (i + 1) events, within, h, grows)
+pub room_for_others : {A : Type 0} (answers room more i : ℕ) (events : List A) → i < length events → answers + length (drop i events) ≤ room
+    → room ≤ more → answers + 1 + length (drop (i + 1) events) ≤ more
+room_for_others answers room more i events within h grows = omega (
+  arith,
+  length-drop i events,
+  length-drop (i + 1) events,
+  within,
+  h,
+  grows,
+)
 
 pub take_past : {A : Type 0} (i : ℕ) (xs : List A) → length xs ≤ i → take i xs ≡ xs
 take_past i xs h = take_all i xs h

@@ -15,13 +15,16 @@ abbrev pub images : List AttachedState → List ImageState
 images us = map (λ (u : AttachedState). u.drive.image) us
 
 -- what is read off the images, of drives that have the same ones
-same_parts : {A : Type 0} (f : ImageState → A) (old new : List AttachedState) → images new ≡ images old → map (λ u. f u.drive.image) new ≡ map (λ u. f u.drive.image) old
+same_parts : {A : Type 0} (f : ImageState → A) (old new : List AttachedState) → images new ≡ images old → map (λ u. f u.drive.image) new
+    ≡ map (λ u. f u.drive.image) old
 same_parts f old new same =
     sym (map-map f (λ (u : AttachedState). u.drive.image) new) ∙ (ap (map f) same ∙ map-map f (λ (u : AttachedState). u.drive.image) old)
 
-same_sums : (f : ImageState → ℕ) (old new : List AttachedState) → images new ≡ images old → sum_by (λ u. f u.drive.image) new ≡ sum_by (λ u. f u.drive.image) old
+same_sums : (f : ImageState → ℕ) (old new : List AttachedState) → images new ≡ images old → sum_by (λ u. f u.drive.image) new
+    ≡ sum_by (λ u. f u.drive.image) old
 same_sums f old new same =
-    sym (sum-map (λ (u : AttachedState). f u.drive.image) new) ∙ (ap sum (same_parts f old new same) ∙ sum-map (λ (u : AttachedState). f u.drive.image) old)
+    sym (sum-map (λ (u : AttachedState). f u.drive.image) new) ∙ (ap sum (same_parts f old new same)
+    ∙ sum-map (λ (u : AttachedState). f u.drive.image) old)
 
 pub none_fails : (old new : ChannelState) → CallsNoStore old new → failures_of new ≡ failures_of old
 none_fails old new same = same_sums (λ i. i.failures) old.drives new.drives same
@@ -36,12 +39,19 @@ calls_then_none most c d e h same = record {
 }
 
 pub none_calls : (most : ℕ) (old new : ChannelState) → CallsNoStore old new → CallsAtMost most old new
-none_calls most old new same = calls_then_none most old old new (record { calls = more (store_calls_of old) most; failures = inl refl; lasting = refl; geometries = refl }) same
+none_calls most old new same = calls_then_none most old old new (record {
+  calls = more (store_calls_of old) most;
+  failures =
+      inl refl;
+  lasting = refl;
+  geometries = refl;
+}) same
   where
     more : (a b : ℕ) → a ≤ a + b
     more a b = omega arith
 
-pub quiet_does : (e : Event) (m : Machine) (answer : Answer) (old new : ChannelState) → StandsFor old m → DoesQuietly e m answer new → CallsNoStore old new → Does e m answer old new
+pub quiet_does : (e : Event) (m : Machine) (answer : Answer) (old new : ChannelState) → StandsFor old m → DoesQuietly e m answer new
+    → CallsNoStore old new → Does e m answer old new
 quiet_does e m answer old new stands does calls = record {
   fault = None;
   met = none_fails old new calls;
@@ -51,13 +61,15 @@ quiet_does e m answer old new stands does calls = record {
 }
 
 -- an event that changes nothing
-pub nothing_does : (e : Event) (m : Machine) (c : ChannelState) (answer : Answer) → StandsFor c m → react e None m ≡ (answer, m) → Does e m answer c c
+pub nothing_does : (e : Event) (m : Machine) (c : ChannelState) (answer : Answer) → StandsFor c m → react e None m ≡ (answer, m)
+    → Does e m answer c c
 nothing_does e m c answer s is = quiet_does e m answer c c s (record {
   answers = sym (ap (λ (a : Answer × Machine). a.0) is);
   stands = subst (StandsFor c) (sym (ap (λ (a : Answer × Machine). a.1) is)) s;
 }) refl
 
 -- what is done of an event and an answer that are equal to these
-pub quiet_as : (e d : Event) (m : Machine) (given answer : Answer) (new : ChannelState) → e ≡ d → given ≡ answer → DoesQuietly d m answer new → DoesQuietly e m given new
+pub quiet_as : (e d : Event) (m : Machine) (given answer : Answer) (new : ChannelState) → e ≡ d → given ≡ answer
+    → DoesQuietly d m answer new → DoesQuietly e m given new
 quiet_as e d m given answer new p q does =
     subst (λ (x : Event). DoesQuietly x m given new) (sym p) (subst (λ (y : Answer). DoesQuietly d m y new) (sym q) does)

@@ -1,5 +1,6 @@
 -- A channel without one of its drives, and one whose drive has another pack.
-use Rattle.std.proofs.Common.{◌≡◌, ℕ, zero, suc, ◌-◌, ◌≤◌, ◌<◌, refl, sym, ap, ◌∙◌, subst, arith, true, false, Bool, cond, ◌==◌, List, [], ◌∷◌, map, Option, Some, None, ◌&&◌}
+use Rattle.std.proofs.Common.{◌≡◌, ℕ, zero, suc, ◌-◌, ◌≤◌, ◌<◌, refl, sym, ap, ◌∙◌, subst, arith, true, false, Bool, cond, ◌==◌, List, []}
+use Rattle.std.proofs.Common.{◌∷◌, map, Option, Some, None, ◌&&◌}
 use Rattle.std.proofs.lemmas.Bool.{eq-eqb, eqb-true, eqb-false, ltb-true, ltb-false}
 use Rattle.std.proofs.lemmas.List.{length-set}
 use Rattle.std.proofs.lemmas.List.Edits.{length-remove}
@@ -17,15 +18,20 @@ use Rattle.s360_laws.specs.Machine.{Device, Machine, device_at}
 use Rattle.s360_laws.specs.Machine as machine
 use Rattle.s360_laws.specs.Soundness.{AreDistinct}
 use Rattle.s360_laws.proofs.FindDevices.{Keeps, different, found_map, keeps_one, set_drive, distinct_map}
-use Rattle.s360_channel.specs.Channel.{AttachedState, ChannelState, AllRest, OthersRest, Shows, StandsFor, WorksFor, device_of, is_at, new_attached}
+use Rattle.s360_channel.specs.Channel.{AttachedState, ChannelState, AllRest, OthersRest, Shows, StandsFor, WorksFor, device_of, is_at}
+use Rattle.s360_channel.specs.Channel.{new_attached}
 use Rattle.s360_channel.specs.declared.faults.DetachFault.{DetachFault}
 use Rattle.s360_channel.specs.declared.faults.DetachFault.TheVariants.{NoDrive, ProgramRuns, EndingPends, DeviceEndOwed}
 use Rattle.s360_channel.specs.declared.subchannel.Subchannel.{Subchannel}
 use Rattle.s360_channel.specs.declared.subchannel.Subchannel.TheVariants.{Idle, Working, Pending}
 use Rattle.s360_channel.specs.DriveCalls.{DriveIs, Removes, ExchangesPack, MayExchange}
-use Rattle.s360_channel.specs.Packs.{Detaches, IsFree, GivesBack, is_at_rest, moved_up, pends_for, runs_at, waits_for, why_of, why_stays, without_device, without_place, works_at, Exchanges, fits_at, fits_drive, is_same_model, volume_in, with_pack}
-use Rattle.s360_channel.proofs.Changing.{SeenBy, seen_by, distinct_drives, device_seen, new_rests, rests_changed, sound_with, volume_given, works_changed, changes_apart}
-use Rattle.s360_channel.proofs.Places.{arm_there, changes, devices, false_is_true, found_at, found_by, inside, is_other, none_found, none_is_some, place_at, rests_at, same_number, all_set, devices_set, get_other, others_put}
+use Rattle.s360_channel.specs.Packs.{Detaches, IsFree, GivesBack, is_at_rest, moved_up, pends_for, runs_at, waits_for, why_of, why_stays}
+use Rattle.s360_channel.specs.Packs.{without_device, without_place, works_at, Exchanges, fits_at, fits_drive, is_same_model, volume_in}
+use Rattle.s360_channel.specs.Packs.{with_pack}
+use Rattle.s360_channel.proofs.Changing.{SeenBy, seen_by, distinct_drives, device_seen, new_rests, rests_changed, sound_with, volume_given}
+use Rattle.s360_channel.proofs.Changing.{works_changed, changes_apart}
+use Rattle.s360_channel.proofs.Places.{arm_there, changes, devices, false_is_true, found_at, found_by, inside, is_other, none_found}
+use Rattle.s360_channel.proofs.Places.{none_is_some, place_at, rests_at, same_number, all_set, devices_set, get_other, others_put}
 use Rattle.s360_channel.proofs.Works.{devices_of, subchannel_of}
 
 -- A channel without one of its drives.
@@ -39,44 +45,55 @@ none_left_out : (device : ℕ) (ds : List Device) → find (λ d. d.device == de
 none_left_out device [] h = refl
 none_left_out device (d ∷ ds) h = go (d.device == device) h (none_left_out device ds)
   where
-    go : (b : Bool) → cond b (Some d) (find (λ d. d.device == device) ds) ≡ None → (find (λ d. d.device == device) ds ≡ None → filter (other_than device) ds ≡ ds)
+    go : (b : Bool) → cond b (Some d) (find (λ d. d.device == device) ds) ≡ None → (find (λ d. d.device == device) ds ≡ None
+        → filter (other_than device) ds ≡ ds)
         → cond (not b) (d ∷ filter (other_than device) ds) (filter (other_than device) ds) ≡ d ∷ ds
     go true h k = none_is_some (sym h)
     go false h k = ap (λ r. d ∷ r) (k h)
 
-devices_left : (us : List AttachedState) (place : ℕ) (u : AttachedState) → AreDistinct (devices us) → slice_get us place ≡ Some u → devices (remove us place) ≡ filter (other_than u.device) (devices us)
+devices_left : (us : List AttachedState) (place : ℕ) (u : AttachedState) → AreDistinct (devices us) → slice_get us place ≡ Some u
+    → devices (remove us place) ≡ filter (other_than u.device) (devices us)
 devices_left [] place u a h = none_is_some h
 devices_left (w ∷ us) zero u a h = sym (
-    ap (λ b. cond (not b) (device_of w ∷ filter (other_than u.device) (devices us)) (filter (other_than u.device) (devices us))) (ap (λ x. w.device == x.device) (sym (inside w u h)) ∙ same_number w.device)
+    ap (λ b. cond (not b) (device_of w ∷ filter (other_than u.device) (devices us)) (filter (other_than u.device) (devices us)))
+    (ap (λ x. w.device == x.device) (sym (inside w u h)) ∙ same_number w.device)
     ∙ none_left_out u.device (devices us) (ap (λ x. find (λ d. d.device == x.device) (devices us)) (sym (inside w u h)) ∙ a.0)
     )
 devices_left (w ∷ us) (suc place) u a h = ap (λ r. device_of w ∷ r) (devices_left us place u a.1 h)
-    ∙ sym (ap (λ b. cond (not b) (device_of w ∷ filter (other_than u.device) (devices us)) (filter (other_than u.device) (devices us))) (is_other w us place u a h))
+    ∙ sym (ap (λ b. cond (not b) (device_of w ∷ filter (other_than u.device) (devices us)) (filter (other_than u.device) (devices us)))
+    (is_other w us place u a h))
 
 -- another device is found as it was
-found_left : (device n : ℕ) (ds : List Device) → (n == device) ≡ false → find (λ d. d.device == n) (filter (other_than device) ds) ≡ find (λ d. d.device == n) ds
+found_left : (device n : ℕ) (ds : List Device) → (n == device) ≡ false → find (λ d. d.device == n) (filter (other_than device) ds)
+    ≡ find (λ d. d.device == n) ds
 found_left device n [] h = refl
 found_left device n (d ∷ ds) h = go (d.device == device) refl (found_left device n ds h)
   where
     go : (b : Bool) → (d.device == device) ≡ b → find (λ d. d.device == n) (filter (other_than device) ds) ≡ find (λ d. d.device == n) ds
-        → find (λ d. d.device == n) (cond (not b) (d ∷ filter (other_than device) ds) (filter (other_than device) ds)) ≡ cond (d.device == n) (Some d) (find (λ d. d.device == n) ds)
-    go true e k = k ∙ sym (ap (λ b. cond b (Some d) (find (λ d. d.device == n) ds)) (different d.device n (λ same. eqb-false n device h (sym same ∙ eqb-true d.device device e))))
+        → find (λ d. d.device == n) (cond (not b) (d ∷ filter (other_than device) ds) (filter (other_than device) ds)) ≡ cond (d.device ==
+        n) (Some d) (find (λ d. d.device == n) ds)
+    go true e k = k ∙ sym (ap (λ b. cond b (Some d) (find (λ d. d.device == n) ds))
+        (different d.device n (λ same. eqb-false n device h (sym same ∙ eqb-true d.device device e))))
     go false e k = ap (λ r. cond (d.device == n) (Some d) r) k
 
 distinct_left : (device : ℕ) (ds : List Device) → AreDistinct ds → AreDistinct (filter (other_than device) ds)
 distinct_left device [] h = tt
 distinct_left device (d ∷ ds) h = go (d.device == device) refl (distinct_left device ds h.1)
   where
-    go : (b : Bool) → (d.device == device) ≡ b → AreDistinct (filter (other_than device) ds) → AreDistinct (cond (not b) (d ∷ filter (other_than device) ds) (filter (other_than device) ds))
+    go : (b : Bool) → (d.device == device) ≡ b → AreDistinct (filter (other_than device) ds)
+        → AreDistinct (cond (not b) (d ∷ filter (other_than device) ds) (filter (other_than device) ds))
     go true e k = k
     go false e k = (found_left device d.device ds e ∙ h.0, k)
 
-left_through : (device : ℕ) (g : Device → Device) → Keeps g → (ds : List Device) → filter (other_than device) (map g ds) ≡ map g (filter (other_than device) ds)
+left_through : (device : ℕ) (g : Device → Device) → Keeps g → (ds : List Device) → filter (other_than device) (map g ds)
+    ≡ map g (filter (other_than device) ds)
 left_through device g k [] = refl
-left_through device g k (d ∷ ds) = ap (λ n. cond (not (n == device)) (g d ∷ filter (other_than device) (map g ds)) (filter (other_than device) (map g ds))) (k d) ∙ go (d.device == device) (left_through device g k ds)
+left_through device g k (d ∷ ds) = ap (λ n. cond (not (n == device)) (g d ∷ filter (other_than device) (map g ds))
+    (filter (other_than device) (map g ds))) (k d) ∙ go (d.device == device) (left_through device g k ds)
   where
     go : (b : Bool) → filter (other_than device) (map g ds) ≡ map g (filter (other_than device) ds)
-        → cond (not b) (g d ∷ filter (other_than device) (map g ds)) (filter (other_than device) (map g ds)) ≡ map g (cond (not b) (d ∷ filter (other_than device) ds) (filter (other_than device) ds))
+        → cond (not b) (g d ∷ filter (other_than device) (map g ds)) (filter (other_than device) (map g ds))
+        ≡ map g (cond (not b) (d ∷ filter (other_than device) ds) (filter (other_than device) ds))
     go true h = h
     go false h = ap (λ r. g d ∷ r) h
 
@@ -93,19 +110,24 @@ record StaysAt (us : List AttachedState) (place q : ℕ) (u : AttachedState) : T
   is_there : slice_get (remove us place) q ≡ Some u
   others : OthersRest q (remove us place)
 
-before : (us : List AttachedState) (place p : ℕ) (u : AttachedState) → p < place → slice_get us p ≡ Some u → OthersRest p us → StaysAt us place p u
+before : (us : List AttachedState) (place p : ℕ) (u : AttachedState) → p < place → slice_get us p ≡ Some u → OthersRest p us
+    → StaysAt us place p u
 before [] place p u l h r = none_is_some h
 before (w ∷ us) zero p u l h r = absurd (omega (arith, l))
 before (w ∷ us) (suc place) zero u l h r = record { is_there = h; others = all_left us place r }
-before (w ∷ us) (suc place) (suc p) u l h r = let k = before us place p u (omega (arith, l)) h r.1 in record { is_there = k.is_there; others = (r.0, k.others) }
+before (w ∷ us) (suc place) (suc p) u l h r = let k = before us place p u (omega (arith, l)) h r.1 in
+    record { is_there = k.is_there; others = (r.0, k.others) }
 
-behind : (us : List AttachedState) (place p : ℕ) (u : AttachedState) → place ≤ p → slice_get us (suc p) ≡ Some u → OthersRest (suc p) us → StaysAt us place p u
+behind : (us : List AttachedState) (place p : ℕ) (u : AttachedState) → place ≤ p → slice_get us (suc p) ≡ Some u → OthersRest (suc p) us
+    → StaysAt us place p u
 behind [] place p u l h r = none_is_some h
 behind (w ∷ us) zero p u l h r = record { is_there = h; others = r.1 }
 behind (w ∷ us) (suc place) zero u l h r = absurd (omega (arith, l))
-behind (w ∷ us) (suc place) (suc p) u l h r = let k = behind us place p u (omega (arith, l)) h r.1 in record { is_there = k.is_there; others = (r.0, k.others) }
+behind (w ∷ us) (suc place) (suc p) u l h r = let k = behind us place p u (omega (arith, l)) h r.1 in
+    record { is_there = k.is_there; others = (r.0, k.others) }
 
-stays_at : (us : List AttachedState) (place p : ℕ) (u : AttachedState) → (p == place) ≡ false → slice_get us p ≡ Some u → OthersRest p us → StaysAt us place (cond (nat_lt place p) (p - 1) p) u
+stays_at : (us : List AttachedState) (place p : ℕ) (u : AttachedState) → (p == place) ≡ false → slice_get us p ≡ Some u → OthersRest p us
+    → StaysAt us place (cond (nat_lt place p) (p - 1) p) u
 stays_at us place p u e h r = go (nat_lt place p) refl
   where
     one_less : place < p → p ≡ suc (p - 1)
@@ -114,23 +136,29 @@ stays_at us place p u e h r = go (nat_lt place p) refl
     go : (b : Bool) → nat_lt place p ≡ b → StaysAt us place (cond b (p - 1) p) u
     go true k =
         let l = ltb-true place p k in
-        behind us place (p - 1) u (omega (arith, l)) (ap (slice_get us) (sym (one_less l)) ∙ h) (subst (λ p. OthersRest p us) (one_less l) r)
+        behind us place (p - 1) u (omega (arith, l)) (ap (slice_get us) (sym (one_less l))
+        ∙ h) (subst (λ p. OthersRest p us) (one_less l) r)
     go false k = before us place p u (grind (arith, ltb-false place p k, eqb-false p place e)) h r
 
 -- Which program runs, and which word pends, at the channel and at the machine.
 
-pub same_places : (us : List AttachedState) (p place : ℕ) (w u : AttachedState) → AreDistinct (devices us) → slice_get us p ≡ Some w → slice_get us place ≡ Some u → (w.device == u.device) ≡ (p == place)
+pub same_places : (us : List AttachedState) (p place : ℕ) (w u : AttachedState) → AreDistinct (devices us) → slice_get us p ≡ Some w
+    → slice_get us place ≡ Some u → (w.device == u.device) ≡ (p == place)
 same_places us p place w u a h k = go (p == place) refl
   where
     go : (b : Bool) → (p == place) ≡ b → (w.device == u.device) ≡ b
-    go true e = ap (λ x. w.device == x.device) (sym (inside w u (sym h ∙ (ap (slice_get us) (eqb-true p place e) ∙ k)))) ∙ same_number w.device
-    go false e = different w.device u.device (λ same. eqb-false p place e (sym (place_at us p w a h) ∙ (ap (λ n. position_or_len (is_at n) us) same ∙ place_at us place u a k)))
+    go true e = ap (λ x. w.device == x.device) (sym (inside w u (sym h ∙ (ap (slice_get us) (eqb-true p place e) ∙ k))))
+        ∙ same_number w.device
+    go false e = different w.device u.device (λ same. eqb-false p place e (sym (place_at us p w a h)
+        ∙ (ap (λ n. position_or_len (is_at n) us) same ∙ place_at us place u a k)))
 
 -- the device at an address, while a program runs
 pub working_device : (c : ChannelState) (p : ℕ) (r : RunningState) (m : Machine) (w : WorksFor c p r m) (device : ℕ)
     → device_at m device ≡ option_map (changes w.attached.device (set_drive w.drive)) (find (λ d. d.device == device) (devices c.drives))
 working_device c p r m w device =
-    ap (find (λ d. d.device == device)) (devices_of c p r m w) ∙ found_map (λ d. d == device) (changes w.attached.device (set_drive w.drive)) (keeps_one w.attached.device (set_drive w.drive) (λ d. refl)) (devices c.drives)
+    ap (find (λ d. d.device == device)) (devices_of c p r m w)
+    ∙ found_map (λ d. d == device) (changes w.attached.device (set_drive w.drive)) (keeps_one w.attached.device (set_drive w.drive)
+    (λ d. refl)) (devices c.drives)
 
 -- what is known of the drive at a place
 pub record IsAttached (device place : ℕ) (us : List AttachedState) (u : AttachedState) : Type 0 where
@@ -141,7 +169,8 @@ pub record IsAttached (device place : ℕ) (us : List AttachedState) (u : Attach
 abbrev why_by : (runs pends : Bool) → Arm → Option DetachFault
 why_by runs pends arm = cond runs (Some ProgramRuns) (cond pends (Some EndingPends) (cond (is_at_rest arm) None (Some DeviceEndOwed)))
 
-module _ (c : ChannelState) (m : Machine) (s : StandsFor c m) (device place : ℕ) (u : AttachedState) (f : IsAttached device place c.drives u) where
+module _ (c : ChannelState) (m : Machine) (s : StandsFor c m) (device place : ℕ) (u : AttachedState)
+    (f : IsAttached device place c.drives u) where
   here : SeenBy c m
   here = seen_by c m c.subchannel s.shows
 
@@ -156,7 +185,8 @@ module _ (c : ChannelState) (m : Machine) (s : StandsFor c m) (device place : �
     where
       go : (x : Subchannel) → Shows c m x → runs_at device m.subchannel ≡ works_at place x
       go Idle h = ap (λ (m : Machine). runs_at device m.subchannel) h.0
-      go (Working p r) w = ap (runs_at device) (subchannel_of c p r m w) ∙ (ap (λ n. w.attached.device == n) (sym f.same_device) ∙ same_places c.drives p place w.attached u distinct w.is_there f.is_there)
+      go (Working p r) w = ap (runs_at device) (subchannel_of c p r m w) ∙ (ap (λ n. w.attached.device == n) (sym f.same_device)
+          ∙ same_places c.drives p place w.attached u distinct w.is_there f.is_there)
       go (Pending d csw) h = ap (λ (m : Machine). runs_at device m.subchannel) h.0
 
   pub same_pends : pends_for device m.subchannel ≡ waits_for device c.subchannel
@@ -183,7 +213,9 @@ module _ (c : ChannelState) (m : Machine) (s : StandsFor c m) (device place : �
       go (Pending d csw) h o = ap (λ (m : Machine). device_at m device) h.0 ∙ found
       go (Working p r) w o =
           working_device c p r m w device ∙ (ap (option_map (changes w.attached.device (set_drive w.drive))) found
-          ∙ ap (λ b. Some (cond b (set_drive w.drive (device_of u)) (device_of u))) (different u.device w.attached.device (λ e. eqb-false p place o (eqb-true p place (sym (same_places c.drives p place w.attached u distinct w.is_there f.is_there) ∙ eq-eqb w.attached.device u.device (sym e))))))
+          ∙ ap (λ b. Some (cond b (set_drive w.drive (device_of u)) (device_of u))) (different u.device w.attached.device
+          (λ e. eqb-false p place o (eqb-true p place (sym (same_places c.drives p place w.attached u distinct w.is_there f.is_there)
+          ∙ eq-eqb w.attached.device u.device (sym e))))))
 
   -- and its drive rests
   pub rests_there : works_at place c.subchannel ≡ false → Rests u.drive
@@ -220,7 +252,8 @@ module _ (c : ChannelState) (m : Machine) (s : StandsFor c m) (device place : �
   rests_free = record { attached = f.attached; is_there = f.is_there; holds = rests_there c m s device place f.attached attached f.runs }
 
   -- the image that is given back
-  pub gives_back : (image : ImageState) → image ≡ f.attached.drive.image → f.attached.drive.image.geometry ≡ f.attached.drive.state.volume.geometry → f.attached.drive.image.slots ≡ f.attached.drive.state.volume.slots
+  pub gives_back : (image : ImageState) → image ≡ f.attached.drive.image → f.attached.drive.image.geometry
+      ≡ f.attached.drive.state.volume.geometry → f.attached.drive.image.slots ≡ f.attached.drive.state.volume.slots
       → GivesBack device image m
   gives_back image same geometry slots = record {
     attached = device_of f.attached;
@@ -229,31 +262,42 @@ module _ (c : ChannelState) (m : Machine) (s : StandsFor c m) (device place : �
   }
 
   left : devices (remove c.drives place) ≡ filter (other_than device) (devices c.drives)
-  left = devices_left c.drives place f.attached (distinct c m s device place f.attached attached) f.is_there ∙ ap (λ n. filter (other_than n) (devices c.drives)) f.same_device
+  left = devices_left c.drives place f.attached (distinct c m s device place f.attached attached) f.is_there
+      ∙ ap (λ n. filter (other_than n) (devices c.drives)) f.same_device
 
-  shows_left : (x : Subchannel) → Shows c m x → works_at place x ≡ false → Shows (without_place place c) (without_device device m) (moved_up place x)
-  shows_left Idle h o = rests_changed c m (remove c.drives place) (filter (other_than device)) left machine.Idle h.0 (all_left c.drives place h.1)
-  shows_left (Pending d csw) h o = rests_changed c m (remove c.drives place) (filter (other_than device)) left (machine.Pending d csw) h.0 (all_left c.drives place h.1)
+  shows_left : (x : Subchannel) → Shows c m x → works_at place x ≡ false → Shows (without_place place c) (without_device device m)
+      (moved_up place x)
+  shows_left Idle h o = rests_changed c m (remove c.drives place) (filter (other_than device)) left machine.Idle h.0
+      (all_left c.drives place h.1)
+  shows_left (Pending d csw) h o = rests_changed c m (remove c.drives place) (filter (other_than device)) left (machine.Pending d csw) h.0
+      (all_left c.drives place h.1)
   shows_left (Working p r) w o =
       let stays = stays_at c.drives place p w.attached o w.is_there w.others in
       works_changed c m (remove c.drives place) (filter (other_than device)) left (moved_up place c.subchannel) p _ r w
       (record { attached = w.attached; is_there = stays.is_there; same_device = refl; same_drive = refl; others = stays.others })
-      (left_through device (changes w.attached.device (set_drive w.drive)) (keeps_one w.attached.device (set_drive w.drive) (λ d. refl)) (devices c.drives))
+      (left_through device (changes w.attached.device (set_drive w.drive)) (keeps_one w.attached.device (set_drive w.drive) (λ d. refl))
+      (devices c.drives))
 
   stands_left : StandsFor (without_place place c) (without_device device m)
   stands_left = record {
     number = s.number;
     few = omega (arith, length-remove c.drives place (slice_get_within c.drives place f.attached f.is_there), s.few);
     shows = shows_left c.subchannel s.shows f.runs;
-    sound = sound_with m device (filter (other_than device) m.devices) (distinct_left device m.devices s.sound.0) (λ n e. found_left device n m.devices e) off (λ p. false_is_true (sym quiet ∙ p)) s.sound;
+    sound = sound_with m device (filter (other_than device) m.devices) (distinct_left device m.devices s.sound.0)
+        (λ n e. found_left device n m.devices e) off (λ p. false_is_true (sym quiet ∙ p)) s.sound;
   }
 
   pub detaches : (subchannel : Subchannel) (drives : List AttachedState) (image : ImageState)
-      → subchannel ≡ moved_up place c.subchannel → Removes place image c.drives drives → Detaches device m image c (record c { subchannel = subchannel; drives = drives })
+      → subchannel ≡ moved_up place c.subchannel → Removes place image c.drives drives
+      → Detaches device m image c (record c { subchannel = subchannel; drives = drives })
   detaches subchannel drives image sub r =
       let same : r.attached ≡ f.attached = inside r.attached f.attached (sym r.was ∙ f.is_there) in
       let now : record c { subchannel = subchannel; drives = drives } ≡ without_place place c =
-      ap (λ x. record c { subchannel = x; drives = drives }) sub ∙ ap (λ us. record c { subchannel = moved_up place c.subchannel; drives = us }) r.becomes in
+      ap (λ x. record c { subchannel = x; drives = drives }) sub ∙ ap (λ us. record c {
+        subchannel = moved_up place c.subchannel;
+        drives =
+            us;
+      }) r.becomes in
       record {
         free = is_free;
         place = place;
@@ -268,11 +312,17 @@ module _ (c : ChannelState) (m : Machine) (s : StandsFor c m) (device place : �
 
 module _ (c : ChannelState) (m : Machine) (s : StandsFor c m) (device : ℕ) where
   pub why_none : position (is_at device) c.drives ≡ None → why_stays device m ≡ Some NoDrive
-  why_none h = ap (why_of device m.subchannel) (device_seen c m (seen_by c m c.subchannel s.shows) device None (none_found device c.drives h))
+  why_none h = ap (why_of device m.subchannel) (device_seen c m (seen_by c m c.subchannel s.shows) device None
+      (none_found device c.drives h))
 
   module _ (place : ℕ) (h : position (is_at device) c.drives ≡ Some place) where
-    why : why_stays device m ≡ why_by (works_at place c.subchannel) (waits_for device c.subchannel) (found_by device c.drives place h).attached.arm
-    why = let f = found_by device c.drives place h in why_is c m s device place f.attached (record { is_there = f.is_there; same_device = f.same_device })
+    why : why_stays device m ≡ why_by (works_at place c.subchannel) (waits_for device c.subchannel)
+        (found_by device c.drives place h).attached.arm
+    why = let f = found_by device c.drives place h in why_is c m s device place f.attached (record {
+      is_there = f.is_there;
+      same_device =
+          f.same_device;
+    })
 
     pub why_runs : works_at place c.subchannel ≡ true → why_stays device m ≡ Some ProgramRuns
     why_runs a = rw a at why
@@ -280,11 +330,13 @@ module _ (c : ChannelState) (m : Machine) (s : StandsFor c m) (device : ℕ) whe
     pub why_pends : works_at place c.subchannel ≡ false → waits_for device c.subchannel ≡ true → why_stays device m ≡ Some EndingPends
     why_pends a b = rw (a, b) at why
 
-    pub why_owes : (arm : Arm) → works_at place c.subchannel ≡ false → waits_for device c.subchannel ≡ false → Some arm ≡ option_map (λ (u : AttachedState). u.arm) (slice_get c.drives place) → is_at_rest arm ≡ false
+    pub why_owes : (arm : Arm) → works_at place c.subchannel ≡ false → waits_for device c.subchannel ≡ false
+        → Some arm ≡ option_map (λ (u : AttachedState). u.arm) (slice_get c.drives place) → is_at_rest arm ≡ false
         → why_stays device m ≡ Some DeviceEndOwed
     why_owes arm a b e k = rw (a, b, arm_there c.drives place _ arm (found_by device c.drives place h).is_there e, k) at why
 
-pub free_at : (c : ChannelState) (device place : ℕ) → position (is_at device) c.drives ≡ Some place → works_at place c.subchannel ≡ false → waits_for device c.subchannel ≡ false
+pub free_at : (c : ChannelState) (device place : ℕ) → position (is_at device) c.drives ≡ Some place → works_at place c.subchannel ≡ false
+    → waits_for device c.subchannel ≡ false
     → Some AtRest ≡ option_map (λ (u : AttachedState). u.arm) (slice_get c.drives place) → IsFree device place c
 free_at c device place h a b e = let f = found_by device c.drives place h in record {
   attached = f.attached;
@@ -302,12 +354,14 @@ abbrev packed : ImageState → Device → Device
 packed image d = record d { arm = AtRest; drive = first_drive (volume_in image) }
 
 -- another device is found as it was
-found_other : (device n : ℕ) (f : Device → Device) → Keeps f → (ds : List Device) → (n == device) ≡ false → find (λ d. d.device == n) (map (changes device f) ds) ≡ find (λ d. d.device == n) ds
+found_other : (device n : ℕ) (f : Device → Device) → Keeps f → (ds : List Device) → (n == device) ≡ false
+    → find (λ d. d.device == n) (map (changes device f) ds) ≡ find (λ d. d.device == n) ds
 found_other device n f k [] h = refl
 found_other device n f k (d ∷ ds) h = go (d.device == device) refl (found_other device n f k ds h)
   where
     go : (b : Bool) → (d.device == device) ≡ b → find (λ d. d.device == n) (map (changes device f) ds) ≡ find (λ d. d.device == n) ds
-        → cond ((cond b (f d) d).device == n) (Some (cond b (f d) d)) (find (λ d. d.device == n) (map (changes device f) ds)) ≡ cond (d.device == n) (Some d) (find (λ d. d.device == n) ds)
+        → cond ((cond b (f d) d).device == n) (Some (cond b (f d) d)) (find (λ d. d.device == n) (map (changes device f) ds))
+        ≡ cond (d.device == n) (Some d) (find (λ d. d.device == n) ds)
     go true e r =
         let off : (d.device == n) ≡ false = different d.device n (λ same. eqb-false n device h (sym same ∙ eqb-true d.device device e)) in
         ap (λ b. cond b (Some (f d)) (find (λ d. d.device == n) (map (changes device f) ds))) (ap (λ x. x == n) (k d) ∙ off)
@@ -316,7 +370,8 @@ found_other device n f k (d ∷ ds) h = go (d.device == device) refl (found_othe
 
 -- a pack that fits has slots as large
 same_size : (held other : Geometry) → true ≡ fits_drive held other → other.track_size ≡ held.track_size
-same_size held other h = sym (eqb-true held.track_size other.track_size (second (is_same_model held.model other.model) (held.track_size == other.track_size) h))
+same_size held other h = sym (eqb-true held.track_size other.track_size (second (is_same_model held.model other.model) (held.track_size ==
+    other.track_size) h))
   where
     second : (a b : Bool) → true ≡ (a && b) → b ≡ true
     second true b h = sym h
@@ -336,34 +391,43 @@ module _ (c : ChannelState) (m : Machine) (s : StandsFor c m) (device place : �
   change = map (changes device (packed image))
 
   now : devices drives_now ≡ change (devices c.drives)
-  now = devices_set c.drives place f.attached this (packed image) distinct_now f.is_there (ap (λ n. device_of (new_attached n image)) (sym f.same_device))
+  now = devices_set c.drives place f.attached this (packed image) distinct_now f.is_there (ap (λ n. device_of (new_attached n image))
+      (sym f.same_device))
       ∙ ap (λ n. map (changes n (packed image)) (devices c.drives)) f.same_device
 
-  shows_packed : (x : Subchannel) → Shows c m x → works_at place x ≡ false → Shows (record c { drives = drives_now }) (with_pack device image m) x
-  shows_packed Idle h o = rests_changed c m drives_now change now machine.Idle h.0 (all_set c.drives place this h.1 (new_rests device image))
-  shows_packed (Pending d csw) h o = rests_changed c m drives_now change now (machine.Pending d csw) h.0 (all_set c.drives place this h.1 (new_rests device image))
+  shows_packed : (x : Subchannel) → Shows c m x → works_at place x ≡ false
+      → Shows (record c { drives = drives_now }) (with_pack device image m) x
+  shows_packed Idle h o = rests_changed c m drives_now change now machine.Idle h.0 (all_set c.drives place this h.1
+      (new_rests device image))
+  shows_packed (Pending d csw) h o = rests_changed c m drives_now change now (machine.Pending d csw) h.0 (all_set c.drives place this h.1
+      (new_rests device image))
   shows_packed (Working p r) w o = works_changed c m drives_now change now c.subchannel p p r w (record {
     attached = w.attached;
     is_there = get_other c.drives place p this (eqb-false p place o) ∙ w.is_there;
     same_device = refl;
     same_drive = refl;
     others = others_put c.drives place p f.attached this f.is_there (λ n r. new_rests device image) w.others;
-  }) (changes_apart device w.attached.device (packed image) (set_drive w.drive) (λ d. refl) (λ d. refl) (λ e. absurd (other e)) (devices c.drives))
+  }) (changes_apart device w.attached.device (packed image) (set_drive w.drive) (λ d. refl) (λ d. refl) (λ e. absurd (other e))
+      (devices c.drives))
     where
       other : device ≡ w.attached.device → ⊥
-      other e = eqb-false w.attached.device f.attached.device (same_places c.drives p place w.attached f.attached distinct_now w.is_there f.is_there ∙ o) (sym (f.same_device ∙ e))
+      other e = eqb-false w.attached.device f.attached.device (same_places c.drives p place w.attached f.attached distinct_now w.is_there
+          f.is_there ∙ o) (sym (f.same_device ∙ e))
 
   stands_packed : StandsFor (record c { drives = drives_now }) (with_pack device image m)
   stands_packed = record {
     number = s.number;
     few = subst (λ n. n ≤ 8) (sym (length-set c.drives place this)) s.few;
     shows = shows_packed c.subchannel s.shows f.runs;
-    sound = sound_with m device (change m.devices) (distinct_map (changes device (packed image)) (keeps_one device (packed image) (λ d. refl)) m.devices s.sound.0)
-        (λ n. found_other device n (packed image) (λ d. refl) m.devices) (off c m s device place f) (λ p. false_is_true (sym (quiet c m s device place f) ∙ p)) s.sound;
+    sound = sound_with m device (change m.devices) (distinct_map (changes device (packed image)) (keeps_one device (packed image)
+        (λ d. refl)) m.devices s.sound.0)
+        (λ n. found_other device n (packed image) (λ d. refl) m.devices) (off c m s device place f)
+        (λ p. false_is_true (sym (quiet c m s device place f) ∙ p)) s.sound;
   }
 
   -- the drive may have the pack that fits
-  pub may_exchange : (geometry : Geometry) → geometry ≡ image.geometry → Some true ≡ option_map (λ (u : AttachedState). fits_drive u.drive.image.geometry geometry) (slice_get c.drives place)
+  pub may_exchange : (geometry : Geometry) → geometry ≡ image.geometry
+      → Some true ≡ option_map (λ (u : AttachedState). fits_drive u.drive.image.geometry geometry) (slice_get c.drives place)
       → DriveIs place (MayExchange image.geometry.track_size) c.drives
   may_exchange geometry e h = record {
     attached = f.attached;
@@ -371,16 +435,22 @@ module _ (c : ChannelState) (m : Machine) (s : StandsFor c m) (device place : �
     holds = (
       rests_there c m s device place f.attached (attached c m s device place f) f.runs,
       ap (λ (g : Geometry). g.track_size) (sym e)
-          ∙ same_size f.attached.drive.image.geometry geometry (inside true _ (h ∙ ap (option_map (λ (u : AttachedState). fits_drive u.drive.image.geometry geometry)) f.is_there)),
+          ∙ same_size f.attached.drive.image.geometry geometry (inside true _ (h
+          ∙ ap (option_map (λ (u : AttachedState). fits_drive u.drive.image.geometry geometry)) f.is_there)),
     );
   }
 
   -- whether the pack fits, by what the code asks of the drive
-  pub fits_is : (b : Bool) (geometry : Geometry) → geometry ≡ image.geometry → Some b ≡ option_map (λ (u : AttachedState). fits_drive u.drive.state.volume.geometry geometry) (slice_get c.drives place) → fits_at device image m ≡ Some b
-  fits_is b geometry e h = ap (option_map (λ (d : Device). fits_drive d.drive.volume.geometry image.geometry)) (device_there c m s device place f.attached (attached c m s device place f) f.runs)
-      ∙ sym (h ∙ ap (option_map (λ (u : AttachedState). fits_drive u.drive.state.volume.geometry geometry)) f.is_there ∙ ap (λ g. Some (fits_drive f.attached.drive.state.volume.geometry g)) e)
+  pub fits_is : (b : Bool) (geometry : Geometry) → geometry ≡ image.geometry
+      → Some b ≡ option_map (λ (u : AttachedState). fits_drive u.drive.state.volume.geometry geometry) (slice_get c.drives place)
+      → fits_at device image m ≡ Some b
+  fits_is b geometry e h = ap (option_map (λ (d : Device). fits_drive d.drive.volume.geometry image.geometry))
+      (device_there c m s device place f.attached (attached c m s device place f) f.runs)
+      ∙ sym (h ∙ ap (option_map (λ (u : AttachedState). fits_drive u.drive.state.volume.geometry geometry)) f.is_there
+      ∙ ap (λ g. Some (fits_drive f.attached.drive.state.volume.geometry g)) e)
 
-  pub exchanges : (drives : List AttachedState) (before : ImageState) → fits_at device image m ≡ Some true → ExchangesPack place image before c.drives drives → Exchanges device m image before c (record c { drives = drives })
+  pub exchanges : (drives : List AttachedState) (before : ImageState) → fits_at device image m ≡ Some true
+      → ExchangesPack place image before c.drives drives → Exchanges device m image before c (record c { drives = drives })
   exchanges drives before fits r =
       let same : r.attached ≡ f.attached = inside r.attached f.attached (sym r.was ∙ f.is_there) in
       let placed : drives ≡ drives_now =

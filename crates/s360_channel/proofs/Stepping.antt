@@ -1,5 +1,6 @@
 -- Steps of a program that runs: a drive that changed and a program that is over, where it goes on, and where it ends.
-use Rattle.std.proofs.Common.{◌≡◌, ℕ, ◌+◌, ◌≤◌, ◌<◌, ◌⊎◌, inl, inr, refl, sym, ap, subst, ◌∙◌, arith, true, false, Bool, cond, ◌==◌, map, length, Option, Some, None, zero, suc, ◌-◌, ◌∷◌, ◌++◌}
+use Rattle.std.proofs.Common.{◌≡◌, ℕ, ◌+◌, ◌≤◌, ◌<◌, ◌⊎◌, inl, inr, refl, sym, ap, subst, ◌∙◌, arith, true, false, Bool, cond, ◌==◌, map}
+use Rattle.std.proofs.Common.{length, Option, Some, None, zero, suc, ◌-◌, ◌∷◌, ◌++◌}
 use Rattle.std.proofs.lemmas.List.{length-set}
 use Rattle.std.proofs.lemmas.Simd.{map-map}
 use Rattle.std.specs.Prelude.{option_map, slice_get, slice_set}
@@ -33,15 +34,18 @@ use Rattle.s360_channel.specs.Channel.{ChannelState, AttachedState, Shows, Stand
 use Rattle.s360_channel.specs.declared.subchannel.Subchannel.{Subchannel}
 use Rattle.s360_channel.specs.declared.subchannel.Subchannel.TheVariants.{Pending, Working}
 use Rattle.s360_channel.specs.Ends.{arm_told}
-use Rattle.s360_channel.proofs.Places.{map_same, sum_set, all_of_others, devices, changes, devices_set, changes_twice, same_number, get_set, others_set}
+use Rattle.s360_channel.proofs.Places.{map_same, sum_set, all_of_others, devices, changes, devices_set, changes_twice, same_number, get_set}
+use Rattle.s360_channel.proofs.Places.{others_set}
 use Rattle.s360_channel.proofs.Works.{channel_of, devices_of, distinct_drives, device_there, subchannel_of, run_at}
 
 -- Drives in which the drive and the arm of one of them changed, and a program that is over there.
 
 -- What an event that meets this fault does at a channel, from what the machine comes to and what the channel shows
 -- then. Its premises are many, since steps, a halt and a reset come here.
-pub does_this : (e : Event) (m : Machine) (answer : Answer) (old new : ChannelState) (fault : Option FaultAfter) (after : Machine) → StandsFor old m → react e fault m ≡ (answer, after)
-    → new.number ≡ old.number → length new.drives ≤ 8 → Shows new after new.subchannel → IsMet fault answer old new → Reports e m fault → Does e m answer old new
+pub does_this : (e : Event) (m : Machine) (answer : Answer) (old new : ChannelState) (fault : Option FaultAfter) (after : Machine)
+    → StandsFor old m → react e fault m ≡ (answer, after)
+    → new.number ≡ old.number → length new.drives ≤ 8 → Shows new after new.subchannel → IsMet fault answer old new → Reports e m fault
+    → Does e m answer old new
 does_this e m answer old new fault after s is same few shows met reports = record {
   fault = fault;
   met = met;
@@ -70,21 +74,30 @@ with_both u motion d = record { device = u.device; arm = arm_told motion; drive 
 
 -- a channel with this storage and subchannel, and another drive at a place
 abbrev pub channel_with : ChannelState → Storage → Subchannel → (place : ℕ) → AttachedState → ChannelState
-channel_with c s subchannel place u = record { number = c.number; storage = s; subchannel = subchannel; drives = slice_set c.drives place u }
+channel_with c s subchannel place u = record {
+  number = c.number;
+  storage = s;
+  subchannel = subchannel;
+  drives =
+      slice_set c.drives place u;
+}
 
 -- What the images count.
 
-module _ (c : ChannelState) (s : Storage) (subchannel : Subchannel) (place : ℕ) (u v : AttachedState) (at : slice_get c.drives place ≡ Some u) where
+module _ (c : ChannelState) (s : Storage) (subchannel : Subchannel) (place : ℕ) (u v : AttachedState) (at : slice_get c.drives place
+    ≡ Some u) where
   pub same_failures : v.drive.image.failures ≡ u.drive.image.failures → failures_of (channel_with c s subchannel place v) ≡ failures_of c
   same_failures h = omega (arith, sum_set (λ (u : AttachedState). u.drive.image.failures) c.drives place u v at, h)
 
-  pub one_failure : v.drive.image.failures ≡ u.drive.image.failures + 1 → failures_of (channel_with c s subchannel place v) ≡ failures_of c + 1
+  pub one_failure : v.drive.image.failures ≡ u.drive.image.failures + 1 → failures_of (channel_with c s subchannel place v) ≡ failures_of c
+      + 1
   one_failure h = omega (arith, sum_set (λ (u : AttachedState). u.drive.image.failures) c.drives place u v at, h)
 
   pub few_drives : length c.drives ≤ 8 → length (slice_set c.drives place v) ≤ 8
   few_drives h = subst (λ n. n ≤ 8) (sym (length-set c.drives place v)) h
 
-  pub calls_at_most : (most : ℕ) → program.CallsAtMost most u.drive v.drive → (v.drive.image.failures ≡ u.drive.image.failures) ⊎ (v.drive.image.failures ≡ u.drive.image.failures + 1)
+  pub calls_at_most : (most : ℕ) → program.CallsAtMost most u.drive v.drive → (v.drive.image.failures ≡ u.drive.image.failures)
+      ⊎ (v.drive.image.failures ≡ u.drive.image.failures + 1)
       → CallsAtMost most c (channel_with c s subchannel place v)
   calls_at_most most h f = record {
     calls = omega (arith, sum_set (λ (u : AttachedState). u.drive.image.loads + u.drive.image.saves) c.drives place u v at, h.calls);
@@ -94,22 +107,27 @@ module _ (c : ChannelState) (s : Storage) (subchannel : Subchannel) (place : ℕ
   }
     where
       either : (v.drive.image.failures ≡ u.drive.image.failures) ⊎ (v.drive.image.failures ≡ u.drive.image.failures + 1)
-          → (failures_of (channel_with c s subchannel place v) ≡ failures_of c) ⊎ (failures_of (channel_with c s subchannel place v) ≡ failures_of c + 1)
+          → (failures_of (channel_with c s subchannel place v) ≡ failures_of c)
+          ⊎ (failures_of (channel_with c s subchannel place v) ≡ failures_of c + 1)
       either (inl h) = inl (same_failures h)
       either (inr h) = inr (one_failure h)
 
-pub failures_told : (told : Option (Csw × Bool)) (old new : DriveState) → TellsOf told old new → (new.image.failures ≡ old.image.failures) ⊎ (new.image.failures ≡ old.image.failures + 1)
+pub failures_told : (told : Option (Csw × Bool)) (old new : DriveState) → TellsOf told old new → (new.image.failures ≡ old.image.failures)
+    ⊎ (new.image.failures ≡ old.image.failures + 1)
 failures_told told old new t = go t.failed
   where
-    go : ((new.image.failures ≡ old.image.failures) ⊎ ((new.image.failures ≡ old.image.failures + 1) × EndsWithFault told new)) → (new.image.failures ≡ old.image.failures) ⊎ (new.image.failures ≡ old.image.failures + 1)
+    go : ((new.image.failures ≡ old.image.failures) ⊎ ((new.image.failures ≡ old.image.failures + 1) × EndsWithFault told new))
+        → (new.image.failures ≡ old.image.failures) ⊎ (new.image.failures ≡ old.image.failures + 1)
     go (inl h) = inl h
     go (inr h) = inr h.0
 
 -- where one failed it is reported
-pub fault_told : (told : Csw × Bool) (old new : DriveState) → TellsOf (Some told) old new → new.image.failures ≡ old.image.failures + 1 → program.TellsFault told.0 new
+pub fault_told : (told : Csw × Bool) (old new : DriveState) → TellsOf (Some told) old new → new.image.failures ≡ old.image.failures + 1
+    → program.TellsFault told.0 new
 fault_told told old new t rose = go t.failed
   where
-    go : ((new.image.failures ≡ old.image.failures) ⊎ ((new.image.failures ≡ old.image.failures + 1) × EndsWithFault (Some told) new)) → program.TellsFault told.0 new
+    go : ((new.image.failures ≡ old.image.failures) ⊎ ((new.image.failures ≡ old.image.failures + 1) × EndsWithFault (Some told) new))
+        → program.TellsFault told.0 new
     go (inl h) = absurd (omega (arith, h, rose))
     go (inr h) = h.1
 
@@ -121,11 +139,13 @@ cut_calls written old new h = record { calls = most (saved written) (loaded h.lo
     saved true = omega arith
     saved false = omega arith
 
-    loaded : ((new.image.loads ≡ old.image.loads) ⊎ ((false ≡ true) × (written ≡ false) × (new.image.loads ≡ old.image.loads + 1))) → new.image.loads ≡ old.image.loads
+    loaded : ((new.image.loads ≡ old.image.loads) ⊎ ((false ≡ true) × (written ≡ false) × (new.image.loads ≡ old.image.loads + 1)))
+        → new.image.loads ≡ old.image.loads
     loaded (inl h) = h
     loaded (inr h) = absurd (cc)
 
-    most : cond written 1 0 ≤ 1 → new.image.loads ≡ old.image.loads → new.image.loads + new.image.saves ≤ old.image.loads + old.image.saves + 1
+    most : cond written 1 0 ≤ 1 → new.image.loads ≡ old.image.loads → new.image.loads + new.image.saves ≤ old.image.loads + old.image.saves
+        + 1
     most s l = omega (arith, h.saves, s, l)
 
 -- A program that is over.
@@ -133,24 +153,46 @@ cut_calls written old new h = record { calls = most (saved written) (loaded h.lo
 abbrev pub over : ChannelState → (place : ℕ) → AttachedState → Storage → Csw → (motion : Bool) → DriveState → ChannelState
 over c place u s csw motion new = channel_with c s (Pending u.device csw) place (with_both u motion new)
 
-module _ (c : ChannelState) (place : ℕ) (r : RunningState) (m : Machine) (w : WorksFor c place r m) (sound : IsSound m) (s : Storage) (told : Csw × Bool) (new : DriveState) (e : Ending) (is : IsEnding e told new) where
+module _ (c : ChannelState) (place : ℕ) (r : RunningState) (m : Machine) (w : WorksFor c place r m) (sound : IsSound m) (s : Storage)
+    (told : Csw × Bool) (new : DriveState) (e : Ending) (is : IsEnding e told new) where
   told_device : device_of (with_both w.attached told.1 new) ≡ set_both (arm_after e) e.drive (device_of w.attached)
   told_device =
       ap (λ b. record { device = w.attached.device; arm = arm_told b; drive = drive_of new.state }) is.motion
       ∙ ap (λ d. record { device = w.attached.device; arm = arm_after e; drive = d }) is.drive.drive
 
-  over_devices : map (changes w.attached.device (set_both (arm_after e) e.drive)) m.devices ≡ devices (slice_set c.drives place (with_both w.attached told.1 new))
+  over_devices : map (changes w.attached.device (set_both (arm_after e) e.drive)) m.devices
+      ≡ devices (slice_set c.drives place (with_both w.attached told.1 new))
   over_devices =
       ap (map (changes w.attached.device (set_both (arm_after e) e.drive))) (devices_of c place r m w)
       ∙ changes_twice w.attached.device (set_drive w.drive) (set_both (arm_after e) e.drive) (λ d. refl) (devices c.drives)
-      ∙ sym (devices_set c.drives place w.attached (with_both w.attached told.1 new) (set_both (arm_after e) e.drive) (distinct_drives c place r m w sound) w.is_there told_device)
+      ∙ sym (devices_set c.drives place w.attached (with_both w.attached told.1 new) (set_both (arm_after e) e.drive)
+      (distinct_drives c place r m w sound) w.is_there told_device)
 
   -- the machine of the channel then
-  pub over_machine : ended w.attached.device s e m ≡ machine_of (over c place w.attached s told.0 told.1 new) (machine.Pending w.attached.device told.0)
+  pub over_machine : ended w.attached.device s e m ≡ machine_of (over c place w.attached s told.0 told.1 new)
+      (machine.Pending w.attached.device told.0)
   over_machine =
-      ap (λ n. record { channel = n; storage = s; subchannel = machine.Pending w.attached.device e.csw; devices = map (changes w.attached.device (set_both (arm_after e) e.drive)) m.devices }) (channel_of c place r m w)
-      ∙ ap (λ ds. record { channel = c.number; storage = s; subchannel = machine.Pending w.attached.device e.csw; devices = ds }) over_devices
-      ∙ ap (λ csw. record { channel = c.number; storage = s; subchannel = machine.Pending w.attached.device csw; devices = devices (slice_set c.drives place (with_both w.attached told.1 new)) }) (sym is.csw)
+      ap (λ n. record {
+        channel = n;
+        storage = s;
+        subchannel = machine.Pending w.attached.device e.csw;
+        devices =
+            map (changes w.attached.device (set_both (arm_after e) e.drive)) m.devices;
+      }) (channel_of c place r m w)
+      ∙ ap (λ ds. record {
+        channel = c.number;
+        storage = s;
+        subchannel = machine.Pending w.attached.device e.csw;
+        devices =
+            ds;
+      }) over_devices
+      ∙ ap (λ csw. record {
+        channel = c.number;
+        storage = s;
+        subchannel = machine.Pending w.attached.device csw;
+        devices =
+            devices (slice_set c.drives place (with_both w.attached told.1 new));
+      }) (sym is.csw)
 
   pub over_rest : AllRest (slice_set c.drives place (with_both w.attached told.1 new))
   over_rest = all_of_others c.drives place (with_both w.attached told.1 new) w.others is.drive.rests
@@ -165,7 +207,8 @@ module _ (c : ChannelState) (place : ℕ) (r : RunningState) (m : Machine) (w : 
     unit_check = ap (λ (csw : Csw). tells csw.unit UNIT_CHECK) (sym is.csw) ∙ t.unit_check;
     drive = set_both (arm_after e) e.drive first;
     is_there =
-        found_map (λ n. n == w.attached.device) (changes w.attached.device (set_both (arm_after e) e.drive)) (keeps_one w.attached.device (set_both (arm_after e) e.drive) (λ d. refl)) m.devices
+        found_map (λ n. n == w.attached.device) (changes w.attached.device (set_both (arm_after e) e.drive))
+        (keeps_one w.attached.device (set_both (arm_after e) e.drive) (λ d. refl)) m.devices
         ∙ (ap (option_map (changes w.attached.device (set_both (arm_after e) e.drive))) (device_there c place r m w sound)
         ∙ ap (λ b. Some (cond b (set_both (arm_after e) e.drive first) first)) (same_number w.attached.device));
     equipment_check = ap (λ (d : IdleDrive). tells_equipment_check d.sense) (sym is.drive.drive) ∙ t.equipment_check;
@@ -181,17 +224,21 @@ pub runs_of : (m : Machine) → IsSound m → Runs m m.subchannel
 runs_of m sound = (sound_parts m m.subchannel sound.1).0
 
 -- the units of a step, up to the one in which the program ended
-split : (k earlier : ℕ) (f : Option Fault) → earlier < k → (n : ℕ) × (units_with k (met_in earlier f) ≡ units earlier ++ OneUnit f ∷ units n)
+split : (k earlier : ℕ) (f : Option Fault) → earlier < k → (n : ℕ) × (units_with k (met_in earlier f) ≡ units earlier ++ OneUnit f
+    ∷ units n)
 split zero earlier f h = let never : ⊥ = omega arith in absurd never
 split (suc k) zero None h = (k, refl)
 split (suc k) zero (Some f) h = (k, refl)
 split (suc k) (suc earlier) None h = let y = split k earlier None (omega arith) in (y.0, ap (λ l. OneUnit None ∷ l) y.1)
 split (suc k) (suc earlier) (Some f) h = let y = split k earlier (Some f) (omega arith) in (y.0, ap (λ l. OneUnit None ∷ l) y.1)
 
-module _ (c : ChannelState) (place : ℕ) (r : RunningState) (m : Machine) (w : WorksFor c place r m) (stands : StandsFor c m) (k done : ℕ) (s : Storage) (new : DriveState) where
+module _ (c : ChannelState) (place : ℕ) (r : RunningState) (m : Machine) (w : WorksFor c place r m) (stands : StandsFor c m) (k done : ℕ)
+    (s : Storage) (new : DriveState) where
   -- the step is read off the run
-  stepped_at : (x : Option FaultAfter) → react (StepBy k) x m ≡ stepped w.attached.device w.script k m (Some (run (w.script ++ units_with k x) (start_of m w.drive)))
-  stepped_at x = ap (step k x m) (subchannel_of c place r m w) ∙ ap (stepped w.attached.device w.script k m) (run_at c place r m w stands.sound (w.script ++ units_with k x))
+  stepped_at : (x : Option FaultAfter) → react (StepBy k) x m ≡ stepped w.attached.device w.script k m
+      (Some (run (w.script ++ units_with k x) (start_of m w.drive)))
+  stepped_at x = ap (step k x m) (subchannel_of c place r m w)
+      ∙ ap (stepped w.attached.device w.script k m) (run_at c place r m w stands.sound (w.script ++ units_with k x))
 
   -- It goes on.
 
@@ -205,13 +252,16 @@ module _ (c : ChannelState) (place : ℕ) (r : RunningState) (m : Machine) (w : 
 
     went : react (StepBy k) None m ≡ (Stepped done, goes_on w.attached.device w.script (units k) m)
     went =
-        stepped_at None ∙ (ap (λ o. stepped w.attached.device w.script k m (Some o)) (seen (start_of m w.drive) (w.script ++ units k) r' s new runs_on)
+        stepped_at None ∙ (ap (λ o. stepped w.attached.device w.script k m (Some o))
+        (seen (start_of m w.drive) (w.script ++ units k) r' s new runs_on)
         ∙ ap (λ n. (Stepped n, goes_on w.attached.device w.script (units k) m)) (sym how.done))
 
-    same_devices : map (changes w.attached.device (set_drive w.drive)) (devices c.drives) ≡ map (changes w.attached.device (set_drive w.drive)) (devices now.drives)
+    same_devices : map (changes w.attached.device (set_drive w.drive)) (devices c.drives)
+        ≡ map (changes w.attached.device (set_drive w.drive)) (devices now.drives)
     same_devices =
         map-map (changes w.attached.device (set_drive w.drive)) device_of c.drives
-        ∙ (sym (map_same (λ u. changes w.attached.device (set_drive w.drive) (device_of u)) c.drives place w.attached (with_drive w.attached new) w.is_there
+        ∙ (sym (map_same (λ u. changes w.attached.device (set_drive w.drive) (device_of u)) c.drives place w.attached
+        (with_drive w.attached new) w.is_there
         (ap (λ b. cond b (set_drive w.drive (device_of w.attached)) (device_of (with_drive w.attached new))) (same_number w.attached.device)
         ∙ sym (ap (λ b. cond b (set_drive w.drive (device_of w.attached)) (device_of w.attached)) (same_number w.attached.device))))
         ∙ sym (map-map (changes w.attached.device (set_drive w.drive)) device_of now.drives))
@@ -225,7 +275,13 @@ module _ (c : ChannelState) (place : ℕ) (r : RunningState) (m : Machine) (w : 
       script = w.script ++ units k;
       machine =
           ap (with_subchannel (machine.Working w.attached.device (w.script ++ units k))) w.machine
-          ∙ ap (λ ds. record { channel = c.number; storage = w.storage; subchannel = machine.Working w.attached.device (w.script ++ units k); devices = ds }) same_devices;
+          ∙ ap (λ ds. record {
+            channel = c.number;
+            storage = w.storage;
+            subchannel =
+                machine.Working w.attached.device (w.script ++ units k);
+            devices = ds;
+          }) same_devices;
       runs = runs_on;
       others = others_set c.drives place w.attached (with_drive w.attached new) w.is_there w.others;
     }
@@ -233,20 +289,27 @@ module _ (c : ChannelState) (place : ℕ) (r : RunningState) (m : Machine) (w : 
     pub goes_on_does : Does (StepBy k) m (Stepped done) c now
     goes_on_does = does_this (StepBy k) m (Stepped done) c now None (goes_on w.attached.device w.script (units k) m) stands went refl
         (few_drives c s (Working place r') place w.attached (with_drive w.attached new) w.is_there stands.few) works_on
-        (same_failures c s (Working place r') place w.attached (with_drive w.attached new) w.is_there how.failures) (no_fault_none_told m (StepBy k) (runs_of m stands.sound))
+        (same_failures c s (Working place r') place w.attached (with_drive w.attached new) w.is_there how.failures)
+        (no_fault_none_told m (StepBy k) (runs_of m stands.sound))
 
   -- It ends.
 
-  module _ (told : Csw × Bool) (tells : TellsOf (Some told) w.attached.drive new) (how : CameToEnd r.key (phase_in r c.storage w.attached.drive) k done told s w.attached.drive new) where
+  module _ (told : Csw × Bool) (tells : TellsOf (Some told) w.attached.drive new)
+      (how : CameToEnd r.key (phase_in r c.storage w.attached.drive) k done told s w.attached.drive new) where
     abbrev now_over : ChannelState
     now_over = over c place w.attached s told.0 told.1 new
 
-    came : (f : Option Fault) → how.fault ≡ f → react (StepBy k) (met_in how.earlier f) m ≡ (Stepped done, ended w.attached.device s how.ending m)
+    came : (f : Option Fault) → how.fault ≡ f → react (StepBy k) (met_in how.earlier f) m ≡ (
+      Stepped done,
+      ended w.attached.device s how.ending m,
+    )
     came f is =
         let y = split k how.earlier f (omega (arith, how.last, how.done)) in
         stepped_at (met_in how.earlier f)
-        ∙ ap (λ l. stepped w.attached.device w.script k m (Some (run (w.script ++ l) (start_of m w.drive)))) (y.1 ∙ ap (λ f. units how.earlier ++ OneUnit f ∷ units y.0) (sym is))
-        ∙ ap (λ o. stepped w.attached.device w.script k m (Some o)) (ends_after ends_by ended_stays (start_of m w.drive) w.script r c.storage s w.attached.drive new k done told w.runs how (units y.0))
+        ∙ ap (λ l. stepped w.attached.device w.script k m (Some (run (w.script ++ l) (start_of m w.drive)))) (y.1
+        ∙ ap (λ f. units how.earlier ++ OneUnit f ∷ units y.0) (sym is))
+        ∙ ap (λ o. stepped w.attached.device w.script k m (Some o)) (ends_after ends_by ended_stays (start_of m w.drive) w.script r
+        c.storage s w.attached.drive new k done told w.runs how (units y.0))
         ∙ ap (λ n. (Stepped n, ended w.attached.device s how.ending m)) (less (units_in w.script) done)
       where
         less : (a b : ℕ) → a + b - a ≡ b
@@ -257,15 +320,23 @@ module _ (c : ChannelState) (place : ℕ) (r : RunningState) (m : Machine) (w : 
 
     is_met : (f : Option Fault) → program.IsMet f w.attached.drive new → IsMet (met_in how.earlier f) (Stepped done) c now_over
     is_met None h = same_failures c s (Pending w.attached.device told.0) place w.attached (with_both w.attached told.1 new) w.is_there h
-    is_met (Some f) h = (one_failure c s (Pending w.attached.device told.0) place w.attached (with_both w.attached told.1 new) w.is_there h, one_more)
+    is_met (Some f) h = (
+      one_failure c s (Pending w.attached.device told.0) place w.attached (with_both w.attached told.1 new) w.is_there h,
+      one_more,
+    )
 
     is_told : (f : Option Fault) → how.fault ≡ f → program.IsMet f w.attached.drive new → Reports (StepBy k) m (met_in how.earlier f)
     is_told None is h = no_fault_none_told m (StepBy k) (runs_of m stands.sound)
-    is_told (Some f) is h = subst (λ a. EndedByFault a (Stepped (suc how.earlier))) (sym (came (Some f) is ∙ ap (λ n. (Stepped n, ended w.attached.device s how.ending m)) one_more))
-        (over_fault c place r m w stands.sound s told new how.ending how.is_ending (Stepped (suc how.earlier)) (fault_told told w.attached.drive new tells h))
+    is_told (Some f) is h = subst (λ a. EndedByFault a (Stepped (suc how.earlier))) (sym (came (Some f) is
+        ∙ ap (λ n. (Stepped n, ended w.attached.device s how.ending m)) one_more))
+        (over_fault c place r m w stands.sound s told new how.ending how.is_ending (Stepped (suc how.earlier))
+        (fault_told told w.attached.drive new tells h))
 
     pub ends_does : Does (StepBy k) m (Stepped done) c now_over
-    ends_does = does_this (StepBy k) m (Stepped done) c now_over (met_in how.earlier how.fault) (ended w.attached.device s how.ending m) stands (came how.fault refl) refl
-        (few_drives c s (Pending w.attached.device told.0) place w.attached (with_both w.attached told.1 new) w.is_there stands.few)
-        (over_machine c place r m w stands.sound s told new how.ending how.is_ending, over_rest c place r m w stands.sound s told new how.ending how.is_ending)
+    ends_does = does_this (StepBy k) m (Stepped done) c now_over (met_in how.earlier how.fault) (ended w.attached.device s how.ending m)
+        stands (came how.fault refl) refl
+        (few_drives c s (Pending w.attached.device told.0) place w.attached (with_both w.attached told.1 new) w.is_there stands.few) (
+          over_machine c place r m w stands.sound s told new how.ending how.is_ending,
+          over_rest c place r m w stands.sound s told new how.ending how.is_ending,
+        )
         (is_met how.fault how.met) (is_told how.fault refl how.met)

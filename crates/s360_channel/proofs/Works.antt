@@ -36,26 +36,38 @@ module _ (c : ChannelState) (place : ℕ) (r : RunningState) (m : Machine) (w : 
   devices_of = ap (λ (m : Machine). m.devices) w.machine
 
   pub distinct_drives : IsSound m → AreDistinct (map device_of c.drives)
-  distinct_drives sound = distinct_before _ (keeps_one w.attached.device (set_drive w.drive) (λ v. refl)) (map device_of c.drives) (subst AreDistinct devices_of sound.0)
+  distinct_drives sound = distinct_before _ (keeps_one w.attached.device (set_drive w.drive) (λ v. refl)) (map device_of c.drives)
+      (subst AreDistinct devices_of sound.0)
 
   -- the device at its address has the arm of the drive, and the drive of the start
-  pub device_there : IsSound m → device_at m w.attached.device ≡ Some (record { device = w.attached.device; arm = w.attached.arm; drive = w.drive })
+  pub device_there : IsSound m → device_at m w.attached.device ≡ Some (record {
+    device = w.attached.device;
+    arm = w.attached.arm;
+    drive =
+        w.drive;
+  })
   device_there sound =
       ap (find (λ v. v.device == w.attached.device)) devices_of
       ∙ found_map (λ d. d == w.attached.device) _ (keeps_one w.attached.device (set_drive w.drive) (λ v. refl)) (map device_of c.drives)
-      ∙ ap (option_map (λ d. cond (d.device == w.attached.device) (set_drive w.drive d) d)) (found_at c.drives place w.attached (distinct_drives sound) w.is_there)
-      ∙ ap (λ b. Some (cond b (set_drive w.drive (device_of w.attached)) (device_of w.attached))) (eq-eqb w.attached.device w.attached.device refl)
+      ∙ ap (option_map (λ d. cond (d.device == w.attached.device) (set_drive w.drive d) d)) (found_at c.drives place w.attached
+      (distinct_drives sound) w.is_there)
+      ∙ ap (λ b. Some (cond b (set_drive w.drive (device_of w.attached)) (device_of w.attached)))
+      (eq-eqb w.attached.device w.attached.device refl)
 
   pub run_at : IsSound m → (script : Script) → run_of m w.attached.device script ≡ Some (run script (start_of m w.drive))
   run_at sound script = ap (option_map (λ d. run script (start_of m d.drive))) (device_there sound)
 
-  pub seen_there : IsSound m → run_of m w.attached.device w.script ≡ Some (NotEnded (standing_in r.key (phase_in r c.storage w.attached.drive)))
+  pub seen_there : IsSound m → run_of m w.attached.device w.script
+      ≡ Some (NotEnded (standing_in r.key (phase_in r c.storage w.attached.drive)))
   seen_there sound = run_at sound w.script ∙ ap Some (seen (start_of m w.drive) w.script r c.storage w.attached.drive w.runs)
 
 -- What is so of each phase with this storage is so of the one in which a running program stands beside it.
-pub by_phase : (P : ProgramPhase → Type 0) (g : Stage) (p : Place) (s : Storage) (d : State) (w : work.Work) → P (Between (record { storage = s; place = p; state = d }))
+pub by_phase : (P : ProgramPhase → Type 0) (g : Stage) (p : Place) (s : Storage) (d : State) (w : work.Work)
+    → P (Between (record { storage = s; place = p; state = d }))
     → ((o : Opened) (ccw : Ccw) → P (Looking (record { opened = o; state = d }) (record { storage = s; ccw = ccw; place = p })))
-    → ((o : Opened) (ccw : Ccw) (at : ℕ) (bytes : List ℕ) → P (Moving (record { opened = o; state = d }) (record { storage = s; ccw = ccw; place = p; address = at; bytes = bytes }))) → P (phase_by g p s d w)
+    → ((o : Opened) (ccw : Ccw) (at : ℕ) (bytes : List ℕ)
+    → P (Moving (record { opened = o; state = d }) (record { storage = s; ccw = ccw; place = p; address = at; bytes = bytes })))
+    → P (phase_by g p s d w)
 by_phase P stage.Between p s d w between looks moves = between
 by_phase P (stage.Looking ccw) p s d work.Idle between looks moves = between
 by_phase P (stage.Looking ccw) p s d (work.Over e) between looks moves = between
@@ -67,10 +79,12 @@ by_phase P (stage.Moving ccw a) p s d (work.Looking o) between looks moves = bet
 by_phase P (stage.Moving ccw a) p s d (work.Passing o b left) between looks moves = moves o ccw a b
 
 -- what is seen of storage in a phase is storage
-pub storage_seen : (key : ℕ) (g : Stage) (p : Place) (s : Storage) (d : State) (w : work.Work) → (standing_in key (phase_by g p s d w)).storage ≡ s
+pub storage_seen : (key : ℕ) (g : Stage) (p : Place) (s : Storage) (d : State) (w : work.Work)
+    → (standing_in key (phase_by g p s d w)).storage ≡ s
 storage_seen key g p s d w = by_phase (λ f. (standing_in key f).storage ≡ s) g p s d w refl (λ o ccw. refl) (λ o ccw at bytes. refl)
 
-pub storage_there : (c : ChannelState) (place : ℕ) (r : RunningState) (m : Machine) → WorksFor c place r m → IsSound m → storage_of m m.subchannel ≡ c.storage
+pub storage_there : (c : ChannelState) (place : ℕ) (r : RunningState) (m : Machine) → WorksFor c place r m → IsSound m
+    → storage_of m m.subchannel ≡ c.storage
 storage_there c place r m w sound =
     ap (storage_of m) (subchannel_of c place r m w) ∙ ap (machine.storage_after m) (seen_there c place r m w sound)
     ∙ storage_seen r.key r.stage r.place c.storage w.attached.drive.state w.attached.drive.work

@@ -1,5 +1,6 @@
 -- Drives that are taken off a channel, and packs that are changed.
-use Rattle.std.specs.Prelude.{◌≡◌, ◌-◌, ℕ, Bool, true, false, not, ◌==◌, ◌&&◌, Option, Some, None, filter, option_map, slice_get, slice_set, nat_lt, if◌then◌else◌}
+use Rattle.std.specs.Prelude.{◌≡◌, ◌-◌, ℕ, Bool, true, false, not, ◌==◌, ◌&&◌, Option, Some, None, filter, option_map, slice_get, slice_set, nat_lt}
+use Rattle.std.specs.Prelude.{if◌then◌else◌}
 use Rattle.std.specs.List.{remove}
 use Rattle.ckd_command.specs.Drive.{Volume, first_drive}
 use Rattle.ckd_image.specs.Image.{ImageState}

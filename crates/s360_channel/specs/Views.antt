@@ -1,5 +1,6 @@
 -- What a channel shows of itself: the machine's subchannel and arms.
-use Rattle.std.specs.Prelude.{◌≡◌, ℕ, ◌-◌, ◌++◌, List, map, length, replicate, Bool, true, false, Option, Some, None, is_some, option_map, position, slice_get, nat_lt, if◌then◌else◌}
+use Rattle.std.specs.Prelude.{◌≡◌, ℕ, ◌-◌, ◌++◌, List, map, length, replicate, Bool, true, false, Option, Some, None, is_some, option_map, position, slice_get}
+use Rattle.std.specs.Prelude.{nat_lt, if◌then◌else◌}
 use Rattle.ckd_image.specs.Image.{ImageState}
 use Rattle.s360_words.specs.Storage.{Storage, key_at}
 use Rattle.s360_laws.specs.Events.{Answer, Interrupt, Interrupted}

@@ -19,7 +19,8 @@ use Rattle.s360_channel.specs.declared.view.SubchannelView.TheVariants as seen
 use Rattle.s360_channels.specs.Channels.{OnChannel, OnFound, Runs, RunsTo, numbered}
 use Rattle.s360_channels.specs.Selectors.{SelectorsState, across}
 
-no_step : (m : Machine) (k : ℕ) (s : Subchannel) → m.subchannel ≡ s → WithCode (test_channel s) ≡ WithCode Zero → react (StepBy k) None m ≡ (Stepped 0, m)
+no_step : (m : Machine) (k : ℕ) (s : Subchannel) → m.subchannel ≡ s → WithCode (test_channel s) ≡ WithCode Zero
+    → react (StepBy k) None m ≡ (Stepped 0, m)
 no_step m k Idle is h = ap (step k None m) is
 no_step m k (Working p script) is h = absurd (cc)
 no_step m k (Pending p csw) is h = absurd (cc)
@@ -53,9 +54,11 @@ set_same [] n c e = none_is_some e
 set_same (d ∷ cs) zero c e = ap (λ d. d ∷ cs) e
 set_same (d ∷ cs) (suc n) c e = ap (λ r. d ∷ r) (set_same cs n c e)
 
-pub stays_available : (number : ℕ) (v : SelectorsState) (c : SelectorState) (t : Condition (Unit {0})) → Some c ≡ numbered number v.channels → t ≡ code.Zero
+pub stays_available : (number : ℕ) (v : SelectorsState) (c : SelectorState) (t : Condition (Unit {0})) → Some c ≡ numbered number v.channels
+    → t ≡ code.Zero
     → ((s : Storage) (m : Machine) → StandsFor (over c s) m → DoesQuietly Tch m (answer_seen (answer.Tch t)) (over c s))
-    → (s : Storage) (units : ℕ) → OnChannel number (RunsTo units (Some (record { units = 0; subchannel = seen.Idle }))) ⊥ (across v s) (across v s)
+    → (s : Storage) (units : ℕ) → OnChannel number (RunsTo units (Some (record { units = 0; subchannel = seen.Idle }))) ⊥ (across v s)
+    (across v s)
 stays_available number v c t there is does s units =
     subst (λ o. OnFound o number (RunsTo units (Some (record { units = 0; subchannel = seen.Idle }))) ⊥ (across v s) (across v s)) there
     (record {

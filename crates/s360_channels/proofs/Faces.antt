@@ -18,6 +18,10 @@ on_err (Ok a) f h = h
 on_err (Err e) f h = f h
 
 -- a channel that was added is for the storage that is owned
-pub added_across : (number : ℕ) (s : Storage) (old new : SelectorsState) → new ≡ record old { channels = slice_set old.channels number (Some (new_channel number old.size)) } → length s.bytes ≡ old.size
+pub added_across : (number : ℕ) (s : Storage) (old new : SelectorsState) → new ≡ record old {
+  channels =
+      slice_set old.channels number (Some (new_channel number old.size));
+} → length s.bytes ≡ old.size
     → across new s ≡ record (across old s) { channels = slice_set old.channels number (Some (new_channel number (length s.bytes))) }
-added_across number s old new e z = ap (λ v. across v s) e ∙ ap (λ n. across (record old { channels = slice_set old.channels number (Some (new_channel number n)) }) s) (sym z)
+added_across number s old new e z = ap (λ v. across v s) e
+    ∙ ap (λ n. across (record old { channels = slice_set old.channels number (Some (new_channel number n)) }) s) (sym z)

@@ -6,7 +6,8 @@ use Rattle.ckd_command.specs.Drive.{Fault}
 use Rattle.s360_runs.specs.Starts.{First, BadStart, RejectedStart, ImmediateStart, AcceptedStart, first}
 use Rattle.s360_laws.proofs.FindDevices.{found_map}
 use Rattle.s360_laws.specs.Events.{Answer, FaultAfter, Sio, Tio, Hio, WithCode}
-use Rattle.s360_laws.specs.Machine.{Machine, Device, Subchannel, Idle, Working, Pending, device_at, halt_io, on_channel, react, start_device, start_io, start_of, started, test_device, test_io, fault_in}
+use Rattle.s360_laws.specs.Machine.{Machine, Device, Subchannel, Idle, Working, Pending, device_at, halt_io, on_channel, react}
+use Rattle.s360_laws.specs.Machine.{start_device, start_io, start_of, started, test_device, test_io, fault_in}
 use Rattle.s360_laws.specs.declared.arm.Arm.{Arm}
 use Rattle.s360_laws.specs.declared.arm.Arm.TheVariants.{InMotion, Arrived, AtRest}
 use Rattle.s360_laws.specs.declared.condition.ConditionCode.TheVariants.{Three}
@@ -49,7 +50,8 @@ test_missing device m (Some d) h = absurd (go d.arm h)
     go Arrived h = cc
     go AtRest h = cc
 
-either_code : (b : Bool) (x y : Answer × Machine) → (x.0 ≡ WithCode Three → ⊥) → (y.0 ≡ WithCode Three → ⊥) → (cond b x y).0 ≡ WithCode Three → ⊥
+either_code : (b : Bool) (x y : Answer × Machine) → (x.0 ≡ WithCode Three → ⊥) → (y.0 ≡ WithCode Three → ⊥)
+    → (cond b x y).0 ≡ WithCode Three → ⊥
 either_code true x y f g h = f h
 either_code false x y f g h = g h
 
@@ -62,7 +64,8 @@ otherwise : (b : Bool) (x y : Answer × Machine) → (x.0 ≡ WithCode Three →
 otherwise true x y f h = absurd (f h)
 otherwise false x y f h = refl
 
-halt_io_missing : (fault : Option Fault) (device : ℕ) (m : Machine) (s : Subchannel) → (halt_io fault device m s).0 ≡ WithCode Three → Missing device m
+halt_io_missing : (fault : Option Fault) (device : ℕ) (m : Machine) (s : Subchannel) → (halt_io fault device m s).0 ≡ WithCode Three
+    → Missing device m
 halt_io_missing fault device m Idle h = otherwise (is_some (device_at m device)) _ _ (λ e. cc) h
 halt_io_missing fault device m (Working p script) h = absurd (cc)
 halt_io_missing fault device m (Pending p csw) h = absurd (cc)
@@ -73,7 +76,8 @@ some_map : (g : Device → Device) (x : Option Device) → is_some (option_map g
 some_map g None = refl
 some_map g (Some d) = refl
 
-module _ (a : ℕ) (c : ChannelState) (m : Machine) (t : StandsFor c m) (own : c.number ≡ a / 256) (x : Option FaultAfter) (answer : Answer) (three : answer ≡ WithCode Three) where
+module _ (a : ℕ) (c : ChannelState) (m : Machine) (t : StandsFor c m) (own : c.number ≡ a / 256) (x : Option FaultAfter) (answer : Answer)
+    (three : answer ≡ WithCode Three) where
   no_drive : Missing (a % 256) m → is_taken (a % 256) c ≡ false
   no_drive h =
       let k = seen_by c m c.subchannel t.shows in
@@ -95,4 +99,5 @@ module _ (a : ℕ) (c : ChannelState) (m : Machine) (t : StandsFor c m) (own : c
   test_asks h = no_drive (test_io_missing (a % 256) m m.subchannel (answered (test_io (a % 256) m m.subchannel) h))
 
   pub halt_asks : answer ≡ (react (Hio a) x m).0 → is_taken (a % 256) c ≡ false
-  halt_asks h = no_drive (halt_io_missing (fault_in x) (a % 256) m m.subchannel (answered (halt_io (fault_in x) (a % 256) m m.subchannel) h))
+  halt_asks h = no_drive (halt_io_missing (fault_in x) (a % 256) m m.subchannel
+      (answered (halt_io (fault_in x) (a % 256) m m.subchannel) h))

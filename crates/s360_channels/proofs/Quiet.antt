@@ -12,7 +12,8 @@ use Rattle.s360_channels.specs.Interrupting.{FirstPending, is_open}
 use Rattle.s360_channels.specs.Selectors.{SelectorsState, across}
 
 -- What is so of a channel whatever the storage is, is so over the shared one.
-pub pends_here : (answer : Bool) (number : ℕ) (v : SelectorsState) (s : Storage) → PendsAt answer (numbered number v.channels) → InterruptsAt answer s (channel_at number (across v s))
+pub pends_here : (answer : Bool) (number : ℕ) (v : SelectorsState) (s : Storage) → PendsAt answer (numbered number v.channels)
+    → InterruptsAt answer s (channel_at number (across v s))
 pends_here answer number v s h = go (numbered number v.channels) h
   where
     go : (o : Option SelectorState) → PendsAt answer o → InterruptsAt answer s (option_map (λ c. over c s) o)
@@ -33,10 +34,12 @@ open_below mask number h = ltb-true number 7 (first_of (nat_lt number 7) _ h)
     first_of false b h = absurd (cc)
 
 -- Where it is known of all channels that nothing pends, none is the first one
-pub none_first : {size : ℕ} {quiet : Bool} {cs : List (Option SelectorState)} {v : SelectorsState} (mask : ℕ) (s : Storage) → record { size = size; channels = cs } ≡ v
+pub none_first : {size : ℕ} {quiet : Bool} {cs : List (Option SelectorState)} {v : SelectorsState} (mask : ℕ) (s : Storage)
+    → record { size = size; channels = cs } ≡ v
     → AllFit size quiet cs → quiet ≡ true → FirstPending mask (across v s) None
 none_first {size} {quiet} {cs} {v} mask s view h q =
-    subst (λ v. FirstPending mask (across v s) None) view (λ number asked. pends_here false number (record { size = size; channels = cs }) s (go number (numbered number cs) refl))
+    subst (λ v. FirstPending mask (across v s) None) view (λ number asked. pends_here false number (record { size = size; channels = cs }) s
+    (go number (numbered number cs) refl))
   where
     go : (number : ℕ) (o : Option SelectorState) → numbered number cs ≡ o → PendsAt false o
     go number None e = refl
@@ -48,7 +51,8 @@ within (d ∷ cs) zero c e = omega arith
 within (d ∷ cs) (suc n) c e = let l = within cs n c e in omega (arith, l)
 
 -- all fit still, where now it is known that nothing pends
-pub fit_quiet : (size : ℕ) (was quiet : Bool) (cs : List (Option SelectorState)) → AllFit size was cs → (quiet ≡ true → NonePends cs) → AllFit size quiet cs
+pub fit_quiet : (size : ℕ) (was quiet : Bool) (cs : List (Option SelectorState)) → AllFit size was cs → (quiet ≡ true → NonePends cs)
+    → AllFit size quiet cs
 fit_quiet size was quiet cs h none = record {
   seven = h.seven;
   fit = λ number c e. let d = h.fit number c e in record {

@@ -31,7 +31,8 @@ is_front : (before after : Option (List ℕ)) (text : List ℕ) → ReadsWhole b
 is_front before after text h = record { text = text; read = h.read; size = omega (arith, h.size) }
 
 -- the first bytes were read
-pub is_unread : (fault : RunFault) (before after : Option (List ℕ)) (old new : ChannelState) (written_before written : Option (List ℕ)) → IsReadFault fault → ReadsFront before after → Runs (Err fault) before after old new written_before written
+pub is_unread : (fault : RunFault) (before after : Option (List ℕ)) (old new : ChannelState) (written_before written : Option (List ℕ))
+    → IsReadFault fault → ReadsFront before after → Runs (Err fault) before after old new written_before written
 is_unread Read before after old new written_before written is h = h
 is_unread Write before after old new written_before written is h = absurd is
 is_unread (Deck OutOfMemory) before after old new written_before written is h = h
@@ -40,11 +41,13 @@ is_unread (Deck (Operand n)) before after old new written_before written is h = 
 is_unread (Deck (LineTooLong n)) before after old new written_before written is h = absurd is
 
 -- there was no memory for the answers
-pub has_no_room : (before after : Option (List ℕ)) (old new : ChannelState) (written_before written : Option (List ℕ)) (text : List ℕ) → ReadsWhole before after text → Runs (Err (Deck OutOfMemory)) before after old new written_before written
+pub has_no_room : (before after : Option (List ℕ)) (old new : ChannelState) (written_before written : Option (List ℕ)) (text : List ℕ)
+    → ReadsWhole before after text → Runs (Err (Deck OutOfMemory)) before after old new written_before written
 has_no_room before after old new written_before written text h = is_front before after text h
 
 -- the text is no deck
-faulty : (fault : RunFault) (before after : Option (List ℕ)) (old new : ChannelState) (written_before written : Option (List ℕ)) (text : List ℕ)
+faulty : (fault : RunFault) (before after : Option (List ℕ)) (old new : ChannelState) (written_before written : Option (List ℕ))
+    (text : List ℕ)
     → ReadsWhole before after text → Spells (Err fault) text → Runs (Err fault) before after old new written_before written
 faulty (Deck OutOfMemory) before after old new written_before written text h r = is_front before after text h
 faulty (Deck (Unknown n)) before after old new written_before written text h r = record { text = text; is_read = h; faulty = r }
@@ -53,26 +56,45 @@ faulty (Deck (LineTooLong n)) before after old new written_before written text h
 faulty Read before after old new written_before written text h r = absurd r
 faulty Write before after old new written_before written text h r = absurd r
 
-pub is_faulty : (fault : RunFault) (before after : Option (List ℕ)) (old new : ChannelState) (written_before written : Option (List ℕ)) (text seen : List ℕ)
+pub is_faulty : (fault : RunFault) (before after : Option (List ℕ)) (old new : ChannelState) (written_before written : Option (List ℕ))
+    (text seen : List ℕ)
     → seen ≡ text → ReadsWhole before after text → Spells (Err fault) seen → Runs (Err fault) before after old new written_before written
 is_faulty fault before after old new written_before written text seen is h r =
     faulty fault before after old new written_before written text h (subst (Spells (Err fault)) is r)
 
 -- the events have happened, and the lines were written, or the first bytes of them
-ran : (result : Result (Unit {0}) RunFault) (before after : Option (List ℕ)) (old new : ChannelState) (written_before written : Option (List ℕ)) (text : List ℕ) (answers : List Answer)
-    → ReadsWhole before after text → HasRun text old new answers → WritesFront result written_before written (lines_text answers) → Runs result before after old new written_before written
-ran (Ok done) before after old new written_before written text answers is h w = record { text = text; is_read = is; answers = answers; has_run = h; lines = w }
-ran (Err Write) before after old new written_before written text answers is h w = record { text = text; is_read = is; answers = answers; has_run = h; lines = w.1 }
+ran : (result : Result (Unit {0}) RunFault) (before after : Option (List ℕ)) (old new : ChannelState) (written_before written : Option
+    (List ℕ)) (text : List ℕ) (answers : List Answer)
+    → ReadsWhole before after text → HasRun text old new answers → WritesFront result written_before written (lines_text answers)
+    → Runs result before after old new written_before written
+ran (Ok done) before after old new written_before written text answers is h w = record {
+  text = text;
+  is_read = is;
+  answers =
+      answers;
+  has_run = h;
+  lines = w;
+}
+ran (Err Write) before after old new written_before written text answers is h w = record {
+  text = text;
+  is_read = is;
+  answers =
+      answers;
+  has_run = h;
+  lines = w.1;
+}
 ran (Err Read) before after old new written_before written text answers is h w = absurd (subst IsWrite (sym w.0) tt)
 ran (Err (Deck fault)) before after old new written_before written text answers is h w = absurd (subst IsWrite (sym w.0) tt)
 
-pub has_run : (result : Result (Unit {0}) RunFault) (before after : Option (List ℕ)) (old new : ChannelState) (written_before written : Option (List ℕ))
+pub has_run : (result : Result (Unit {0}) RunFault) (before after : Option (List ℕ)) (old new : ChannelState)
+    (written_before written : Option (List ℕ))
     (text seen : List ℕ) (events driven : List Event) (answers told : List Answer)
     → seen ≡ text → driven ≡ events → told ≡ answers
     → ReadsWhole before after text → events_of seen ≡ Ok events → AllAnswered driven answers
     → ((m : Machine) → StandsFor old m → Follows m (map event_seen driven) (map answer_seen answers) old new)
     → WritesFront result written_before written (lines_text told) → Runs result before after old new written_before written
-has_run result before after old new written_before written text seen events driven answers told seen_is driven_is told_is h spelled answered follows w =
+has_run result before after old new written_before written text seen events driven answers told seen_is driven_is told_is h spelled answered
+    follows w =
     ran result before after old new written_before written text answers h
     (record {
       size = h.size;

@@ -9,7 +9,8 @@ use Rattle.s360_deck.specs.Runs.{ReadsFront}
 use Rattle.s360_deck.specs.CountedRuns.{FailsToRead, ReadsFaultily, NotAdded}
 
 -- the first bytes of a text, and a piece that was read and not added
-pub front_more : (a b c : Option (List ℕ)) (text piece : List ℕ) → Consumes a b text → length text ≤ 1048576 → Consumes b c piece → length piece ≤ 4096 → ReadsFront a c
+pub front_more : (a b c : Option (List ℕ)) (text piece : List ℕ) → Consumes a b text → length text ≤ 1048576 → Consumes b c piece
+    → length piece ≤ 4096 → ReadsFront a c
 front_more a b c text piece h size known few = record {
   text = text ++ piece;
   read = Consumes-trans a b c text piece h known;
@@ -17,14 +18,16 @@ front_more a b c text piece h size known few = record {
 }
 
 -- a piece more
-gives_more : (a b c : Stream) (text piece : List ℕ) → Gives a b text → Consumes b.known c.known piece → c.passed ≡ b.passed ++ piece → Gives a c (text ++ piece)
+gives_more : (a b c : Stream) (text piece : List ℕ) → Gives a b text → Consumes b.known c.known piece → c.passed ≡ b.passed ++ piece
+    → Gives a c (text ++ piece)
 gives_more a b c text piece h known passed = record {
   known = Consumes-trans a.known b.known c.known text piece h.known known;
   passed = passed ∙ ap (λ l. l ++ piece) h.passed ∙ append_assoc a.passed text piece;
 }
 
 -- a read that failed
-pub read_failed : (a b c : Stream) (text : List ℕ) → Gives a b text → length text ≤ 1048576 → NoneFailed a b → Keeps b.known c.known → c.passed ≡ b.passed → OneFailed b c → FailsToRead a c
+pub read_failed : (a b c : Stream) (text : List ℕ) → Gives a b text → length text ≤ 1048576 → NoneFailed a b → Keeps b.known c.known
+    → c.passed ≡ b.passed → OneFailed b c → FailsToRead a c
 read_failed a b c text h size sound known same failed = record {
   text = text;
   given = record { known = Consumes-kept a.known b.known c.known text h.known known; passed = same ∙ h.passed };
@@ -33,7 +36,8 @@ read_failed a b c text h size sound known same failed = record {
 }
 
 -- a piece that could not be added
-pub not_added : (fault : ReadFault) (a b c : Stream) (text piece : List ℕ) → Gives a b text → length text ≤ 1048576 → NoneFailed a b → Consumes b.known c.known piece → c.passed ≡ b.passed ++ piece → NoneFailed b c
+pub not_added : (fault : ReadFault) (a b c : Stream) (text piece : List ℕ) → Gives a b text → length text ≤ 1048576 → NoneFailed a b
+    → Consumes b.known c.known piece → c.passed ≡ b.passed ++ piece → NoneFailed b c
     → length piece ≤ 4096 → NotAdded fault (text ++ piece) → ReadsFaultily fault a c
 not_added Failed a b c text piece h size sound known passed same few none = absurd none
 not_added TooLong a b c text piece h size sound known passed same few long = record {

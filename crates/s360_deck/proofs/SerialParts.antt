@@ -1,5 +1,6 @@
 -- Parts of the serial list.
-use Rattle.std.proofs.Common.{◌≡◌, ◌∙◌, ℕ, zero, suc, ◌<◌, ◌/◌, ◌%◌, ◌==◌, List, [], ◌∷◌, ◌++◌, Bool, true, false, map, length, replicate, refl, ap, sym, append-nil, append_assoc, cond, arith}
+use Rattle.std.proofs.Common.{◌≡◌, ◌∙◌, ℕ, zero, suc, ◌<◌, ◌/◌, ◌%◌, ◌==◌, List, [], ◌∷◌, ◌++◌, Bool, true, false, map, length, replicate}
+use Rattle.std.proofs.Common.{refl, ap, sym, append-nil, append_assoc, cond, arith}
 use Rattle.std.proofs.lemmas.List.{map-append}
 use Rattle.s360_laws.specs.Events.{Exchange, Event, StepBy}
 use Rattle.s360_laws.specs.SerialLists.{that_change, steps_of, whole_step, ArePlain, serial_list}
@@ -23,10 +24,12 @@ ends : (kept rest all : List Exchange) → rest ≡ [] → kept ++ that_change r
 ends kept rest all e h = sym (append-nil kept) ∙ rw e at h
 
 -- where no event is left, or no answer, all changes are kept
-pub all_kept : (kept all : List Exchange) (events : List Value) (answers : List Answer) → length events < 1 → kept ++ that_change (exchanges_of events answers) ≡ all → kept ≡ all
+pub all_kept : (kept all : List Exchange) (events : List Value) (answers : List Answer) → length events < 1
+    → kept ++ that_change (exchanges_of events answers) ≡ all → kept ≡ all
 all_kept kept all events answers h is = ends kept _ all (none_of_events events answers h) is
 
-pub all_answered : (kept all : List Exchange) (events : List Value) (answers : List Answer) → length answers < 1 → kept ++ that_change (exchanges_of events answers) ≡ all → kept ≡ all
+pub all_answered : (kept all : List Exchange) (events : List Value) (answers : List Answer) → length answers < 1
+    → kept ++ that_change (exchanges_of events answers) ≡ all → kept ≡ all
 all_answered kept all events answers h is = ends kept _ all (none_of_answers events answers h) is
 
 -- Steps of so many units.
@@ -38,22 +41,29 @@ whole_steps (suc n) = ap (λ l. StepBy 65535 ∷ l) (whole_steps n)
 steps_are : (units : ℕ) (b : Bool) → (units % 65535 == 0) ≡ b
     → events_in (steps_of units) ≡ replicate (units / 65535) (StepBy 65535) ++ cond b [] (StepBy (units % 65535) ∷ [])
 steps_are units true e = rw (e, map-append (λ t. t.0) (replicate (units / 65535) (whole_step 65535)) [], whole_steps (units / 65535)) refl
-steps_are units false e = rw (e, map-append (λ t. t.0) (replicate (units / 65535) (whole_step 65535)) (whole_step (units % 65535) ∷ []), whole_steps (units / 65535)) refl
+steps_are units false e = rw (
+  e,
+  map-append (λ t. t.0) (replicate (units / 65535) (whole_step 65535)) (whole_step (units % 65535) ∷ []),
+  whole_steps (units / 65535),
+) refl
 
 -- whole steps alone
-pub exact_steps : (old now : List Event) (units k : ℕ) → k ≡ units / 65535 → (units % 65535 == 0) ≡ true → now ≡ old ++ replicate k (StepBy 65535)
+pub exact_steps : (old now : List Event) (units k : ℕ) → k ≡ units / 65535 → (units % 65535 == 0) ≡ true
+    → now ≡ old ++ replicate k (StepBy 65535)
     → now ≡ old ++ events_in (steps_of units)
 exact_steps old now units k whole none is =
     rw (steps_are units true none, append-nil (replicate (units / 65535) (StepBy 65535)), ← whole) is
 
 -- and one of the rest
-pub more_steps : (old now : List Event) (units k : ℕ) → k ≡ units / 65535 → (units % 65535 == 0) ≡ false → now ≡ (old ++ replicate k (StepBy 65535)) ++ StepBy (units % 65535) ∷ []
+pub more_steps : (old now : List Event) (units k : ℕ) → k ≡ units / 65535 → (units % 65535 == 0) ≡ false
+    → now ≡ (old ++ replicate k (StepBy 65535)) ++ StepBy (units % 65535) ∷ []
     → now ≡ old ++ events_in (steps_of units)
 more_steps old now units k whole some is =
     rw (steps_are units false some, ← whole) (is ∙ append_assoc old (replicate k (StepBy 65535)) (StepBy (units % 65535) ∷ []))
 
 -- one event more
-pub seen_more : (before now : List Value) (event : Value) (seen : List Event) → now ≡ before ++ event ∷ [] → map event_seen before ≡ seen → map event_seen now ≡ seen ++ event_seen event ∷ []
+pub seen_more : (before now : List Value) (event : Value) (seen : List Event) → now ≡ before ++ event ∷ [] → map event_seen before ≡ seen
+    → map event_seen now ≡ seen ++ event_seen event ∷ []
 seen_more before now event seen is was = rw is (map-append event_seen before (event ∷ []) ∙ ap (λ l. l ++ event_seen event ∷ []) was)
 
 -- The acts.
@@ -64,5 +74,6 @@ plain_exchanges (e ∷ events) [] = tt
 plain_exchanges (e ∷ events) (a ∷ answers) = (refl, plain_exchanges events answers)
 
 -- the serial list does what the list does
-pub serial_acts : (events : List Value) (answers : List Answer) → acts (serial_list (exchanges_of events answers)) ≡ acts (exchanges_of events answers)
+pub serial_acts : (events : List Value) (answers : List Answer) → acts (serial_list (exchanges_of events answers))
+    ≡ acts (exchanges_of events answers)
 serial_acts events answers = same_acts (exchanges_of events answers) (plain_exchanges events answers)

@@ -1,5 +1,6 @@
 -- The lines of a text, taken off one after another.
-use Rattle.std.proofs.Common.{ℕ, ◌+◌, ◌<◌, ◌≡◌, ◌==◌, ◌⊎◌, inl, inr, List, [], ◌∷◌, Bool, true, false, Option, Result, Ok, Err, length, length-drop, refl, add-one, sym, arith}
+use Rattle.std.proofs.Common.{ℕ, ◌+◌, ◌<◌, ◌≡◌, ◌==◌, ◌⊎◌, inl, inr, List, [], ◌∷◌, Bool, true, false, Option, Result, Ok, Err, length}
+use Rattle.std.proofs.Common.{length-drop, refl, add-one, sym, arith}
 use Rattle.std.proofs.Math.Numerals.{one-add}
 use Rattle.std.specs.List.{before_first, after_first, position_or_len}
 use Rattle.s360_events.specs.declared.events.Event.{Event}
@@ -15,7 +16,8 @@ first_of byte [] false is = rw is refl
 first_of byte (next ∷ text) false is = rw (is, first_of next text (next == 10) refl) (simp (one-add, add-one) refl)
 
 -- the first line, and those behind it
-pub first_line : (text : List ℕ) → 0 < length text → lines_of text ≡ before_first (λ b. b == 10) text ∷ lines_of (after_first (λ b. b == 10) text)
+pub first_line : (text : List ℕ) → 0 < length text → lines_of text ≡ before_first (λ b. b == 10) text ∷ lines_of (after_first (λ b. b ==
+    10) text)
 first_line [] some = absurd (omega arith)
 first_line (byte ∷ text) some = first_of byte text (byte == 10) refl
 
@@ -36,7 +38,8 @@ first_read : (events : List Event) (number : ℕ) (text line behind : List ℕ) 
 first_read events number text line behind all some first rest is = rw (first_line text some, ← first, ← rest) at is
 
 -- a line that spells an event or none
-pub next_read : (events : List Event) (event : Option Event) (number : ℕ) (text line behind : List ℕ) (all : Result (List Event) DeckFault) → 0 < length text
+pub next_read : (events : List Event) (event : Option Event) (number : ℕ) (text line behind : List ℕ) (all : Result (List Event) DeckFault)
+    → 0 < length text
     → line ≡ before_first (λ b. b == 10) text → behind ≡ after_first (λ b. b == 10) text
     → (Ok event ≡ line_read line) ⊎ (Ok event ≡ Err OutOfMemory)
     → events_behind events number (lines_of text) ≡ all
@@ -49,7 +52,8 @@ abbrev faulted : LineFault → Result (Option Event) LineFault
 faulted f = Err f
 
 -- a faulty line
-pub faulty_read : (events : List Event) (f : LineFault) (told : DeckFault) (number : ℕ) (text line behind : List ℕ) (all : Result (List Event) DeckFault) → 0 < length text
+pub faulty_read : (events : List Event) (f : LineFault) (told : DeckFault) (number : ℕ) (text line behind : List ℕ)
+    (all : Result (List Event) DeckFault) → 0 < length text
     → line ≡ before_first (λ b. b == 10) text → behind ≡ after_first (λ b. b == 10) text
     → told ≡ fault_at number f
     → (faulted f ≡ line_read line) ⊎ (faulted f ≡ faulted OutOfMemory)

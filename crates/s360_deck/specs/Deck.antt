@@ -1,5 +1,6 @@
 -- A deck: the lines of a text, and the event that each line spells.
-use Rattle.std.specs.Prelude.{◌≡◌, ℕ, ◌+◌, ◌-◌, take, slice_index_or, List, [], ◌∷◌, ◌++◌, map, length, filter, flat_map, Bool, false, not, ◌||◌, ◌==◌, nat_lt, Option, Some, None, option_map, option_and_then, Result, Ok, Err, codes, if◌then◌else◌}
+use Rattle.std.specs.Prelude.{◌≡◌, ℕ, ◌+◌, ◌-◌, take, slice_index_or, List, [], ◌∷◌, ◌++◌, map, length, filter, flat_map, Bool, false, not, ◌||◌, ◌==◌, nat_lt}
+use Rattle.std.specs.Prelude.{Option, Some, None, option_map, option_and_then, Result, Ok, Err, codes, if◌then◌else◌}
 use Rattle.std.specs.Char.{to_ascii_uppercase}
 use Rattle.std.specs.List.{slice_split, onto_first}
 use Rattle.std.specs.Str.{bytes_eq}

@@ -1,5 +1,6 @@
 -- Numbers in digits, in capitals.
-use Rattle.std.specs.Prelude.{ℕ, ◌+◌, ◌-◌, ◌*◌, List, [], ◌∷◌, length, ◌&&◌, ◌||◌, nat_lt, nat_le, Option, Some, None, option_map, option_and_then, if◌then◌else◌}
+use Rattle.std.specs.Prelude.{ℕ, ◌+◌, ◌-◌, ◌*◌, List, [], ◌∷◌, length, ◌&&◌, ◌||◌, nat_lt, nat_le, Option, Some, None, option_map, option_and_then}
+use Rattle.std.specs.Prelude.{if◌then◌else◌}
 
 -- the value of a digit, 0 to 9 or A to F, of a base of at most 16
 abbrev pub digit_of : (base : ℕ) → ℕ → Option ℕ

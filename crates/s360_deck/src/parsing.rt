@@ -3,7 +3,9 @@
 ghost use Rattle.std.specs.Prelude.{◌≡◌, ◌⊎◌, ◌==◌, ◌<◌, ◌∷◌, map, option_map, length, Err, IfOk, OnOk, IfErr};
 ghost use Rattle.std.specs.List.{before_first, after_first, position};
 ghost use Rattle.s360_deck.specs.Digits.{stored_bytes_of};
-ghost use Rattle.s360_deck.specs.Deck.{lines_of, without_return, is_blank, is_empty, words_of, name_of, only, two_of, device_address_in, units_in, run_units_in, joined, store_of, set_key_of, show_of, event_of, is_comment, words_read, line_read, fault_at, appended, events_of, IsRead};
+ghost use Rattle.s360_deck.specs.Deck.{lines_of, without_return, is_blank, is_empty, words_of, name_of, only, two_of, device_address_in, units_in};
+ghost use Rattle.s360_deck.specs.Deck.{run_units_in, joined, store_of, set_key_of, show_of, event_of, is_comment, words_read, line_read, fault_at, appended};
+ghost use Rattle.s360_deck.specs.Deck.{events_of, IsRead};
 
 use crate::digits::{
     bytes_of_digits, count, device_address, run_units, show_count, storage_address, storage_key,

@@ -1,7 +1,11 @@
 -- The names of commands (component descriptions, 'Channel Command Codes').
 use Rattle.std.specs.Prelude.{ℕ, List, codes}
 use Rattle.ckd_sense.specs.declared.commands.Command.{Command}
-use Rattle.ckd_sense.specs.declared.commands.Command.TheVariants.{NoOperation, Recalibrate, Seek, SeekCylinder, SeekHead, SetFileMask, Sense, SearchHomeAddressEqual, SearchIdEqual, SearchIdHigh, SearchIdEqualOrHigh, SearchKeyEqual, SearchKeyHigh, SearchKeyEqualOrHigh, ReadIpl, ReadHomeAddress, ReadR0, ReadCount, ReadData, ReadKeyAndData, ReadCountKeyAndData, WriteHomeAddress, WriteR0, WriteCountKeyAndData, WriteData, WriteKeyAndData}
+use Rattle.ckd_sense.specs.declared.commands.Command.TheVariants.{NoOperation, Recalibrate, Seek, SeekCylinder, SeekHead, SetFileMask, Sense}
+use Rattle.ckd_sense.specs.declared.commands.Command.TheVariants.{SearchHomeAddressEqual, SearchIdEqual, SearchIdHigh, SearchIdEqualOrHigh, SearchKeyEqual}
+use Rattle.ckd_sense.specs.declared.commands.Command.TheVariants.{SearchKeyHigh, SearchKeyEqualOrHigh, ReadIpl, ReadHomeAddress, ReadR0, ReadCount, ReadData}
+use Rattle.ckd_sense.specs.declared.commands.Command.TheVariants.{ReadKeyAndData, ReadCountKeyAndData, WriteHomeAddress, WriteR0, WriteCountKeyAndData}
+use Rattle.ckd_sense.specs.declared.commands.Command.TheVariants.{WriteData, WriteKeyAndData}
 use Rattle.s360_explain.specs.declared.commands.Code.{Code}
 use Rattle.s360_explain.specs.declared.commands.Code.TheVariants.{Transfer, Invalid, Drive, Unknown}
 use Rattle.s360_explain.specs.Lines.{code_of}

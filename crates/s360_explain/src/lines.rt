@@ -2,7 +2,8 @@
 
 ghost use Rattle.std.specs.Prelude.{◌≡◌, ◌+◌, ◌≤◌, ◌<◌, ◌++◌, ◌∷◌, [], length};
 ghost use Rattle.s360_explain.specs.Bits.{bits_of};
-ghost use Rattle.s360_explain.specs.Lines.{lines_of_bits, bit_lines, field_lines, status_lines, ending_lines, is_of_no_program, csw_lines, sense_lines, traced_lines, ccw_lines, cause_line, has_nonzero};
+ghost use Rattle.s360_explain.specs.Lines.{lines_of_bits, bit_lines, field_lines, status_lines, ending_lines, is_of_no_program, csw_lines, sense_lines};
+ghost use Rattle.s360_explain.specs.Lines.{traced_lines, ccw_lines, cause_line, has_nonzero};
 
 use crate::bits::{Field, name_of, named_bits};
 use crate::causes::{cause_text, hint_text, is_reported};

@@ -1,5 +1,6 @@
 -- The acts of the serial list are the acts of the list.
-use Rattle.std.proofs.Common.{◌≡◌, ℕ, zero, suc, ◌+◌, ◌*◌, ◌/◌, ◌%◌, refl, sym, ap, subst, ◌∙◌, arith, true, false, Bool, not, ◌&&◌, ◌||◌, ◌==◌, List, [], ◌∷◌, ◌++◌, Option, None, append_assoc, append-nil, cond}
+use Rattle.std.proofs.Common.{◌≡◌, ℕ, zero, suc, ◌+◌, ◌*◌, ◌/◌, ◌%◌, refl, sym, ap, subst, ◌∙◌, arith, true, false, Bool, not, ◌&&◌, ◌||◌}
+use Rattle.std.proofs.Common.{◌==◌, List, [], ◌∷◌, ◌++◌, Option, None, append_assoc, append-nil, cond}
 use Rattle.std.proofs.lemmas.Bool.{and_parts, cond_both, eqb-true, not-false}
 use Rattle.std.specs.Prelude.{replicate, filter}
 use Rattle.s360_words.specs.Storage.{Change}
@@ -9,7 +10,8 @@ use Rattle.s360_laws.specs.Arms.{arrives}
 use Rattle.s360_laws.specs.Events.{Exchange, StepBy, Stepped, FaultAfter}
 use Rattle.s360_laws.specs.History.{units_ahead, script_ahead, fate_ahead, acts, own_change, where_over, Changes, acts_of, turns_of}
 use Rattle.s360_laws.specs.Ledger.{is_reset, is_accepted, stores_end}
-use Rattle.s360_laws.specs.SerialLists.{changes_nothing, is_arrival, arrivals_last, steps_ahead, is_step, is_between, whole_step, steps_of, ArePlain, steps_joined, SameActs}
+use Rattle.s360_laws.specs.SerialLists.{changes_nothing, is_arrival, arrivals_last, steps_ahead, is_step, is_between, whole_step, steps_of}
+use Rattle.s360_laws.specs.SerialLists.{ArePlain, steps_joined, SameActs}
 use Rattle.s360_laws.proofs.StepUnits.{no_units, step_script, same_script, plain_two}
 
 pub record Alike (x y : List Exchange) : Type 0 where
@@ -44,7 +46,8 @@ act_behind t x y h = grind arith
 behind : (t : Exchange) (x y : List Exchange) → Alike x y → Alike (t ∷ x) (t ∷ y)
 behind t x y h = record {
   ahead = units_behind t x y h.ahead;
-  script = ap (λ n. where_over n [] (turns_of t ++ script_ahead x)) (units_behind t x y h.ahead) ∙ ap (λ s. where_over (units_ahead (t ∷ y)) [] (turns_of t ++ s)) h.script;
+  script = ap (λ n. where_over n [] (turns_of t ++ script_ahead x)) (units_behind t x y h.ahead)
+      ∙ ap (λ s. where_over (units_ahead (t ∷ y)) [] (turns_of t ++ s)) h.script;
   ends = fate_behind t x y h.ends;
   does = ap (λ a. a ++ acts x) (act_behind t x y h) ∙ ap (λ a. acts_of t y ++ a) h.does;
 }
@@ -55,21 +58,28 @@ all_behind (t ∷ z) x y h = behind t (z ++ x) (z ++ y) (all_behind z x y h)
 
 -- What changed nothing.
 
-gone : (x : List Exchange) → (t : Exchange) → units_ahead (t ∷ x) ≡ units_ahead x → turns_of t ≡ [] → fate_ahead (t ∷ x) ≡ fate_ahead x → acts_of t x ≡ [] → Alike (t ∷ x) x
+gone : (x : List Exchange) → (t : Exchange) → units_ahead (t ∷ x) ≡ units_ahead x → turns_of t ≡ [] → fate_ahead (t ∷ x) ≡ fate_ahead x
+    → acts_of t x ≡ [] → Alike (t ∷ x) x
 gone x t u s f a = record {
   ahead = u;
-  script = ap (λ n. where_over n [] (turns_of t ++ script_ahead x)) u ∙ ap (λ l. where_over (units_ahead x) [] (l ++ script_ahead x)) s ∙ sym (same_script x);
+  script = ap (λ n. where_over n [] (turns_of t ++ script_ahead x)) u ∙ ap (λ l. where_over (units_ahead x) [] (l ++ script_ahead x)) s
+      ∙ sym (same_script x);
   ends = f;
   does = ap (λ l. l ++ acts x) a;
 }
 
 -- what changes nothing tells nothing to the ledger or of an arm, and may be left out
 abbrev pub Unmoved : Exchange → Type 0
-Unmoved t = ((u : ℕ) → (is_reset t ≡ false) × (is_accepted u t ≡ false) × ((end : UnitStatus) → stores_end end u t ≡ false) × (arrives u t ≡ false))
+Unmoved t = ((u : ℕ) → (is_reset t ≡ false) × (is_accepted u t ≡ false) × ((end : UnitStatus) → stores_end end u t ≡ false)
+    × (arrives u t ≡ false))
     × ((x : List Exchange) → Alike (t ∷ x) x)
 
 pub unmoved : (t : Exchange) → changes_nothing t ≡ true → Unmoved t
-unmoved t h = (λ u. (grind arith, grind arith, λ end. grind arith, grind arith), λ x. gone x t (grind arith) (grind (arith, no_units)) (grind arith) (grind arith))
+unmoved t h = (
+  λ u. (grind arith, grind arith, λ end. grind arith, grind arith),
+  λ x. gone x t (grind arith) (grind (arith, no_units))
+      (grind arith) (grind arith),
+)
 
 -- alike, and of plain exchanges
 abbrev Plainly : List Exchange → List Exchange → Type 0
@@ -80,7 +90,8 @@ filtered [] h = (same [], tt)
 filtered (t ∷ list) h =
     let rest = filter (λ t. not (changes_nothing t)) list in
     let r = filtered list h.1 in
-    cond_both (not (changes_nothing t)) (t ∷ rest) rest (λ l. Plainly l (t ∷ list)) (λ e. (behind t rest list r.0, (h.0, r.1))) (λ e. (then r.0 (back ((unmoved t (not-false _ e)).1 list)), r.1))
+    cond_both (not (changes_nothing t)) (t ∷ rest) rest (λ l. Plainly l (t ∷ list)) (λ e. (behind t rest list r.0, (h.0, r.1)))
+    (λ e. (then r.0 (back ((unmoved t (not-false _ e)).1 list)), r.1))
 
 -- Arrivals.
 
@@ -100,11 +111,13 @@ held_gone : (held x y : List Exchange) → AreArrivals held → Plainly x y → 
 held_gone [] x y h r = r
 held_gone (t ∷ held) x y h r = let k = held_gone held x y h.2 r in (then (arrival_gone t (held ++ x) h.0) k.0, (h.1, k.1))
 
-shifted : (list : List Exchange) (inside : Bool) (held : List Exchange) → AreArrivals held → ArePlain list → Plainly (arrivals_last inside held list) list
+shifted : (list : List Exchange) (inside : Bool) (held : List Exchange) → AreArrivals held → ArePlain list
+    → Plainly (arrivals_last inside held list) list
 shifted [] inside held h p = subst (λ l. Plainly l []) (append-nil held) (held_gone held [] [] h (same [], tt))
 shifted (t ∷ rest) inside held h p =
     cond_both (is_arrival t && (inside && steps_ahead rest)) _ _ (λ l. Plainly l (t ∷ rest))
-    (λ e. let a = (and_parts (is_arrival t) _ e).0 in let r = shifted rest inside (held ++ t ∷ []) (one_more held t h a p.0) p.1 in (then r.0 (back (arrival_gone t rest a)), r.1))
+    (λ e. let a = (and_parts (is_arrival t) _ e).0 in let r = shifted rest inside (held ++ t ∷ []) (one_more held t h a p.0) p.1 in
+    (then r.0 (back (arrival_gone t rest a)), r.1))
     (λ e. cond_both (is_step t && not (steps_ahead rest)) _ _ (λ l. Plainly l (t ∷ rest))
     (λ e. let r = held_gone held _ rest h (shifted rest false [] tt p.1) in (behind t _ rest r.0, (p.0, r.1)))
     (λ e. let r = shifted rest (is_step t || (inside && not (is_between t))) held h p.1 in (behind t _ rest r.0, (p.0, r.1))))
@@ -118,7 +131,8 @@ two_steps a b x =
     let more : a + (b + n) ≡ a + b + n = omega arith in
     record {
       ahead = more;
-      script = ap (λ l. where_over (a + (b + n)) [] (units a ++ l)) (sym (step_script b None x)) ∙ ap (λ k. where_over k [] (units a ++ (units b ++ s))) more
+      script = ap (λ l. where_over (a + (b + n)) [] (units a ++ l)) (sym (step_script b None x))
+          ∙ ap (λ k. where_over k [] (units a ++ (units b ++ s))) more
           ∙ ap (λ l. where_over (a + b + n) [] l) (sym (append_assoc (units a) (units b) s) ∙ ap (λ l. l ++ s) (plain_two a b));
       ends = refl;
       does = refl;
@@ -131,7 +145,8 @@ many : (q n : ℕ) (x : List Exchange) → Alike (replicate q (whole_step n) ++ 
 many zero n x = let none : 0 ≡ 0 * n = omega arith in subst (λ k. Alike x (whole_step k ∷ x)) none (back (no_step x))
 many (suc q) n x =
     let next : n + q * n ≡ suc q * n = grind arith in
-    subst (λ k. Alike (replicate (suc q) (whole_step n) ++ x) (whole_step k ∷ x)) next (then (behind (whole_step n) _ _ (many q n x)) (two_steps n (q * n) x))
+    subst (λ k. Alike (replicate (suc q) (whole_step n) ++ x) (whole_step k ∷ x)) next (then (behind (whole_step n) _ _ (many q n x))
+    (two_steps n (q * n) x))
 
 steps_alike : (n : ℕ) (x : List Exchange) → Alike (steps_of n ++ x) (whole_step n ∷ x)
 steps_alike n x =

@@ -1,5 +1,6 @@
 -- Numbers, tests and devices that are found by their addresses; and a machine in each state of its subchannel.
-use Rattle.std.proofs.Common.{subst, ◌≡◌, ℕ, ◌+◌, ◌*◌, ◌/◌, ◌%◌, refl, sym, ap, ◌∙◌, arith, true, false, Bool, cond, ◌==◌, List, [], ◌∷◌, map, Option, Some, None}
+use Rattle.std.proofs.Common.{subst, ◌≡◌, ℕ, ◌+◌, ◌*◌, ◌/◌, ◌%◌, refl, sym, ap, ◌∙◌, arith, true, false, Bool, cond, ◌==◌, List, [], ◌∷◌}
+use Rattle.std.proofs.Common.{map, Option, Some, None}
 use Rattle.std.proofs.lemmas.Bool.{ne_eqb, eqb-true, cond_both}
 use Rattle.std.specs.Prelude.{find, option_map}
 use Rattle.s360_words.specs.declared.words.Csw.{Csw}
@@ -33,24 +34,29 @@ found_is p (y ∷ ys) x h = grind (arith, found_is p ys x)
 
 pub found_same : (n d : ℕ) (vs : List Device) → find (λ v. 256 * n + v.device == 256 * n + d) vs ≡ find (λ v. v.device == d) vs
 found_same n d [] = refl
-found_same n d (v ∷ vs) = let same : (256 * n + v.device == 256 * n + d) ≡ (v.device == d) = grind arith in rw (same, found_same n d vs) refl
+found_same n d (v ∷ vs) = let same : (256 * n + v.device == 256 * n + d) ≡ (v.device == d) = grind arith in
+    rw (same, found_same n d vs) refl
 
 -- a change of devices that keeps their addresses
 abbrev pub Keeps : (Device → Device) → Type 0
 Keeps g = (v : Device) → (g v).device ≡ v.device
 
 -- what is found of a list that was changed element by element
-pub find_map : {X Y : Type 0} (p : Y → Bool) (q : X → Bool) (g : X → Y) → ((x : X) → p (g x) ≡ q x) → (xs : List X) → find p (map g xs) ≡ option_map g (find q xs)
+pub find_map : {X Y : Type 0} (p : Y → Bool) (q : X → Bool) (g : X → Y) → ((x : X) → p (g x) ≡ q x) → (xs : List X)
+    → find p (map g xs) ≡ option_map g (find q xs)
 find_map p q g k [] = refl
 find_map p q g k (x ∷ xs) = let here = k x in let rest = find_map p q g k xs in grind arith
 
-pub found_map : (p : ℕ → Bool) (g : Device → Device) → Keeps g → (vs : List Device) → find (λ w. p w.device) (map g vs) ≡ option_map g (find (λ w. p w.device) vs)
+pub found_map : (p : ℕ → Bool) (g : Device → Device) → Keeps g → (vs : List Device) → find (λ w. p w.device) (map g vs)
+    ≡ option_map g (find (λ w. p w.device) vs)
 found_map p g k vs = find_map (λ w. p w.device) (λ w. p w.device) g (λ v. ap p (k v)) vs
 
 pub distinct_map : (g : Device → Device) → Keeps g → (vs : List Device) → AreDistinct vs → AreDistinct (map g vs)
 distinct_map g k [] h = tt
-distinct_map g k (v ∷ vs) h =
-    (ap (λ d. find (λ w. w.device == d) (map g vs)) (k v) ∙ found_map (λ d. d == v.device) g k vs ∙ ap (option_map g) h.0, distinct_map g k vs h.1)
+distinct_map g k (v ∷ vs) h = (
+  ap (λ d. find (λ w. w.device == d) (map g vs)) (k v) ∙ found_map (λ d. d == v.device) g k vs ∙ ap (option_map g) h.0,
+  distinct_map g k vs h.1,
+)
 
 -- the arm of a device is this one
 abbrev pub HasArm : Arm → Option Device → Type 0
@@ -92,7 +98,9 @@ abbrev pub working : Machine → ℕ → Script → Machine
 working m d s = record m { subchannel = Working d s }
 
 -- the device that works, and its run so far
-pub working_device : (m : Machine) (d : ℕ) (s : Script) (y : Option Device) → device_at m d ≡ y → IsRunning (option_map (λ v. run s (start_of m v.drive)) y) → (v : Device) × (device_at m d ≡ Some v) × IsRunning (Some (run s (start_of m v.drive)))
+pub working_device : (m : Machine) (d : ℕ) (s : Script) (y : Option Device) → device_at m d ≡ y
+    → IsRunning (option_map (λ v. run s (start_of m v.drive)) y) → (v : Device) × (device_at m d ≡ Some v)
+    × IsRunning (Some (run s (start_of m v.drive)))
 working_device m d s None at r = absurd r
 working_device m d s (Some v) at r = (v, at, r)
 
@@ -100,7 +108,8 @@ pub run_at : (m : Machine) (d : ℕ) (v : Device) (s : Script) → device_at m d
 run_at m d v s at = ap (option_map (λ v. run s (start_of m v.drive))) at
 
 -- what holds of its run holds of the run of the device
-pub by_device : (m : Machine) (d : ℕ) (s : Script) (v : Device) (P : Option Outcome → Type 0) → device_at m d ≡ Some v → P (Some (run s (start_of m v.drive))) → P (run_of m d s)
+pub by_device : (m : Machine) (d : ℕ) (s : Script) (v : Device) (P : Option Outcome → Type 0) → device_at m d ≡ Some v
+    → P (Some (run s (start_of m v.drive))) → P (run_of m d s)
 by_device m d s v P at p = subst (λ y. P (option_map (λ v. run s (start_of m v.drive)) y)) (sym at) p
 
 -- an address of this channel, by its low byte

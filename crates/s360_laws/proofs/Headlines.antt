@@ -6,7 +6,8 @@ use Rattle.s360_laws.specs.History.{Runs}
 use Rattle.s360_laws.specs.Machine.{Machine, after_all}
 use Rattle.s360_laws.specs.Soundness.{IsSound}
 use Rattle.s360_laws.proofs.Arms.{arm_stays}
-use Rattle.s360_laws.proofs.LedgerLists.{held_until_stored, at_most_once, channel_end_first, ends_pend, exactly_once, sound_parts, stays_sound, no_start_while_working}
+use Rattle.s360_laws.proofs.LedgerLists.{held_until_stored, at_most_once, channel_end_first, ends_pend, exactly_once, sound_parts}
+use Rattle.s360_laws.proofs.LedgerLists.{stays_sound, no_start_while_working}
 use Rattle.s360_laws.proofs.MachineFaults.{fault_does}
 use Rattle.s360_laws.proofs.NoFaultTold.{no_fault_none_told}
 use Rattle.s360_laws.proofs.Serial.{serial}

@@ -1,5 +1,6 @@
 -- The units of a step, the programs that end in one, and scripts as they are read off a list of events and answers.
-use Rattle.std.proofs.Common.{◌≡◌, ℕ, zero, suc, ◌+◌, ◌-◌, refl, sym, ap, ◌∙◌, arith, zero-add, suc-add, [], ◌∷◌, ◌++◌, length, Option, Some, None, List}
+use Rattle.std.proofs.Common.{◌≡◌, ℕ, zero, suc, ◌+◌, ◌-◌, refl, sym, ap, ◌∙◌, arith, zero-add, suc-add, [], ◌∷◌, ◌++◌, length, Option}
+use Rattle.std.proofs.Common.{Some, None, List}
 use Rattle.s360_words.specs.Storage.{Storage}
 use Rattle.ckd_command.specs.Drive.{Fault}
 use Rattle.s360_runs.specs.Endings.{Ended, NotEnded, Ending, Standing}
@@ -20,15 +21,18 @@ pub no_units : (k : ℕ) (x : Option FaultAfter) → k ≡ 0 → units_with k x 
 no_units k x h = grind arith
 
 -- a step's units are one, with the fault that stands there, and those of the shorter step behind it
-one_more : (x : Option FaultAfter) → (f : Option Fault) × (y : Option FaultAfter) × ((k : ℕ) → units_with (suc k) x ≡ OneUnit f ∷ units_with k y)
+one_more : (x : Option FaultAfter) → (f : Option Fault) × (y : Option FaultAfter)
+    × ((k : ℕ) → units_with (suc k) x ≡ OneUnit f ∷ units_with k y)
 one_more None = (None, None, λ k. refl)
 one_more (Some x) = go x.units x.fault
   where
-    go : (n : ℕ) (f : Fault) → (g : Option Fault) × (y : Option FaultAfter) × ((k : ℕ) → units_with (suc k) (Some (record { units = n; fault = f })) ≡ OneUnit g ∷ units_with k y)
+    go : (n : ℕ) (f : Fault) → (g : Option Fault) × (y : Option FaultAfter)
+        × ((k : ℕ) → units_with (suc k) (Some (record { units = n; fault = f })) ≡ OneUnit g ∷ units_with k y)
     go zero f = (Some f, None, λ k. refl)
     go (suc n) f = (None, Some (record { units = n; fault = f }), λ k. refl)
 
-pub units_front : (k : ℕ) (x : Option FaultAfter) (front rest : Script) → units_with k x ≡ front ++ rest → units_with (length front) x ≡ front
+pub units_front : (k : ℕ) (x : Option FaultAfter) (front rest : Script) → units_with k x ≡ front ++ rest
+    → units_with (length front) x ≡ front
 units_front k x [] rest h = no_units 0 x refl
 units_front zero x (t ∷ front) rest h = let none = no_units 0 x refl in absurd (cc)
 units_front (suc k) x (t ∷ front) rest h =
@@ -61,7 +65,8 @@ pub record EndedIn (script more : Script) (key : ℕ) (g : ProgramPhase) (used :
 
 -- it names both parts of the script, where the program stood between them and how it ended, since it splits its run
 -- there
-pub ended_in : (s : Start) (script more : Script) (key : ℕ) (g : ProgramPhase) (used : ℕ) (st : Storage) (e : Ending) → StandsAt s script key g
+pub ended_in : (s : Start) (script more : Script) (key : ℕ) (g : ProgramPhase) (used : ℕ) (st : Storage) (e : Ending)
+    → StandsAt s script key g
     → run (script ++ more) s ≡ Ended used st e → EndedIn script more key g used st e
 ended_in s script more key g used st e h r = go (walk more key g) refl
   where
@@ -77,7 +82,8 @@ ended_in s script more key g used st e h r = go (walk more key g) refl
 
 -- A program that ended in a step ended at its last unit that counts. It names what `ended_in` does, by which it goes,
 -- and the step for the second part of the script.
-pub ended_there : (s : Start) (script : Script) (key : ℕ) (g : ProgramPhase) (k used : ℕ) (x : Option FaultAfter) (st : Storage) (e : Ending) → StandsAt s script key g
+pub ended_there : (s : Start) (script : Script) (key : ℕ) (g : ProgramPhase) (k used : ℕ) (x : Option FaultAfter) (st : Storage)
+    (e : Ending) → StandsAt s script key g
     → run (script ++ units_with k x) s ≡ Ended used st e → run (script ++ units_with (used - units_in script) x) s ≡ Ended used st e
 ended_there s script key g k used x st e h r =
     let y = ended_in s script (units_with k x) key g used st e h r in
@@ -85,13 +91,15 @@ ended_there s script key g k used x st e h r =
     let count = ap units_in (sym front) ∙ units_count (length y.front) x in
     let steps : used - units_in script ≡ length y.front = omega arith in
     let all : units_in (script ++ y.front) ≡ used = omega (arith, units_in_two) in
-    ap (λ j. run (script ++ units_with j x) s) steps ∙ ap (λ l. run (script ++ l) s) front ∙ ends_by s script y.front key g st e h y.walked ∙ ap (λ u. Ended u st e) all
+    ap (λ j. run (script ++ units_with j x) s) steps ∙ ap (λ l. run (script ++ l) s) front ∙ ends_by s script y.front key g st e h y.walked
+    ∙ ap (λ u. Ended u st e) all
 
 -- A step that the program outlives has met no fault.
 
 -- so its run goes on as without the fault; it names the script before the step, the step and the script behind it, and
 -- where the program stood before it and after it, since it compares two runs part by part
-pub unmet : (s : Start) (script : Script) (key : ℕ) (g : ProgramPhase) (k : ℕ) (x : Option FaultAfter) (seen : Standing) → StandsAt s script key g → run (script ++ units_with k x) s ≡ NotEnded seen
+pub unmet : (s : Start) (script : Script) (key : ℕ) (g : ProgramPhase) (k : ℕ) (x : Option FaultAfter) (seen : Standing)
+    → StandsAt s script key g → run (script ++ units_with k x) s ≡ NotEnded seen
     → (more : Script) → run ((script ++ units k) ++ more) s ≡ run ((script ++ units_with k x) ++ more) s
 unmet s script key g k x seen st r more = go (walk (units_with k x) key g) refl
   where
@@ -99,7 +107,8 @@ unmet s script key g k x seen st r more = go (walk (units_with k x) key g) refl
     counts = omega (arith, units_in_two, units_count k x, units_count k None)
 
     go : (w : Walk) → walk (units_with k x) key g ≡ w → run ((script ++ units k) ++ more) s ≡ run ((script ++ units_with k x) ++ more) s
-    go (EndsWith rest st_two e) w = let q = sym (ap (outcome_of (script ++ units_with k x) key) w) ∙ sym (st (units_with k x)) ∙ r in absurd (cc)
+    go (EndsWith rest st_two e) w = let q = sym (ap (outcome_of (script ++ units_with k x) key) w) ∙ sym (st (units_with k x)) ∙ r in
+        absurd (cc)
     go (StandsIn h) w =
         goes_by s script (units k) key g h st (ap (λ l. walk l key g) (sym (plain_step k x)) ∙ unmet_walk (units_with k x) key g h w) more
         ∙ same_outcome ((script ++ units k) ++ more) ((script ++ units_with k x) ++ more) key (walk more key h) counts
@@ -114,5 +123,6 @@ quiet_script (t ∷ ahead) h = ap (λ n. where_over n [] (turns_of t ++ script_a
 pub same_script : (ahead : List Exchange) → script_ahead ahead ≡ where_over (units_ahead ahead) [] (script_ahead ahead)
 same_script ahead = grind (arith, quiet_script)
 
-pub step_script : (k : ℕ) (x : Option FaultAfter) (ahead : List Exchange) → units_with k x ++ script_ahead ahead ≡ where_over (k + units_ahead ahead) [] (units_with k x ++ script_ahead ahead)
+pub step_script : (k : ℕ) (x : Option FaultAfter) (ahead : List Exchange) → units_with k x ++ script_ahead ahead
+    ≡ where_over (k + units_ahead ahead) [] (units_with k x ++ script_ahead ahead)
 step_script k x ahead = grind (arith, no_units, quiet_script)

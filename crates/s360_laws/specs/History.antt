@@ -9,7 +9,8 @@ use Rattle.s360_runs.specs.Runs.{run, Start}
 use Rattle.s360_runs.specs.Scripts.{Script, units, Outside, TakesInterruption, OneUnit}
 use Rattle.s360_runs.specs.Starts.{first, First, RejectedStart}
 use Rattle.s360_runs.specs.Status.{tells}
-use Rattle.s360_laws.specs.Events.{Exchange, StepBy, Stepped, Hio, WithCode, Reset, Sio, Store, WasKept, SetKey, Interrupt, Interrupted, StatusStored, Tio, CswStored, Input}
+use Rattle.s360_laws.specs.Events.{Exchange, StepBy, Stepped, Hio, WithCode, Reset, Sio, Store, WasKept, SetKey, Interrupt, Interrupted, StatusStored, Tio}
+use Rattle.s360_laws.specs.Events.{CswStored, Input}
 use Rattle.s360_laws.specs.Machine.{units_with, fault_in, Subchannel, Working, Machine, run_of, is_working, after_all, exchanges}
 use Rattle.s360_laws.specs.Soundness.{IsRunning}
 use Rattle.s360_laws.specs.declared.condition.ConditionCode.TheVariants.{Two, Zero}

@@ -1,7 +1,8 @@
 -- The serial machine: a selector channel and its drives, event by event (Principles of Operation, Input/Output
 -- Operations). While a program runs, the machine holds its start and its script, and each answer is read off its run: so
 -- nothing in it is half done.
-use Rattle.std.specs.Prelude.{ℕ, zero, suc, ◌+◌, ◌-◌, ◌*◌, ◌/◌, ◌%◌, List, [], ◌∷◌, ◌++◌, map, Bool, true, false, ◌==◌, Option, Some, None, is_some, slice_range, nat_lt, if◌then◌else◌, find, filter, option_map}
+use Rattle.std.specs.Prelude.{ℕ, zero, suc, ◌+◌, ◌-◌, ◌*◌, ◌/◌, ◌%◌, List, [], ◌∷◌, ◌++◌, map, Bool, true, false, ◌==◌, Option, Some, None, is_some}
+use Rattle.std.specs.Prelude.{slice_range, nat_lt, if◌then◌else◌, find, filter, option_map}
 use Rattle.s360_words.specs.Storage.{Storage, Change, changed, csw_stored, status_stored, caw_word, is_inside, is_within, Bytes, KeyOf}
 use Rattle.s360_words.specs.declared.flags.ChannelStatus.{ChannelStatus}
 use Rattle.s360_words.specs.declared.flags.TheConstants.ChannelStatus.{PROGRAM_CHECK}
@@ -14,7 +15,8 @@ use Rattle.s360_runs.specs.Runs.{Start, run}
 use Rattle.s360_runs.specs.Scripts.{Script, units, OneUnit, units_in, TakesInterruption, Outside}
 use Rattle.s360_runs.specs.Starts.{First, BadStart, RejectedStart, ImmediateStart, AcceptedStart, first}
 use Rattle.s360_runs.specs.Status.{no_channel_status, no_unit_status, busy_device_end}
-use Rattle.s360_laws.specs.Events.{Answer, StatusStored, Store, WithCode, Arrive, CswStored, FaultAfter, Stepped, HasArrived, Interrupt, Interrupted, WasReset, Reset, WasKept, Event, Sio, Tio, Hio, Tch, StepBy, SetKey, Show, Shown, Input, Exchange}
+use Rattle.s360_laws.specs.Events.{Answer, StatusStored, Store, WithCode, Arrive, CswStored, FaultAfter, Stepped, HasArrived, Interrupt, Interrupted, WasReset}
+use Rattle.s360_laws.specs.Events.{Reset, WasKept, Event, Sio, Tio, Hio, Tch, StepBy, SetKey, Show, Shown, Input, Exchange}
 use Rattle.s360_laws.specs.declared.arm.Arm.{Arm}
 use Rattle.s360_laws.specs.declared.arm.Arm.TheVariants.{InMotion, AtRest, Arrived}
 use Rattle.s360_laws.specs.declared.condition.ConditionCode.{ConditionCode}

@@ -1,7 +1,9 @@
 -- The serial list of a list of events with their answers: the same programs, with nothing left between their units but
 -- what changed storage.
-use Rattle.std.specs.Prelude.{◌≡◌, ℕ, zero, ◌+◌, ◌/◌, ◌%◌, List, [], ◌∷◌, ◌++◌, Bool, true, false, not, ◌&&◌, ◌||◌, ◌==◌, None, replicate, if◌then◌else◌, filter}
-use Rattle.s360_laws.specs.Events.{Exchange, Sio, WithCode, Tio, Hio, Tch, StepBy, Stepped, Arrive, HasArrived, Interrupt, Interrupted, Store, WasKept, SetKey, Show, Reset}
+use Rattle.std.specs.Prelude.{◌≡◌, ℕ, zero, ◌+◌, ◌/◌, ◌%◌, List, [], ◌∷◌, ◌++◌, Bool, true, false, not, ◌&&◌, ◌||◌, ◌==◌, None, replicate, if◌then◌else◌}
+use Rattle.std.specs.Prelude.{filter}
+use Rattle.s360_laws.specs.Events.{Exchange, Sio, WithCode, Tio, Hio, Tch, StepBy, Stepped, Arrive, HasArrived, Interrupt, Interrupted, Store, WasKept, SetKey}
+use Rattle.s360_laws.specs.Events.{Show, Reset}
 use Rattle.s360_laws.specs.History.{acts}
 use Rattle.s360_laws.specs.declared.condition.ConditionCode.TheVariants.{Zero, Two}
 

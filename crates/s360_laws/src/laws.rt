@@ -2,7 +2,8 @@
 //! `specs/`, which speak of every list of events, with or without faults of the store.
 
 ghost use Rattle.s360_laws.specs.Soundness.{StaysSound, IdleIsSound};
-ghost use Rattle.s360_laws.specs.Ledger.{AtMostOnce, EndsPend, ExactlyOnce, ChannelEndFirst, NoneAfterReset, StartsAfterChannelEnd, NoStartWhileWorking, HeldUntilStored};
+ghost use Rattle.s360_laws.specs.Ledger.{AtMostOnce, EndsPend, ExactlyOnce, ChannelEndFirst, NoneAfterReset, StartsAfterChannelEnd, NoStartWhileWorking};
+ghost use Rattle.s360_laws.specs.Ledger.{HeldUntilStored};
 ghost use Rattle.s360_laws.specs.History.{IsSerial};
 ghost use Rattle.s360_laws.specs.Steps.{StepsAtMost, StepsJoin, StepsSplit, FaultEndsStep, FaultEndsHalt, FaultToldByReset, OthersMeetNone};
 ghost use Rattle.s360_laws.specs.NothingTold.{NoFaultNoneTold, ResetTellsWritten};

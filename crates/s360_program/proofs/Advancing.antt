@@ -15,7 +15,8 @@ use Rattle.s360_program.specs.Advances.{IsMet, CameToEnd, Cuts, TellsOf, CutTell
 use Rattle.s360_program.specs.Steps.{IsMetBy, EndsBy, ToldOf}
 
 -- units behind units; it names both ends and the middle of two walks that it joins
-pub more_units : (key k : ℕ) (phase at next : ProgramPhase) (done n : ℕ) → k ≡ key → walk (units done) key phase ≡ StandsIn at → walk (units n) k at ≡ StandsIn next → walk (units (done + n)) key phase ≡ StandsIn next
+pub more_units : (key k : ℕ) (phase at next : ProgramPhase) (done n : ℕ) → k ≡ key → walk (units done) key phase ≡ StandsIn at
+    → walk (units n) k at ≡ StandsIn next → walk (units (done + n)) key phase ≡ StandsIn next
 more_units key k phase at next done n e before h =
     ap (λ u. walk u key phase) (sym (replicate-append-replicate done n (OneUnit None))) ∙ walks_on (units done) (units n) key phase
     ∙ ap (λ w. walked_on w key (units n)) before ∙ subst (λ k. walk (units n) k at ≡ StandsIn next) e h
@@ -26,7 +27,8 @@ met_since (Some LoadFails) d0 d1 d2 e m = m.0 ∙ ap (λ n. n + 1) e
 met_since (Some (SaveFails left)) d0 d1 d2 e m = m ∙ ap (λ n. n + 1) e
 
 -- the last unit; it names both ends and the middle of the walk before it and of the unit, which it joins
-pub last_unit : (key k : ℕ) (phase at : ProgramPhase) (done asked : ℕ) (told : Csw × Bool) (s : Storage) (d0 d1 d2 : DriveState) → k ≡ key → walk (units done) key phase ≡ StandsIn at → d1.image.failures ≡ d0.image.failures → done < asked
+pub last_unit : (key k : ℕ) (phase at : ProgramPhase) (done asked : ℕ) (told : Csw × Bool) (s : Storage) (d0 d1 d2 : DriveState) → k ≡ key
+    → walk (units done) key phase ≡ StandsIn at → d1.image.failures ≡ d0.image.failures → done < asked
     → EndsBy (λ f. unit f k at) told s d1 d2 → CameToEnd key phase asked (done + 1) told s d0 d2
 last_unit key k phase at done asked told s d0 d1 d2 e before same few h = record {
   done = omega (arith, few);
@@ -42,7 +44,8 @@ last_unit key k phase at done asked told s d0 d1 d2 e before same few h = record
 
 -- A cut.
 
-pub cuts : (key : ℕ) (phase : ProgramPhase) (told : Csw × Bool) (lost : Option (ℕ × ℕ)) (s : Storage) (d0 d2 : DriveState) → EndsBy (λ f. EndsIn s ((standing_in key phase).cut f)) told s d0 d2 → lost ≡ unsaved d2.state
+pub cuts : (key : ℕ) (phase : ProgramPhase) (told : Csw × Bool) (lost : Option (ℕ × ℕ)) (s : Storage) (d0 d2 : DriveState)
+    → EndsBy (λ f. EndsIn s ((standing_in key phase).cut f)) told s d0 d2 → lost ≡ unsaved d2.state
     → Cuts key phase (told.0, told.1, lost) d0 d2
 cuts key phase told lost s d0 d2 h l = record {
   fault = h.fault;
@@ -54,7 +57,8 @@ cuts key phase told lost s d0 d2 h l = record {
     same : (standing_in key phase).cut h.fault ≡ h.ending
     same = cc h.ends
 
-pub cut_tells : (next : Option Fault → Next) (told : Csw × Bool) (lost : Option (ℕ × ℕ)) (s : Storage) (d0 d2 : DriveState) → EndsBy next told s d0 d2 → lost ≡ unsaved d2.state
+pub cut_tells : (next : Option Fault → Next) (told : Csw × Bool) (lost : Option (ℕ × ℕ)) (s : Storage) (d0 d2 : DriveState)
+    → EndsBy next told s d0 d2 → lost ≡ unsaved d2.state
     → (d2.image.failures ≡ d0.image.failures) ⊎ (is_some (unsaved d2.state) ≡ true) → CutTellsOf (told.0, told.1, lost) d0 d2
 cut_tells next told lost s d0 d2 h l some = record { fault = by h.fault h.met h.told_of; unsaved = rw l some }
   where
@@ -67,4 +71,8 @@ cut_tells next told lost s d0 d2 h l some = record { fault = by h.fault h.met h.
 
     by : (f : Option Fault) → IsMetBy f d0 d2 → ToldOf f told.0 d0 d2 → TellsOf (Some (told.0, told.1)) d0 d2
     by None m t = record { failed = inl m; good = λ e. t }
-    by (Some f) m t = record { failed = inr (rose f m, t); good = λ e. absurd (never_both d0.image.failures d2.image.failures e (rose f m)) }
+    by (Some f) m t = record {
+      failed = inr (rose f m, t);
+      good =
+          λ e. absurd (never_both d0.image.failures d2.image.failures e (rose f m));
+    }

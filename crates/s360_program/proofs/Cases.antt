@@ -22,9 +22,11 @@ only_right (inl x) n = absurd (n x)
 only_right (inr y) n = y
 
 -- what holds of each stage beside what the drive is at then, where bytes have passed and where none have, holds wherever the two fit
-pub by_stage : (s : State) (P : Stage → Work → Type 0) → P stage.Between Idle → ((ccw : Ccw) (o : Opened) → P (stage.Looking ccw) (Looking o))
+pub by_stage : (s : State) (P : Stage → Work → Type 0) → P stage.Between Idle
+    → ((ccw : Ccw) (o : Opened) → P (stage.Looking ccw) (Looking o))
     → ((ccw : Ccw) (a : ℕ) (o : Opened) (left : ℕ) → P (stage.Moving ccw a) (Passing o [] left))
-    → ((ccw : Ccw) (a : ℕ) (o : Opened) (x : ℕ) (b : List ℕ) (left : ℕ) → P (stage.Moving ccw a) (Passing o (x ∷ b) left)) → (g : Stage) (w : Work) → StageFits g s w → P g w
+    → ((ccw : Ccw) (a : ℕ) (o : Opened) (x : ℕ) (b : List ℕ) (left : ℕ) → P (stage.Moving ccw a) (Passing o (x ∷ b) left))
+    → (g : Stage) (w : Work) → StageFits g s w → P g w
 by_stage s P between looking none some stage.Between Idle f = between
 by_stage s P between looking none some (stage.Looking ccw) (Looking o) f = looking ccw o
 by_stage s P between looking none some (stage.Moving ccw a) (Passing o [] left) f = none ccw a o left

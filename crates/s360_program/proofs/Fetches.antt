@@ -12,18 +12,21 @@ some_at : (xs : List ℕ) (i : ℕ) → nat_le (i + 8) (length xs) ≡ true → 
 some_at xs i h = ap is_some (slice_get-get_or xs (i + 7) 0 (grind (arith, nat_tests)))
 
 -- what is read where a word stands
-found_at : (s : Storage) (at : ℕ) (begins : Bool) (ccw : Ccw) → at % 8 ≡ 0 → Some ccw ≡ (if is_inside s at 8 then Some (ccw_at s at) else None)
+found_at : (s : Storage) (at : ℕ) (begins : Bool) (ccw : Ccw) → at % 8 ≡ 0
+    → Some ccw ≡ (if is_inside s at 8 then Some (ccw_at s at) else None)
     → fetched_at s at begins ≡ read_ccw begins ccw
 found_at s at begins ccw h w = go (nat_le (at + 8) (length s.bytes)) refl w
   where
-    go : (t : Bool) → nat_le (at + 8) (length s.bytes) ≡ t → Some ccw ≡ (if t then Some (ccw_at s at) else None) → fetched_at s at begins ≡ read_ccw begins ccw
+    go : (t : Bool) → nat_le (at + 8) (length s.bytes) ≡ t → Some ccw ≡ (if t then Some (ccw_at s at) else None)
+        → fetched_at s at begins ≡ read_ccw begins ccw
     go false e k = cc
     go true e k = rw (h, some_at s.bytes at e) (ap (read_ccw begins) (same ccw (ccw_at s at) k))
       where
         same : (a b : Ccw) → Some a ≡ Some b → b ≡ a
         same a b e = cc
 
-pub transfer_found : (s : Storage) (p : Place) (begins : Bool) (ccw : Ccw) → p.next % 8 ≡ 0 → Some ccw ≡ (if is_inside s p.next 8 then Some (ccw_at s p.next) else None)
+pub transfer_found : (s : Storage) (p : Place) (begins : Bool) (ccw : Ccw) → p.next % 8 ≡ 0
+    → Some ccw ≡ (if is_inside s p.next 8 then Some (ccw_at s p.next) else None)
     → is_transfer ccw ≡ true → p.may_transfer ≡ true → TransferTo ccw.address ≡ fetch s p begins
 transfer_found s p begins ccw h w t m = rw (found_at s p.next begins ccw h w, t, m)
 
@@ -31,6 +34,7 @@ good : (may : Bool) (ccw : Ccw) → GoodCcw ccw ≡ unless_transfer may (GoodCcw
 good true ccw = refl
 good false ccw = refl
 
-pub good_found : (s : Storage) (p : Place) (begins : Bool) (ccw : Ccw) → p.next % 8 ≡ 0 → Some ccw ≡ (if is_inside s p.next 8 then Some (ccw_at s p.next) else None)
+pub good_found : (s : Storage) (p : Place) (begins : Bool) (ccw : Ccw) → p.next % 8 ≡ 0
+    → Some ccw ≡ (if is_inside s p.next 8 then Some (ccw_at s p.next) else None)
     → is_transfer ccw ≡ false → is_invalid begins ccw ≡ false → GoodCcw ccw ≡ fetch s p begins
 good_found s p begins ccw h w t v = rw (found_at s p.next begins ccw h w, t, v) (good p.may_transfer ccw)

@@ -34,10 +34,12 @@ idle_between s (Looking o) f = absurd f
 idle_between s (Passing o b left) f = absurd f
 
 pub idle_there : (r : Run) (d : DriveState) → r.comes ≡ comes.NextCommand → Fits r d → is_idle d.work ≡ true
-idle_there r d at fits = idle_between d.state d.work (subst (λ k. StageFits (stage_by k r.ccw r.address) d.state d.work) at fits.stands.fits)
+idle_there r d at fits =
+    idle_between d.state d.work (subst (λ k. StageFits (stage_by k r.ccw r.address) d.state d.work) at fits.stands.fits)
 
 -- the bytes that a search asks for, as storage lends them
-pub asked_for : (bytes given : List ℕ) (at n : ℕ) → at + n ≤ length bytes → given ≡ slice_range bytes at (at + length given) → length given ≡ min n (length bytes - at) → given ≡ take n (drop at bytes)
+pub asked_for : (bytes given : List ℕ) (at n : ℕ) → at + n ≤ length bytes → given ≡ slice_range bytes at (at + length given)
+    → length given ≡ min n (length bytes - at) → given ≡ take n (drop at bytes)
 asked_for bytes given at n inside is size =
     let long : length given ≡ n = size ∙ least (length bytes) inside in
     let span : at + length given - at ≡ n = omega (arith, long) in
@@ -66,7 +68,8 @@ fewer_left : (all left n : ℕ) → left ≤ all → n ≤ left → (all - left)
 fewer_left all left n h k = omega arith
 
 -- One round more; it names the drive before all, before this one and behind it.
-module _ (r : Run) (s : Storage) (ccw : Ccw) (area : Area) (bytes : List ℕ) (d1 d2 : DriveState) (at : r.comes ≡ comes.NextCommand) (back : LeadsBack s (place_of r.place) ccw)
+module _ (r : Run) (s : Storage) (ccw : Ccw) (area : Area) (bytes : List ℕ) (d1 d2 : DriveState) (at : r.comes ≡ comes.NextCommand)
+    (back : LeadsBack s (place_of r.place) ccw)
     (all : bytes ≡ take ccw.count (drop ccw.address s.bytes)) (p : PassesBy ccw.code bytes area d1 d2) where
   between : (d : DriveState) → phase_in (run_of r) s d ≡ Between (record { storage = s; place = place_of r.place; state = d.state })
   between d = ap (λ k. phase_by (stage_by k r.ccw r.address) (place_of r.place) s d.state d.work) at
@@ -77,7 +80,8 @@ module _ (r : Run) (s : Storage) (ccw : Ccw) (area : Area) (bytes : List ℕ) (d
   round : walk (units (ccw.count + 3)) r.key (phase_in (run_of r) s d1) ≡ StandsIn (phase_in (run_of r) s d2)
   round =
       ap (walk (units (ccw.count + 3)) r.key) (between d1)
-      ∙ round_is_units r.key s (place_of r.place) ccw d1.state d2.state back (subst (λ b. rounds.PassesBy ccw.code b d1.state d2.state) all passes)
+      ∙ round_is_units r.key s (place_of r.place) ccw d1.state d2.state back (subst (λ b. rounds.PassesBy ccw.code b d1.state d2.state) all
+      passes)
       ∙ ap StandsIn (sym (between d2))
 
   stage_fits : StageFits (stage_of r) d2.state d2.work
@@ -86,11 +90,14 @@ module _ (r : Run) (s : Storage) (ccw : Ccw) (area : Area) (bytes : List ℕ) (d
   saved : unsaved d1.state ≡ None → unsaved d2.state ≡ None
   saved h = rw p.stays (saved_on d1.state.mark d1.state.registers (state_past d1.state area).registers h)
 
-  pub one_more : (most left : ℕ) (d0 : DriveState) → left ≤ most → ccw.count + 3 ≤ left → GoesRound r s most (most - left) d0 d1 → GoesRound r s most (most - (left - (ccw.count + 3))) d0 d2
+  pub one_more : (most left : ℕ) (d0 : DriveState) → left ≤ most → ccw.count + 3 ≤ left → GoesRound r s most (most - left) d0 d1
+      → GoesRound r s most (most - (left - (ccw.count + 3))) d0 d2
   one_more most left d0 within few g = record {
     few = omega arith;
-    goes = subst (λ n. walk (units n) r.key (phase_in (run_of r) s d0) ≡ StandsIn (phase_in (run_of r) s d2)) (fewer_left most left (ccw.count + 3) within few)
-        (more_units r.key r.key (phase_in (run_of r) s d0) (phase_in (run_of r) s d1) (phase_in (run_of r) s d2) (most - left) (ccw.count + 3) refl g.goes round);
+    goes = subst (λ n. walk (units n) r.key (phase_in (run_of r) s d0) ≡ StandsIn (phase_in (run_of r) s d2))
+        (fewer_left most left (ccw.count + 3) within few)
+        (more_units r.key r.key (phase_in (run_of r) s d0) (phase_in (run_of r) s d1) (phase_in (run_of r) s d2) (most - left)
+        (ccw.count + 3) refl g.goes round);
     image = ap (λ (d : DriveState). d.image) p.stays ∙ g.image;
     fits = record { within = g.fits.within; stands = record { fits = stage_fits; saved = saved g.fits.stands.saved } };
     no_check = λ q. rw p.stays refl;
@@ -98,9 +105,19 @@ module _ (r : Run) (s : Storage) (ccw : Ccw) (area : Area) (bytes : List ℕ) (d
   }
 
 -- rounds are a step
-pub round_step : (r : Run) (s : Storage) (most n : ℕ) (d0 d1 : DriveState) → 0 < n → GoesRound r s most n d0 d1 → IsStep r s d0 most (step.Units n) r s d1
+pub round_step : (r : Run) (s : Storage) (most n : ℕ) (d0 d1 : DriveState) → 0 < n → GoesRound r s most n d0 d1
+    → IsStep r s d0 most (step.Units n) r s d1
 round_step r s most n d0 d1 some g = record {
-  steps = record { some = some; few = g.few; failures = ap (λ (i : ImageState). i.failures) g.image; goes = g.goes; same_key = refl; fits = g.fits; no_check = g.no_check };
+  steps = record {
+    some = some;
+    few = g.few;
+    failures = ap (λ (i : ImageState). i.failures) g.image;
+    goes = g.goes;
+    same_key = refl;
+    fits =
+        g.fits;
+    no_check = g.no_check;
+  };
   storage = kept s;
   quiet = λ _. g.image;
 }

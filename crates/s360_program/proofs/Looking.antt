@@ -7,7 +7,8 @@ use Rattle.ckd_command.specs.Drive.{Open, Fault, AfterLook, Ready, Passed, Faile
 use Rattle.ckd_command.proofs.Marks.{Calm, LookCalm, look_calm}
 use Rattle.ckd_command.proofs.Stable.{look_stable}
 use Rattle.ckd_drive.specs.declared.answers.Look.TheVariants as seen
-use Rattle.ckd_drive.specs.Work.{DriveState, Work, Idle, Over, Looking, Passing, fault_met, with_image, after_sight, after_look_of, answer_of_look, failed_ending, look_loads, look_saves, left_of, passed_of}
+use Rattle.ckd_drive.specs.Work.{DriveState, Work, Idle, Over, Looking, Passing, fault_met, with_image, after_sight, after_look_of}
+use Rattle.ckd_drive.specs.Work.{answer_of_look, failed_ending, look_loads, look_saves, left_of, passed_of}
 use Rattle.s360_runs.specs.Endings.{failed}
 use Rattle.s360_runs.specs.Scripts.{units}
 use Rattle.s360_runs.specs.Transfers.{Request}
@@ -28,19 +29,26 @@ use Rattle.s360_program.proofs.Meeting.{unfailed, ends_after, more_after, met_no
 
 -- What was seen, by what the drive answers.
 
-failed_is : (k : AfterLook) (d0 d1 : DriveState) → seen.Failed ≡ answer_of_look d1.work → d1 ≡ with_image (after_sight k d0) d1.image → k ≡ Failed d1.state
+failed_is : (k : AfterLook) (d0 d1 : DriveState) → seen.Failed ≡ answer_of_look d1.work → d1 ≡ with_image (after_sight k d0) d1.image
+    → k ≡ Failed d1.state
 failed_is (Failed t) d0 d1 a e = ap Failed (sym (ap (λ (d : DriveState). d.state) e))
 failed_is (Passed q) d0 d1 a e = absurd (cc (a ∙ ap (λ (d : DriveState). answer_of_look d.work) e))
 failed_is (Ready q) d0 d1 a e = absurd (cc (a ∙ ap (λ (d : DriveState). answer_of_look d.work) e))
 
 passed_is : (k : AfterLook) (d0 d1 : DriveState) → seen.Passed ≡ answer_of_look d1.work → d1 ≡ with_image (after_sight k d0) d1.image
     → (q : Opened) × (k ≡ Passed (record { opened = q; state = d1.state })) × (d1.work ≡ Looking q)
-passed_is (Passed q) d0 d1 a e = (q.opened, ap (λ s. Passed (record { opened = q.opened; state = s })) (sym (ap (λ (d : DriveState). d.state) e)), ap (λ (d : DriveState). d.work) e)
+passed_is (Passed q) d0 d1 a e = (
+  q.opened,
+  ap (λ s. Passed (record { opened = q.opened; state = s })) (sym (ap (λ (d : DriveState). d.state) e)),
+  ap (λ (d : DriveState). d.work) e,
+)
 passed_is (Failed t) d0 d1 a e = absurd (cc (a ∙ ap (λ (d : DriveState). answer_of_look d.work) e))
 passed_is (Ready q) d0 d1 a e = absurd (cc (a ∙ ap (λ (d : DriveState). answer_of_look d.work) e))
 
-ready_is : (left : ℕ) (k : AfterLook) (d0 d1 : DriveState) → seen.Ready left ≡ answer_of_look d1.work → d1 ≡ with_image (after_sight k d0) d1.image
-    → (q : Opened) × (k ≡ Ready (record { opened = q; state = d1.state })) × (d1.work ≡ Passing q [] (length_of (record { opened = q; state = d1.state }) []))
+ready_is : (left : ℕ) (k : AfterLook) (d0 d1 : DriveState) → seen.Ready left ≡ answer_of_look d1.work
+    → d1 ≡ with_image (after_sight k d0) d1.image
+    → (q : Opened) × (k ≡ Ready (record { opened = q; state = d1.state }))
+    × (d1.work ≡ Passing q [] (length_of (record { opened = q; state = d1.state }) []))
 ready_is left (Ready q) d0 d1 a e =
     let st = ap (λ (d : DriveState). d.state) e in (
       q.opened,
@@ -80,7 +88,8 @@ module _ (r : Run) (s : Storage) (d0 d1 : DriveState) (k : Looked r d0 d1) where
   sighted = k.state ∙ ap (λ w. with_image (after_look_of (fault_met d0 d1) d0 w) d1.image) work.1
 
   looks : phase_in (run_of r) s d0 ≡ phase.Looking O Q
-  looks = ap (λ g. phase_by g (place_of r.place) s d0.state d0.work) at ∙ ap (λ w. phase_by (stage.Looking r.ccw) (place_of r.place) s d0.state w) work.1
+  looks = ap (λ g. phase_by g (place_of r.place) s d0.state d0.work) at
+      ∙ ap (λ w. phase_by (stage.Looking r.ccw) (place_of r.place) s d0.state w) work.1
 
   calm_look : LookCalm (tells_equipment_check (drive_of d0.state).sense ≡ false) (look None O)
   calm_look = look_calm _ O (calm_before d0 k.fits.stands.saved)
@@ -89,7 +98,8 @@ module _ (r : Run) (s : Storage) (d0 d1 : DriveState) (k : Looked r d0 d1) where
       → Settles (failed d1.state) r.key (place_of r.place) condition.Clear told d1 d2
       → EndsBy (λ f. unit f r.key (phase_in (run_of r) s d0)) told s d0 d2
   look_fails told d2 answer end =
-      ends_after (λ f. unit f r.key (phase_in (run_of r) s d0)) (failed d1.state) r.key (place_of r.place) condition.Clear s told (λ f. look f O ≡ Failed d1.state) (d1.work ≡ Over failed_ending)
+      ends_after (λ f. unit f r.key (phase_in (run_of r) s d0)) (failed d1.state) r.key (place_of r.place) condition.Clear s told
+      (λ f. look f O ≡ Failed d1.state) (d1.work ≡ Over failed_ending)
       (look_loads d0) (look_saves d0) d0 d1 d2
       (record {
         stable = λ h left w. look_stable left O (Failed d1.state) h tt;
@@ -110,10 +120,19 @@ module _ (r : Run) (s : Storage) (d0 d1 : DriveState) (k : Looked r d0 d1) where
     some = omega arith;
     few = omega arith;
     failures = same;
-    goes = ap (λ g. on_next [] (unit None r.key g) (walk [] r.key)) looks ∙ ap (λ l. on_next [] (next_looked None r.key Q l) (walk [] r.key)) none
-        ∙ sym (ap StandsIn (ap (λ g. phase_by g (place_of r.place) s d1.state d1.work) at ∙ ap (λ w. phase_by (stage.Looking r.ccw) (place_of r.place) s d1.state w) q.2));
+    goes = ap (λ g. on_next [] (unit None r.key g) (walk [] r.key)) looks
+        ∙ ap (λ l. on_next [] (next_looked None r.key Q l) (walk [] r.key)) none
+        ∙ sym (ap StandsIn (ap (λ g. phase_by g (place_of r.place) s d1.state d1.work) at
+        ∙ ap (λ w. phase_by (stage.Looking r.ccw) (place_of r.place) s d1.state w) q.2));
     same_key = refl;
-    fits = record { within = k.fits.within; stands = record { fits = subst (λ g. StageFits g d1.state d1.work) (sym at) (subst (StageFits (stage.Looking r.ccw) d1.state) (sym q.2) tt); saved = calm.saved } };
+    fits = record {
+      within = k.fits.within;
+      stands =
+          record {
+            fits = subst (λ g. StageFits g d1.state d1.work) (sym at) (subst (StageFits (stage.Looking r.ccw) d1.state) (sym q.2) tt);
+            saved = calm.saved;
+          };
+    };
     no_check = calm.quiet;
   }
     where
@@ -135,7 +154,8 @@ module _ (r : Run) (s : Storage) (d0 d1 : DriveState) (k : Looked r d0 d1) where
     ready_same : d1.image.failures ≡ d0.image.failures
     ready_same = unfailed (d1.work ≡ Over failed_ending) d0 d1 (not_over d1.work (seen.Ready left) answer (λ h. cc)) k.reports
 
-    abbrev ready : (q : Opened) × (look (fault_met d0 d1) O ≡ Ready (record { opened = q; state = d1.state })) × (d1.work ≡ Passing q [] (length_of (record { opened = q; state = d1.state }) []))
+    abbrev ready : (q : Opened) × (look (fault_met d0 d1) O ≡ Ready (record { opened = q; state = d1.state }))
+        × (d1.work ≡ Passing q [] (length_of (record { opened = q; state = d1.state }) []))
     ready = ready_is left (look (fault_met d0 d1) O) d0 d1 answer sighted
 
     ready_none : look None O ≡ Ready (record { opened = ready.0; state = d1.state })
@@ -159,15 +179,25 @@ module _ (r : Run) (s : Storage) (d0 d1 : DriveState) (k : Looked r d0 d1) where
     pub look_fits : Fits (record r { comes = comes.Bytes; address = r.ccw.address }) d1
     look_fits = let w = looking_within r d0 k.fits k.at in record {
       within = record { key = k.fits.within.key; place = k.fits.within.place; stage = (w.0, w.1) };
-      stands = record { fits = subst (StageFits (stage.Moving r.ccw r.ccw.address) d1.state) (sym ready.2) (omega arith, λ g. omega arith, λ h. omega arith); saved = ready_calm.saved };
+      stands = record {
+        fits = subst (StageFits (stage.Moving r.ccw r.ccw.address) d1.state) (sym ready.2) (
+          omega arith,
+          λ g. omega arith,
+          λ h. omega arith,
+        );
+        saved = ready_calm.saved;
+      };
     }
 
     moves : (f : Option Fault) → look f O ≡ Ready (record { opened = ready.0; state = d1.state })
-        → unit f r.key (phase_in (run_of r) s d0) ≡ unit f r.key (phase_by (stage.Moving r.ccw r.ccw.address) (place_of r.place) s d1.state d1.work)
+        → unit f r.key (phase_in (run_of r) s d0) ≡ unit f r.key (phase_by (stage.Moving r.ccw r.ccw.address)
+        (place_of r.place) s d1.state d1.work)
     moves f h =
-        ap (unit f r.key) looks ∙ ap (next_looked f r.key Q) h ∙ ap (λ w. unit f r.key (phase_by (stage.Moving r.ccw r.ccw.address) (place_of r.place) s d1.state w)) (sym ready.2)
+        ap (unit f r.key) looks ∙ ap (next_looked f r.key Q) h
+        ∙ ap (λ w. unit f r.key (phase_by (stage.Moving r.ccw r.ccw.address) (place_of r.place) s d1.state w)) (sym ready.2)
 
-    pub walks : (n : ℕ) → 0 < n → walk (units n) r.key (phase_in (run_of r) s d0) ≡ walk (units n) r.key (phase_by (stage.Moving r.ccw r.ccw.address) (place_of r.place) s d1.state d1.work)
+    pub walks : (n : ℕ) → 0 < n → walk (units n) r.key (phase_in (run_of r) s d0) ≡ walk (units n) r.key
+        (phase_by (stage.Moving r.ccw r.ccw.address) (place_of r.place) s d1.state d1.work)
     walks zero h = absurd (omega arith)
     walks (suc n) h = ap (λ x. on_next (units n) x (walk (units n) r.key)) (moves None ready_none)
 
@@ -186,18 +216,22 @@ module _ (r : Run) (s : Storage) (d0 d1 : DriveState) (k : Looked r d0 d1) where
     look_finds most r2 s2 (step.Over n) d2 loads w = by w.earlier w.last w.goes
       where
         over : (e : ℕ) → n ≡ e + 1 → (phase : ProgramPhase) → walk (units e) r.key (phase_in (run_of r) s d0) ≡ StandsIn phase
-            → ((f : Option Fault) → look f O ≡ Ready (record { opened = ready.0; state = d1.state }) → unit f r.key phase ≡ unit f r.key w.at) → OverBy r.key (phase_in (run_of r) s d0) most n (told_of r2) s2 d0 d2
+            → ((f : Option Fault) → look f O ≡ Ready (record { opened = ready.0; state = d1.state })
+            → unit f r.key phase ≡ unit f r.key w.at) → OverBy r.key (phase_in (run_of r) s d0) most n (told_of r2) s2 d0 d2
         over e last phase goes same = record {
           earlier = e;
           last = last;
           few = w.few;
           at = phase;
           goes = goes;
-          ends = more_after (λ f. look f O ≡ Ready (record { opened = ready.0; state = d1.state })) (λ f. unit f r.key phase) (λ f. unit f r.key w.at) s2 (told_of r2) d0 d1 d2
-              same ready_none (λ left rose. look_stable left O (Ready (record { opened = ready.0; state = d1.state })) ready_none tt) ready_same loads ready_calm.quiet w.ends;
+          ends = more_after (λ f. look f O ≡ Ready (record { opened = ready.0; state = d1.state })) (λ f. unit f r.key phase)
+              (λ f. unit f r.key w.at) s2 (told_of r2) d0 d1 d2
+              same ready_none (λ left rose. look_stable left O (Ready (record { opened = ready.0; state = d1.state })) ready_none tt)
+              ready_same loads ready_calm.quiet w.ends;
         }
 
-        by : (e : ℕ) → n ≡ e + 1 → walk (units e) r.key (phase_by (stage.Moving r.ccw r.ccw.address) (place_of r.place) s d1.state d1.work) ≡ StandsIn w.at → OverBy r.key (phase_in (run_of r) s d0) most n (told_of r2) s2 d0 d2
+        by : (e : ℕ) → n ≡ e + 1 → walk (units e) r.key (phase_by (stage.Moving r.ccw r.ccw.address) (place_of r.place) s d1.state d1.work)
+            ≡ StandsIn w.at → OverBy r.key (phase_in (run_of r) s d0) most n (told_of r2) s2 d0 d2
         by zero last goes = over zero last (phase_in (run_of r) s d0) refl (λ f h. moves f h ∙ ap (unit f r.key) (stands goes))
           where
             stands : {a b : ProgramPhase} → StandsIn a ≡ StandsIn b → a ≡ b

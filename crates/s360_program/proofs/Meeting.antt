@@ -1,5 +1,6 @@
 -- Faults that the calls of one unit meet together.
-use Rattle.std.proofs.Common.{◌≡◌, ◌⊎◌, inl, inr, ℕ, ◌+◌, ◌≤◌, refl, sym, ap, subst, ◌∙◌, arith, true, false, Bool, not, ◌&&◌, ◌||◌, ◌==◌, List, Option, Some, None}
+use Rattle.std.proofs.Common.{◌≡◌, ◌⊎◌, inl, inr, ℕ, ◌+◌, ◌≤◌, refl, sym, ap, subst, ◌∙◌, arith, true, false, Bool, not, ◌&&◌, ◌||◌, ◌==◌}
+use Rattle.std.proofs.Common.{List, Option, Some, None}
 use Rattle.std.specs.Prelude.{if◌then◌else◌}
 use Rattle.std.proofs.lemmas.Bool.Decides.{nat_tests}
 use Rattle.std.proofs.lemmas.Nat.{and_or_self}
@@ -12,7 +13,8 @@ use Rattle.s360_words.specs.declared.flags.UnitStatus.{UnitStatus}
 use Rattle.s360_words.specs.declared.words.Csw.{Csw}
 use Rattle.ckd_command.specs.declared.registers.Mark.{Mark}
 use Rattle.ckd_command.specs.declared.registers.Mark.TheVariants.{Saved, Written, Lost}
-use Rattle.ckd_command.specs.Drive.{IdleDrive, Closed, Fault, LoadFails, SaveFails, drive_of, is_written, is_written_by, left_by, saving, settled, with_unit_check, unsaved, tells_equipment_check}
+use Rattle.ckd_command.specs.Drive.{IdleDrive, Closed, Fault, LoadFails, SaveFails, drive_of, is_written, is_written_by, left_by, saving}
+use Rattle.ckd_command.specs.Drive.{settled, with_unit_check, unsaved, tells_equipment_check}
 use Rattle.ckd_command.proofs.Marks.{Calm}
 use Rattle.s360_runs.specs.Endings.{ending}
 use Rattle.s360_runs.specs.Places.{Place}
@@ -47,7 +49,8 @@ pub met_by : (l m : Bool) (d0 d1 : DriveState) → CallsStore l m d0 d1 → IsMe
 met_by l m d0 d1 k = go m k.saves k.failures
   where
     go : (m : Bool) → d1.image.saves ≡ d0.image.saves + (if m then 1 else 0)
-        → (d1.image.failures ≡ d0.image.failures) ⊎ ((d1.image.failures ≡ d0.image.failures + 1) × ((m ≡ true) ⊎ (d1.image.loads ≡ d0.image.loads + 1)))
+        → (d1.image.failures ≡ d0.image.failures) ⊎ ((d1.image.failures ≡ d0.image.failures + 1)
+        × ((m ≡ true) ⊎ (d1.image.loads ≡ d0.image.loads + 1)))
         → IsMetBy (fault_met d0 d1) d0 d1
     go m s (inl h) = rw (h, self_equal d0.image.failures)
     go true s (inr h) = rw (h.0, one_more d0.image.failures, s, one_more d0.image.saves)
@@ -66,15 +69,34 @@ untouched m d0 d1 e k = k.untouched e (loads_none m d0 d1 k)
 behind : (l m : Bool) (d0 d1 d2 : DriveState) → d2.image ≡ d1.image → CallsStore l m d0 d1 → CallsStore l m d0 d2
 behind l m d0 d1 d2 e a =
     subst (λ (i : ImageState). CallsStore l m d0 (record d2 { image = i })) (sym e)
-    (record { loads = a.loads; saves = a.saves; failures = a.failures; slots = a.slots; untouched = a.untouched; lasting = a.lasting; geometry = a.geometry })
+    (record {
+      loads = a.loads;
+      saves = a.saves;
+      failures = a.failures;
+      slots = a.slots;
+      untouched = a.untouched;
+      lasting =
+          a.lasting;
+      geometry = a.geometry;
+    })
 
 before : (l m : Bool) (d0 d1 d2 : DriveState) → d1.image ≡ d0.image → CallsStore l m d1 d2 → CallsStore l m d0 d2
 before l m d0 d1 d2 e b =
     subst (λ (i : ImageState). CallsStore l m (record d0 { image = i }) d2) e
-    (record { loads = b.loads; saves = b.saves; failures = b.failures; slots = b.slots; untouched = b.untouched; lasting = b.lasting; geometry = b.geometry })
+    (record {
+      loads = b.loads;
+      saves = b.saves;
+      failures = b.failures;
+      slots = b.slots;
+      untouched = b.untouched;
+      lasting =
+          b.lasting;
+      geometry = b.geometry;
+    })
 
 -- a call that loads nothing and fails has failed to save, and the sense says so
-saving_failed : (w : Bool) (So : Type 0) (d1 d2 : DriveState) → CallsStore false w d1 d2 → Reports So d1 d2 → d2.image.failures ≡ d1.image.failures + 1
+saving_failed : (w : Bool) (So : Type 0) (d1 d2 : DriveState) → CallsStore false w d1 d2 → Reports So d1 d2
+    → d2.image.failures ≡ d1.image.failures + 1
     → (w ≡ true) × (tells_equipment_check d2.state.registers.sense ≡ true)
 saving_failed w So d1 d2 calls reports rose = (saved w calls, (only_right reports.failed not_both).1)
   where
@@ -97,7 +119,11 @@ settled_unwritten None c h = refl
 settled_unwritten (Some LoadFails) c h = refl
 settled_unwritten (Some (SaveFails left)) c h = go c.state.mark h
   where
-    go : (m : Mark) → is_written_by m ≡ false → saving (left_by (Some (SaveFails left)) m) c.state (λ s. record c { state = s; unit = with_unit_check c.unit }) c ≡ c
+    go : (m : Mark) → is_written_by m ≡ false → saving (left_by (Some (SaveFails left)) m) c.state (λ s. record c {
+      state = s;
+      unit =
+          with_unit_check c.unit;
+    }) c ≡ c
     go Saved k = refl
     go Lost k = refl
     go Written k = never (sym k)
@@ -106,22 +132,30 @@ settled_unwritten (Some (SaveFails left)) c h = go c.state.mark h
 settled_failed : (left : List ℕ) (c : Closed) → is_written c.state ≡ true → tells (settled (Some (SaveFails left)) c).unit UNIT_CHECK ≡ true
 settled_failed left c h = go c.state.mark h
   where
-    go : (m : Mark) → is_written_by m ≡ true → tells (saving (left_by (Some (SaveFails left)) m) c.state (λ s. record c { state = s; unit = with_unit_check c.unit }) c).unit UNIT_CHECK ≡ true
+    go : (m : Mark) → is_written_by m ≡ true → tells (saving (left_by (Some (SaveFails left)) m) c.state (λ s. record c {
+      state = s;
+      unit =
+          with_unit_check c.unit;
+    }) c).unit UNIT_CHECK ≡ true
     go Saved k = never k
     go Lost k = never k
     go Written k = ap (λ n. not (n == 0)) (and_or_self 0x02 c.unit.0)
 
-ending_unwritten : (f g : Option Fault) (key : ℕ) (p : Place) (c : Closed) (k : ChannelCondition) → is_written c.state ≡ false → ending f key p c (status_of k) ≡ ending g key p c (status_of k)
+ending_unwritten : (f g : Option Fault) (key : ℕ) (p : Place) (c : Closed) (k : ChannelCondition) → is_written c.state ≡ false
+    → ending f key p c (status_of k) ≡ ending g key p c (status_of k)
 ending_unwritten f g key p c k h = rw (settled_unwritten f c h, settled_unwritten g c h)
 
 -- incorrect length is not reported beside unit check
-length_untold : (asked : Bool) (unit : UnitStatus) (k : ChannelCondition) → tells unit UNIT_CHECK ≡ true → has (with_interruption asked (beside unit (status_of k))).0 INCORRECT_LENGTH.0 ≡ false
-length_untold asked unit k h = ap (λ b. has (with_interruption asked (if b && is_length k then record { 0 = 0 } else status_of k)).0 INCORRECT_LENGTH.0) h ∙ go asked k
+length_untold : (asked : Bool) (unit : UnitStatus) (k : ChannelCondition) → tells unit UNIT_CHECK ≡ true
+    → has (with_interruption asked (beside unit (status_of k))).0 INCORRECT_LENGTH.0 ≡ false
+length_untold asked unit k h =
+    ap (λ b. has (with_interruption asked (if b && is_length k then record { 0 = 0 } else status_of k)).0 INCORRECT_LENGTH.0) h ∙ go asked k
   where
     is_length : ChannelCondition → Bool
     is_length k = (status_of k).0 == INCORRECT_LENGTH.0
 
-    go : (asked : Bool) (k : ChannelCondition) → has (with_interruption asked (if is_length k then record { 0 = 0 } else status_of k)).0 INCORRECT_LENGTH.0 ≡ false
+    go : (asked : Bool) (k : ChannelCondition) → has (with_interruption asked (if is_length k then record { 0 = 0 } else status_of k)).0
+        INCORRECT_LENGTH.0 ≡ false
     go true condition.Clear = refl
     go true condition.IncorrectLength = refl
     go true condition.ProgramCheck = refl
@@ -132,7 +166,8 @@ length_untold asked unit k h = ap (λ b. has (with_interruption asked (if b && i
     go false condition.ProtectionCheck = refl
 
 -- its premises are many, since a save that fails as the program ends and a call that failed before it come here
-tells_fault : (f : Option Fault) (key : ℕ) (p : Place) (c : Closed) (k : ChannelCondition) (told : Csw × Bool) (d : DriveState) → tells (settled f c).unit UNIT_CHECK ≡ true
+tells_fault : (f : Option Fault) (key : ℕ) (p : Place) (c : Closed) (k : ChannelCondition) (told : Csw × Bool) (d : DriveState)
+    → tells (settled f c).unit UNIT_CHECK ≡ true
     → tells_equipment_check d.state.registers.sense ≡ true → IsEnding (ending f key p c (status_of k)) told d → TellsFault told.0 d
 tells_fault f key p c k told d unit sense is = record {
   unit_check = ap (λ (w : Csw). tells w.unit UNIT_CHECK) is.csw ∙ unit;
@@ -152,19 +187,25 @@ pub record Call (At : Option Fault → Type 0) (Failed : Type 0) (l m : Bool) (c
   pub reports : Reports Failed d0 d1
 
 module _ (next : Option Fault → Next) (c : Closed) (key : ℕ) (p : Place) (k : ChannelCondition) (s : Storage) (told : Csw × Bool) where
-  pub ends_after : (At : Option Fault → Type 0) (Failed : Type 0) (l m : Bool) (d0 d1 d2 : DriveState) → Call At Failed l m c d0 d1 → Settles c key p k told d1 d2
+  pub ends_after : (At : Option Fault → Type 0) (Failed : Type 0) (l m : Bool) (d0 d1 d2 : DriveState) → Call At Failed l m c d0 d1
+      → Settles c key p k told d1 d2
       → ((f : Option Fault) → At f → next f ≡ EndsIn s (ending f key p c (status_of k))) → EndsBy next told s d0 d2
   ends_after At Failed l m d0 d1 d2 call end nexts = by_count call.calls.failures call.reports.failed
     where
       -- the second call, where the first one did not fail
-      second : d1.image.failures ≡ d0.image.failures → At None → (f : Option Fault) → IsMetBy f d1 d2 → IsEnding (ending f key p c (status_of k)) told d2 → EndsBy next told s d0 d2
+      second : d1.image.failures ≡ d0.image.failures → At None → (f : Option Fault) → IsMetBy f d1 d2
+          → IsEnding (ending f key p c (status_of k)) told d2 → EndsBy next told s d0 d2
       second h at None m is = record {
         fault = None;
         met = m ∙ h;
         ending = ending None key p c (status_of k);
         ends = nexts None at;
         is_ending = is;
-        told_of = record { saved = is.drive.unsaved ∙ (call.calm at).saved; no_check = subst (λ e. GainsNoCheck (drive_of d0.state) e) (sym is.drive.drive) (call.calm at).quiet };
+        told_of = record {
+          saved = is.drive.unsaved ∙ (call.calm at).saved;
+          no_check = subst (λ e. GainsNoCheck (drive_of d0.state) e)
+              (sym is.drive.drive) (call.calm at).quiet;
+        };
       }
       second h at (Some LoadFails) m is = absurd (omega (arith, m.1, loads_none (is_written d1.state) d1 d2 end.calls))
       second h at (Some (SaveFails left)) m is =
@@ -180,12 +221,14 @@ module _ (next : Option Fault → Next) (c : Closed) (key : ℕ) (p : Place) (k 
           }
 
       -- the first one failed, and nothing is saved by the second
-      first : d1.image.failures ≡ d0.image.failures + 1 → Failed → tells_equipment_check d1.state.registers.sense ≡ true → is_written d1.state ≡ false → EndsBy next told s d0 d2
+      first : d1.image.failures ≡ d0.image.failures + 1 → Failed → tells_equipment_check d1.state.registers.sense ≡ true
+          → is_written d1.state ≡ false → EndsBy next told s d0 d2
       first rose failed sense w = record {
         fault = fault_met d0 d2;
         met = met;
         ending = ending (fault_met d1 d2) key p c (status_of k);
-        ends = nexts (fault_met d0 d2) (subst (λ i. At (fault_met d0 (record d2 { image = i }))) (sym image) call.at) ∙ ap (λ e. EndsIn s e) (ending_unwritten (fault_met d0 d2) (fault_met d1 d2) key p c k cw);
+        ends = nexts (fault_met d0 d2) (subst (λ i. At (fault_met d0 (record d2 { image = i }))) (sym image) call.at)
+            ∙ ap (λ e. EndsIn s e) (ending_unwritten (fault_met d0 d2) (fault_met d1 d2) key p c k cw);
         is_ending = end.is;
         told_of = told_by (fault_met d0 d2) met;
       }
@@ -211,11 +254,15 @@ module _ (next : Option Fault → Next) (c : Closed) (key : ℕ) (p : Place) (k 
               tells_fault (fault_met d1 d2) key p c k told d2 (ap (λ (c : Closed). tells c.unit UNIT_CHECK) kept ∙ call.fails failed)
               (ap (λ (d : IdleDrive). tells_equipment_check d.sense) drive ∙ sense) end.is
 
-      by_count : (d1.image.failures ≡ d0.image.failures) ⊎ ((d1.image.failures ≡ d0.image.failures + 1) × ((m ≡ true) ⊎ (d1.image.loads ≡ d0.image.loads + 1)))
-          → (d1.image.failures ≡ d0.image.failures) ⊎ (Failed × (tells_equipment_check d1.state.registers.sense ≡ true) × (is_written d1.state ≡ false)) → EndsBy next told s d0 d2
+      by_count : (d1.image.failures ≡ d0.image.failures) ⊎ ((d1.image.failures ≡ d0.image.failures + 1)
+          × ((m ≡ true) ⊎ (d1.image.loads ≡ d0.image.loads + 1)))
+          → (d1.image.failures ≡ d0.image.failures) ⊎ (Failed × (tells_equipment_check d1.state.registers.sense ≡ true)
+          × (is_written d1.state ≡ false)) → EndsBy next told s d0 d2
       by_count (inr h) (inr r) = first h.0 r.0 r.1 r.2
-      by_count (inl h) r = second h (subst At (met_none d0 d1 h) call.at) (fault_met d1 d2) (met_by false (is_written d1.state) d1 d2 end.calls) end.is
-      by_count (inr x) (inl h) = second h (subst At (met_none d0 d1 h) call.at) (fault_met d1 d2) (met_by false (is_written d1.state) d1 d2 end.calls) end.is
+      by_count (inl h) r = second h (subst At (met_none d0 d1 h) call.at) (fault_met d1 d2)
+          (met_by false (is_written d1.state) d1 d2 end.calls) end.is
+      by_count (inr x) (inl h) = second h (subst At (met_none d0 d1 h) call.at) (fault_met d1 d2)
+          (met_by false (is_written d1.state) d1 d2 end.calls) end.is
 
   -- The program ends by one call of the drive, its last.
   pub ends_now : (d0 d2 : DriveState) → c.state ≡ d0.state → unsaved d0.state ≡ None → Settles c key p k told d0 d2
@@ -227,7 +274,16 @@ module _ (next : Option Fault → Next) (c : Closed) (key : ℕ) (p : Place) (k 
         fails = λ x. absurd x;
         at = tt;
         same = same;
-        calls = record { loads = inl refl; saves = none d0.image.saves; failures = inl refl; slots = λ e. refl; untouched = λ e l. refl; lasting = refl; geometry = refl };
+        calls = record {
+          loads = inl refl;
+          saves = none d0.image.saves;
+          failures = inl refl;
+          slots = λ e. refl;
+          untouched =
+              λ e l. refl;
+          lasting = refl;
+          geometry = refl;
+        };
         reports = record { failed = inl refl; good = λ h k. k };
       }) end (λ f at. nexts f)
     where
@@ -238,7 +294,8 @@ module _ (next : Option Fault → Next) (c : Closed) (key : ℕ) (p : Place) (k 
 
 -- it names the drive before, between and behind the calls, since it joins what is said of each two
 pub more_after : (At : Option Fault → Type 0) (next later : Option Fault → Next) (s : Storage) (told : Csw × Bool) (d0 d1 d2 : DriveState)
-    → ((f : Option Fault) → At f → next f ≡ later f) → At None → ((left : List ℕ) → d2.image.failures ≡ d1.image.failures + 1 → At (Some (SaveFails left)))
+    → ((f : Option Fault) → At f → next f ≡ later f) → At None → ((left : List ℕ) → d2.image.failures ≡ d1.image.failures + 1
+    → At (Some (SaveFails left)))
     → d1.image.failures ≡ d0.image.failures → d2.image.loads ≡ d1.image.loads → GainsNoCheck (drive_of d0.state) (drive_of d1.state)
     → EndsBy later told s d1 d2 → EndsBy next told s d0 d2
 more_after At next later s told d0 d1 d2 e at stable same loads quiet is = go is.fault is.met is.ends is.told_of
@@ -249,16 +306,28 @@ more_after At next later s told d0 d1 d2 e at stable same loads quiet is = go is
     go : (f : Option Fault) → IsMetBy f d1 d2 → later f ≡ EndsIn s is.ending → ToldOf f told.0 d1 d2 → EndsBy next told s d0 d2
     go None m n t = by None (m ∙ same) (e None at ∙ n) (record { saved = t.saved; no_check = λ q. t.no_check (quiet q) })
     go (Some LoadFails) m n t = absurd (omega (arith, m.1, loads))
-    go (Some (SaveFails left)) m n t = by (Some (SaveFails left)) (m ∙ ap (λ n. n + 1) same) (e (Some (SaveFails left)) (stable left m) ∙ n) t
+    go (Some (SaveFails left)) m n t = by (Some (SaveFails left)) (m ∙ ap (λ n. n + 1) same) (e (Some (SaveFails left)) (stable left m)
+        ∙ n) t
 
 -- the same where the unit goes on; it names the drive before, between and behind the calls, since it joins what is said of each two
-pub comes_after : (At : Option Fault → Type 0) (next later : Option Fault → Next) (key : ℕ) (s : Storage) (r : Run) (a : Step) (d0 d1 d2 : DriveState)
-    → ((f : Option Fault) → At f → next f ≡ later f) → At None → ((left : List ℕ) → d2.image.failures ≡ d1.image.failures + 1 → At (Some (SaveFails left)))
+pub comes_after : (At : Option Fault → Type 0) (next later : Option Fault → Next) (key : ℕ) (s : Storage) (r : Run) (a : Step)
+    (d0 d1 d2 : DriveState)
+    → ((f : Option Fault) → At f → next f ≡ later f) → At None → ((left : List ℕ) → d2.image.failures ≡ d1.image.failures + 1
+    → At (Some (SaveFails left)))
     → d1.image.failures ≡ d0.image.failures → d2.image.loads ≡ d1.image.loads → GainsNoCheck (drive_of d0.state) (drive_of d1.state)
     → ComesBy key later a r s d1 d2 → ComesBy key next a r s d0 d2
 comes_after At next later key s r (step.Units n) d0 d1 d2 e at stable same loads quiet is =
-    let w = is.1 in
-    (is.0, record { failures = w.failures ∙ same; goes = e None at ∙ w.goes; same_key = w.same_key; fits = w.fits; no_check = λ q. w.no_check (quiet q) })
+    let w = is.1 in (
+      is.0,
+      record {
+        failures = w.failures ∙ same;
+        goes = e None at ∙ w.goes;
+        same_key = w.same_key;
+        fits = w.fits;
+        no_check =
+            λ q. w.no_check (quiet q);
+      },
+    )
 comes_after At next later key s r (step.Over n) d0 d1 d2 e at stable same loads quiet is =
     (is.0, more_after At next later s (told_of r) d0 d1 d2 e at stable same loads quiet is.1)
 
@@ -267,7 +336,8 @@ comes_after At next later key s r (step.Over n) d0 d1 d2 e at stable same loads 
 pub once : (l m : Bool) (d0 d1 : DriveState) → CallsStore l m d0 d1 → CallsAtMost 1 d0 d1
 once l m d0 d1 k = record { calls = go m k.saves k.loads; lasting = k.lasting; geometry = k.geometry }
   where
-    go : (m : Bool) → d1.image.saves ≡ d0.image.saves + (if m then 1 else 0) → (d1.image.loads ≡ d0.image.loads) ⊎ ((l ≡ true) × (m ≡ false) × (d1.image.loads ≡ d0.image.loads + 1))
+    go : (m : Bool) → d1.image.saves ≡ d0.image.saves + (if m then 1 else 0) → (d1.image.loads ≡ d0.image.loads)
+        ⊎ ((l ≡ true) × (m ≡ false) × (d1.image.loads ≡ d0.image.loads + 1))
         → d1.image.loads + d1.image.saves ≤ d0.image.loads + d0.image.saves + 1
     go true s (inl x) = omega arith
     go true s (inr x) = never (sym x.1)
@@ -275,10 +345,16 @@ once l m d0 d1 k = record { calls = go m k.saves k.loads; lasting = k.lasting; g
     go false s (inr x) = let y : d1.image.loads ≡ d0.image.loads + 1 = x.2 in omega arith
 
 pub both : (n k : ℕ) (d0 d1 d2 : DriveState) → CallsAtMost n d0 d1 → CallsAtMost k d1 d2 → CallsAtMost (n + k) d0 d2
-both n k d0 d1 d2 a b = record { calls = omega (arith, a.calls, b.calls); lasting = b.lasting ∙ a.lasting; geometry = b.geometry ∙ a.geometry }
+both n k d0 d1 d2 a b = record {
+  calls = omega (arith, a.calls, b.calls);
+  lasting = b.lasting ∙ a.lasting;
+  geometry = b.geometry
+      ∙ a.geometry;
+}
 
 -- Two calls of which at most one saves, and which load nothing: the other one leaves the image.
 
-pub saves_together : (m w : Bool) (d0 d1 d2 : DriveState) → (m ≡ true → w ≡ false) → CallsStore false m d0 d1 → CallsStore false w d1 d2 → CallsStore false (m || w) d0 d2
+pub saves_together : (m w : Bool) (d0 d1 d2 : DriveState) → (m ≡ true → w ≡ false) → CallsStore false m d0 d1 → CallsStore false w d1 d2
+    → CallsStore false (m || w) d0 d2
 saves_together true w d0 d1 d2 only a b = behind false true d0 d1 d2 (untouched w d1 d2 (only refl) b) a
 saves_together false w d0 d1 d2 only a b = before false w d0 d1 d2 (untouched false d0 d1 refl a) b

@@ -1,5 +1,6 @@
 -- Bytes that may move one after another.
-use Rattle.std.proofs.Common.{◌≡◌, ◌⊎◌, inl, inr, ℕ, zero, suc, ◌+◌, ◌-◌, ◌<◌, ◌≤◌, refl, sym, ap, subst, ◌∙◌, arith, true, false, Bool, not, ◌&&◌, List, ◌++◌, nat_lt, length, take, drop, length-append, length-drop, length-take-le}
+use Rattle.std.proofs.Common.{◌≡◌, ◌⊎◌, inl, inr, ℕ, zero, suc, ◌+◌, ◌-◌, ◌<◌, ◌≤◌, refl, sym, ap, subst, ◌∙◌, arith, true, false, Bool}
+use Rattle.std.proofs.Common.{not, ◌&&◌, List, ◌++◌, nat_lt, length, take, drop, length-append, length-drop, length-take-le}
 use Rattle.std.specs.Prelude.{if◌then◌else◌, ◌==◌, is_some, slice_get, slice_range, Ok, Err, IsTrue}
 use Rattle.std.proofs.lemmas.Bool.Decides.{nat_tests}
 use Rattle.std.proofs.lemmas.Option.{slice_get_past, slice_get-get_or}
@@ -15,7 +16,8 @@ use Rattle.ckd_command.proofs.Lengths.{length_grows, gives_length}
 use Rattle.s360_runs.specs.Laws.{MayMove}
 use Rattle.s360_runs.specs.Status.{no_channel_status, is_clear}
 use Rattle.s360_runs.specs.Transfers.{Transfer, Moves, transfer_unit, check_of, after_bytes, next_bytes}
-use Rattle.ckd_drive.specs.Work.{DriveState, Work, Idle, Over, Looking, Passing, takes_now, gives_now, given_now, passed_of, left_of, moved_on}
+use Rattle.ckd_drive.specs.Work.{DriveState, Work, Idle, Over, Looking, Passing, takes_now, gives_now, given_now, passed_of, left_of}
+use Rattle.ckd_drive.specs.Work.{moved_on}
 use Rattle.s360_program.specs.Steps.{MovesBy, MovesBytesBy, transfer_by, status_of, refused}
 use Rattle.s360_program.specs.declared.moving.Segment.{Segment}
 
@@ -33,11 +35,14 @@ some_below xs i h = ap is_some (slice_get-get_or xs i 0 h)
 
 -- that this many bytes may still move, and that the next one may, stays so from byte to byte
 abbrev pub IsKept : (key : ℕ) → Open → (ℕ → Transfer → Type 0) → Type 0
-IsKept key o Free = (m : ℕ) (t : Transfer) → Free (suc m) t → (check_of key o t ≡ no_channel_status) × (length (next_bytes 1 o t) ≡ 1) × Free m (after_bytes 1 o t)
+IsKept key o Free = (m : ℕ) (t : Transfer) → Free (suc m) t → (check_of key o t ≡ no_channel_status) × (length (next_bytes 1 o t) ≡ 1)
+    × Free m (after_bytes 1 o t)
 
-may_move : (m key : ℕ) (o : Open) (Free : ℕ → Transfer → Type 0) (t : Transfer) → IsKept key o Free → Free m t → m ≤ t.place.residual → length t.bytes + m ≤ length_of o t.bytes → MayMove m key o t
+may_move : (m key : ℕ) (o : Open) (Free : ℕ → Transfer → Type 0) (t : Transfer) → IsKept key o Free → Free m t → m ≤ t.place.residual
+    → length t.bytes + m ≤ length_of o t.bytes → MayMove m key o t
 may_move zero key o Free t keeps free r l = tt
-may_move (suc m) key o Free t keeps free r l = (moves, k.1, may_move m key o Free (after_bytes 1 o t) keeps k.2 (fewer t.place.residual r) long)
+may_move (suc m) key o Free t keeps free r l =
+    (moves, k.1, may_move m key o Free (after_bytes 1 o t) keeps k.2 (fewer t.place.residual r) long)
   where
     k : (check_of key o t ≡ no_channel_status) × (length (next_bytes 1 o t) ≡ 1) × Free m (after_bytes 1 o t)
     k = keeps m t free
@@ -61,7 +66,8 @@ may_move (suc m) key o Free t keeps free r l = (moves, k.1, may_move m key o Fre
 
 -- A command that takes bytes.
 
-may_take : (m key : ℕ) (o : Open) (t : Transfer) → gives o ≡ false → m ≤ t.place.residual → length t.bytes + m ≤ length_of o t.bytes → t.address + m ≤ length t.storage.bytes → MayMove m key o t
+may_take : (m key : ℕ) (o : Open) (t : Transfer) → gives o ≡ false → m ≤ t.place.residual → length t.bytes + m ≤ length_of o t.bytes
+    → t.address + m ≤ length t.storage.bytes → MayMove m key o t
 may_take m key o t g r l h = may_move m key o (λ m t. t.address + m ≤ length t.storage.bytes) t keeps h r l
   where
     keeps : IsKept key o (λ m t. t.address + m ≤ length t.storage.bytes)
@@ -82,7 +88,8 @@ abbrev pub AreFree : (key : ℕ) → Open → ℕ → Transfer → Type 0
 AreFree key o m t = (length t.bytes + m ≤ length (given o)) × ((i : ℕ) → i < m → IsFree key t.ccw t.storage (t.address + i))
 
 free_checked : (key : ℕ) (ccw : Ccw) (s : Storage) (at : ℕ) → IsFree key ccw s at
-    → (if skips ccw then no_channel_status else (if not (is_some (slice_get s.bytes at)) then PROGRAM_CHECK else (if not (admits (key_at s at) key) then PROTECTION_CHECK else no_channel_status))) ≡ no_channel_status
+    → (if skips ccw then no_channel_status else (if not (is_some (slice_get s.bytes at)) then PROGRAM_CHECK else (if not
+    (admits (key_at s at) key) then PROTECTION_CHECK else no_channel_status))) ≡ no_channel_status
 free_checked key ccw s at (inl k) = rw k
 free_checked key ccw s at (inr k) = rw (some_below s.bytes at k.0, k.1) (either (skips ccw))
   where
@@ -90,13 +97,15 @@ free_checked key ccw s at (inr k) = rw (some_below s.bytes at k.0, k.1) (either 
     either true = refl
     either false = refl
 
-free_behind : (key : ℕ) (ccw : Ccw) (s : Storage) (a at : ℕ) (new : List ℕ) (w : Bool) → IsFree key ccw s at → IsFree key ccw (if w then stored s a new else s) at
+free_behind : (key : ℕ) (ccw : Ccw) (s : Storage) (a at : ℕ) (new : List ℕ) (w : Bool) → IsFree key ccw s at
+    → IsFree key ccw (if w then stored s a new else s) at
 free_behind key ccw s a at new true (inl k) = inl k
 free_behind key ccw s a at new true (inr k) = inr (rw (length-overwritten s.bytes a new) k.0, k.1)
 free_behind key ccw s a at new false k = k
 
 may_give : (m key : ℕ) (o : Open) (t : Transfer) → gives o ≡ true → m ≤ t.place.residual → AreFree key o m t → MayMove m key o t
-may_give m key o t g r free = may_move m key o (AreFree key o) t keeps free r (subst (λ n. length t.bytes + m ≤ n) (sym (gives_length o t.bytes g)) free.0)
+may_give m key o t g r free = may_move m key o (AreFree key o) t keeps free r (subst (λ n. length t.bytes + m ≤ n)
+    (sym (gives_length o t.bytes g)) free.0)
   where
     first : (a : ℕ) → a + 0 ≡ a
     first a = omega arith
@@ -112,7 +121,8 @@ may_give m key o t g r free = may_move m key o (AreFree key o) t keeps free r (s
           one,
           (
             omega (arith, length-append t.bytes (take 1 (drop (length t.bytes) (given o))), one, free.0),
-            λ i h. free_behind key t.ccw t.storage t.address (t.address + 1 + i) (take 1 (drop (length t.bytes) (given o))) (not (skips t.ccw))
+            λ i h. free_behind key t.ccw t.storage t.address (t.address + 1 + i) (take 1 (drop (length t.bytes) (given o)))
+                (not (skips t.ccw))
                 (subst (IsFree key t.ccw t.storage) (next t.address i) (free.1 (suc i) (omega arith))),
           ),
         )
@@ -131,7 +141,8 @@ within b left m most L x y z = omega arith
 
 -- so many bytes are taken; the work is named apart from the drive, since it goes by its cases, and what the code has at
 -- hand of them is a premise each
-pub takes_so : (m : ℕ) (seg : Segment) (s : Storage) (d d2 : DriveState) (w : Work) → MayPass m seg d.state w → takes_now w ≡ true → seg.address + m ≤ length s.bytes
+pub takes_so : (m : ℕ) (seg : Segment) (s : Storage) (d d2 : DriveState) (w : Work) → MayPass m seg d.state w → takes_now w ≡ true
+    → seg.address + m ≤ length s.bytes
     → d2 ≡ record d { work = moved_on (slice_range s.bytes seg.address (seg.address + m)) w } → MovesBytesBy seg (Ok m) s s d d2 w
 takes_so m seg s d d2 Idle h t inside e = absurd h.moving
 takes_so m seg s d d2 (Over x) h t inside e = absurd h.moving
@@ -140,7 +151,8 @@ takes_so m seg s d d2 (Passing o b left) h t inside e = (
   h.some,
   h.few,
   λ place r. record {
-    may = may_take m seg.key O (transfer_by seg s place (Passing o b left)) g r (within (length b) left m seg.count (length_of O b) h.moving h.few h.left) inside;
+    may = may_take m seg.key O (transfer_by seg s place (Passing o b left)) g r (within (length b) left m seg.count
+        (length_of O b) h.moving h.few h.left) inside;
     count = rw g (counted s.bytes seg.address m inside);
     storage = rw g;
     drive = rw g (rw (ranged s.bytes seg.address m) at e);
@@ -159,9 +171,11 @@ takes_so m seg s d d2 (Passing o b left) h t inside e = (
 
 -- so many bytes are given; its premises are many, since a read that skips, one that stores and one of a whole area come
 -- here
-pub gives_so : (m : ℕ) (seg : Segment) (s s2 : Storage) (d d2 : DriveState) (w : Work) → MayPass m seg d.state w → gives_now w ≡ true → ((i : ℕ) → i < m → IsFree seg.key seg.ccw s (seg.address + i))
+pub gives_so : (m : ℕ) (seg : Segment) (s s2 : Storage) (d d2 : DriveState) (w : Work) → MayPass m seg d.state w → gives_now w ≡ true
+    → ((i : ℕ) → i < m → IsFree seg.key seg.ccw s (seg.address + i))
     → d2 ≡ record d { work = moved_on (slice_range (given_now d w) (length (passed_of w)) (length (passed_of w) + m)) w }
-    → s2 ≡ (if not (skips seg.ccw) then stored s seg.address (slice_range (given_now d w) (length (passed_of w)) (length (passed_of w) + m)) else s)
+    → s2 ≡ (if not (skips seg.ccw) then stored s seg.address (slice_range (given_now d w) (length (passed_of w)) (length (passed_of w) + m))
+    else s)
     → MovesBytesBy seg (Ok m) s s2 d d2 w
 gives_so m seg s s2 d d2 Idle h g free e es = absurd h.moving
 gives_so m seg s s2 d d2 (Over x) h g free e es = absurd h.moving
@@ -181,22 +195,26 @@ gives_so m seg s s2 d d2 (Passing o b left) h g free e es = (
     O = record { opened = o; state = d.state }
 
     long : length b + m ≤ length (given (record { opened = o; state = d.state }))
-    long = subst (λ n. length b + m ≤ n) (gives_length (record { opened = o; state = d.state }) b g) (within (length b) left m seg.count (length_of (record { opened = o; state = d.state }) b) h.moving h.few h.left)
+    long = subst (λ n. length b + m ≤ n) (gives_length (record { opened = o; state = d.state }) b g) (within (length b) left m seg.count
+        (length_of (record { opened = o; state = d.state }) b) h.moving h.few h.left)
 
 -- Why the first byte may not move.
 
 refuses : (s : Storage) (key at : ℕ) (t : Bool) → nat_lt at (length s.bytes) ≡ t → (t && admits (key_at s at) key) ≡ false
     → (is_clear (status_of (refused t)) ≡ false)
-    × ((if not (is_some (slice_get s.bytes at)) then PROGRAM_CHECK else (if not (admits (key_at s at) key) then PROTECTION_CHECK else no_channel_status)) ≡ status_of (refused t))
+    × ((if not (is_some (slice_get s.bytes at)) then PROGRAM_CHECK else (if not (admits (key_at s at) key) then PROTECTION_CHECK
+    else no_channel_status)) ≡ status_of (refused t))
 refuses s key at true e m = (refl, rw (some_below s.bytes at (grind (arith, nat_tests)), m))
 refuses s key at false e m = (refl, rw (slice_get_past s.bytes at (grind (arith, nat_tests))))
 
-pub gives_not : (seg : Segment) (s : Storage) (d : DriveState) (w : Work) → MovesBy d.state w → gives_now w ≡ true → skips seg.ccw ≡ false → may_store s seg.key seg.address ≡ false
+pub gives_not : (seg : Segment) (s : Storage) (d : DriveState) (w : Work) → MovesBy d.state w → gives_now w ≡ true → skips seg.ccw ≡ false
+    → may_store s seg.key seg.address ≡ false
     → MovesBytesBy seg (Err (refused (nat_lt seg.address (length s.bytes)))) s s d d w
 gives_not seg s d Idle f g k m = absurd f
 gives_not seg s d (Over x) f g k m = absurd f
 gives_not seg s d (Looking o) f g k m = absurd f
-gives_not seg s d (Passing o b left) f g k m = let why = refuses s seg.key seg.address (nat_lt seg.address (length s.bytes)) refl m in (refl, refl, why.0, λ p. rw (g, k) why.1)
+gives_not seg s d (Passing o b left) f g k m = let why = refuses s seg.key seg.address (nat_lt seg.address (length s.bytes)) refl m in
+    (refl, refl, why.0, λ p. rw (g, k) why.1)
 
 -- what may be stored lies in storage, and its block's key admits it
 pub may_be : (s : Storage) (key at : ℕ) → IsTrue (may_store s key at) → (at < length s.bytes) × (admits (key_at s at) key ≡ true)
@@ -209,7 +227,8 @@ may_be s key at h = both (nat_lt at (length s.bytes)) (admits (key_at s at) key)
 
 -- The bytes that a drive lends: of as many as are left, the first ones.
 
-given_size : (d : DriveState) (w : Work) (m : ℕ) → MovesBy d.state w → gives_now w ≡ true → m ≤ left_of w → length (passed_of w) + m ≤ length (given_now d w)
+given_size : (d : DriveState) (w : Work) (m : ℕ) → MovesBy d.state w → gives_now w ≡ true → m ≤ left_of w
+    → length (passed_of w) + m ≤ length (given_now d w)
 given_size d Idle m f g le = absurd f
 given_size d (Over x) m f g le = absurd f
 given_size d (Looking o) m f g le = absurd f
@@ -220,13 +239,15 @@ given_size d (Passing o b left) m f g le =
 module _ (d : DriveState) (w : Work) (f : MovesBy d.state w) (g : gives_now w ≡ true) (next : List ℕ)
     (is : next ≡ slice_range (given_now d w) (length (passed_of w)) (length (passed_of w) + left_of w)) where
   first_lent : (m : ℕ) → m ≤ left_of w → take m next ≡ take m (drop (length (passed_of w)) (given_now d w))
-  first_lent m le = ap (take m) (is ∙ ranged (given_now d w) (length (passed_of w)) (left_of w)) ∙ take-take m (left_of w) (drop (length (passed_of w)) (given_now d w)) le
+  first_lent m le = ap (take m) (is ∙ ranged (given_now d w) (length (passed_of w)) (left_of w))
+      ∙ take-take m (left_of w) (drop (length (passed_of w)) (given_now d w)) le
 
   pub lent_size : (m : ℕ) → m ≤ left_of w → length (take m next) ≡ m
   lent_size m le = ap length (first_lent m le) ∙ counted (given_now d w) (length (passed_of w)) m (given_size d w m f g le)
 
   -- and of those the first ones again
-  pub lends_first : (most n : ℕ) → most ≤ left_of w → n ≤ most → take n (take most next) ≡ slice_range (given_now d w) (length (passed_of w)) (length (passed_of w) + n)
+  pub lends_first : (most n : ℕ) → most ≤ left_of w → n ≤ most → take n (take most next) ≡ slice_range (given_now d w)
+      (length (passed_of w)) (length (passed_of w) + n)
   lends_first most n le few = take-take n most next few ∙ first_lent n (omega arith) ∙ sym (ranged (given_now d w) (length (passed_of w)) n)
 
 -- where no byte may be stored, storage stays

@@ -16,7 +16,8 @@ pub accepted : law.StandsAtStart → law.StandsAfterWalk → AcceptedStands
 accepted at after s r d a = record {
   together = a.stands;
   run = subst (λ k. StandsAt s (units 1) k (phase_in r s.storage d)) (sym a.key)
-      (after s [] (units 1) a.caw.key (Between (start_point a.caw s)) (phase_in r s.storage d) (at s a.caw a.word) (ap (λ n. on_next [] n (walk [] a.caw.key)) a.unit));
+      (after s [] (units 1) a.caw.key (Between (start_point a.caw s)) (phase_in r s.storage d) (at s a.caw a.word)
+      (ap (λ n. on_next [] n (walk [] a.caw.key)) a.unit));
 }
 
 pub after_units : law.StandsAfterWalk → StandsAfterUnits
@@ -38,7 +39,8 @@ units_with (suc n) f = ap (λ n. 1 + n) (units_with n f) ∙ omega arith
 
 pub ends_after : law.EndsAfterWalk → law.EndedStays → EndsAfterUnits
 ends_after ends stays s script r st st' d d' asked did told at e more =
-    ap (λ l. run l s) (longer script (units e.earlier)) ∙ stays s (script ++ last) more (units_in (script ++ last)) st' e.ending (ends s script last r.key (phase_in r st d) st' e.ending at.run e.walk)
+    ap (λ l. run l s) (longer script (units e.earlier)) ∙ stays s (script ++ last) more (units_in (script ++ last)) st' e.ending
+    (ends s script last r.key (phase_in r st d) st' e.ending at.run e.walk)
     ∙ ap (λ n. Ended n st' e.ending) (units_of_both script last ∙ ap (λ n. units_in script + n) (units_with e.earlier e.fault ∙ sym e.last))
   where
     last : Script
@@ -50,14 +52,17 @@ ends_after ends stays s script r st st' d d' asked did told at e more =
 pub seen : SeenOfRun
 seen s script r st d at = ap (λ l. run l s) (sym (append-nil script)) ∙ at.run []
 
-changed_by : (r : RunningState) (s : Storage) (c : Change) (d : DriveState) → Stands r d → phase_past (Outside c) (phase_in r s d) ≡ phase_in r (changed c s) d
+changed_by : (r : RunningState) (s : Storage) (c : Change) (d : DriveState) → Stands r d → phase_past (Outside c) (phase_in r s d)
+    ≡ phase_in r (changed c s) d
 changed_by r s c d t =
-    by_stage d.state (λ g w. phase_past (Outside c) (phase_by g r.place s d.state w) ≡ phase_by g r.place (changed c s) d.state w) refl (λ ccw o. refl) (λ ccw a o l. refl) (λ ccw a o x b l. refl) r.stage d.work t.fits
+    by_stage d.state (λ g w. phase_past (Outside c) (phase_by g r.place s d.state w) ≡ phase_by g r.place (changed c s) d.state w) refl
+    (λ ccw o. refl) (λ ccw a o l. refl) (λ ccw a o x b l. refl) r.stage d.work t.fits
 
 pub after_change : law.StandsAfterWalk → StandsAfterChange
 after_change after s script r st d c at = record {
   together = at.together;
-  run = after s script (Outside c ∷ []) r.key (phase_in r st d) (phase_in r (changed c st) d) at.run (ap (λ g. walk [] r.key g) (changed_by r st c d at.together));
+  run = after s script (Outside c ∷ []) r.key (phase_in r st d) (phase_in r (changed c st) d) at.run
+      (ap (λ g. walk [] r.key g) (changed_by r st c d at.together));
 }
 
 pub after_interruption : law.StandsAfterWalk → StandsAfterInterruption

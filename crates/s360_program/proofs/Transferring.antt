@@ -1,5 +1,6 @@
 -- What each way through a unit of a command whose area is found comes to.
-use Rattle.std.proofs.Common.{◌≡◌, ◌⊎◌, inl, inr, ℕ, zero, suc, ◌+◌, ◌-◌, ◌<◌, ◌≤◌, ◌^◌, refl, sym, ap, subst, ◌∙◌, arith, true, false, Bool, not, ◌&&◌, ◌||◌, List, [], ◌++◌, Option, nat_lt, length, append-nil, length-append}
+use Rattle.std.proofs.Common.{◌≡◌, ◌⊎◌, inl, inr, ℕ, zero, suc, ◌+◌, ◌-◌, ◌<◌, ◌≤◌, ◌^◌, refl, sym, ap, subst, ◌∙◌, arith, true, false}
+use Rattle.std.proofs.Common.{Bool, not, ◌&&◌, ◌||◌, List, [], ◌++◌, Option, nat_lt, length, append-nil, length-append}
 use Rattle.std.specs.Prelude.{if◌then◌else◌, ◌==◌, Ok, Err}
 use Rattle.std.proofs.lemmas.Bool.Decides.{nat_tests}
 use Rattle.ckd_image.specs.Image.{ImageState}
@@ -22,7 +23,9 @@ use Rattle.s360_runs.specs.Transfers.{Transfer, next_bytes}
 use Rattle.s360_runs.specs.Units.{ProgramPhase, Moving, Next, EndsIn, unit, next_chosen, walk, on_next, StandsIn}
 use Rattle.s360_program.specs.Place.{place_of}
 use Rattle.s360_program.specs.Stands.{LeftFits, StageFits, StageWithin, phase_by, phase_in}
-use Rattle.s360_program.specs.Steps.{run_of, in_bytes, count_of, HasFound, FindsBy, Fits, ComesBy, EndsBy, OverBy, Steps, WalksBy, told_of, Flows, FlowsBy, with_left, MovesBytes, MovesBytesBy, MovesBytesAs, segment_of, status_of, condition_for, differs, request_at, behind, IsQuiet}
+use Rattle.s360_program.specs.Steps.{run_of, in_bytes, count_of, HasFound, FindsBy, Fits, ComesBy, EndsBy, OverBy, Steps, WalksBy, told_of}
+use Rattle.s360_program.specs.Steps.{Flows, FlowsBy, with_left, MovesBytes, MovesBytesBy, MovesBytesAs, segment_of, status_of}
+use Rattle.s360_program.specs.Steps.{condition_for, differs, request_at, behind, IsQuiet}
 use Rattle.s360_program.specs.declared.conditions.ChannelCondition.{ChannelCondition}
 use Rattle.s360_program.specs.declared.conditions.ChannelCondition.TheVariants as condition
 use Rattle.s360_program.specs.declared.moving.Flow.{Flow}
@@ -40,11 +43,13 @@ use Rattle.s360_runs.proofs.AtOnce.{at_once}
 
 -- One unit.
 
-pub over_once : (key : ℕ) (phase : ProgramPhase) (most : ℕ) (told : Csw × Bool) (s : Storage) (d0 d1 : DriveState) → 0 < most → EndsBy (λ f. unit f key phase) told s d0 d1 → OverBy key phase most 1 told s d0 d1
+pub over_once : (key : ℕ) (phase : ProgramPhase) (most : ℕ) (told : Csw × Bool) (s : Storage) (d0 d1 : DriveState) → 0 < most
+    → EndsBy (λ f. unit f key phase) told s d0 d1 → OverBy key phase most 1 told s d0 d1
 over_once key phase most told s d0 d1 h e = record { earlier = 0; last = refl; few = omega arith; at = phase; goes = refl; ends = e }
 
 -- a step that is one unit; it names phase, run, storage and both drives, since a step is said of all of them
-pub unit_steps : (key : ℕ) (phase : ProgramPhase) (most : ℕ) (r : Run) (s : Storage) (a : Step) (d0 d1 : DriveState) → 0 < most → ComesBy key (λ f. unit f key phase) a r s d0 d1 → Steps key phase most a r s d0 d1
+pub unit_steps : (key : ℕ) (phase : ProgramPhase) (most : ℕ) (r : Run) (s : Storage) (a : Step) (d0 d1 : DriveState) → 0 < most
+    → ComesBy key (λ f. unit f key phase) a r s d0 d1 → Steps key phase most a r s d0 d1
 unit_steps key phase most r s (step.Units n) d0 d1 h c =
     let w = c.1 in
     record {
@@ -56,14 +61,17 @@ unit_steps key phase most r s (step.Units n) d0 d1 h c =
       fits = w.fits;
       no_check = w.no_check;
     }
-unit_steps key phase most r s (step.Over n) d0 d1 h c = subst (λ n. Steps key phase most (step.Over n) r s d0 d1) (sym c.0) (over_once key phase most (told_of r) s d0 d1 h c.1)
+unit_steps key phase most r s (step.Over n) d0 d1 h c = subst (λ n. Steps key phase most (step.Over n) r s d0 d1) (sym c.0)
+    (over_once key phase most (told_of r) s d0 d1 h c.1)
 
 -- the same from a drive that has only looked again; it names the drive before, between and behind, since it joins that
 -- and the unit
-pub unit_comes : (next later : Option Fault → Next) (key : ℕ) (s : Storage) (r : Run) (a : Step) (d0 d1 d2 : DriveState) → ((f : Option Fault) → next f ≡ later f) → d1.image ≡ d0.image → d1.state ≡ d0.state
+pub unit_comes : (next later : Option Fault → Next) (key : ℕ) (s : Storage) (r : Run) (a : Step) (d0 d1 d2 : DriveState)
+    → ((f : Option Fault) → next f ≡ later f) → d1.image ≡ d0.image → d1.state ≡ d0.state
     → d2.image.loads ≡ d1.image.loads → ComesBy key later a r s d1 d2 → ComesBy key next a r s d0 d2
 unit_comes next later key s r a d0 d1 d2 e image state loads is =
-    comes_after (λ f. Unit {0}) next later key s r a d0 d1 d2 (λ f at. e f) tt (λ left rose. tt) (ap (λ (i : ImageState). i.failures) image) loads
+    comes_after (λ f. Unit {0}) next later key s r a d0 d1 d2 (λ f at. e f) tt (λ left rose. tt) (ap (λ (i : ImageState). i.failures) image)
+    loads
     (λ q. ap (λ (s : State). tells_equipment_check (drive_of s).sense) state ∙ q) is
 
 -- The end of a command.
@@ -90,7 +98,8 @@ no_more r left h = grind (arith, nat_tests)
 some_more : (r left : ℕ) → 0 < r → 0 < left → (r == 0 || left == 0) ≡ false
 some_more r left h k = grind (arith, nat_tests)
 
-told_length : (b i : Bool) → (if not b && i then INCORRECT_LENGTH else no_channel_status) ≡ status_of (if i && not b then condition.IncorrectLength else condition.Clear)
+told_length : (b i : Bool) → (if not b && i then INCORRECT_LENGTH else no_channel_status)
+    ≡ status_of (if i && not b then condition.IncorrectLength else condition.Clear)
 told_length true true = refl
 told_length true false = refl
 told_length false true = refl
@@ -101,10 +110,12 @@ module _ (r : Run) (s : Storage) (d0 d1 : DriveState) (flow : Flow) where
   abbrev at_bytes : Work → ProgramPhase
   at_bytes w = phase_by (stage.Moving r.ccw r.address) (place_of r.place) s d0.state w
 
-  completes_by : (f : Option Fault) (incorrect : Bool) (w : Work) → FlowsBy flow d0.state w → (r.place.residual == 0 && chains_data r.ccw) ≡ false → (r.place.residual == 0 || flow.left == 0) ≡ true
+  completes_by : (f : Option Fault) (incorrect : Bool) (w : Work) → FlowsBy flow d0.state w → (r.place.residual == 0 && chains_data r.ccw)
+      ≡ false → (r.place.residual == 0 || flow.left == 0) ≡ true
       → d1 ≡ record d0 { work = with_left flow.left w } → incorrect ≡ (not (suppresses_length r.ccw) && differs r.place.residual flow.left)
       → unit f r.key (at_bytes w)
-      ≡ next_chosen (choice f r.key (request_at s r.ccw r) (closed_of f d1 d1.work) (status_of (condition_for incorrect (closed_of f d1 d1.work).unit)))
+      ≡ next_chosen (choice f r.key (request_at s r.ccw r) (closed_of f d1 d1.work)
+      (status_of (condition_for incorrect (closed_of f d1 d1.work).unit)))
   completes_by f incorrect Idle told needs spent drive i = absurd told
   completes_by f incorrect (Over x) told needs spent drive i = absurd told
   completes_by f incorrect (Looking o) told needs spent drive i = absurd told
@@ -119,10 +130,12 @@ module _ (r : Run) (s : Storage) (d0 d1 : DriveState) (flow : Flow) where
       )
 
   -- a check stops it
-  checks_by : (check : ChannelCondition) (few : ℕ) (s2 : Storage) (d2 : DriveState) (w : Work) → FlowsBy flow d0.state w → (r.place.residual == 0 && chains_data r.ccw) ≡ false → (r.place.residual == 0 || flow.left == 0) ≡ false
+  checks_by : (check : ChannelCondition) (few : ℕ) (s2 : Storage) (d2 : DriveState) (w : Work) → FlowsBy flow d0.state w
+      → (r.place.residual == 0 && chains_data r.ccw) ≡ false → (r.place.residual == 0 || flow.left == 0) ≡ false
       → MovesBytesBy (segment_of r few) (Err check) s s2 (record d0 { work = with_left flow.left w }) d2 (with_left flow.left w)
       → (s2 ≡ s) × (d2.image ≡ d0.image) × (d2.state ≡ d0.state)
-      × ((f : Option Fault) → unit f r.key (at_bytes w) ≡ EndsIn s2 (ending f r.key (place_of r.place) (closed_of f d2 d2.work) (status_of check)))
+      × ((f : Option Fault) → unit f r.key (at_bytes w) ≡ EndsIn s2 (ending f r.key (place_of r.place) (closed_of f d2 d2.work)
+      (status_of check)))
   checks_by check few s2 d2 Idle told needs spent h = absurd told
   checks_by check few s2 d2 (Over x) told needs spent h = absurd told
   checks_by check few s2 d2 (Looking o) told needs spent h = absurd told
@@ -138,42 +151,52 @@ module _ (r : Run) (s : Storage) (d0 d1 : DriveState) (flow : Flow) where
 bytes_come : (r : Run) → r.comes ≡ comes.Bytes → stage_of r ≡ stage.Moving r.ccw r.address
 bytes_come r at = ap (λ c. stage_by c r.ccw r.address) at
 
-module _ (r r2 : Run) (s : Storage) (a : Step) (d0 d1 d2 : DriveState) (flow : Flow) (at : r.comes ≡ comes.Bytes) (flows : Flows flow d0 d1) where
-  unit_there : (f : Option Fault) → unit f r.key (phase_in (run_of r) s d0) ≡ unit f r.key (phase_by (stage.Moving r.ccw r.address) (place_of r.place) s d0.state d0.work)
+module _ (r r2 : Run) (s : Storage) (a : Step) (d0 d1 d2 : DriveState) (flow : Flow) (at : r.comes ≡ comes.Bytes)
+    (flows : Flows flow d0 d1) where
+  unit_there : (f : Option Fault) → unit f r.key (phase_in (run_of r) s d0) ≡ unit f r.key (phase_by (stage.Moving r.ccw r.address)
+      (place_of r.place) s d0.state d0.work)
   unit_there f = ap (λ g. unit f r.key (phase_by g (place_of r.place) s d0.state d0.work)) (bytes_come r at)
 
   -- the count or the drive's bytes are spent, and the command ends
   pub completes : (incorrect : Bool) → (r.place.residual ≡ 0 → chains_data r.ccw ≡ false) → (r.place.residual ≡ 0) ⊎ (flow.left ≡ 0)
       → incorrect ≡ (not (suppresses_length r.ccw) && differs r.place.residual flow.left) → d2.image.loads ≡ d1.image.loads
-      → ComesBy r.key (λ f. next_chosen (choice f r.key (request_at s r.ccw r) (closed_of f d1 d1.work) (status_of (condition_for incorrect (closed_of f d1 d1.work).unit)))) a r2 s d1 d2
+      → ComesBy r.key (λ f. next_chosen (choice f r.key (request_at s r.ccw r) (closed_of f d1 d1.work)
+      (status_of (condition_for incorrect (closed_of f d1 d1.work).unit)))) a r2 s d1 d2
       → ComesBy r.key (λ f. unit f r.key (phase_in (run_of r) s d0)) a r2 s d0 d2
   completes incorrect needs spent i =
       unit_comes (λ f. unit f r.key (phase_in (run_of r) s d0))
-      (λ f. next_chosen (choice f r.key (request_at s r.ccw r) (closed_of f d1 d1.work) (status_of (condition_for incorrect (closed_of f d1 d1.work).unit)))) r.key s r2 a d0 d1 d2
+      (λ f. next_chosen (choice f r.key (request_at s r.ccw r) (closed_of f d1 d1.work)
+      (status_of (condition_for incorrect (closed_of f d1 d1.work).unit)))) r.key s r2 a d0 d1 d2
       (λ f. unit_there f ∙ completes_by r s d0 d1 flow f incorrect d0.work flows.told
       (no_chain r.place.residual (chains_data r.ccw) needs) (no_more r.place.residual flow.left spent) flows.drive i)
       (ap (λ (d : DriveState). d.image) flows.drive) (ap (λ (d : DriveState). d.state) flows.drive)
 
   -- a check stops the command
-  pub checks : (check : ChannelCondition) (few : ℕ) (s2 : Storage) (d : DriveState) → 0 < r.place.residual → 0 < flow.left → MovesBytes (segment_of r few) s d1 (Err check) s2 d → d2.image.loads ≡ d.image.loads
+  pub checks : (check : ChannelCondition) (few : ℕ) (s2 : Storage) (d : DriveState) → 0 < r.place.residual → 0 < flow.left
+      → MovesBytes (segment_of r few) s d1 (Err check) s2 d → d2.image.loads ≡ d.image.loads
       → ComesBy r.key (λ f. EndsIn s2 (ending f r.key (place_of r.place) (closed_of f d d.work) (status_of check))) a r2 s2 d d2
       → ComesBy r.key (λ f. unit f r.key (phase_in (run_of r) s d0)) a r2 s2 d0 d2
   checks check few s2 d some more h =
-      unit_comes (λ f. unit f r.key (phase_in (run_of r) s d0)) (λ f. EndsIn s2 (ending f r.key (place_of r.place) (closed_of f d d.work) (status_of check))) r.key s2 r2 a d0 d d2
+      unit_comes (λ f. unit f r.key (phase_in (run_of r) s d0)) (λ f. EndsIn s2 (ending f r.key (place_of r.place) (closed_of f d d.work)
+      (status_of check))) r.key s2 r2 a d0 d d2
       (λ f. unit_there f ∙ k.3 f) k.1 k.2
     where
       k : (s2 ≡ s) × (d.image ≡ d0.image) × (d.state ≡ d0.state)
-          × ((f : Option Fault) → unit f r.key (phase_by (stage.Moving r.ccw r.address) (place_of r.place) s d0.state d0.work) ≡ EndsIn s2 (ending f r.key (place_of r.place) (closed_of f d d.work) (status_of check)))
-      k = checks_by r s d0 d1 flow check few s2 d d0.work flows.told (no_chain r.place.residual (chains_data r.ccw) (λ z. absurd (omega arith))) (some_more r.place.residual flow.left some more)
+          × ((f : Option Fault) → unit f r.key (phase_by (stage.Moving r.ccw r.address) (place_of r.place) s d0.state d0.work)
+          ≡ EndsIn s2 (ending f r.key (place_of r.place) (closed_of f d d.work) (status_of check)))
+      k = checks_by r s d0 d1 flow check few s2 d d0.work flows.told (no_chain r.place.residual (chains_data r.ccw)
+          (λ z. absurd (omega arith))) (some_more r.place.residual flow.left some more)
           (subst (λ (d' : DriveState). MovesBytesBy (segment_of r few) (Err check) s s2 d' d d'.work) flows.drive h)
 
 -- Bytes.
 
 -- what a drive that has found the area reports again
-again : (d : DriveState) → HasFound d → (left_of d.work ≡ 0 → (gives_now d.work ≡ true) ⊎ (length (passed_of d.work) ≡ 8 → ⊥)) → Flows (record { gives = gives_now d.work; left = left_of d.work }) d d
+again : (d : DriveState) → HasFound d → (left_of d.work ≡ 0 → (gives_now d.work ≡ true) ⊎ (length (passed_of d.work) ≡ 8 → ⊥))
+    → Flows (record { gives = gives_now d.work; left = left_of d.work }) d d
 again d f all = by d.work f all
   where
-    by : (w : Work) → FindsBy d.state w → (left_of w ≡ 0 → (gives_now w ≡ true) ⊎ (length (passed_of w) ≡ 8 → ⊥)) → Flows (record { gives = gives_now w; left = left_of w }) (record d { work = w }) (record d { work = w })
+    by : (w : Work) → FindsBy d.state w → (left_of w ≡ 0 → (gives_now w ≡ true) ⊎ (length (passed_of w) ≡ 8 → ⊥))
+        → Flows (record { gives = gives_now w; left = left_of w }) (record d { work = w }) (record d { work = w })
     by Idle f all = absurd f
     by (Over x) f all = absurd f
     by (Looking o) f all = absurd f
@@ -191,8 +214,10 @@ module _ (r : Run) (few m : ℕ) (s s2 : Storage) (d0 d2 : DriveState) (flow : F
   abbrev IsMoved : Work → Type 0
   IsMoved w =
       (walk (units m) r.key (phase_by (stage.Moving r.ccw r.address) (place_of r.place) s d0.state w)
-      ≡ StandsIn (phase_by (stage.Moving r.ccw (r.address + m)) (record (place_of r.place) { residual = r.place.residual - m }) s2 d2.state d2.work))
-      × StageFits (stage.Moving r.ccw (r.address + m)) d2.state d2.work × (d2.image ≡ d0.image) × (d2.state ≡ d0.state) × (0 < m) × (m ≤ few)
+      ≡ StandsIn (phase_by (stage.Moving r.ccw (r.address + m)) (record (place_of r.place) { residual = r.place.residual - m }) s2 d2.state
+      d2.work))
+      × StageFits (stage.Moving r.ccw (r.address + m)) d2.state d2.work × (d2.image ≡ d0.image) × (d2.state ≡ d0.state) × (0 < m)
+      × (m ≤ few)
 
   moved_by : (w : Work) → FlowsBy flow d0.state w → few ≤ flow.left → few ≤ r.place.residual
       → MovesBytesBy (segment_of r few) (Ok m) s s2 (record d0 { work = with_left flow.left w }) d2 (with_left flow.left w) → IsMoved w
@@ -233,11 +258,13 @@ module _ (r : Run) (few m : ℕ) (s s2 : Storage) (d0 d2 : DriveState) (flow : F
         λ h. by_length h (length_stays O b new),
       )
         where
-          by_length : (length b + flow.left ≡ 8 → ⊥) → (length_of O b ≡ 8) ⊎ (length_of O b ≡ length_of O (b ++ new)) → length b + flow.left ≡ length_of O (b ++ new)
+          by_length : (length b + flow.left ≡ 8 → ⊥) → (length_of O b ≡ 8) ⊎ (length_of O b ≡ length_of O (b ++ new))
+              → length b + flow.left ≡ length_of O (b ++ new)
           by_length h (inl eight) = absurd (h (told.4 h ∙ eight))
           by_length h (inr same) = told.4 h ∙ same
 
-      steps : walk (units m) r.key (Moving O t) ≡ StandsIn (phase_by (stage.Moving r.ccw (r.address + m)) (record (place_of r.place) { residual = r.place.residual - m }) s2 d2.state d2.work)
+      steps : walk (units m) r.key (Moving O t) ≡ StandsIn (phase_by (stage.Moving r.ccw (r.address + m))
+          (record (place_of r.place) { residual = r.place.residual - m }) s2 d2.state d2.work)
       steps =
           ap (λ u. walk u r.key (Moving O t)) (sym (append-nil (units m))) ∙ at_once m r.key [] O t k.may
           ∙ rw (k.drive, k.storage) refl
@@ -250,26 +277,44 @@ pub record IsLeast (few most residual left : ℕ) : Type 0 where
 
 -- so many bytes move at once; it names storage and drive before and behind them, and the drive that was asked, since it joins what is
 -- said of each two of them
-pub moves_on : (r : Run) (most few m n : ℕ) (s s2 : Storage) (d0 d1 d2 : DriveState) (flow : Flow) → Fits r d0 → r.comes ≡ comes.Bytes → Flows flow d0 d1
+pub moves_on : (r : Run) (most few m n : ℕ) (s s2 : Storage) (d0 d1 d2 : DriveState) (flow : Flow) → Fits r d0 → r.comes ≡ comes.Bytes
+    → Flows flow d0 d1
     → IsLeast few most r.place.residual flow.left → MovesBytes (segment_of r few) s d1 (Ok m) s2 d2 → n ≡ m
-    → WalksBy r.key (phase_in (run_of r) s d0) most m (record r { place = record r.place { residual = r.place.residual - m }; address = r.address + n }) s2 d0 d2
+    → WalksBy r.key (phase_in (run_of r) s d0) most m (record r {
+      place = record r.place { residual = r.place.residual - m };
+      address =
+          r.address + n;
+    }) s2 d0 d2
 moves_on r most few m n s s2 d0 d1 d2 flow fits at flows least h e =
-    subst (λ n. WalksBy r.key (phase_in (run_of r) s d0) most m (record r { place = record r.place { residual = r.place.residual - m }; address = r.address + n }) s2 d0 d2) (sym e)
-    (subst (λ c. WalksBy r.key (phase_in (run_of r) s d0) most m (record r { place = record r.place { residual = r.place.residual - m }; comes = c; address = r.address + m }) s2 d0 d2) (sym at) (record {
+    subst (λ n. WalksBy r.key (phase_in (run_of r) s d0) most m (record r {
+      place = record r.place { residual = r.place.residual - m };
+      address = r.address + n;
+    }) s2 d0 d2) (sym e)
+    (subst (λ c. WalksBy r.key (phase_in (run_of r) s d0) most m (record r {
+      place = record r.place { residual = r.place.residual - m };
+      comes = c;
+      address = r.address + m;
+    }) s2 d0 d2) (sym at) (record {
       some = x.4;
       few = omega (arith, x.5, least.asked);
       failures = ap (λ (i : ImageState). i.failures) x.2;
       goes = ap (λ c. walk (units m) r.key (phase_by (stage_by c r.ccw r.address) (place_of r.place) s d0.state d0.work)) at ∙ x.0;
       same_key = refl;
       fits = record {
-        within = record { key = fits.within.key; place = record { next = fits.within.place.next; last = fits.within.place.last }; stage = (narrow.0, smaller r.address r.place.residual m (omega (arith, x.5, least.counted)) narrow.1) };
+        within = record {
+          key = fits.within.key;
+          place = record { next = fits.within.place.next; last = fits.within.place.last };
+          stage =
+              (narrow.0, smaller r.address r.place.residual m (omega (arith, x.5, least.counted)) narrow.1);
+        };
         stands = record { fits = x.1; saved = ap unsaved x.3 ∙ fits.stands.saved };
       };
       no_check = λ q. ap (λ (s : State). tells_equipment_check (drive_of s).sense) x.3 ∙ q;
     }))
   where
     x : IsMoved r few m s s2 d0 d2 flow d0.work
-    x = moved_by r few m s s2 d0 d2 flow d0.work flows.told least.has least.counted (subst (λ (d : DriveState). MovesBytesBy (segment_of r few) (Ok m) s s2 d d2 d.work) flows.drive h)
+    x = moved_by r few m s s2 d0 d2 flow d0.work flows.told least.has least.counted
+        (subst (λ (d : DriveState). MovesBytesBy (segment_of r few) (Ok m) s s2 d d2 d.work) flows.drive h)
 
     narrow : StageWithin (stage.Moving r.ccw r.address) (place_of r.place)
     narrow = subst (λ c. StageWithin (stage_by c r.ccw r.address) (place_of r.place)) at fits.within.stage
@@ -286,8 +331,10 @@ all_told m n false h = (grind (arith, nat_tests), inr (λ e. grind (arith, nat_t
 
 -- what the drive is at behind them; the work is named apart from the drive, since it goes by its cases, and storage and
 -- drive before and behind, since bytes that move are said of all of them
-behind_bytes : (g : Segment) (m : ℕ) (p : Place) (s s2 : Storage) (d d2 : DriveState) (w : Work) → MovesBytesBy g (Ok m) s s2 d d2 w → m ≤ p.residual
-    → (left_of d2.work ≡ left_of w - m) × (length (passed_of d2.work) ≡ length (passed_of w) + m) × (gives_now d2.work ≡ gives_now w) × (d2.image ≡ d.image) × (d2.state ≡ d.state)
+behind_bytes : (g : Segment) (m : ℕ) (p : Place) (s s2 : Storage) (d d2 : DriveState) (w : Work) → MovesBytesBy g (Ok m) s s2 d d2 w
+    → m ≤ p.residual
+    → (left_of d2.work ≡ left_of w - m) × (length (passed_of d2.work) ≡ length (passed_of w) + m) × (gives_now d2.work ≡ gives_now w)
+    × (d2.image ≡ d.image) × (d2.state ≡ d.state)
 behind_bytes g m p s s2 d d2 Idle q le = absurd q
 behind_bytes g m p s s2 d d2 (Over x) q le = absurd q
 behind_bytes g m p s s2 d d2 (Looking o) q le = absurd q
@@ -296,7 +343,8 @@ behind_bytes g m p s s2 d d2 (Passing o b left) q le =
     rw k.drive (ap (λ n. left - n) k.count, length-append b _ ∙ ap (λ n. length b + n) k.count, refl, refl, refl)
 
 -- one unit behind so many bytes; it names what stands before the bytes, between, and behind, since it joins two walks
-unit_behind : (key m most : ℕ) (phase : ProgramPhase) (r r2 : Run) (s s2 : Storage) (a : Step) (d0 d1 d2 : DriveState) → m < most → walk (units m) key phase ≡ StandsIn (phase_in (run_of r) s d1)
+unit_behind : (key m most : ℕ) (phase : ProgramPhase) (r r2 : Run) (s s2 : Storage) (a : Step) (d0 d1 d2 : DriveState) → m < most
+    → walk (units m) key phase ≡ StandsIn (phase_in (run_of r) s d1)
     → ComesBy key (λ f. unit f key (phase_in (run_of r) s d1)) a r2 s2 d0 d2 → Steps key phase most (behind m a) r2 s2 d0 d2
 unit_behind key m most phase r r2 s s2 (step.Units n) d0 d1 d2 few walked c =
     let w = c.1 in
@@ -304,7 +352,8 @@ unit_behind key m most phase r r2 s s2 (step.Units n) d0 d1 d2 few walked c =
       some = omega arith;
       few = omega (arith, few);
       failures = w.failures;
-      goes = more_units key key phase (phase_in (run_of r) s d1) (phase_in (run_of r2) s2 d2) m 1 refl walked (ap (λ n. on_next [] n (walk [] key)) w.goes);
+      goes = more_units key key phase (phase_in (run_of r) s d1) (phase_in (run_of r2) s2 d2) m 1 refl walked
+          (ap (λ n. on_next [] n (walk [] key)) w.goes);
       same_key = w.same_key;
       fits = w.fits;
       no_check = w.no_check;
@@ -320,22 +369,26 @@ found_ends s (Looking o) f = absurd f
 found_ends s (Passing o b l) f = refl
 
 -- a drive whose first byte may not move stays
-pub refused_stays : (g : Segment) (check : ChannelCondition) (s s2 : Storage) (d d2 : DriveState) (w : Work) → MovesBytesBy g (Err check) s s2 d d2 w → d2 ≡ d
+pub refused_stays : (g : Segment) (check : ChannelCondition) (s s2 : Storage) (d d2 : DriveState) (w : Work)
+    → MovesBytesBy g (Err check) s s2 d d2 w → d2 ≡ d
 refused_stays g check s s2 d d2 Idle q = absurd q
 refused_stays g check s s2 d d2 (Over x) q = absurd q
 refused_stays g check s s2 d d2 (Looking o) q = absurd q
 refused_stays g check s s2 d d2 (Passing o b l) q = q.1
 
 -- one unit counts one, and a step some
-pub counts_one : (key : ℕ) (next : Option Fault → Next) (a : Step) (r : Run) (s : Storage) (d0 d1 : DriveState) → ComesBy key next a r s d0 d1 → 0 < count_of a
+pub counts_one : (key : ℕ) (next : Option Fault → Next) (a : Step) (r : Run) (s : Storage) (d0 d1 : DriveState)
+    → ComesBy key next a r s d0 d1 → 0 < count_of a
 counts_one key next (step.Units n) r s d0 d1 c = omega (arith, c.0)
 counts_one key next (step.Over n) r s d0 d1 c = omega (arith, c.0)
 
-pub counts_some : (key : ℕ) (phase : ProgramPhase) (most : ℕ) (a : Step) (r : Run) (s : Storage) (d0 d1 : DriveState) → Steps key phase most a r s d0 d1 → 0 < count_of a
+pub counts_some : (key : ℕ) (phase : ProgramPhase) (most : ℕ) (a : Step) (r : Run) (s : Storage) (d0 d1 : DriveState)
+    → Steps key phase most a r s d0 d1 → 0 < count_of a
 counts_some key phase most (step.Units n) r s d0 d1 w = w.some
 counts_some key phase most (step.Over n) r s d0 d1 w = omega (arith, w.last)
 
-module _ (r : Run) (d0 : DriveState) (fits : Fits (in_bytes r) d0) (some : 0 < r.place.residual) (left : left_of d0.work ≡ r.place.residual) where
+module _ (r : Run) (d0 : DriveState) (fits : Fits (in_bytes r) d0) (some : 0 < r.place.residual) (left : left_of d0.work
+    ≡ r.place.residual) where
   abbrev pub found : Flow
   found = record { gives = gives_now d0.work; left = left_of d0.work }
 
@@ -345,9 +398,15 @@ module _ (r : Run) (d0 : DriveState) (fits : Fits (in_bytes r) d0) (some : 0 < r
   module _ (m : ℕ) (s s2 : Storage) (d2 : DriveState) (h : MovesBytes (segment_of (in_bytes r) r.place.residual) s d0 (Ok m) s2 d2) where
     -- some of them, or all
     pub moves_some : (most n : ℕ) → r.place.residual ≤ most → n ≡ m
-        → WalksBy r.key (phase_in (run_of (in_bytes r)) s d0) most m (record r { comes = comes.Bytes; place = record r.place { residual = r.place.residual - m }; address = r.ccw.address + n }) s2 d0 d2
+        → WalksBy r.key (phase_in (run_of (in_bytes r)) s d0) most m (record r {
+          comes = comes.Bytes;
+          place =
+              record r.place { residual = r.place.residual - m };
+          address = r.ccw.address + n;
+        }) s2 d0 d2
     moves_some most n few e =
-        moves_on (in_bytes r) most r.place.residual m n s s2 d0 d0 d2 (record { gives = gives_now d0.work; left = left_of d0.work }) fits refl flows
+        moves_on (in_bytes r) most r.place.residual m n s s2 d0 d0 d2 (record { gives = gives_now d0.work; left = left_of d0.work }) fits
+        refl flows
         (record { asked = omega (arith, few); counted = omega arith; has = omega (arith, left) }) h e
 
     abbrev pub moved_run : Run
@@ -357,7 +416,8 @@ module _ (r : Run) (d0 : DriveState) (fits : Fits (in_bytes r) d0) (some : 0 < r
     walked = moves_some r.place.residual m (omega arith) refl
 
     module _ (first : passed_of d0.work ≡ []) (all : r.place.residual ≤ m) (whole : (gives_now d0.work ≡ true) ⊎ (m ≡ 8 → ⊥)) where
-      now : (left_of d2.work ≡ left_of d0.work - m) × (length (passed_of d2.work) ≡ length (passed_of d0.work) + m) × (gives_now d2.work ≡ gives_now d0.work) × (d2.image ≡ d0.image) × (d2.state ≡ d0.state)
+      now : (left_of d2.work ≡ left_of d0.work - m) × (length (passed_of d2.work) ≡ length (passed_of d0.work) + m)
+          × (gives_now d2.work ≡ gives_now d0.work) × (d2.image ≡ d0.image) × (d2.state ≡ d0.state)
       now = behind_bytes (segment_of (in_bytes r) r.place.residual) m (place_of r.place) s s2 d0 d2 d0.work h walked.few
 
       pub all_moved : m ≡ r.place.residual
@@ -386,17 +446,25 @@ module _ (r : Run) (d0 : DriveState) (fits : Fits (in_bytes r) d0) (some : 0 < r
           by true = refl
           by false = refl
 
-      pub moves_all : (most : ℕ) (r3 : Run) (a : Step) (d3 : DriveState) → r.place.residual < most → chains_data r.ccw ≡ false → d3.image.loads ≡ d2.image.loads
-          → ComesBy r.key (λ f. next_chosen (choice f r.key (request_at s2 r.ccw (record r { place = record r.place { residual = 0 } })) (closed_of f d2 d2.work) (status_of (condition_for false (closed_of f d2 d2.work).unit)))) a r3 s2 d2 d3
+      pub moves_all : (most : ℕ) (r3 : Run) (a : Step) (d3 : DriveState) → r.place.residual < most → chains_data r.ccw ≡ false
+          → d3.image.loads ≡ d2.image.loads
+          → ComesBy r.key (λ f. next_chosen (choice f r.key (request_at s2 r.ccw (record r { place = record r.place { residual = 0 } }))
+          (closed_of f d2 d2.work) (status_of (condition_for false (closed_of f d2 d2.work).unit)))) a r3 s2 d2 d3
           → Steps r.key (phase_in (run_of (in_bytes r)) s d0) most (behind m a) r3 s2 d0 d3
       moves_all most r3 a d3 few unchained loads is =
-          unit_behind r.key m most (phase_in (run_of (in_bytes r)) s d0) moved_run r3 s2 s2 a d0 d2 d3 (omega (arith, few, walked.few)) walked.goes
-          (unit_comes (λ f. unit f r.key (phase_in (run_of moved_run) s2 d2)) (λ f. unit f r.key (phase_in (run_of moved_run) s2 d2)) r.key s2 r3 a d0 d2 d3 (λ f. refl) now.3 now.4 loads
-          (completes moved_run r3 s2 a d2 d2 d3 (record { gives = gives_now d2.work; left = left_of d2.work }) refl flows_behind false (λ z. unchained) (inl nothing) (told (suppresses_length r.ccw)) loads
-          (subst (λ n. ComesBy r.key (λ f. next_chosen (choice f r.key (request_at s2 r.ccw (record r { place = record r.place { residual = n } })) (closed_of f d2 d2.work) (status_of (condition_for false (closed_of f d2 d2.work).unit)))) a r3 s2 d2 d3) (sym nothing) is)))
+          unit_behind r.key m most (phase_in (run_of (in_bytes r)) s d0) moved_run r3 s2 s2 a d0 d2 d3 (omega (arith, few, walked.few))
+          walked.goes
+          (unit_comes (λ f. unit f r.key (phase_in (run_of moved_run) s2 d2)) (λ f. unit f r.key (phase_in (run_of moved_run) s2 d2)) r.key
+          s2 r3 a d0 d2 d3 (λ f. refl) now.3 now.4 loads
+          (completes moved_run r3 s2 a d2 d2 d3 (record { gives = gives_now d2.work; left = left_of d2.work }) refl flows_behind false
+          (λ z. unchained) (inl nothing) (told (suppresses_length r.ccw)) loads
+          (subst (λ n. ComesBy r.key
+          (λ f. next_chosen (choice f r.key (request_at s2 r.ccw (record r { place = record r.place { residual = n } }))
+          (closed_of f d2 d2.work) (status_of (condition_for false (closed_of f d2 d2.work).unit)))) a r3 s2 d2 d3) (sym nothing) is)))
 
       pub quiet_behind : (a : Step) → NeedNoStore r.key (phase_in (run_of (in_bytes r)) s d0) (count_of (behind m a)) → IsQuiet d2
-      quiet_behind a h = phase_quiet (run_of moved_run) s2 d2 walked.fits.stands (h m (phase_in (run_of moved_run) s2 d2) (by a) walked.goes)
+      quiet_behind a h = phase_quiet (run_of moved_run) s2 d2 walked.fits.stands (h m (phase_in (run_of moved_run) s2 d2)
+          (by a) walked.goes)
         where
           by : (a : Step) → m < count_of (behind m a)
           by (step.Units n) = omega arith

@@ -1,5 +1,6 @@
 -- What the parts of a unit come to.
-use Rattle.std.specs.Prelude.{◌≡◌, ℕ, ◌+◌, ◌≤◌, ◌<◌, ◌^◌, [], ◌∷◌, Bool, true, false, not, ◌&&◌, ◌||◌, ◌==◌, Option, Some, None, is_none, Result, Ok, Err, length, if◌then◌else◌, List, IsTrue}
+use Rattle.std.specs.Prelude.{◌≡◌, ℕ, ◌+◌, ◌≤◌, ◌<◌, ◌^◌, [], ◌∷◌, Bool, true, false, not, ◌&&◌, ◌||◌, ◌==◌, Option, Some, None, is_none, Result, Ok, Err}
+use Rattle.std.specs.Prelude.{length, if◌then◌else◌, List, IsTrue}
 use Rattle.s360_words.specs.Storage.{Storage, may_store}
 use Rattle.s360_words.specs.Words.{chains_command, chains_data, skips}
 use Rattle.s360_words.specs.declared.flags.ChannelStatus.{ChannelStatus}
@@ -11,7 +12,8 @@ use Rattle.s360_words.specs.declared.words.Csw.{Csw}
 use Rattle.ckd_command.specs.declared.close.DriveEnding.{DriveEnding}
 use Rattle.ckd_command.specs.Drive.{State, Open, Closed, Fault, LoadFails, SaveFails, length_of, drive_of, is_written, unsaved}
 use Rattle.ckd_command.specs.Tables.{action_of, is_giving}
-use Rattle.ckd_drive.specs.Work.{DriveState, Work, Over, Passing, passed_of, left_of, moved_on, closed_of, fault_met, with_image, after_look, answer_of_look, failed_ending, look_loads, look_saves, CallsStore, Reports, GivesWhole}
+use Rattle.ckd_drive.specs.Work.{DriveState, Work, Over, Passing, passed_of, left_of, moved_on, closed_of, fault_met, with_image, after_look, answer_of_look}
+use Rattle.ckd_drive.specs.Work.{failed_ending, look_loads, look_saves, CallsStore, Reports, GivesWhole}
 use Rattle.ckd_drive.specs.declared.answers.Look.TheVariants as seen
 use Rattle.ckd_drive.specs.declared.answers.WholeRead.{WholeRead}
 use Rattle.s360_runs.specs.Commands.{Point}

@@ -1,6 +1,7 @@
 //! Main storage that another program keeps, as an emulator does, and lends for a call.
 
-ghost use Rattle.std.specs.Prelude.{ℕ, ◌≡◌, ◌↔◌, ◌+◌, ◌-◌, min, ◌/◌, ◌<◌, ◌≤◌, true, false, length, take, slice_range, Err, OnOk, IfSome, Some, None, [], if◌then◌else◌, option_map, IsTrue};
+ghost use Rattle.std.specs.Prelude.{ℕ, ◌≡◌, ◌↔◌, ◌+◌, ◌-◌, min, ◌/◌, ◌<◌, ◌≤◌, true, false, length, take, slice_range, Err, OnOk, IfSome, Some, None, []};
+ghost use Rattle.std.specs.Prelude.{if◌then◌else◌, option_map, IsTrue};
 ghost use Rattle.s360_words.specs.Storage.{is_size, admits, may_store, overwritten, changed, Bytes, is_inside};
 ghost use Rattle.s360_program.specs.Lent.{lent, IsStorage};
 

@@ -1,7 +1,9 @@
 //! Main storage as a channel program uses it, whoever keeps its bytes.
 
-ghost use Rattle.std.specs.Prelude.{ℕ, ◌≡◌, ◌+◌, ◌-◌, min, ◌/◌, ◌^◌, ◌<◌, ◌≤◌, false, length, take, nat_lt, slice_range, Some, None, if◌then◌else◌, option_map, IsTrue, IfSome};
-ghost use Rattle.s360_words.specs.Storage.{Storage as StorageState, is_size, is_inside, key_at, may_store, Bytes, changed, is_within, caw_word, ccw_at, csw_stored, status_stored};
+ghost use Rattle.std.specs.Prelude.{ℕ, ◌≡◌, ◌+◌, ◌-◌, min, ◌/◌, ◌^◌, ◌<◌, ◌≤◌, false, length, take, nat_lt, slice_range, Some, None, if◌then◌else◌, option_map};
+ghost use Rattle.std.specs.Prelude.{IsTrue, IfSome};
+ghost use Rattle.s360_words.specs.Storage.{Storage as StorageState, is_size, is_inside, key_at, may_store, Bytes, changed, is_within, caw_word, ccw_at};
+ghost use Rattle.s360_words.specs.Storage.{csw_stored, status_stored};
 ghost use Rattle.s360_program.specs.Advances.{KeepsStorage};
 
 use s360_words::{Ccw, ChannelStatus, Csw, Storage, UnitStatus};

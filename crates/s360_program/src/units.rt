@@ -11,7 +11,8 @@ ghost use Rattle.s360_words.specs.Storage.{Storage as StorageState, stored};
 ghost use Rattle.ckd_drive.specs.Work.{is_idle, may_end, closed_of, left_of, passed_of, CallsStore, GivesWhole};
 ghost use Rattle.s360_program.specs.Advances.{RunsOn, CallsAtMost, KeepsStorage, NeedNoStore, TellsOf};
 ghost use Rattle.s360_program.specs.Stands.{phase_in, Within};
-ghost use Rattle.s360_program.specs.Steps.{run_of, in_bytes, count_of, Fits, IsQuiet, ComesBy, EndsBy, IsStep, Steps, FindsArea, has_moved, goes_on, point_at, request_at, status_of, condition_for, differs, needs_area, behind, PassesWhole};
+ghost use Rattle.s360_program.specs.Steps.{run_of, in_bytes, count_of, Fits, IsQuiet, ComesBy, EndsBy, IsStep, Steps, FindsArea, has_moved, goes_on, point_at};
+ghost use Rattle.s360_program.specs.Steps.{request_at, status_of, condition_for, differs, needs_area, behind, PassesWhole};
 
 use crate::conditions::{ChannelCondition, chains};
 use crate::endings::{end_program, told};

@@ -1,5 +1,6 @@
 -- Bytes that may move one after another move at once.
-use Rattle.std.proofs.Common.{add-one, ◌≡◌, ℕ, zero, suc, ◌+◌, ◌-◌, refl, sym, ap, ◌∙◌, arith, true, false, Bool, cond, not, ◌&&◌, List, [], ◌∷◌, ◌++◌, length, take, drop}
+use Rattle.std.proofs.Common.{add-one, ◌≡◌, ℕ, zero, suc, ◌+◌, ◌-◌, refl, sym, ap, ◌∙◌, arith, true, false, Bool, cond, not, ◌&&◌, List, []}
+use Rattle.std.proofs.Common.{◌∷◌, ◌++◌, length, take, drop}
 use Rattle.std.proofs.Math.Seq.{take-add}
 use Rattle.std.proofs.lemmas.Bool.{cond_both}
 use Rattle.std.proofs.lemmas.List.{drop-drop, append_assoc, append-nil, length-append}
@@ -52,7 +53,8 @@ module _ (s : Storage) (a : ℕ) (new : List ℕ) (one : 1 ≡ length new) where
       go true (x ∷ []) h = rw add-one (ap (λ b. record s { bytes = b }) (written_in_two s.bytes a x more))
       go w new h = grind arith
 
-moved_in_two : (m : ℕ) (o : Open) (p : Transfer) → 1 ≡ length (next_bytes 1 o p) → after_bytes m o (after_bytes 1 o p) ≡ after_bytes (suc m) o p
+moved_in_two : (m : ℕ) (o : Open) (p : Transfer) → 1 ≡ length (next_bytes 1 o p) → after_bytes m o (after_bytes 1 o p)
+    ≡ after_bytes (suc m) o p
 moved_in_two m o p h =
     let w = gives o && not (skips p.ccw) in
     let new = next_bytes 1 o p in
@@ -68,11 +70,18 @@ moved_none o p =
     let none : next_bytes 0 o p ≡ [] = cond_both (gives o) [] [] (λ l. l ≡ []) (λ e. refl) (λ e. refl) in
     let w = gives o && not (skips p.ccw) in
     let same : after w p.storage p.address [] ≡ p.storage =
-    cond_both w _ _ (λ s. s ≡ p.storage) (λ e. ap (λ b. record p.storage { bytes = b }) (overwritten-none p.storage.bytes p.address [] refl)) (λ e. refl) in
+    cond_both w _ _ (λ s. s ≡ p.storage) (λ e. ap (λ b. record p.storage { bytes = b })
+    (overwritten-none p.storage.bytes p.address [] refl)) (λ e. refl) in
     let less : p.place.residual - 0 ≡ p.place.residual = omega arith in
     let more : p.address + 0 ≡ p.address = omega arith in
     let bytes = append-nil p.bytes in
-    let moved : after_bytes 0 o p ≡ record { storage = p.storage; ccw = p.ccw; place = record p.place { residual = p.place.residual }; address = p.address; bytes = p.bytes } = cc in
+    let moved : after_bytes 0 o p ≡ record {
+      storage = p.storage;
+      ccw = p.ccw;
+      place = record p.place { residual = p.place.residual };
+      address = p.address;
+      bytes = p.bytes;
+    } = cc in
     moved
 
 -- m bytes that may move one after another move at once

@@ -9,7 +9,10 @@ use Rattle.s360_words.proofs.Overwriting.{length-overwritten}
 use Rattle.ckd_command.specs.declared.registers.Registers.{Registers}
 use Rattle.ckd_command.specs.Answers as answer
 use Rattle.ckd_command.specs.Commands.{Closing, beginning, sight}
-use Rattle.ckd_command.specs.Drive.{IdleDrive, State, Volume, unsaved, tells_equipment_check, is_written, drive_of, number_under, slot_under, track_under, Fault, LoadFails, SaveFails, left_by, lost, saving, moving_off, with_registers, with_store_fault, Open, Rejected, begin, begun, Failed, look, looked, Closed, failed, close, closed, closed_moving, settled, with_unit_check}
+use Rattle.ckd_command.specs.Drive.{IdleDrive, State, Volume, unsaved, tells_equipment_check, is_written, drive_of, number_under}
+use Rattle.ckd_command.specs.Drive.{slot_under, track_under, Fault, LoadFails, SaveFails, left_by, lost, saving, moving_off, with_registers}
+use Rattle.ckd_command.specs.Drive.{with_store_fault, Open, Rejected, begin, begun, Failed, look, looked, Closed, failed, close, closed}
+use Rattle.ckd_command.specs.Drive.{closed_moving, settled, with_unit_check}
 use Rattle.ckd_command.proofs.Arms.{AtSameTrack, BeginsAt, beginning_at, closing_at, closing_empty}
 use Rattle.ckd_command.proofs.CommandFacts.{IsClosing, closing_facts, store_fault_is_told}
 use Rattle.s360_runs.specs.Endings.{immediate}
@@ -25,9 +28,16 @@ use Rattle.s360_runs.proofs.Units.{BegunIs, LookIs}
 pub close_end : (f : Option Fault) (o : Open) (b : List ℕ) → IsEnd (close f o b).unit (close f o b).motion
 close_end f o b = by (closing_of o b) (closing_of o b).moves_off (closing_facts _ _ _ _ b)
   where
-    by : {w : Bool} (c : Closing) (moves_off : Bool) → IsClosing o.state.registers b w c → let d = closed f o.state c moves_off in IsEnd d.unit d.motion
-    by c true h = elim (left_by f o.state.mark) as (λ x. let d = saving x o.state failed (closed_moving o.state c) in IsEnd d.unit d.motion)
-        [ Some left ↦ record { channel_end = refl; device_end = refl } | None ↦ record { channel_end = h.channel_end; device_end = h.device_end } ]
+    by : {w : Bool} (c : Closing) (moves_off : Bool) → IsClosing o.state.registers b w c → let d = closed f o.state c moves_off in
+        IsEnd d.unit d.motion
+    by c true h = elim (left_by f o.state.mark) as (λ x. let d = saving x o.state failed (closed_moving o.state c) in IsEnd d.unit d.motion) [
+      | Some left ↦ record { channel_end = refl; device_end = refl }
+      | None ↦ record {
+        channel_end = h.channel_end;
+        device_end =
+            h.device_end;
+      }
+    ]
     by c false h = record { channel_end = h.channel_end; device_end = h.device_end }
 
 pub joins_check : (unit : UnitStatus) → tells (with_unit_check unit) UNIT_CHECK ≡ true
@@ -42,7 +52,9 @@ joins_end unit motion h = record {
 
 -- and saving its track keeps them
 pub settle_end : (f : Option Fault) (c : Closed) → IsEnd c.unit c.motion → IsEnd (settled f c).unit (settled f c).motion
-settle_end f c h = elim (left_by f c.state.mark) as (λ x. let d = saving x c.state (λ s. record c { state = s; unit = with_unit_check c.unit }) c in IsEnd d.unit d.motion) [ None ↦ h | Some left ↦ joins_end c.unit c.motion h ]
+settle_end f c h = elim (left_by f c.state.mark) as (λ x. let d =
+    saving x c.state (λ s. record c { state = s; unit = with_unit_check c.unit }) c in
+    IsEnd d.unit d.motion) [ None ↦ h | Some left ↦ joins_end c.unit c.motion h ]
 
 pub immediate_end : (s : State) (motion : Bool) → IsEnd (immediate s motion).unit motion
 immediate_end s motion = record { channel_end = grind arith; device_end = grind arith }
@@ -70,14 +82,16 @@ pub same_arm : (r : Registers) → AtSameTrack r r
 same_arm r = record { cylinder = refl; head = refl }
 
 -- a save that fails, where the slots before and the arm were the same
-pub lost_fails : (left : List ℕ) (s : State) (before : IdleDrive) (at : Registers) → s.volume ≡ before.volume → AtSameTrack at s.registers → Fails (SaveFails left) before at (lost s left)
+pub lost_fails : (left : List ℕ) (s : State) (before : IdleDrive) (at : Registers) → s.volume ≡ before.volume → AtSameTrack at s.registers
+    → Fails (SaveFails left) before at (lost s left)
 lost_fails left s before at e k = record {
   equipment_check = store_fault_is_told s.registers;
   slots = (
     refl,
     record {
       geometry = ap (λ v. v.geometry) e;
-      others = λ n h. get_set_other s.volume.slots (number_under s) n (overwritten (slot_under s) 0 left) h ∙ ap (λ v. slice_get v.slots n) e;
+      others = λ n h. get_set_other s.volume.slots (number_under s) n (overwritten (slot_under s) 0 left) h
+          ∙ ap (λ v. slice_get v.slots n) e;
       size = get_set_size s.volume.slots (number_under s) left ∙ ap (λ v. option_map length (slice_get v.slots (number_under s))) e;
     },
   );
@@ -85,10 +99,19 @@ lost_fails left s before at e k = record {
 }
 
 pub load_fails : (o : Open) → Fails LoadFails (drive_of o.state) o.state.registers (with_store_fault o.state)
-load_fails o = record { equipment_check = store_fault_is_told o.state.registers; slots = refl; arm = record { cylinder = refl; head = refl } }
+load_fails o = record {
+  equipment_check = store_fault_is_told o.state.registers;
+  slots = refl;
+  arm = record {
+    cylinder = refl;
+    head =
+        refl;
+  };
+}
 
 -- what a save that fails comes to, where the track is written; and where it is not, nothing is saved
-pub saving_or : {A : Type 0} (left : List ℕ) (s : State) (fails : State → A) (goes : A) → let x = moving_off (Some (SaveFails left)) s fails goes in (is_written s ≡ true → x ≡ fails (lost s left)) × (is_written s ≡ false → x ≡ goes)
+pub saving_or : {A : Type 0} (left : List ℕ) (s : State) (fails : State → A) (goes : A) → let x =
+    moving_off (Some (SaveFails left)) s fails goes in (is_written s ≡ true → x ≡ fails (lost s left)) × (is_written s ≡ false → x ≡ goes)
 saving_or left s fails goes = grind arith
 
 -- what is so of a save alone
@@ -104,7 +127,8 @@ FailsOr met f before at fails call =
 -- One whose save fails where the arm or the head leaves a written track. The drive moves off from the registers `r`,
 -- and the volume and the arm are tied to those before it: a command that is closed has other registers than the phase
 -- that it ends. Its premises are many, since a closing, a look and a beginning come here.
-leaves_or : {A : Type 0} (left : List ℕ) (s : State) (r : Registers) (before : IdleDrive) (at : Registers) (fails : State → A) (y : A) → s.volume ≡ before.volume → AtSameTrack at r
+leaves_or : {A : Type 0} (left : List ℕ) (s : State) (r : Registers) (before : IdleDrive) (at : Registers) (fails : State → A) (y : A)
+    → s.volume ≡ before.volume → AtSameTrack at r
     → FailsOr (is_written s) (SaveFails left) before at fails (λ f. moving_off f (with_registers s r) fails y)
 leaves_or left s r before at fails y e k =
     let t = with_registers s r in
@@ -113,7 +137,8 @@ leaves_or left s r before at fails y e k =
 
 -- Closing.
 
-pub close_fails : (f : Fault) (o : Open) (b : List ℕ) (before : IdleDrive) (at : Registers) → (close None o b).state.volume ≡ before.volume → AtSameTrack at o.state.registers
+pub close_fails : (f : Fault) (o : Open) (b : List ℕ) (before : IdleDrive) (at : Registers) → (close None o b).state.volume ≡ before.volume
+    → AtSameTrack at o.state.registers
     → FailsOr (if_save f ((closing_of o b).moves_off && is_written o.state)) f before at failed (λ f. close f o b)
 close_fails f o b before at e k = go f (closing_of o b) (closing_of o b).moves_off e
   where
@@ -130,7 +155,8 @@ pub record StaysWritten (at : Registers) (c : Closed) : Type 0 where
 pub close_stays : (o : Open) (b : List ℕ) → is_written (close None o b).state ≡ true → StaysWritten o.state.registers (close None o b)
 close_stays o b = go (closing_of o b) (closing_of o b).moves_off (closing_at _ _ _ _ b) refl
   where
-    go : (c : Closing) (moves_off : Bool) → ((c.moves_off ≡ true) ⊎ ((c.motion ≡ false) × AtSameTrack o.state.registers c.registers)) → c.moves_off ≡ moves_off
+    go : (c : Closing) (moves_off : Bool) → ((c.moves_off ≡ true) ⊎ ((c.motion ≡ false) × AtSameTrack o.state.registers c.registers))
+        → c.moves_off ≡ moves_off
         → is_written (closed None o.state c moves_off).state ≡ true → StaysWritten o.state.registers (closed None o.state c moves_off)
     go c true h e w = absurd (cc)
     go c false (inl h) e w = absurd (cc)
@@ -142,7 +168,8 @@ empty_stays o = closing_empty _ _ _ _
 
 -- nor does it change one
 empty_writes : (o : Open) → (closing_of o []).written ≡ None
-empty_writes o = elim (closing_facts o.state.volume.geometry (track_under o.state) o.opened o.state.registers []).written [ inl h ↦ h | inr h ↦ absurd (h.0 refl) ]
+empty_writes o = elim (closing_facts o.state.volume.geometry (track_under o.state) o.opened o.state.registers []).written
+    [ inl h ↦ h | inr h ↦ absurd (h.0 refl) ]
 
 pub close_none : (o : Open) → ((close None o []).state.volume ≡ o.state.volume) × (is_written (close None o []).state ≡ is_written o.state)
 close_none o = rw (empty_stays o, empty_writes o) (refl, refl)
@@ -156,7 +183,8 @@ settle_again f c before at h = grind arith
 -- Looks.
 
 -- a load that fails ends a look for an area; one that does not look for any makes none
-pub look_loads : (o : Open) → (looks_for_area o ≡ true → look (Some LoadFails) o ≡ Failed (with_store_fault o.state)) × (looks_for_area o ≡ false → look (Some LoadFails) o ≡ look None o)
+pub look_loads : (o : Open) → (looks_for_area o ≡ true → look (Some LoadFails) o ≡ Failed (with_store_fault o.state))
+    × (looks_for_area o ≡ false → look (Some LoadFails) o ≡ look None o)
 look_loads o = grind arith
 
 -- what an open command sights of the track under the arm
@@ -172,17 +200,21 @@ pub look_fails : (f : Fault) (o : Open) → FailsOr (look_meets f o) f (drive_of
 look_fails LoadFails o = let h = look_loads o in (λ w. (with_store_fault o.state, h.0 w, load_fails o), h.1)
 look_fails (SaveFails left) o = go (sighted o)
   where
-    go : (s : answer.Sight) → FailsOr (goes_to_next_head s && is_written o.state) (SaveFails left) (drive_of o.state) o.state.registers Failed (λ f. looked f o s)
+    go : (s : answer.Sight) → FailsOr (goes_to_next_head s && is_written o.state) (SaveFails left) (drive_of o.state) o.state.registers
+        Failed (λ f. looked f o s)
     go (answer.NextHead r) = leaves_or left o.state o.state.registers _ _ Failed _ refl (same_arm o.state.registers)
     go s = (λ h. absurd (cc), λ h. refl)
 
 -- Beginnings.
 
 -- a save fails before the arm goes to cylinder 0
-pub begin_fails : (f : Fault) (code : ℕ) (s : State) → FailsOr (if_save f (leaves_as_it_begins (beginning code s.registers) && is_written s)) f (drive_of s) s.registers Rejected (λ f. begin f code s)
+pub begin_fails : (f : Fault) (code : ℕ) (s : State)
+    → FailsOr (if_save f (leaves_as_it_begins (beginning code s.registers) && is_written s)) f (drive_of s) s.registers Rejected
+    (λ f. begin f code s)
 begin_fails f code s = go f (beginning code s.registers) (beginning_at code s.registers)
   where
-    go : (f : Fault) (b : answer.Beginning) → BeginsAt s.registers b → FailsOr (if_save f (leaves_as_it_begins b && is_written s)) f (drive_of s) s.registers Rejected (λ f. begun f s b)
+    go : (f : Fault) (b : answer.Beginning) → BeginsAt s.registers b → FailsOr (if_save f (leaves_as_it_begins b && is_written s)) f
+        (drive_of s) s.registers Rejected (λ f. begun f s b)
     go (SaveFails left) (answer.ToCylinderZero r None) k = leaves_or left s r _ _ Rejected _ refl k
     go (SaveFails left) (answer.ToCylinderZero r (Some o)) k = leaves_or left s r _ _ Rejected _ refl k.0
     go f b k = (λ h. absurd (grind arith), λ h. grind arith)

@@ -20,7 +20,8 @@ IsClosed c = IsEnd c.unit c.motion
 abbrev pub IsGood : Ending → Type 0
 IsGood e = IsEnd e.csw.unit e.motion
 
-good_ending : (f : Option Fault) (key : ℕ) (p : Place) (c : Closed) (channel : ChannelStatus) → IsClosed c → IsGood (ending f key p c channel)
+good_ending : (f : Option Fault) (key : ℕ) (p : Place) (c : Closed) (channel : ChannelStatus) → IsClosed c
+    → IsGood (ending f key p c channel)
 good_ending f key p c channel h = let g = settle_end f c h in record { channel_end = g.channel_end; device_end = g.device_end }
 
 -- what a unit and a cut close
@@ -49,14 +50,24 @@ asks_good : (key : ℕ) (g : ProgramPhase) → AsksGood (standing_in key g).inte
 asks_good key g = grind arith
 
 -- of a unit, and of a cut in its place
-good_phase : (f : Option Fault) (key : ℕ) (g : ProgramPhase) → NextHas (λ s. Unit {0}) IsGood (unit f key g) × IsGood ((standing_in key g).cut f)
-good_phase f key g = phase_holds IsClosed (λ s. Unit {0}) IsGood f key (λ c h. tt) (good_ending f key) g (record { channel_end = refl; device_end = refl }) tt (open_closes f g)
+good_phase : (f : Option Fault) (key : ℕ) (g : ProgramPhase) → NextHas (λ s. Unit {0}) IsGood (unit f key g)
+    × IsGood ((standing_in key g).cut f)
+good_phase f key g = phase_holds IsClosed (λ s. Unit {0}) IsGood f key (λ c h. tt) (good_ending f key) g (record {
+  channel_end =
+      refl;
+  device_end = refl;
+}) tt (open_closes f g)
 
 pub good_run : (s : Start) (script : Script) → RunGood (run script s)
 good_run s script = run_holds {P = λ key g. Unit {0}} {E = λ st. IsGood} RunGood s script
-    (good_ending None 0 (first_place 0) (untouched (begin_program s.drive)) PROGRAM_CHECK (record { channel_end = refl; device_end = refl }))
+    (good_ending None 0 (first_place 0) (untouched (begin_program s.drive)) PROGRAM_CHECK (record {
+      channel_end = refl;
+      device_end =
+          refl;
+    }))
     (λ key g h. (λ f. (good_phase f key g).1, asks_good key g)) (λ used st e h. h)
-    (λ caw at. walk_holds (λ g. Unit {0}) (λ st. IsGood) caw.key (λ turn g h. tt) (λ f g h. (good_phase f caw.key g).0) script (Between (start_point caw s)) tt)
+    (λ caw at. walk_holds (λ g. Unit {0}) (λ st. IsGood) caw.key (λ turn g h. tt) (λ f g h. (good_phase f caw.key g).0) script
+    (Between (start_point caw s)) tt)
 
 pub ending_is_end : EndingIsEnd
 ending_is_end s script used storage e h = subst RunGood h (good_run s script)

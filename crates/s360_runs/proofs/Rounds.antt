@@ -1,5 +1,6 @@
 -- A search that fails, and the transfer in channel back to it.
-use Rattle.std.proofs.Common.{◌≡◌, ℕ, zero, suc, ◌+◌, ◌-◌, ◌<◌, ◌≤◌, refl, sym, ap, ◌∙◌, arith, true, false, Bool, not, ◌&&◌, ◌||◌, List, [], ◌∷◌, ◌++◌, None, nat_lt, length, take, drop, length-append, length-drop, length-take-le}
+use Rattle.std.proofs.Common.{◌≡◌, ℕ, zero, suc, ◌+◌, ◌-◌, ◌<◌, ◌≤◌, refl, sym, ap, ◌∙◌, arith, true, false, Bool, not, ◌&&◌, ◌||◌, List}
+use Rattle.std.proofs.Common.{[], ◌∷◌, ◌++◌, None, nat_lt, length, take, drop, length-append, length-drop, length-take-le}
 use Rattle.std.specs.Prelude.{if◌then◌else◌, ◌==◌, is_some, slice_get}
 use Rattle.std.proofs.lemmas.Bool.Decides.{nat_tests}
 use Rattle.std.proofs.lemmas.List.{replicate-append-replicate}
@@ -14,8 +15,10 @@ use Rattle.s360_runs.specs.Places.{Place, past_ccw, past_transfer}
 use Rattle.s360_runs.specs.Rounds.{PassesBy, LeadsBack, RoundIsUnits}
 use Rattle.s360_runs.specs.Scripts.{Script, units, OneUnit}
 use Rattle.s360_runs.specs.Status.{no_channel_status}
-use Rattle.s360_runs.specs.Transfers.{Request, Transfer, Moves, Completes, first_transfer, transfer_unit, after_bytes, next_bytes, is_incorrect_length}
-use Rattle.s360_runs.specs.Units.{Between, Looking, Moving, Next, GoesOn, StandsIn, on_next, next_fetched, next_begun, next_looked, next_moved, next_chosen, unit, walk}
+use Rattle.s360_runs.specs.Transfers.{Request, Transfer, Moves, Completes, first_transfer, transfer_unit, after_bytes, next_bytes}
+use Rattle.s360_runs.specs.Transfers.{is_incorrect_length}
+use Rattle.s360_runs.specs.Units.{Between, Looking, Moving, Next, GoesOn, StandsIn, on_next, next_fetched, next_begun, next_looked}
+use Rattle.s360_runs.specs.Units.{next_moved, next_chosen, unit, walk}
 use Rattle.s360_runs.proofs.AtOnce.{at_once}
 
 -- Bytes that a command takes.
@@ -27,7 +30,8 @@ counted : (xs : List ℕ) (at m : ℕ) → at + m ≤ length xs → length (take
 counted xs at m h = omega (arith, length-take-le m (drop at xs) (omega (arith, length-drop at xs)))
 
 -- as many may move as are left of the count, where the command wants as many and storage has them
-may_take : (m key : ℕ) (o : Open) (t : Transfer) (L : ℕ) → gives o ≡ false → ((b : List ℕ) → length_of o b ≡ L) → t.place.residual ≡ m → length t.bytes + m ≡ L → t.address + m ≤ length t.storage.bytes → MayMove m key o t
+may_take : (m key : ℕ) (o : Open) (t : Transfer) (L : ℕ) → gives o ≡ false → ((b : List ℕ) → length_of o b ≡ L) → t.place.residual ≡ m
+    → length t.bytes + m ≡ L → t.address + m ≤ length t.storage.bytes → MayMove m key o t
 may_take zero key o t L g wants r l h = tt
 may_take (suc m) key o t L g wants r l h = (moves, one, may_take m key o (after_bytes 1 o t) L g wants less long (rw g (omega arith)))
   where
@@ -38,7 +42,12 @@ may_take (suc m) key o t L g wants r l h = (moves, one, may_take m key o (after_
     wanted n b k e f = grind (arith, nat_tests)
 
     moves : transfer_unit key o t ≡ Moves (after_bytes 1 o t)
-    moves = rw (positive t.place.residual r, wanted t.place.residual (length t.bytes) (length_of o t.bytes) r (l ∙ sym (wants t.bytes)), g, some_below t.storage.bytes t.address (omega arith)) refl
+    moves = rw (
+      positive t.place.residual r,
+      wanted t.place.residual (length t.bytes) (length_of o t.bytes) r (l ∙ sym (wants t.bytes)),
+      g,
+      some_below t.storage.bytes t.address (omega arith),
+    ) refl
 
     one : length (next_bytes 1 o t) ≡ 1
     one = rw g (counted t.storage.bytes t.address 1 (omega arith))
@@ -59,7 +68,8 @@ or_false : (a b : Bool) → b ≡ false → (a || b) ≡ a
 or_false true b e = refl
 or_false false b e = e
 
-module _ (key : ℕ) (s : Storage) (p : Place) (ccw : Ccw) (before after : State) (l : LeadsBack s p ccw) (d : PassesBy ccw.code (take ccw.count (drop ccw.address s.bytes)) before after) where
+module _ (key : ℕ) (s : Storage) (p : Place) (ccw : Ccw) (before after : State) (l : LeadsBack s p ccw)
+    (d : PassesBy ccw.code (take ccw.count (drop ccw.address s.bytes)) before after) where
   abbrev point : Place → State → Point
   point q state = record { storage = s; place = q; state = state }
 
@@ -82,15 +92,18 @@ module _ (key : ℕ) (s : Storage) (p : Place) (ccw : Ccw) (before after : State
   begins : unit None key (Between (point p before)) ≡ GoesOn (Looking d.asked request)
   begins = ap (next_fetched None key (point p before)) l.fetched ∙ ap (next_begun None key request) d.begins
 
-  looks : (n : ℕ) (rest : Script) → 0 < n → walk (units n ++ rest) key (Looking d.asked request) ≡ walk (units n ++ rest) key (Moving d.found first)
+  looks : (n : ℕ) (rest : Script) → 0 < n → walk (units n ++ rest) key (Looking d.asked request) ≡ walk (units n ++ rest) key
+      (Moving d.found first)
   looks zero rest h = absurd (omega arith)
-  looks (suc n) rest h = ap (λ (x : AfterLook). on_next (units n ++ rest) (next_looked None key request x) (walk (units n ++ rest) key)) d.finds
+  looks (suc n) rest h = ap (λ (x : AfterLook). on_next (units n ++ rest) (next_looked None key request x) (walk (units n ++ rest) key))
+      d.finds
 
   size : length (take ccw.count (drop ccw.address s.bytes)) ≡ ccw.count
   size = counted s.bytes ccw.address ccw.count l.inside
 
   may : MayMove ccw.count key d.found first
-  may = let whole : 0 + ccw.count ≡ ccw.count = omega arith in may_take ccw.count key d.found first ccw.count d.takes (λ b. d.wants b ∙ size) refl whole l.inside
+  may = let whole : 0 + ccw.count ≡ ccw.count = omega arith in may_take ccw.count key d.found first ccw.count d.takes (λ b. d.wants b
+      ∙ size) refl whole l.inside
 
   none : ccw.count - ccw.count ≡ 0
   none = omega arith
@@ -102,7 +115,8 @@ module _ (key : ℕ) (s : Storage) (p : Place) (ccw : Ccw) (before after : State
   all = rw d.takes refl
 
   correct : is_incorrect_length (length_of d.found last.bytes) last ≡ false
-  correct = same_length _ (length last.bytes) (length_of d.found last.bytes) (ccw.count - ccw.count) none (ap length all ∙ sym (d.wants last.bytes))
+  correct = same_length _ (length last.bytes) (length_of d.found last.bytes) (ccw.count - ccw.count) none (ap length all
+      ∙ sym (d.wants last.bytes))
 
   ends : unit None key (Moving d.found last) ≡ GoesOn (Between (point behind after))
   ends = ap (next_moved None key d.found last) complete

@@ -10,7 +10,8 @@ use Rattle.s360_runs.specs.Places.{fetch, GoodCcw, NoCcw, TransferTo}
 use Rattle.s360_runs.specs.Runs.{start_point}
 use Rattle.s360_runs.specs.Scripts.{Outside, Turn, storage_past}
 use Rattle.s360_runs.specs.Transfers.{Request, Transfer, request_of, Stops, TransferUnit, Moves, Completes, transfer_unit, first_transfer}
-use Rattle.s360_runs.specs.Units.{standing_in, unit, Next, next_chosen, next_moved, next_looked, next_begun, next_fetched, Between, Looking, Moving, ProgramPhase, phase_past}
+use Rattle.s360_runs.specs.Units.{standing_in, unit, Next, next_chosen, next_moved, next_looked, next_begun, next_fetched, Between, Looking}
+use Rattle.s360_runs.specs.Units.{Moving, ProgramPhase, phase_past}
 use Rattle.s360_runs.specs.Writes.{KeepsSize, OutcomeKeepsSize}
 use Rattle.s360_runs.proofs.Units.{NextIs, UnitIs, run_holds, unit_is, walk_holds}
 
@@ -26,7 +27,8 @@ abbrev NextSized : Storage → Next → Type 0
 NextSized before n = NextIs (λ g. Sized before (storage_in g)) (λ s e. Sized before s) n
 
 module _ (before : Storage) (f : Option Fault) (key : ℕ) where
-  chosen_sized : (r : Request) (c : Closed) (channel : ChannelStatus) → Sized before r.storage → NextSized before (next_chosen (choice f key r c channel))
+  chosen_sized : (r : Request) (c : Closed) (channel : ChannelStatus) → Sized before r.storage
+      → NextSized before (next_chosen (choice f key r c channel))
   chosen_sized r c channel h = grind arith
 
   moved_sized : (o : Open) (t : Transfer) → Sized before t.storage → NextSized before (next_moved f key o t (transfer_unit key o t))
@@ -44,7 +46,12 @@ module _ (before : Storage) (f : Option Fault) (key : ℕ) where
   next_sized (Moving o t) h = moved_sized o t h
   next_sized (Between p) h = elim (fetch p.storage p.place true) as (λ w. NextSized before (next_fetched f key p w))
       [ NoCcw ↦ h | TransferTo address ↦ h | GoodCcw ccw ↦ begun_sized (requested p ccw) (begin f ccw.code p.state) h ]
-  next_sized (Looking o r) h = elim (look f o) as (λ l. NextSized before (next_looked f key r l)) [ Failed s ↦ h | Passed o ↦ h | Ready o ↦ moved_sized o (first_transfer r) h ]
+  next_sized (Looking o r) h = elim (look f o) as (λ l. NextSized before (next_looked f key r l)) [
+    | Failed s ↦ h
+    | Passed o ↦ h
+    | Ready o ↦
+        moved_sized o (first_transfer r) h
+  ]
 
 turn_sized : (turn : Turn) (s : Storage) → Sized s (storage_past turn s)
 turn_sized (Outside (Bytes at bytes)) s = length-overwritten s.bytes at bytes
@@ -54,8 +61,10 @@ past_sized : (turn : Turn) (g : ProgramPhase) → Sized (storage_in g) (storage_
 past_sized turn g = grind (arith, turn_sized)
 
 pub keeps_size : KeepsSize
-keeps_size s script = run_holds {P = λ key g. Sized s.storage (storage_in g)} {E = λ st e. Sized s.storage st} (OutcomeKeepsSize s.storage) s script refl seen (λ used st e h. h)
-    (λ caw at. walk_holds (λ g. Sized s.storage (storage_in g)) (λ st e. Sized s.storage st) caw.key (λ turn g h. past_sized turn g ∙ h) (λ f. next_sized s.storage f caw.key) script (Between (start_point caw s)) refl)
+keeps_size s script = run_holds {P = λ key g. Sized s.storage (storage_in g)} {E = λ st e. Sized s.storage st}
+    (OutcomeKeepsSize s.storage) s script refl seen (λ used st e h. h)
+    (λ caw at. walk_holds (λ g. Sized s.storage (storage_in g)) (λ st e. Sized s.storage st) caw.key (λ turn g h. past_sized turn g
+    ∙ h) (λ f. next_sized s.storage f caw.key) script (Between (start_point caw s)) refl)
   where
     seen : (key : ℕ) (g : ProgramPhase) → Sized s.storage (storage_in g) → OutcomeKeepsSize s.storage (NotEnded (standing_in key g))
     seen key (Between p) h = h

@@ -26,7 +26,8 @@ ends_by s script more key f st e h w =
     h more ∙ ap (outcome_of (script ++ more) key) w ∙ ap (λ u. Ended u st e) used
 
 -- its run is what is seen there
-pub seen_there : (s : Start) (script : Script) (key : ℕ) (g : ProgramPhase) → StandsAt s script key g → run script s ≡ NotEnded (standing_in key g)
+pub seen_there : (s : Start) (script : Script) (key : ℕ) (g : ProgramPhase) → StandsAt s script key g
+    → run script s ≡ NotEnded (standing_in key g)
 seen_there s script key g h = ap (λ l. run l s) (sym (append-nil script)) ∙ h []
 
 -- A program that did not end stands somewhere.
@@ -42,7 +43,8 @@ pub record StandsBy (s : Start) (script : Script) (seen : Standing) : Type 0 whe
 pub stands_by_walk : (s : Start) (script : Script) (seen : Standing) → run script s ≡ NotEnded seen → StandsBy s script seen
 stands_by_walk s script seen r = from (caw_of s.caw) refl r
   where
-    go : (caw : Caw) → caw_of s.caw ≡ Some caw → (w : Walk) → walk script caw.key (Between (start_point caw s)) ≡ w → outcome_of script caw.key w ≡ NotEnded seen → StandsBy s script seen
+    go : (caw : Caw) → caw_of s.caw ≡ Some caw → (w : Walk) → walk script caw.key (Between (start_point caw s)) ≡ w
+        → outcome_of script caw.key w ≡ NotEnded seen → StandsBy s script seen
     go caw at (StandsIn g) h k = record { caw = caw; phase = g; is_caw = at; walks = h; seen_is = cc }
     go caw at (EndsWith rest st e) h k = absurd (cc)
 

@@ -12,7 +12,8 @@ use Rattle.s360_runs.specs.Endings.{Standing, Ending, ending, standing, closed_b
 use Rattle.s360_runs.specs.Places.{Place, place_past, past_ccw, fetch, Fetched, NoCcw, past_no_ccw, TransferTo, past_transfer, GoodCcw}
 use Rattle.s360_runs.specs.Scripts.{Turn, storage_past, Script, OneUnit}
 use Rattle.s360_runs.specs.Status.{tells, no_channel_status, stops_chaining, is_clear}
-use Rattle.s360_runs.specs.Transfers.{Transfer, is_incorrect_length, Request, request_of, Moved, StillMoves, Stopped, Completed, Looked, Looks, Misses, Finds, moved, looked}
+use Rattle.s360_runs.specs.Transfers.{Transfer, is_incorrect_length, Request, request_of, Moved, StillMoves, Stopped, Completed, Looked, Looks, Misses, Finds}
+use Rattle.s360_runs.specs.Transfers.{moved, looked}
 
 -- where a program stands between two commands
 pub record Point : Type 0 where

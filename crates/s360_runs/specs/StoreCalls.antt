@@ -3,7 +3,8 @@
 use Rattle.std.specs.Prelude.{ℕ, List, Bool, true, false, not, ◌&&◌, ◌||◌, None}
 use Rattle.s360_words.specs.declared.flags.ChannelStatus.{ChannelStatus}
 use Rattle.ckd_command.specs.Commands.{Closing, beginning, closing, sight}
-use Rattle.ckd_command.specs.Drive.{Closed, Fault, LoadFails, SaveFails, Open, is_written, track_under, AfterBegin, Rejected, Immediate, Started, begin, AfterLook, Ready, Passed, Failed, look, close}
+use Rattle.ckd_command.specs.Drive.{Closed, Fault, LoadFails, SaveFails, Open, is_written, track_under, AfterBegin, Rejected, Immediate, Started, begin}
+use Rattle.ckd_command.specs.Drive.{AfterLook, Ready, Passed, Failed, look, close}
 use Rattle.ckd_command.specs.Tables.{aim}
 use Rattle.ckd_command.specs.declared.tables.Aim.{Aim}
 use Rattle.ckd_command.specs.declared.tables.Aim.TheVariants.{Next as NextArea}

@@ -1,6 +1,7 @@
 -- How the bytes of one command pass, under one CCW after another (Principles of Operation, Input/Output Operations: 'Data
 -- Chaining', 'Skipping', 'Program Check', 'Protection Check', 'Incorrect Length').
-use Rattle.std.specs.Prelude.{ℕ, ◌+◌, ◌-◌, List, [], ◌∷◌, ◌++◌, Bool, false, not, ◌&&◌, ◌||◌, ◌==◌, Option, is_some, length, take, drop, slice_get, nat_lt, if◌then◌else◌}
+use Rattle.std.specs.Prelude.{ℕ, ◌+◌, ◌-◌, List, [], ◌∷◌, ◌++◌, Bool, false, not, ◌&&◌, ◌||◌, ◌==◌, Option, is_some, length, take, drop, slice_get, nat_lt}
+use Rattle.std.specs.Prelude.{if◌then◌else◌}
 use Rattle.s360_words.specs.Storage.{Storage, stored, admits, key_at}
 use Rattle.s360_words.specs.Words.{skips, chains_data, suppresses_length}
 use Rattle.s360_words.specs.declared.flags.ChannelStatus.{ChannelStatus}

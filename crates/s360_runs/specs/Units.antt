@@ -2,7 +2,8 @@
 use Rattle.std.specs.Prelude.{◌≡◌, ℕ, ◌-◌, [], ◌∷◌, ◌++◌, true, Option}
 use Rattle.s360_words.specs.Storage.{Storage}
 use Rattle.s360_words.specs.declared.flags.TheConstants.ChannelStatus.{PROGRAM_CHECK}
-use Rattle.ckd_command.specs.Drive.{State, AfterLook, Open, Fault, AfterBegin, Rejected, Immediate, Started, begin, close, look, Failed, Passed, Ready, state_of}
+use Rattle.ckd_command.specs.Drive.{State, AfterLook, Open, Fault, AfterBegin, Rejected, Immediate, Started, begin, close, look, Failed, Passed, Ready}
+use Rattle.ckd_command.specs.Drive.{state_of}
 use Rattle.s360_runs.specs.Commands.{Point, Ends, Choice, Chains, choice, requested, completed, point_past, standing_between}
 use Rattle.s360_runs.specs.Endings.{Ending, ending, failed, immediate, untouched, standing, Standing, closed_by_cut, Outcome, NotEnded, Ended}
 use Rattle.s360_runs.specs.Places.{fetch, Fetched, NoCcw, past_no_ccw, TransferTo, past_transfer, GoodCcw}

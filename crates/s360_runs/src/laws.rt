@@ -1,7 +1,8 @@
 //! The laws of channel programs. Each function here does nothing: what it ensures is a law of the definitions in
 //! `specs/`, which speak of every start, every script and every fault of the store.
 
-ghost use Rattle.s360_runs.specs.Laws.{RunIsWalk, WalkGoesOn, WalkEndsAtUnit, EndedStays, StandsAtStart, StandsSomewhere, StandsAfterWalk, EndsAfterWalk, EndingIsEnd, CutIsEnd, FirstIsUnit, MoveAtOnce};
+ghost use Rattle.s360_runs.specs.Laws.{RunIsWalk, WalkGoesOn, WalkEndsAtUnit, EndedStays, StandsAtStart, StandsSomewhere, StandsAfterWalk, EndsAfterWalk};
+ghost use Rattle.s360_runs.specs.Laws.{EndingIsEnd, CutIsEnd, FirstIsUnit, MoveAtOnce};
 ghost use Rattle.s360_runs.specs.Rounds.{RoundIsUnits};
 ghost use Rattle.s360_runs.specs.Unsaved.{WritesByCommands, UnsavedWasWritten, NoFaultNothingTold};
 ghost use Rattle.s360_runs.specs.Writes.{WritesUnderArm, RunKeeps, MarkIsOfScript, KeepsSize};

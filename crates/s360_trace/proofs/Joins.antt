@@ -1,5 +1,6 @@
 -- So many steps of one unit are one step.
-use Rattle.std.proofs.Common.{◌≡◌, ℕ, zero, suc, ◌+◌, ◌-◌, ◌*◌, ◌≤◌, ◌<◌, refl, sym, ap, subst, ◌∙◌, arith, [], ◌∷◌, ◌++◌, true, false, Option, Some, None, add-zero, suc-add, append_assoc, ◌⊎◌, inl}
+use Rattle.std.proofs.Common.{◌≡◌, ℕ, zero, suc, ◌+◌, ◌-◌, ◌*◌, ◌≤◌, ◌<◌, refl, sym, ap, subst, ◌∙◌, arith, [], ◌∷◌, ◌++◌, true, false}
+use Rattle.std.proofs.Common.{Option, Some, None, add-zero, suc-add, append_assoc, ◌⊎◌, inl}
 use Rattle.ckd_command.specs.Drive.{Fault}
 use Rattle.s360_words.specs.declared.words.Csw.{Csw}
 use Rattle.s360_runs.specs.Endings.{Outcome, Ended, NotEnded}
@@ -8,7 +9,8 @@ use Rattle.s360_runs.specs.Scripts.{Script, units, OneUnit}
 use Rattle.s360_runs.proofs.Walks.{ended_stays}
 use Rattle.s360_laws.specs.Events.{Answer, FaultAfter, StepBy, Stepped}
 use Rattle.s360_laws.specs.History.{Runs}
-use Rattle.s360_laws.specs.Machine.{Machine, Device, Subchannel, Idle, Working, Pending, react, is_working, units_with, units_failing, device_at, start_of, stepped}
+use Rattle.s360_laws.specs.Machine.{Machine, Device, Subchannel, Idle, Working, Pending, react, is_working, units_with, units_failing}
+use Rattle.s360_laws.specs.Machine.{device_at, start_of, stepped}
 use Rattle.s360_laws.specs.Soundness.{IsSound}
 use Rattle.s360_laws.specs.Steps.{after_units, units_of, EndedByFault}
 use Rattle.s360_laws.proofs.StepLaws.{joins, splits, steps_at_most, plain_two, working_device, run_at}
@@ -27,10 +29,12 @@ stops m device csw p w = no (sym (ap is_working p) ∙ w)
     no h = cc
 
 -- a fault that was met in a step has ended the program
-no_fault : (m : Machine) (k done : ℕ) (old new : ChannelState) (d : Does (StepBy k) m (Stepped done) old new) → is_working (react (StepBy k) d.fault m).1.subchannel ≡ true → d.fault ≡ None
+no_fault : (m : Machine) (k done : ℕ) (old new : ChannelState) (d : Does (StepBy k) m (Stepped done) old new)
+    → is_working (react (StepBy k) d.fault m).1.subchannel ≡ true → d.fault ≡ None
 no_fault m k done old new d w = go d.fault refl d.reports w
   where
-    go : (x : Option FaultAfter) → d.fault ≡ x → Reports (StepBy k) m x → is_working (react (StepBy k) x m).1.subchannel ≡ true → d.fault ≡ None
+    go : (x : Option FaultAfter) → d.fault ≡ x → Reports (StepBy k) m x → is_working (react (StepBy k) x m).1.subchannel ≡ true
+        → d.fault ≡ None
     go None is r w = is
     go (Some x) is r w = absurd (stops (react (StepBy k) (Some x) m).1 r.device r.csw r.pends w)
 
@@ -43,14 +47,16 @@ module _ (m : Machine) (k done more : ℕ) (old mid new : ChannelState) (sound :
   abbrev first : Machine
   first = (react (StepBy k) None m).1
 
-  met_both : (x : Option FaultAfter) → done ≡ k → failures_of mid ≡ failures_of old → IsMet x (Stepped more) mid new → IsMet (after_units k x) (Stepped (done + more)) old new
+  met_both : (x : Option FaultAfter) → done ≡ k → failures_of mid ≡ failures_of old → IsMet x (Stepped more) mid new
+      → IsMet (after_units k x) (Stepped (done + more)) old new
   met_both None e p h = h ∙ p
   met_both (Some x) e p h = (h.0 ∙ ap (λ n. n + 1) p, counts done k more x.units e h.1)
     where
       counts : (d k a u : ℕ) → d ≡ k → a ≡ suc u → d + a ≡ suc (k + u)
       counts d k a u e h = omega arith
 
-  reports_both : (x : Option FaultAfter) → done ≡ k → IsMet x (Stepped more) mid new → Reports (StepBy 1) first x → (react (StepBy 1) x first).1 ≡ (whole x).1 → (whole x).0 ≡ Stepped (done + more)
+  reports_both : (x : Option FaultAfter) → done ≡ k → IsMet x (Stepped more) mid new → Reports (StepBy 1) first x
+      → (react (StepBy 1) x first).1 ≡ (whole x).1 → (whole x).0 ≡ Stepped (done + more)
       → Reports (StepBy (k + 1)) m (after_units k x)
   reports_both None e h r same answer = no_fault_none_told m (StepBy (k + 1)) (runs_of m sound)
   reports_both (Some x) e h r same answer = record {
@@ -68,11 +74,13 @@ module _ (m : Machine) (k done more : ℕ) (old mid new : ChannelState) (sound :
       counts d k a u e h = omega arith
 
   both : (x : Option FaultAfter) → done ≡ k → failures_of mid ≡ failures_of old → Stepped done ≡ (react (StepBy k) None m).0
-      → IsMet x (Stepped more) mid new → Stepped more ≡ (react (StepBy 1) x first).0 → StandsFor new (react (StepBy 1) x first).1 → Reports (StepBy 1) first x
+      → IsMet x (Stepped more) mid new → Stepped more ≡ (react (StepBy 1) x first).0 → StandsFor new (react (StepBy 1) x first).1
+      → Reports (StepBy 1) first x
       → Does (StepBy (k + 1)) m (Stepped (done + more)) old new
   both x e p a h b s r =
       let j = joins m k 1 x (runs_of m sound) in
-      let answer : (whole x).0 ≡ Stepped (done + more) = j.1 ∙ ap (λ n. Stepped (units_of n + units_of (react (StepBy 1) x first).0)) (sym a) ∙ ap (λ n. Stepped (done + units_of n)) (sym b) in
+      let answer : (whole x).0 ≡ Stepped (done + more) = j.1 ∙ ap (λ n. Stepped (units_of n + units_of (react (StepBy 1) x first).0))
+      (sym a) ∙ ap (λ n. Stepped (done + units_of n)) (sym b) in
       record {
         fault = after_units k x;
         met = met_both x e p h;
@@ -82,7 +90,8 @@ module _ (m : Machine) (k done more : ℕ) (old mid new : ChannelState) (sound :
       }
 
 -- The calls of two steps, in the first of which none failed.
-calls_both : (a b : ℕ) (old mid new : ChannelState) → failures_of mid ≡ failures_of old → CallsAtMost (2 * a) old mid → CallsAtMost (2 * b) mid new → CallsAtMost (2 * (a + b)) old new
+calls_both : (a b : ℕ) (old mid new : ChannelState) → failures_of mid ≡ failures_of old → CallsAtMost (2 * a) old mid
+    → CallsAtMost (2 * b) mid new → CallsAtMost (2 * (a + b)) old new
 calls_both a b old mid new p c d = record {
   calls = adds _ _ _ a b c.calls d.calls;
   failures = subst (λ n. (failures_of new ≡ n) ⊎ (failures_of new ≡ n + 1)) p d.failures;
@@ -102,9 +111,11 @@ pub one_more : (m : Machine) (k done more : ℕ) (old mid new : ChannelState) �
     → ((now : Machine) → StandsFor mid now → is_working now.subchannel ≡ true)
     → ((now : Machine) → StandsFor mid now → Happens (StepBy 1) now (Stepped more) mid new)
     → Happens (StepBy (k + 1)) m (Stepped (done + more)) old new
-one_more m k done more old mid new sound h works next = go h.does.fault (no_fault m k done old mid h.does (works _ h.does.stands)) h.does.met h.does.answers h.does.stands
+one_more m k done more old mid new sound h works next =
+    go h.does.fault (no_fault m k done old mid h.does (works _ h.does.stands)) h.does.met h.does.answers h.does.stands
   where
-    go : (x : Option FaultAfter) → x ≡ None → IsMet x (Stepped done) old mid → Stepped done ≡ (react (StepBy k) x m).0 → StandsFor mid (react (StepBy k) x m).1
+    go : (x : Option FaultAfter) → x ≡ None → IsMet x (Stepped done) old mid → Stepped done ≡ (react (StepBy k) x m).0
+        → StandsFor mid (react (StepBy k) x m).1
         → Happens (StepBy (k + 1)) m (Stepped (done + more)) old new
     go (Some x) e met answers stands = absurd (no e)
       where
@@ -114,13 +125,15 @@ one_more m k done more old mid new sound h works next = go h.does.fault (no_faul
         let then = next (react (StepBy k) None m).1 stands in
         let whole_step = (steps_at_most m k None (runs_of m sound)).1 (works (react (StepBy k) None m).1 stands) in
         record {
-          does = both m k done more old mid new sound then.does.fault (same_count k done _ answers whole_step) met answers then.does.met then.does.answers then.does.stands then.does.reports;
+          does = both m k done more old mid new sound then.does.fault (same_count k done _ answers whole_step) met answers then.does.met
+              then.does.answers then.does.stands then.does.reports;
           calls = calls_both done more old mid new met h.calls then.calls;
         }
 
 -- Where the program is over before, a longer step is the same.
 
-rests : (m : Machine) (c : Subchannel) (n : ℕ) (x : Option FaultAfter) → is_working c ≡ false → react (StepBy n) x (record m { subchannel = c }) ≡ (Stepped 0, record m { subchannel = c })
+rests : (m : Machine) (c : Subchannel) (n : ℕ) (x : Option FaultAfter) → is_working c ≡ false
+    → react (StepBy n) x (record m { subchannel = c }) ≡ (Stepped 0, record m { subchannel = c })
 rests m Idle n x h = refl
 rests m (Pending d csw) n x h = refl
 rests m (Working d s) n x h = absurd (no h)
@@ -131,12 +144,14 @@ rests m (Working d s) n x h = absurd (no h)
 longer_failing : (k n u : ℕ) (f : Fault) → u < k → units_failing (k + n) u f ≡ units_failing k u f ++ units n
 longer_failing zero n u f h = absurd (omega (arith, h))
 longer_failing (suc k) n zero f h = ap (λ j. units_failing j zero f) (suc-add k n) ∙ ap (λ l. OneUnit (Some f) ∷ l) (sym (plain_two k n))
-longer_failing (suc k) n (suc u) f h = ap (λ j. units_failing j (suc u) f) (suc-add k n) ∙ ap (λ l. OneUnit None ∷ l) (longer_failing k n u f (omega (arith, h)))
+longer_failing (suc k) n (suc u) f h = ap (λ j. units_failing j (suc u) f) (suc-add k n)
+    ∙ ap (λ l. OneUnit None ∷ l) (longer_failing k n u f (omega (arith, h)))
 
 over : (m : Machine) (d : ℕ) (s : Script) (k n : ℕ) (x : FaultAfter) (v : Device) (device : ℕ) (csw : Csw) → x.units < k → (o : Outcome)
     → run (s ++ units_with k (Some x)) (start_of m v.drive) ≡ o
     → (stepped d s k (record m { subchannel = Working d s }) (Some o)).1.subchannel ≡ Pending device csw
-    → stepped d s (k + n) (record m { subchannel = Working d s }) (Some (run (s ++ units_with (k + n) (Some x)) (start_of m v.drive))) ≡ stepped d s k (record m { subchannel = Working d s }) (Some o)
+    → stepped d s (k + n) (record m { subchannel = Working d s }) (Some (run (s ++ units_with (k + n) (Some x)) (start_of m v.drive)))
+    ≡ stepped d s k (record m { subchannel = Working d s }) (Some o)
 over m d s k n x v device csw less (NotEnded seen) h p = absurd (no p)
   where
     no : Working d (s ++ units k) ≡ Pending device csw → ⊥
@@ -173,7 +188,8 @@ over_before m k n done old new sound h rest = record {
     less_than : (u : ℕ) (a : Answer) → done ≡ suc u → Stepped done ≡ a → units_of a ≤ k → u < k
     less_than u a p q r = let e = ap units_of q in omega (arith, p, e, r)
 
-    go : (x : Option FaultAfter) → IsMet x (Stepped done) old new → Stepped done ≡ (react (StepBy k) x m).0 → StandsFor new (react (StepBy k) x m).1 → Reports (StepBy k) m x
+    go : (x : Option FaultAfter) → IsMet x (Stepped done) old new → Stepped done ≡ (react (StepBy k) x m).0
+        → StandsFor new (react (StepBy k) x m).1 → Reports (StepBy k) m x
         → Does (StepBy (k + n)) m (Stepped done) old new
     go None met answers stands reports =
         let j = joins m k n None (runs_of m sound) in
@@ -181,7 +197,8 @@ over_before m k n done old new sound h rest = record {
         record {
           fault = None;
           met = met;
-          answers = answers ∙ sym (j.1 ∙ ap (λ (r : Answer × Machine). Stepped (units_of (react (StepBy k) None m).0 + units_of r.0)) q ∙ ap Stepped (add-zero _) ∙ ap (λ a. Stepped (units_of a)) (sym answers) ∙ answers);
+          answers = answers ∙ sym (j.1 ∙ ap (λ (r : Answer × Machine). Stepped (units_of (react (StepBy k) None m).0 + units_of r.0)) q
+              ∙ ap Stepped (add-zero _) ∙ ap (λ a. Stepped (units_of a)) (sym answers) ∙ answers);
           stands = subst (StandsFor new) (sym (ap (λ (r : Answer × Machine). r.1) q) ∙ j.0) stands;
           reports = no_fault_none_told m (StepBy (k + n)) (runs_of m sound);
         }

@@ -1,5 +1,6 @@
 -- What stands in a list after some of its places were overwritten.
-use Rattle.std.proofs.Common.{◌≡◌, ℕ, zero, suc, ◌+◌, ◌≤◌, List, [], ◌∷◌, ◌++◌, length, take, drop, refl, sym, ap, arith, zero-add, suc-add, drop-drop}
+use Rattle.std.proofs.Common.{◌≡◌, ℕ, zero, suc, ◌+◌, ◌≤◌, List, [], ◌∷◌, ◌++◌, length, take, drop, refl, sym, ap, arith, zero-add, suc-add}
+use Rattle.std.proofs.Common.{drop-drop}
 use borrow.Rule.Slice.PartMut.{post_of}
 use Rattle.s360_words.specs.Storage.{overwritten}
 
@@ -11,7 +12,8 @@ overwritten-none (x ∷ xs) zero (y ∷ ys) h = absurd (omega (arith, h))
 overwritten-none (x ∷ xs) (suc at) new h = ap (λ l. x ∷ l) (overwritten-none xs at new h)
 
 -- inside the list: what is before, what was written, and what is behind
-pub overwritten-parts : (xs : List ℕ) (at : ℕ) (new : List ℕ) → at + length new ≤ length xs → overwritten xs at new ≡ take at xs ++ (new ++ drop (at + length new) xs)
+pub overwritten-parts : (xs : List ℕ) (at : ℕ) (new : List ℕ) → at + length new ≤ length xs → overwritten xs at new ≡ take at xs
+    ++ (new ++ drop (at + length new) xs)
 overwritten-parts [] zero [] h = refl
 overwritten-parts [] zero (y ∷ ys) h = absurd (omega (arith, h))
 overwritten-parts [] (suc at) new h = absurd (omega (arith, h))

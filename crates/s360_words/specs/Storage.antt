@@ -1,5 +1,6 @@
 -- Main storage (Principles of Operation: 'Main Storage', and 'Storage Protection' with its blocks of 2,048 bytes).
-use Rattle.std.specs.Prelude.{ℕ, zero, suc, ◌+◌, ◌/◌, ◌%◌, List, [], ◌∷◌, Bool, ◌&&◌, ◌||◌, ◌==◌, nat_lt, nat_le, length, replicate, slice_index, slice_range, slice_set}
+use Rattle.std.specs.Prelude.{ℕ, zero, suc, ◌+◌, ◌/◌, ◌%◌, List, [], ◌∷◌, Bool, ◌&&◌, ◌||◌, ◌==◌, nat_lt, nat_le, length, replicate, slice_index, slice_range}
+use Rattle.std.specs.Prelude.{slice_set}
 use Rattle.byteorder.specs.Endian.{big_number}
 use Rattle.s360_words.specs.declared.words.Ccw.{Ccw}
 use Rattle.s360_words.specs.declared.words.Csw.{Csw}

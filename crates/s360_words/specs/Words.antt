@@ -1,6 +1,7 @@
 -- The words of a channel program (Principles of Operation, Input/Output Operations: 'Channel Address Word',
 -- 'Channel Command Word', 'Channel Status Word'). The bits of a word are counted from the left.
-use Rattle.std.specs.Prelude.{ℕ, ◌*◌, ◌/◌, ◌%◌, ◌^◌, List, ◌∷◌, ◌++◌, Bool, not, ◌&&◌, ◌==◌, Option, Some, None, slice_index, slice_range, bit_and, if◌then◌else◌}
+use Rattle.std.specs.Prelude.{ℕ, ◌*◌, ◌/◌, ◌%◌, ◌^◌, List, ◌∷◌, ◌++◌, Bool, not, ◌&&◌, ◌==◌, Option, Some, None, slice_index, slice_range, bit_and}
+use Rattle.std.specs.Prelude.{if◌then◌else◌}
 use Rattle.byteorder.specs.Endian.{big_number, big_bytes}
 use Rattle.s360_words.specs.declared.words.Caw.{Caw}
 use Rattle.s360_words.specs.declared.words.Ccw.{Ccw}

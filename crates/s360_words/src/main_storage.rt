@@ -1,8 +1,10 @@
 //! Main storage: bytes, and a storage key for each block of 2,048 bytes (Principles of Operation, 'Main
 //! Storage' and 'Storage Protection').
 
-ghost use Rattle.std.specs.Prelude.{ℕ, ◌≡◌, ◌↔◌, ◌+◌, ◌-◌, min, ◌/◌, ◌^◌, ◌<◌, ◌≤◌, false, length, take, nat_lt, slice_get, slice_range, Some, None, if◌then◌else◌, option_map, IsTrue, IfOk, IfSome};
-ghost use Rattle.s360_words.specs.Storage.{is_size, cleared, is_inside, key_at, admits, may_store, overwritten, Bytes, KeyOf, changed, is_within, caw_word, ccw_at, csw_stored, status_stored};
+ghost use Rattle.std.specs.Prelude.{ℕ, ◌≡◌, ◌↔◌, ◌+◌, ◌-◌, min, ◌/◌, ◌^◌, ◌<◌, ◌≤◌, false, length, take, nat_lt, slice_get, slice_range, Some, None};
+ghost use Rattle.std.specs.Prelude.{if◌then◌else◌, option_map, IsTrue, IfOk, IfSome};
+ghost use Rattle.s360_words.specs.Storage.{is_size, cleared, is_inside, key_at, admits, may_store, overwritten, Bytes, KeyOf, changed, is_within, caw_word};
+ghost use Rattle.s360_words.specs.Storage.{ccw_at, csw_stored, status_stored};
 
 use crate::flags::{ChannelStatus, UnitStatus};
 use crate::words::{CAW_ADDRESS, CSW_ADDRESS, Ccw, Csw};

@@ -2,7 +2,8 @@
 //! Input/Output Operations). All numbers in them are big-endian.
 
 ghost use Rattle.std.specs.Prelude.{◌≡◌, ◌<◌, ◌^◌, IfSome};
-ghost use Rattle.s360_words.specs.Words.{caw_of, ccw_of, chains_data, chains_command, suppresses_length, skips, interrupts, has_reserved_flags, is_transfer, csw_bytes, csw_of};
+ghost use Rattle.s360_words.specs.Words.{caw_of, ccw_of, chains_data, chains_command, suppresses_length, skips, interrupts, has_reserved_flags, is_transfer};
+ghost use Rattle.s360_words.specs.Words.{csw_bytes, csw_of};
 
 use crate::flags::{CcwFlags, ChannelStatus, UnitStatus};
 use bitflags::Flags;

@@ -5,14 +5,16 @@
 ghost use Rattle.std.specs.Prelude.{◌≡◌, replicate, [], ◌∷◌};
 ghost use Rattle.s360_runs.specs.Runs.{run};
 ghost use Rattle.s360_runs.specs.Scripts.{units};
-ghost use Rattle.s360_worked.specs.ChannelPrograms.{start, start_with_key_1, search_and_read, read, read_at_end, read_without_data, search_key_from_head_8, seek_cylinder_2};
+ghost use Rattle.s360_worked.specs.ChannelPrograms.{start, start_with_key_1, search_and_read, read, read_at_end, read_without_data, search_key_from_head_8};
+ghost use Rattle.s360_worked.specs.ChannelPrograms.{seek_cylinder_2};
 ghost use Rattle.s360_worked.specs.Seen.{sense_of, seen, saw, csw, csw_with_key};
 ghost use Rattle.s360_worked.specs.Volumes.{new_drive, written_drive};
 
 /// A seek, a search that finds the second record at its second look, and a read of its data: the status modifier of the
 /// search passes over the transfer in channel.
 pub fn search_then_read()
-    ensures { seen 0x600 80 (run (units 200) (start written_drive (search_and_read 2))) ≡ saw 113 (csw 0x420 0x0C 0 0) (sense_of 0x00 0x00) (replicate 80 0xC2) }
+    ensures { seen 0x600 80 (run (units 200) (start written_drive (search_and_read 2))) ≡ saw 113 (csw 0x420 0x0C 0 0) (sense_of 0x00 0x00)
+        (replicate 80 0xC2) }
 {}
 
 /// The same search for a record that is not there. The turns of the track are counted over all the searches of its loop,
@@ -23,8 +25,10 @@ pub fn no_record_found()
 
 /// A count of 100 for a record of 80 bytes. With the flag that suppresses it, incorrect length is not reported.
 pub fn incorrect_length()
-    ensures told { seen 0x600 80 (run (units 200) (start written_drive (read 0x600 0x00 100))) ≡ saw 82 (csw 0x408 0x0C 0x40 20) (sense_of 0x00 0x00) (replicate 80 0xC1) }
-    ensures suppressed { seen 0x600 80 (run (units 200) (start written_drive (read 0x600 0x20 100))) ≡ saw 82 (csw 0x408 0x0C 0 20) (sense_of 0x00 0x00) (replicate 80 0xC1) }
+    ensures told { seen 0x600 80 (run (units 200) (start written_drive (read 0x600 0x00 100))) ≡ saw 82 (csw 0x408 0x0C 0x40 20) (sense_of 0x00 0x00)
+        (replicate 80 0xC1) }
+    ensures suppressed { seen 0x600 80 (run (units 200) (start written_drive (read 0x600 0x20 100))) ≡ saw 82 (csw 0x408 0x0C 0 20) (sense_of 0x00 0x00)
+        (replicate 80 0xC1) }
 {}
 
 /// A read of a record without data: unit exception stops the chain.
@@ -50,5 +54,6 @@ pub fn read_past_storage()
 
 /// A read with key 1 into a block with key 0: protection check, and nothing is stored.
 pub fn read_into_protected_block()
-    ensures { seen 0x600 1 (run (units 50) (start_with_key_1 written_drive (read 0x600 0x00 80))) ≡ saw 2 (csw_with_key 1 0x408 0x0C 0x10 80) (sense_of 0x00 0x00) (0 ∷ []) }
+    ensures { seen 0x600 1 (run (units 50) (start_with_key_1 written_drive (read 0x600 0x00 80))) ≡ saw 2 (csw_with_key 1 0x408 0x0C 0x10 80)
+        (sense_of 0x00 0x00) (0 ∷ []) }
 {}

@@ -8,7 +8,8 @@ ghost use Rattle.s360_runs.specs.Scripts.{units};
 ghost use Rattle.s360_runs.specs.Starts.{first, BadStart, AcceptedStart};
 ghost use Rattle.s360_worked.specs.ChannelPrograms.{ccw, program, start};
 ghost use Rattle.s360_worked.specs.Seen.{sense_of, seen, saw, csw};
-ghost use Rattle.s360_worked.specs.Small.{transfer_to_last_word, transfer_by_another_code, bad_flag_in_data, small_drive, start_at, transfer_to_414, at_end_of_storage, second_without_count, transfer_in_data};
+ghost use Rattle.s360_worked.specs.Small.{transfer_to_last_word, transfer_by_another_code, bad_flag_in_data, small_drive, start_at, transfer_to_414};
+ghost use Rattle.s360_worked.specs.Small.{at_end_of_storage, second_without_count, transfer_in_data};
 
 /// A word stands at a multiple of 8: program check where a transfer in channel leads to another address.
 pub fn word_at_no_multiple_of_8()
@@ -65,7 +66,8 @@ pub fn codes_of_transfer_in_channel()
 
 /// The sixth byte of a word is ignored.
 pub fn byte_that_is_ignored()
-    ensures { seen 0x600 4 (run (units 9) (start small_drive (program (0x06 ∷ 0 ∷ 0x06 ∷ 0 ∷ 0 ∷ 0xFF ∷ 0 ∷ 4 ∷ [])))) ≡ saw 6 (csw 0x408 0x0C 0 0) (sense_of 0x00 0x00) (replicate 4 0xC1) }
+    ensures { seen 0x600 4 (run (units 9) (start small_drive (program (0x06 ∷ 0 ∷ 0x06 ∷ 0 ∷ 0 ∷ 0xFF ∷ 0 ∷ 4 ∷ [])))) ≡ saw 6 (csw 0x408 0x0C 0 0)
+        (sense_of 0x00 0x00) (replicate 4 0xC1) }
 {}
 
 /// A word that chains data must have its three flag bits zero too.

@@ -1,5 +1,6 @@
 -- A number's digits, one after another.
-use Rattle.std.proofs.Common.{◌≡◌, ◌-◌, ◌/◌, ◌%◌, ◌^◌, ◌<◌, ◌≤◌, ℕ, zero, suc, List, [], ◌∷◌, ◌++◌, true, length, replicate, refl, sym, ap, ◌∙◌, append_assoc, length-append, subst, lit<, arith, cond, ⊎_elim, eq-eqb, ne_eqb}
+use Rattle.std.proofs.Common.{◌≡◌, ◌-◌, ◌/◌, ◌%◌, ◌^◌, ◌<◌, ◌≤◌, ℕ, zero, suc, List, [], ◌∷◌, ◌++◌, true, length, replicate, refl, sym, ap}
+use Rattle.std.proofs.Common.{◌∙◌, append_assoc, length-append, subst, lit<, arith, cond, ⊎_elim, eq-eqb, ne_eqb}
 use Rattle.std.specs.Fmt.{digits, digits_onto, digit_glyph}
 use Rattle.std.proofs.Math.Nat.{pow-suc, pow-le-pow_right}
 use Rattle.std.proofs.DigitsParse.{digits_onto-nil}
@@ -22,7 +23,9 @@ spell_append : (k n : ℕ) (acc : List ℕ) → spell k n acc ≡ spell k n [] +
 spell_append zero n acc = refl
 spell_append (suc k) n acc = ⊎_elim
     (λ l. spell_last k n acc l ∙ ap (λ x. x ++ acc) (sym (spell_last k n [] l)))
-    (λ l. spell_next k n acc l ∙ spell_append k (n / 16) (last_glyph n ∷ acc) ∙ sym (append_assoc (spell k (n / 16) []) (last_glyph n ∷ []) acc) ∙ ap (λ x. x ++ acc) (sym (spell_next k n [] l ∙ spell_append k (n / 16) (last_glyph n ∷ []))))
+    (λ l. spell_next k n acc l ∙ spell_append k (n / 16) (last_glyph n ∷ acc)
+    ∙ sym (append_assoc (spell k (n / 16) []) (last_glyph n ∷ []) acc)
+    ∙ ap (λ x. x ++ acc) (sym (spell_next k n [] l ∙ spell_append k (n / 16) (last_glyph n ∷ []))))
     (order n 16)
 
 -- the limit of digits does not matter once it is large enough
@@ -31,7 +34,8 @@ spell_enough zero k n acc p q = spell_last zero n acc (omega arith) ∙ sym (spe
 spell_enough (suc j) zero n acc p q = spell_last (suc j) n acc (omega arith) ∙ sym (spell_last zero n acc (omega arith))
 spell_enough (suc j) (suc k) n acc p q = ⊎_elim
     (λ l. spell_last (suc j) n acc l ∙ sym (spell_last (suc k) n acc l))
-    (λ l. spell_next (suc j) n acc l ∙ spell_enough j k (n / 16) (last_glyph n ∷ acc) (omega arith) (omega arith) ∙ sym (spell_next (suc k) n acc l))
+    (λ l. spell_next (suc j) n acc l ∙ spell_enough j k (n / 16) (last_glyph n ∷ acc) (omega arith) (omega arith)
+    ∙ sym (spell_next (suc k) n acc l))
     (order n 16)
 
 one_digit : (n : ℕ) → n < 16 → digits 16 true n ≡ last_glyph n ∷ []
@@ -39,7 +43,8 @@ one_digit n h = sym (digits_onto-nil 16 true n) ∙ spell_last 63 n [] h
 
 one_digit_more : (n : ℕ) → 16 ≤ n → n < 16 ^ 63 → digits 16 true n ≡ digits 16 true (n / 16) ++ (last_glyph n ∷ [])
 one_digit_more n h small =
-    sym (digits_onto-nil 16 true n) ∙ spell_next 63 n [] h ∙ spell_enough 62 63 (n / 16) (last_glyph n ∷ []) (omega arith) (omega arith) ∙ spell_append 64 (n / 16) (last_glyph n ∷ [])
+    sym (digits_onto-nil 16 true n) ∙ spell_next 63 n [] h ∙ spell_enough 62 63 (n / 16) (last_glyph n ∷ []) (omega arith) (omega arith)
+    ∙ spell_append 64 (n / 16) (last_glyph n ∷ [])
     ∙ ap (λ l. l ++ (last_glyph n ∷ [])) (digits_onto-nil 16 true (n / 16))
 
 abbrev zeros : ℕ → List ℕ
@@ -66,16 +71,19 @@ last_of_zeros : (width n : ℕ) → 2 ≤ width → n < 16 → hexadecimal width
 last_of_zeros width n h small =
     ap (λ l. replicate (width - length l) 48 ++ l) (one_digit n small)
     ∙ ap (λ k. replicate k 48 ++ last_glyph n ∷ []) {x = width - 1} {y = suc (width - 1 - 1)} (omega arith)
-    ∙ ap (λ l. l ++ last_glyph n ∷ []) (sym (zeros_more (width - 1 - 1)) ∙ ap (λ l. replicate (width - 1 - length l) 48 ++ l) (sym (zero_alone n small)))
+    ∙ ap (λ l. l ++ last_glyph n ∷ []) (sym (zeros_more (width - 1 - 1)) ∙ ap (λ l. replicate (width - 1 - length l) 48 ++ l)
+    (sym (zero_alone n small)))
 
 -- the last digit, behind the digits and zeros before it
-pub last_behind : (width n : ℕ) → (n < 16 → 2 ≤ width) → n < 16 ^ 8 → hexadecimal width n ≡ hexadecimal (width - 1) (n / 16) ++ last_glyph n ∷ []
+pub last_behind : (width n : ℕ) → (n < 16 → 2 ≤ width) → n < 16 ^ 8 → hexadecimal width n ≡ hexadecimal (width - 1) (n / 16) ++ last_glyph n
+    ∷ []
 last_behind width n h small = ⊎_elim (λ l. last_of_zeros width n (h l) l) (λ l. last_of_more width n l small) (order n 16)
 
 -- a digit alone
 pub last_alone : (width n : ℕ) → width < 2 → n < 16 → hexadecimal width n ≡ last_glyph n ∷ []
 last_alone width n h small =
-    ap (λ l. replicate (width - length l) 48 ++ l) (one_digit n small) ∙ ap (λ k. replicate k 48 ++ last_glyph n ∷ []) {x = width - 1} {y = 0} (omega arith)
+    ap (λ l. replicate (width - length l) 48 ++ l) (one_digit n small) ∙ ap (λ k. replicate k 48 ++ last_glyph n ∷ []) {x = width - 1} {y =
+    0} (omega arith)
 
 -- without its last digit a number has one fewer
 pub one_fewer : (n most : ℕ) → 0 < most → n < 16 ^ most → n / 16 < 16 ^ (most - 1)

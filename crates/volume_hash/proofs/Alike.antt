@@ -1,5 +1,6 @@
 -- Messages are the same exactly where what is said is.
-use Rattle.std.proofs.Common.{◌≡◌, ◌∙◌, ap, sym, refl, inl, inr, ℕ, zero, suc, ◌<◌, ◌≤◌, ◌⊎◌, ◌^◌, List, [], ◌++◌, length, take, drop, slice_index, slice_index_or, append_assoc, Result, Ok, Err, All, arith}
+use Rattle.std.proofs.Common.{◌≡◌, ◌∙◌, ap, sym, refl, inl, inr, ℕ, zero, suc, ◌<◌, ◌≤◌, ◌⊎◌, ◌^◌, List, [], ◌++◌, length, take, drop}
+use Rattle.std.proofs.Common.{slice_index, slice_index_or, append_assoc, Result, Ok, Err, All, arith}
 use Rattle.std.proofs.lemmas.List.{take_at, drop_at, append_cancel_left}
 use Rattle.std.proofs.lemmas.Nat.{from_be_bytes-to_be_bytes_2, from_be_bytes-to_be_bytes_4}
 use Rattle.std.proofs.lemmas.Bool.{cases_lt}
@@ -53,7 +54,8 @@ track_apart (Err slot) (Err other) a b can could same =
     let cut : n ++ (slot ++ a) ≡ m ++ (other ++ b) = sym (append_assoc n slot a) ∙ ap (drop 1) same ∙ append_assoc m other b in
     let parts = alike n m (slot ++ a) (other ++ b) refl cut in
     let long : length slot ≡ length other =
-    sym (from_be_bytes-to_be_bytes_4 (length slot) can) ∙ ap (from_be_bytes w32) parts.0 ∙ from_be_bytes-to_be_bytes_4 (length other) could in
+    sym (from_be_bytes-to_be_bytes_4 (length slot) can) ∙ ap (from_be_bytes w32) parts.0
+    ∙ from_be_bytes-to_be_bytes_4 (length other) could in
     let rest = alike slot other a b long parts.1 in
     (ap Err rest.0, rest.1)
 

@@ -1,7 +1,8 @@
 -- The control blocks of formats 2, 3 and 5, by the offsets of their fields in the key and in the data of their record, in bytes.
 use Rattle.std.specs.Prelude.{ℕ, ◌==◌, Bool, true, ◌&&◌, List, [], ◌∷◌, slice_index, take, replicate, bytes_eq}
 use Rattle.volume_labels.specs.declared.blocks.BlockKind.{BlockKind}
-use Rattle.volume_labels.specs.declared.blocks.BlockKind.TheVariants.{Free, DataSet, IndexedSequential, MoreExtents, Contents, FreeSpace, SharedCylinders, Unknown}
+use Rattle.volume_labels.specs.declared.blocks.BlockKind.TheVariants.{Free, DataSet, IndexedSequential, MoreExtents, Contents, FreeSpace, SharedCylinders}
+use Rattle.volume_labels.specs.declared.blocks.BlockKind.TheVariants.{Unknown}
 use Rattle.volume_labels.specs.declared.extents.IndexesBlock.{IndexesBlock}
 use Rattle.volume_labels.specs.declared.extents.ExtentsBlock.{ExtentsBlock}
 use Rattle.volume_labels.specs.declared.extents.FreeSpaceBlock.{FreeSpaceBlock}

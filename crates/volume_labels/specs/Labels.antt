@@ -2,7 +2,8 @@
 use Rattle.std.specs.Prelude.{ℕ, ◌+◌, ◌==◌, Bool, ◌&&◌, nat_le, if◌then◌else◌, List, length, slice_index, slice_range, bytes_eq, [], ◌∷◌, Option, Some, None}
 use Rattle.volume_labels.specs.declared.labels.VolumeLabel.{VolumeLabel}
 use Rattle.volume_labels.specs.declared.blocks.BlockKind.{BlockKind}
-use Rattle.volume_labels.specs.declared.blocks.BlockKind.TheVariants.{Free, DataSet, IndexedSequential, MoreExtents, Contents, FreeSpace, SharedCylinders, Unknown}
+use Rattle.volume_labels.specs.declared.blocks.BlockKind.TheVariants.{Free, DataSet, IndexedSequential, MoreExtents, Contents, FreeSpace, SharedCylinders}
+use Rattle.volume_labels.specs.declared.blocks.BlockKind.TheVariants.{Unknown}
 use Rattle.volume_labels.specs.declared.blocks.DataSetBlock.{DataSetBlock}
 use Rattle.volume_labels.specs.declared.blocks.ContentsBlock.{ContentsBlock}
 use Rattle.volume_labels.specs.Fields.{number_at, record_address_at, relative_address_at, extent_at, date_at}

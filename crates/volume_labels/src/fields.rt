@@ -1,7 +1,8 @@
 //! Fields of labels and control blocks: numbers, addresses, extents and dates.
 
 ghost use Rattle.std.specs.Prelude.{◌≡◌, ◌+◌, ◌≤◌, length, slice_range};
-ghost use Rattle.volume_labels.specs.Fields.{number_at, track_address_at, record_address_at, relative_address_at, extent_at, date_at, long_number_at, free_tracks_at};
+ghost use Rattle.volume_labels.specs.Fields.{number_at, track_address_at, record_address_at, relative_address_at, extent_at, date_at, long_number_at};
+ghost use Rattle.volume_labels.specs.Fields.{free_tracks_at};
 
 /// The address of a track, as a label says it. A volume need not have such a track.
 #[derive(Clone, Copy, PartialEq, Eq)]

@@ -20,5 +20,6 @@ loop-place-preserved g c =
       there = c.append.ensures.there;
       long = i.long;
       room = let a = c.append.ensures.count in let b = i.room in omega arith;
-      rest = λ k h. rw c.take_file-file.ensures.files (get_or-set_other c.loop-place.files place k None None (λ e. absurd (omega arith))) ∙ i.rest k (omega arith);
+      rest = λ k h. rw c.take_file-file.ensures.files (get_or-set_other c.loop-place.files place k None None (λ e. absurd (omega arith)))
+          ∙ i.rest k (omega arith);
     }

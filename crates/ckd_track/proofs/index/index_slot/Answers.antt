@@ -11,7 +11,8 @@ loop-size-preserved c =
     let s = c.args.slot.now in
     let n = c.loop-size.records in
     let table = c.loop-size.table in
-    let there : size_at c.loop-size.at (drop c.loop-size.at s) ≡ Ok (Some c.in-Some.size) = sym c.record_size_at.ensures ∙ c.in_ok-size.was ∙ ap Ok c.in-Some.is in
+    let there : size_at c.loop-size.at (drop c.loop-size.at s) ≡ Ok (Some c.in-Some.size) = sym c.record_size_at.ensures ∙ c.in_ok-size.was
+    ∙ ap Ok c.in-Some.is in
     let fits = size_within s c.loop-size.at c.in-Some.size c.loop-size.invariant.within there in
     let in_table : n < length table = omega (arith, fits.1, fits.2, c.requires.room) in
     record {
@@ -19,6 +20,8 @@ loop-size-preserved c =
       long = omega (arith, fits.1);
       room = omega (arith, length-set table n c.loop-size.at);
       rest = sym (count_on s n c.loop-size.at c.in-Some.size (omega arith) there) ∙ c.loop-size.invariant.rest;
-      offsets = rw (take_more_set table n c.loop-size.at in_table) (sym (note_on s (take n table) n c.loop-size.at c.in-Some.size (omega arith) there) ∙ c.loop-size.invariant.offsets);
-      behind = drop-set-lt (n + 1) table n c.loop-size.at (omega arith) ∙ drop_more_same table c.args.table.now n c.loop-size.invariant.behind;
+      offsets = rw (take_more_set table n c.loop-size.at in_table) (sym (note_on s (take n table) n c.loop-size.at c.in-Some.size
+          (omega arith) there) ∙ c.loop-size.invariant.offsets);
+      behind = drop-set-lt (n + 1) table n c.loop-size.at (omega arith)
+          ∙ drop_more_same table c.args.table.now n c.loop-size.invariant.behind;
     }

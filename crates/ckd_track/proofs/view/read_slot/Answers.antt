@@ -15,10 +15,12 @@ invariant_of-result c =
 pub returns : goal.returns
 returns c =
     let s = c.args.slot.now in
-    tells s (are_bytes s c.type_inv.slot) _ (sym (has_number (track_of s) c.in_ok-records.records (sym c.in_ok-records.was ∙ c.count_records.ensures)).0)
+    tells s (are_bytes s c.type_inv.slot) _ (sym (has_number (track_of s) c.in_ok-records.records (sym c.in_ok-records.was
+    ∙ c.count_records.ensures)).0)
 
 pub returns-in_err-records : goal.returns-in_err-records
 returns-in_err-records c =
     let s = c.args.slot.now in
     let p = err_from_is_err_and c.from_residual.result c.from_residual.ensures.1 in
-    tells s (are_bytes s c.type_inv.slot) _ (p.1 ∙ ap Err p.2 ∙ sym (no_number (track_of s) c.in_err-records.field-0.0 (sym c.in_err-records.was ∙ c.count_records.ensures)))
+    tells s (are_bytes s c.type_inv.slot) _ (p.1 ∙ ap Err p.2
+    ∙ sym (no_number (track_of s) c.in_err-records.field-0.0 (sym c.in_err-records.was ∙ c.count_records.ensures)))

@@ -21,7 +21,11 @@ loop-size-preserved c =
     let before = c.loop-size.invariant.passed in
     let looked = sym (c.unwrap_or.ensures ∙ ap (λ r. result_unwrap_or r None) c.record_size_at.ensures) ∙ c.in-Some.is in
     let step = stepped s (track_in s) spells before.0 c.loop-size.at c.in-Some.size before.2 before.1 looked in
-    record { passed = (before.0 + 1, omega (arith, step.0), step.1); room = omega (arith, step.1, place-le s (track_in s) spells (before.0 + 1)) }
+    record {
+      passed = (before.0 + 1, omega (arith, step.0), step.1);
+      room =
+          omega (arith, step.1, place-le s (track_in s) spells (before.0 + 1));
+    }
 
 pub returns-clause-place : goal.returns-clause-place
 returns-clause-place c =

@@ -17,4 +17,5 @@ put_end_mark-requires-clause-zeros c =
     let long = length-overwritten s at c.args.count.now (omega (arith, eight, c.requires.room)) in
     let last : k ≤ length s = omega (arith, c.requires.zeros.within, c.requires.room) in
     let first = zero_over s at c.args.count.now z k c.requires.zeros (omega arith) (omega (arith, eight)) last in
-    rw (c.clear.ensures, c.overwrite.ensures) (zero_over (overwritten s at c.args.count.now) (at + 8) (replicate c.args.body 0) k k first (omega arith) (omega (arith, many)) (omega (arith, long, last)))
+    rw (c.clear.ensures, c.overwrite.ensures) (zero_over (overwritten s at c.args.count.now) (at + 8) (replicate c.args.body 0) k k first
+    (omega arith) (omega (arith, many)) (omega (arith, long, last)))

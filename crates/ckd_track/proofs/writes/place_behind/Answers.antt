@@ -19,4 +19,12 @@ returns-in-Some c =
     let parts = parts_in s i c.record_place-at.result c.type_inv.slot c.record_place-at.ensures.place there in
     let key = rw (take_rest s c.record_place-at.result) at c.key_length.ensures in
     let body = rw (take_rest s c.record_place-at.result) at c.data_length.ensures in
-    rw c.in-Some.is (omega (arith, c.record_place-at.ensures.place, key, body, parts.key_size, parts.data_size, end_at-record s (track_in s) (whole s c.type_inv.slot c.requires.whole) i there))
+    rw c.in-Some.is (omega (
+      arith,
+      c.record_place-at.ensures.place,
+      key,
+      body,
+      parts.key_size,
+      parts.data_size,
+      end_at-record s (track_in s) (whole s c.type_inv.slot c.requires.whole) i there,
+    ))

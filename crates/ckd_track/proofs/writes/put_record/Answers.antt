@@ -15,10 +15,12 @@ returns c =
     let body = c.args.body.now in
     let eight : length count ≡ 8 = search rules in
     let spells = whole s (search rules) c.requires.whole in
-    let made = makes count body (are_bytes count (search rules)) (are_bytes body (search rules)) eight c.requires.no_end_mark c.requires.areas in
+    let made = makes count body (are_bytes count (search rules)) (are_bytes body (search rules)) eight c.requires.no_end_mark
+    c.requires.areas in
     let at = offset_behind (track_in s) c.args.after in
     let room = new_room s (track_in s) spells c.args.after count body eight made c.requires.room in
     let long = length-overwritten s at count (omega (arith, eight, room)) in
     let slot = rw (← c.place_behind-at.ensures, ← c.format_record.ensures, ← c.overwrite.ensures) at
-    (cleared_first (overwritten s at count) (at + 8) body (at + 8 + length body) (omega arith) (omega (arith, long, room)) ∙ new_slot s (track_in s) spells c.args.after count body eight made c.requires.room) in
+    (cleared_first (overwritten s at count) (at + 8) body (at + 8 + length body) (omega arith) (omega (arith, long, room))
+    ∙ new_slot s (track_in s) spells c.args.after count body eight made c.requires.room) in
     record { slot = slot; read = ap track_of slot ∙ new_read s (track_in s) spells c.args.after count body eight made c.requires.room }

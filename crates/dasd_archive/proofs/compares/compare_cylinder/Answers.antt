@@ -42,7 +42,8 @@ returns-then-is_err-clause-lines g c = λ slots other_slots known other_known.
 -- a track was not printed to its end
 pub returns-in-Err-clause-lines : goal.returns-in-Err-clause-lines
 returns-in-Err-clause-lines g c = λ slots other_slots known other_known.
-    front_of_next _ _ _ [] _ c.loop-head.head _ (search (rules, tests)) (c.loop-head.invariant.lines slots other_slots known other_known) (search (rules, tests))
+    front_of_next _ _ _ [] _ c.loop-head.head _ (search (rules, tests)) (c.loop-head.invariant.lines slots other_slots known other_known)
+    (search (rules, tests))
 
 -- each head is passed
 pub returns-clause-number : goal.returns-clause-number
@@ -55,5 +56,6 @@ returns-clause-lines g c = λ slots other_slots known other_known.
     let f = c.args.form.now in
     let each : c.loop-head.head ≡ heads_of v.geometry.model = search (rules, tests) in
     subst (λ n. Takes (seen_by g.W.Write.contents c.args.writer.now) (seen_by g.W.Write.contents c.loop-head.writer)
-    (of_each (λ head. track_lines f.form.style f.form.path.now f.form.other.now f.form.lists f.cylinder head (slot_at v.geometry slots f.cylinder head) (slot_at v.geometry other_slots f.cylinder head)) n))
+    (of_each (λ head. track_lines f.form.style f.form.path.now f.form.other.now f.form.lists f.cylinder head
+    (slot_at v.geometry slots f.cylinder head) (slot_at v.geometry other_slots f.cylinder head)) n))
     each (c.loop-head.invariant.lines slots other_slots known other_known)

@@ -11,11 +11,13 @@ invariant-loop-head g l =
     let beside = g.U.SlotReader.volume l.fn.other in
     let i = before.geometry in record {
       number : (slots other_slots : List (List ℕ)) → before.slots ≡ Some slots → beside.slots ≡ Some other_slots
-          → l.differing ≡ length (of_each (λ head. changed (slot_at i slots l.form.cylinder head) (slot_at i other_slots l.form.cylinder head)) l.head);
+          → l.differing ≡ length (of_each (λ head. changed (slot_at i slots l.form.cylinder head)
+          (slot_at i other_slots l.form.cylinder head)) l.head);
       few : l.differing ≤ l.head;
       lines : (slots other_slots : List (List ℕ)) → before.slots ≡ Some slots → beside.slots ≡ Some other_slots
           → Takes (seen_by g.W.Write.contents l.fn.writer) (seen_by g.W.Write.contents l.writer)
-          (of_each (λ head. track_lines l.form.form.style l.form.form.path.now l.form.form.other.now l.form.form.lists l.form.cylinder head (slot_at i slots l.form.cylinder head) (slot_at i other_slots l.form.cylinder head)) l.head);
+          (of_each (λ head. track_lines l.form.form.style l.form.form.path.now l.form.form.other.now l.form.form.lists l.form.cylinder head
+          (slot_at i slots l.form.cylinder head) (slot_at i other_slots l.form.cylinder head)) l.head);
       sound : NoneFailed (seen_by g.W.Write.contents l.fn.writer) (seen_by g.W.Write.contents l.writer);
       one : g.V.SlotReader.volume l.one ≡ before;
       other : g.U.SlotReader.volume l.other ≡ beside;

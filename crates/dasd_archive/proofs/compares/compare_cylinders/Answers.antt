@@ -19,10 +19,12 @@ loop-cylinder-init g c = record {
 pub loop-cylinder-preserved : goal.loop-cylinder-preserved
 loop-cylinder-preserved g c = record {
   number = λ slots other_slots known other_known.
-      more_number _ c.loop-cylinder.cylinder _ _ (c.loop-cylinder.invariant.number slots other_slots known other_known) (search (rules, tests));
+      more_number _ c.loop-cylinder.cylinder _ _ (c.loop-cylinder.invariant.number slots other_slots known other_known)
+      (search (rules, tests));
   few = search (rules, tests);
   lines = λ slots other_slots known other_known.
-      one_more _ _ _ [] _ c.loop-cylinder.cylinder (c.loop-cylinder.invariant.lines slots other_slots known other_known) (search (rules, tests));
+      one_more _ _ _ [] _ c.loop-cylinder.cylinder (c.loop-cylinder.invariant.lines slots other_slots known other_known)
+      (search (rules, tests));
   sound = search (rules, tests);
   one = search (rules, tests);
   other = search (rules, tests);
@@ -33,7 +35,8 @@ loop-cylinder-preserved g c = record {
 -- a cylinder was not printed to its end
 pub returns-in-Err-clause-lines : goal.returns-in-Err-clause-lines
 returns-in-Err-clause-lines g c = λ slots other_slots known other_known.
-    front_of_next _ _ _ [] _ c.loop-cylinder.cylinder _ (search (rules, tests)) (c.loop-cylinder.invariant.lines slots other_slots known other_known) (search (rules, tests))
+    front_of_next _ _ _ [] _ c.loop-cylinder.cylinder _ (search (rules, tests))
+    (c.loop-cylinder.invariant.lines slots other_slots known other_known) (search (rules, tests))
 
 -- each cylinder is passed
 pub returns-clause-number : goal.returns-clause-number

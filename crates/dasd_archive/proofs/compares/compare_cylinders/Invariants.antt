@@ -15,7 +15,8 @@ invariant-loop-cylinder g l =
       few : l.differing ≤ 20 * l.cylinder;
       lines : (slots other_slots : List (List ℕ)) → before.slots ≡ Some slots → beside.slots ≡ Some other_slots
           → Takes (seen_by g.W.Write.contents l.fn.writer) (seen_by g.W.Write.contents l.writer)
-          (of_each (λ cylinder. cylinder_differences l.form.style l.form.path.now l.form.other.now l.form.lists cylinder i slots other_slots) l.cylinder);
+          (of_each (λ cylinder. cylinder_differences l.form.style l.form.path.now l.form.other.now l.form.lists cylinder i slots
+          other_slots) l.cylinder);
       sound : NoneFailed (seen_by g.W.Write.contents l.fn.writer) (seen_by g.W.Write.contents l.writer);
       one : g.V.SlotReader.volume l.one ≡ before;
       other : g.U.SlotReader.volume l.other ≡ beside;

@@ -13,7 +13,8 @@ invariant-loop-i g l =
     let i = before.geometry in record {
       lines : (slots : List (List ℕ)) → before.slots ≡ Some slots
           → Takes (seen_by g.W.Write.contents l.fn.writer) (seen_by g.W.Write.contents l.writer)
-          (of_each (λ k. track_dump l.form.form.style l.form.form.path.now l.form.cylinder (l.form.part.heads.first + k) l.form.part.numbers (track_of (slice_index_or slots (track_at i l.form.cylinder (l.form.part.heads.first + k)) []))) l.i);
+          (of_each (λ k. track_dump l.form.form.style l.form.form.path.now l.form.cylinder (l.form.part.heads.first + k) l.form.part.numbers
+          (track_of (slice_index_or slots (track_at i l.form.cylinder (l.form.part.heads.first + k)) []))) l.i);
       sound : NoneFailed (seen_by g.W.Write.contents l.fn.writer) (seen_by g.W.Write.contents l.writer);
       volume : g.V.SlotReader.volume l.volume ≡ before;
       failures : g.V.SlotReader.failures l.volume ≡ g.V.SlotReader.failures l.fn.volume;

@@ -21,4 +21,5 @@ returns-in-Err-clause-lines g c = λ slots known.
     let part = volume_part l.form.style l.form.path.now in
     let before = seen_by g.W.Write.contents c.args.writer.now in
     let between = seen_by g.W.Write.contents c.list_volume.new.writer in
-    front_before before between _ _ (subst (λ geometry. TakesFront before between (part geometry)) c.geometry.ensures.geometry c.in-Err.ensures.0)
+    front_before before between _ _ (subst (λ geometry. TakesFront before between (part geometry)) c.geometry.ensures.geometry
+    c.in-Err.ensures.0)

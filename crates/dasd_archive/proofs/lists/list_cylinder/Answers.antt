@@ -23,12 +23,14 @@ loop-head-preserved g c = record {
 
 -- a slot could not be read
 pub returns-then-is_err-clause-lines : goal.returns-then-is_err-clause-lines
-returns-then-is_err-clause-lines g c = λ slots known. front_so_far _ _ [] _ c.loop-head.head _ (search (rules, tests)) (c.loop-head.invariant.lines slots known)
+returns-then-is_err-clause-lines g c = λ slots known. front_so_far _ _ [] _ c.loop-head.head _ (search (rules, tests))
+    (c.loop-head.invariant.lines slots known)
 
 -- a track was not printed to its end
 pub returns-in-Err-clause-lines : goal.returns-in-Err-clause-lines
 returns-in-Err-clause-lines g c =
-    λ slots known. front_of_next _ _ _ [] _ c.loop-head.head _ (search (rules, tests)) (c.loop-head.invariant.lines slots known) (search (rules, tests))
+    λ slots known. front_of_next _ _ _ [] _ c.loop-head.head _ (search (rules, tests)) (c.loop-head.invariant.lines slots known)
+    (search (rules, tests))
 
 -- each of the heads is passed
 pub returns-clause-lines : goal.returns-clause-lines

@@ -11,7 +11,8 @@ invariant-loop-head g l =
     let i = before.geometry in record {
       lines : (slots : List (List ℕ)) → before.slots ≡ Some slots
           → Takes (seen_by g.W.Write.contents l.fn.writer) (seen_by g.W.Write.contents l.writer)
-          (of_each (λ head. listed_part l.listing.form.style l.listing.form.path.now l.listing.used_only i.model l.cylinder head (track_seen i slots l.cylinder head)) l.head);
+          (of_each (λ head. listed_part l.listing.form.style l.listing.form.path.now l.listing.used_only i.model l.cylinder head
+          (track_seen i slots l.cylinder head)) l.head);
       sound : NoneFailed (seen_by g.W.Write.contents l.fn.writer) (seen_by g.W.Write.contents l.writer);
       volume : g.V.SlotReader.volume l.volume ≡ before;
       failures : g.V.SlotReader.failures l.volume ≡ g.V.SlotReader.failures l.fn.volume;

@@ -24,7 +24,8 @@ loop-i-preserved g c = record {
 -- a cylinder was not printed to its end
 pub returns-in-Err-clause-lines : goal.returns-in-Err-clause-lines
 returns-in-Err-clause-lines g c =
-    λ slots known. front_of_next _ _ _ [] _ c.loop-i.i _ (search (rules, tests)) (c.loop-i.invariant.lines slots known) (search (rules, tests))
+    λ slots known. front_of_next _ _ _ [] _ c.loop-i.i _ (search (rules, tests)) (c.loop-i.invariant.lines slots known)
+    (search (rules, tests))
 
 -- each of the cylinders is passed
 pub returns-clause-lines : goal.returns-clause-lines

@@ -11,7 +11,8 @@ invariant-loop-i g l =
     let i = before.geometry in record {
       lines : (slots : List (List ℕ)) → before.slots ≡ Some slots
           → Takes (seen_by g.W.Write.contents l.fn.writer) (seen_by g.W.Write.contents l.writer)
-          (of_each (λ k. cylinder_part l.listing.form.style l.listing.form.path.now l.listing.used_only (l.listing.cylinders.first + k) i slots) l.i);
+          (of_each (λ k. cylinder_part l.listing.form.style l.listing.form.path.now l.listing.used_only (l.listing.cylinders.first
+          + k) i slots) l.i);
       sound : NoneFailed (seen_by g.W.Write.contents l.fn.writer) (seen_by g.W.Write.contents l.writer);
       volume : g.V.SlotReader.volume l.volume ≡ before;
       failures : g.V.SlotReader.failures l.volume ≡ g.V.SlotReader.failures l.fn.volume;

@@ -4,7 +4,8 @@ use Rattle.dasd_volumes.specs.Lines.{volume_line}
 use Rattle.dasd_archive.proofs.lists.list_geometry.Goals as goal
 
 pub returns : goal.returns
-returns g c = subst (λ t. WritesWhole c.write_whole.result (seen_by g.W.Write.contents c.args.writer.now) (seen_by g.W.Write.contents c.write_whole.new.writer) t) text c.write_whole.ensures
+returns g c = subst (λ t. WritesWhole c.write_whole.result (seen_by g.W.Write.contents c.args.writer.now)
+    (seen_by g.W.Write.contents c.write_whole.new.writer) t) text c.write_whole.ensures
   where
     line : c.push_str-4.new.self.bytes ≡ volume_line c.args.geometry
     line =

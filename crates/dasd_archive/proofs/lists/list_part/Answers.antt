@@ -6,4 +6,5 @@ use Rattle.dasd_archive.proofs.lists.list_part.Goals as goal
 -- the flush failed
 pub returns-clause-lines : goal.returns-clause-lines
 returns-clause-lines g c =
-    λ slots known. front_then_none _ _ (seen_by g.W.Write.contents c.flush_all.new.writer) _ (search (rules, tests)) c.in-Err-flush_all.ensures.written.0
+    λ slots known. front_then_none _ _ (seen_by g.W.Write.contents c.flush_all.new.writer) _
+    (search (rules, tests)) c.in-Err-flush_all.ensures.written.0

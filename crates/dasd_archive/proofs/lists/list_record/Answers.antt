@@ -6,7 +6,8 @@ use Rattle.dasd_volumes.proofs.Formats.{identifier_is, record_is}
 use Rattle.dasd_archive.proofs.lists.list_record.Goals as goal
 
 pub returns : goal.returns
-returns g c = subst (λ t. WritesWhole c.write_whole.result (seen_by g.W.Write.contents c.args.writer.now) (seen_by g.W.Write.contents c.write_whole.new.writer) t) text c.write_whole.ensures
+returns g c = subst (λ t. WritesWhole c.write_whole.result (seen_by g.W.Write.contents c.args.writer.now)
+    (seen_by g.W.Write.contents c.write_whole.new.writer) t) text c.write_whole.ensures
   where
     line : c.push_str-4.new.self.bytes ≡ record_line (record_in c.args.view.now c.args.i)
     line =

@@ -16,7 +16,8 @@ returns-in_err-write_path g c =
 pub returns : goal.returns
 returns g c =
     then_whole c.write_whole.result _ _ _ (codes "{\"path\":" ++ c.args.path.now) (concat pieces) c.in_ok-write_path.ensures
-    (subst (λ t. WritesWhole c.write_whole.result (seen_by g.W.Write.contents c.write_path.new.writer) (seen_by g.W.Write.contents c.write_whole.new.writer) t) text c.write_whole.ensures)
+    (subst (λ t. WritesWhole c.write_whole.result (seen_by g.W.Write.contents c.write_path.new.writer)
+    (seen_by g.W.Write.contents c.write_whole.new.writer) t) text c.write_whole.ensures)
   where
     pieces : List (List ℕ)
     pieces = codes ",\"cylinder\":" ∷ decimal c.args.address.cylinder ∷ codes ",\"head\":" ∷ decimal c.args.address.head ∷ []

@@ -7,7 +7,8 @@ use Rattle.dasd_archive.proofs.objects.list_object.Goals as goal
 
 pub returns-in-Ok : goal.returns-in-Ok
 returns-in-Ok g c =
-    then_whole c.list_track.result _ _ _ (place_text c.args.path.now c.args.track.cylinder c.args.track.head) _ c.in-Ok.ensures c.list_track.ensures
+    then_whole c.list_track.result _ _ _ (place_text c.args.path.now c.args.track.cylinder c.args.track.head) _ c.in-Ok.ensures
+    c.list_track.ensures
 
 pub returns-in-Err : goal.returns-in-Err
 returns-in-Err g c =

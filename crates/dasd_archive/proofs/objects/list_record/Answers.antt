@@ -5,7 +5,8 @@ use Rattle.dasd_archive.specs.Listing.{listed_record}
 use Rattle.dasd_archive.proofs.objects.list_record.Goals as goal
 
 pub returns : goal.returns
-returns g c = subst (λ t. WritesWhole c.write_whole.result (seen_by g.W.Write.contents c.args.writer.now) (seen_by g.W.Write.contents c.write_whole.new.writer) t) text c.write_whole.ensures
+returns g c = subst (λ t. WritesWhole c.write_whole.result (seen_by g.W.Write.contents c.args.writer.now)
+    (seen_by g.W.Write.contents c.write_whole.new.writer) t) text c.write_whole.ensures
   where
     line : c.put_lengths.new.line.bytes ≡ listed_record c.args.view.now c.args.i
     line =

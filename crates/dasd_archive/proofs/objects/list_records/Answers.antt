@@ -18,6 +18,7 @@ pub returns-in_err-list_record : goal.returns-in_err-list_record
 returns-in_err-list_record g c =
     let p = err_from_is_err_and c.from_residual.result c.from_residual.ensures.1 in
     rw p.1 (
-      front_of_next _ _ _ [] (listed_record c.args.view.now) c.loop-i.i _ (search (rules, tests)) c.loop-i.invariant.taken c.in_err-list_record.ensures.0,
+      front_of_next _ _ _ [] (listed_record c.args.view.now) c.loop-i.i _ (search (rules, tests)) c.loop-i.invariant.taken
+          c.in_err-list_record.ensures.0,
       c.in_err-list_record.ensures.1 ∙ ap (λ (n : ℕ). n + 1) c.loop-i.invariant.sound,
     )

@@ -11,11 +11,13 @@ use Rattle.dasd_archive.proofs.objects.list_unreadable_object.Goals as goal
 pub returns-in_err-begin_object : goal.returns-in_err-begin_object
 returns-in_err-begin_object g c =
     let p = err_from_is_err_and c.from_residual.result c.from_residual.ensures.1 in
-    let place = codes "{\"path\":" ∷ c.args.path.now ∷ codes ",\"cylinder\":" ∷ decimal c.args.address.cylinder ∷ codes ",\"head\":" ∷ decimal c.args.address.head ∷ [] in
+    let place = codes "{\"path\":" ∷ c.args.path.now ∷ codes ",\"cylinder\":" ∷ decimal c.args.address.cylinder ∷ codes ",\"head\":"
+    ∷ decimal c.args.address.head ∷ [] in
     let more = codes ",\"unreadable\":\"" ∷ fault_text c.args.fault ∷ codes "\"}" ∷ line_feed ∷ [] in
     let a = seen_by g.W.Write.contents c.args.writer.now in
     let b = seen_by g.W.Write.contents c.begin_object.new.writer in
-    rw p.1 (subst (λ t. TakesFront a b t × OneFailed a b) (pieces_behind place more) (stopped_before a b (concat place) (concat more) c.in_err-begin_object.ensures))
+    rw p.1 (subst (λ t. TakesFront a b t × OneFailed a b) (pieces_behind place more) (stopped_before a b (concat place)
+    (concat more) c.in_err-begin_object.ensures))
 
 pub returns : goal.returns
 returns g c =
@@ -24,7 +26,8 @@ returns g c =
     (subst (λ t. WritesWhole c.write_whole.result b d t) text c.write_whole.ensures))
   where
     place : List (List ℕ)
-    place = codes "{\"path\":" ∷ c.args.path.now ∷ codes ",\"cylinder\":" ∷ decimal c.args.address.cylinder ∷ codes ",\"head\":" ∷ decimal c.args.address.head ∷ []
+    place = codes "{\"path\":" ∷ c.args.path.now ∷ codes ",\"cylinder\":" ∷ decimal c.args.address.cylinder ∷ codes ",\"head\":"
+        ∷ decimal c.args.address.head ∷ []
 
     more : List (List ℕ)
     more = codes ",\"unreadable\":\"" ∷ fault_text c.args.fault ∷ codes "\"}" ∷ line_feed ∷ []

@@ -17,12 +17,14 @@ returns-in_err-write_path g c =
 pub returns : goal.returns
 returns g c =
     then_whole c.write_whole.result _ _ _ (codes "{\"path\":" ++ c.args.path.now) (concat pieces) c.in_ok-write_path.ensures
-    (subst (λ t. WritesWhole c.write_whole.result (seen_by g.W.Write.contents c.write_path.new.writer) (seen_by g.W.Write.contents c.write_whole.new.writer) t) text c.write_whole.ensures)
+    (subst (λ t. WritesWhole c.write_whole.result (seen_by g.W.Write.contents c.write_path.new.writer)
+    (seen_by g.W.Write.contents c.write_whole.new.writer) t) text c.write_whole.ensures)
   where
     pieces : List (List ℕ)
     pieces =
         codes ",\"model\":" ∷ decimal (model_number_of c.args.geometry.model) ∷ codes ",\"cylinders\":" ∷ decimal c.args.geometry.cylinders
-        ∷ codes ",\"heads\":" ∷ decimal (heads_of c.args.geometry.model) ∷ codes ",\"slot_size\":" ∷ decimal c.args.geometry.track_size ∷ codes "}\n" ∷ []
+        ∷ codes ",\"heads\":" ∷ decimal (heads_of c.args.geometry.model) ∷ codes ",\"slot_size\":" ∷ decimal c.args.geometry.track_size
+        ∷ codes "}\n" ∷ []
 
     line : c.push_str-5.new.self.bytes ≡ concat pieces
     line =

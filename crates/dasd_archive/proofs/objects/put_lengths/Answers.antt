@@ -11,4 +11,5 @@ returns c =
       c.push_str-2.ensures.bytes,
       c.put_count.ensures.text,
       c.push_str.ensures.bytes,
-    ) (together_is c.args.line.now.bytes (codes "\",\"key_length\":" ∷ decimal c.args.key_length ∷ codes ",\"data_length\":" ∷ decimal c.args.data_length ∷ codes "}" ∷ []))
+    ) (together_is c.args.line.now.bytes (codes "\",\"key_length\":" ∷ decimal c.args.key_length ∷ codes ",\"data_length\":"
+    ∷ decimal c.args.data_length ∷ codes "}" ∷ []))

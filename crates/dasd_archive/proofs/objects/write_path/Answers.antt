@@ -12,4 +12,5 @@ returns-in_err-write_whole g c =
 pub returns : goal.returns
 returns g c =
     then_whole c.write_whole-2.result _ _ _ (codes "{\"path\":") c.args.path.now c.in_ok-write_whole.ensures
-    (subst (λ t. WritesWhole c.write_whole-2.result (seen_by g.W.Write.contents c.write_whole.new.writer) (seen_by g.W.Write.contents c.write_whole-2.new.writer) t) c.as_bytes.ensures.value c.write_whole-2.ensures)
+    (subst (λ t. WritesWhole c.write_whole-2.result (seen_by g.W.Write.contents c.write_whole.new.writer)
+    (seen_by g.W.Write.contents c.write_whole-2.new.writer) t) c.as_bytes.ensures.value c.write_whole-2.ensures)

@@ -8,7 +8,8 @@ use Rattle.dasd_archive.proofs.Together.{together_is}
 use Rattle.dasd_archive.proofs.objects.write_track.Goals as goal
 
 pub returns : goal.returns
-returns g c = subst (λ t. WritesWhole c.write_whole.result (seen_by g.W.Write.contents c.args.writer.now) (seen_by g.W.Write.contents c.write_whole.new.writer) t) text c.write_whole.ensures
+returns g c = subst (λ t. WritesWhole c.write_whole.result (seen_by g.W.Write.contents c.args.writer.now)
+    (seen_by g.W.Write.contents c.write_whole.new.writer) t) text c.write_whole.ensures
   where
     line : c.push_str-3.new.self.bytes ≡ whole_text c.args.model c.args.view.now
     line =

@@ -7,7 +7,8 @@ use Rattle.dasd_archive.proofs.rows.write_row.Goals as goal
 
 pub returns : goal.returns
 returns g c =
-    subst (λ l. OnOk c.write_all.result (Appends (g.W.Write.contents c.args.writer.now) (g.W.Write.contents c.write_all.new.self) l)) (c.as_slice.ensures.value ∙ line) c.write_all.ensures.bytes
+    subst (λ l. OnOk c.write_all.result (Appends (g.W.Write.contents c.args.writer.now) (g.W.Write.contents c.write_all.new.self) l))
+    (c.as_slice.ensures.value ∙ line) c.write_all.ensures.bytes
   where
     line : c.put-2.new.line.items ≡ row_line (c.args.letter ∷ []) c.args.bytes.now c.args.i
     line =

@@ -6,4 +6,5 @@ use Rattle.dasd_archive.proofs.rows.write_rows.Given as goal
 
 -- the lines so far are written
 abbrev pub invariant-loop-i : goal.invariant-loop-i
-invariant-loop-i g l = Appends (g.W.Write.contents l.fn.writer) (g.W.Write.contents l.writer) (of_each (row_line (l.letter ∷ []) l.bytes) l.i)
+invariant-loop-i g l = Appends (g.W.Write.contents l.fn.writer) (g.W.Write.contents l.writer)
+    (of_each (row_line (l.letter ∷ []) l.bytes) l.i)

@@ -15,7 +15,8 @@ loop-head-init g c = record {
 
 pub loop-head-preserved : goal.loop-head-preserved
 loop-head-preserved g c = record {
-  found = λ slots known. one_more_found _ _ _ c.loop-head.head _ _ _ _ _ _ (c.loop-head.invariant.found slots known) (search (rules, tests));
+  found = λ slots known. one_more_found _ _ _ c.loop-head.head _ _ _ _ _ _ (c.loop-head.invariant.found slots known)
+      (search (rules, tests));
   sound = search (rules, tests);
   volume = search (rules, tests);
   failures = search (rules, tests);
@@ -31,7 +32,8 @@ returns-then-is_err-clause-found g c =
 -- a track was not printed to its end
 pub returns-in-Err-clause-found : goal.returns-in-Err-clause-found
 returns-in-Err-clause-found g c =
-    λ slots known. front_of_lines _ _ _ _ _ c.loop-head.head _ (search (rules, tests)) (c.loop-head.invariant.found slots known).0 (search (rules, tests))
+    λ slots known. front_of_lines _ _ _ _ _ c.loop-head.head _ (search (rules, tests)) (c.loop-head.invariant.found slots known).0
+    (search (rules, tests))
 
 -- each head is passed
 pub returns-clause-found : goal.returns-clause-found

@@ -12,8 +12,13 @@ invariant-loop-head g l =
     let before = g.V.SlotReader.volume l.fn.volume in
     let i = before.geometry in record {
       found : (slots : List (List ℕ)) → before.slots ≡ Some slots
-          → Takes (seen_by g.W.Write.contents l.fn.writer) (seen_by g.W.Write.contents l.writer) (finding_lines l.form.form.style l.form.form.path.now (of_each (λ head. findings_in_slot i l.form.cylinder head (slice_index_or slots (track_at i l.form.cylinder head) [])) l.head))
-          × CountsUp l.fn.tally l.tally (of_each (λ head. findings_in_slot i l.form.cylinder head (slice_index_or slots (track_at i l.form.cylinder head) [])) l.head);
+          → Takes (seen_by g.W.Write.contents l.fn.writer) (seen_by g.W.Write.contents l.writer)
+          (finding_lines l.form.form.style l.form.form.path.now
+          (of_each (λ head. findings_in_slot i l.form.cylinder head (slice_index_or slots (track_at i l.form.cylinder head) []))
+          l.head))
+          × CountsUp l.fn.tally l.tally
+          (of_each (λ head. findings_in_slot i l.form.cylinder head (slice_index_or slots (track_at i l.form.cylinder head) []))
+          l.head);
       sound : NoneFailed (seen_by g.W.Write.contents l.fn.writer) (seen_by g.W.Write.contents l.writer);
       volume : g.V.SlotReader.volume l.volume ≡ before;
       failures : g.V.SlotReader.failures l.volume ≡ g.V.SlotReader.failures l.fn.volume;

@@ -15,7 +15,8 @@ loop-cylinder-init g c = record {
 
 pub loop-cylinder-preserved : goal.loop-cylinder-preserved
 loop-cylinder-preserved g c = record {
-  found = λ slots known. one_more_found _ _ _ c.loop-cylinder.cylinder _ _ _ _ _ _ (c.loop-cylinder.invariant.found slots known) (search (rules, tests));
+  found = λ slots known. one_more_found _ _ _ c.loop-cylinder.cylinder _ _ _ _ _ _ (c.loop-cylinder.invariant.found slots known)
+      (search (rules, tests));
   sound = search (rules, tests);
   volume = search (rules, tests);
   failures = search (rules, tests);
@@ -26,7 +27,8 @@ loop-cylinder-preserved g c = record {
 -- a cylinder was not printed to its end
 pub returns-in-Err-clause-found : goal.returns-in-Err-clause-found
 returns-in-Err-clause-found g c =
-    λ slots known. front_of_lines _ _ _ _ _ c.loop-cylinder.cylinder _ (search (rules, tests)) (c.loop-cylinder.invariant.found slots known).0 (search (rules, tests))
+    λ slots known. front_of_lines _ _ _ _ _ c.loop-cylinder.cylinder _ (search (rules, tests))
+    (c.loop-cylinder.invariant.found slots known).0 (search (rules, tests))
 
 -- each cylinder is passed
 pub returns-clause-found : goal.returns-clause-found

@@ -11,7 +11,8 @@ invariant-loop-cylinder g l =
     let before = g.V.SlotReader.volume l.fn.volume in
     let i = before.geometry in record {
       found : (slots : List (List ℕ)) → before.slots ≡ Some slots
-          → Takes (seen_by g.W.Write.contents l.fn.writer) (seen_by g.W.Write.contents l.writer) (finding_lines l.fn.form.style l.fn.form.path.now (of_each (λ cylinder. findings_on cylinder i slots) l.cylinder))
+          → Takes (seen_by g.W.Write.contents l.fn.writer) (seen_by g.W.Write.contents l.writer)
+          (finding_lines l.fn.form.style l.fn.form.path.now (of_each (λ cylinder. findings_on cylinder i slots) l.cylinder))
           × CountsUp l.fn.tally l.tally (of_each (λ cylinder. findings_on cylinder i slots) l.cylinder);
       sound : NoneFailed (seen_by g.W.Write.contents l.fn.writer) (seen_by g.W.Write.contents l.writer);
       volume : g.V.SlotReader.volume l.volume ≡ before;

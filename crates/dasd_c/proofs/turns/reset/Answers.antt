@@ -14,7 +14,8 @@ Lacking code before named = (code ≡ no_channel) × (named ≡ before)
 pub returns-in-Some : goal.returns-in-Some
 returns-in-Some c =
     let code = c.of_unsaved.result in let before = c.args.unsaved.now in let named = c.of_unsaved.new.unsaved in
-    subst (λ (code : ℤ). OnChannel c.args.channel (ResetsFor code before named) (Lacking code before named) c.args.channels.now c.reset.new.self)
+    subst (λ (code : ℤ). OnChannel c.args.channel (ResetsFor code before named) (Lacking code before named) c.args.channels.now
+    c.reset.new.self)
     (sym (to_z-of_z w32 code (search rules)))
     (there ResetsTo c.args.channel c.args.channels.now c.reset.new.self (ResetsFor code before named) (Lacking code before named)
     c.reset.result c.in-Some.reset c.in-Some.is (λ b d h. record {
@@ -27,5 +28,6 @@ returns-in-Some c =
 -- there is no such channel
 pub returns-in-None : goal.returns-in-None
 returns-in-None c =
-    nobody ResetsTo c.args.channel c.args.channels.now c.reset.new.self (ResetsFor no_channel c.args.unsaved.now c.args.unsaved.now) (Lacking no_channel c.args.unsaved.now c.args.unsaved.now)
+    nobody ResetsTo c.args.channel c.args.channels.now c.reset.new.self (ResetsFor no_channel c.args.unsaved.now c.args.unsaved.now)
+    (Lacking no_channel c.args.unsaved.now c.args.unsaved.now)
     c.reset.result c.in-None.is (λ b d h. h) (refl, refl) c.reset.ensures

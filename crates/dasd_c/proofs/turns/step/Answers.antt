@@ -11,11 +11,13 @@ Lacking code before done = (code ≡ no_channel) × (done ≡ before)
 -- the units that the channel did
 pub returns-in-Some : goal.returns-in-Some
 returns-in-Some c =
-    there (RunsTo c.args.units) c.args.channel c.args.channels.now c.run_on.new.self (StepsFor c.args.units (pos 0) c.in-Some.ran.units) (Lacking (pos 0) c.args.done.now c.in-Some.ran.units)
+    there (RunsTo c.args.units) c.args.channel c.args.channels.now c.run_on.new.self (StepsFor c.args.units (pos 0) c.in-Some.ran.units)
+    (Lacking (pos 0) c.args.done.now c.in-Some.ran.units)
     c.run_on.result c.in-Some.ran c.in-Some.is (λ b d h. (refl, record { steps = h.steps; most = h.most })) c.run_on.ensures
 
 -- there is no such channel
 pub returns-in-None : goal.returns-in-None
 returns-in-None c =
-    nobody (RunsTo c.args.units) c.args.channel c.args.channels.now c.run_on.new.self (StepsFor c.args.units no_channel c.args.done.now) (Lacking no_channel c.args.done.now c.args.done.now)
+    nobody (RunsTo c.args.units) c.args.channel c.args.channels.now c.run_on.new.self (StepsFor c.args.units no_channel c.args.done.now)
+    (Lacking no_channel c.args.done.now c.args.done.now)
     c.run_on.result c.in-None.is (λ b d h. h) (refl, refl) c.run_on.ensures

@@ -11,10 +11,12 @@ loop-extent-init c = record { found = refl; marked = refl; begins = begins_none 
 
 pub loop-extent-preserved : goal.loop-extent-preserved
 loop-extent-preserved c = let g = c.args.geometry in let place = c.args.place in rw c.claim_extent-problem.ensures.marks record {
-  found = one_found (λ m e. found_at place (claim_of g m e)) (claimed_by g) (extent_findings g place) (no_extent g place) (more_extents g place)
+  found = one_found (λ m e. found_at place (claim_of g m e)) (claimed_by g) (extent_findings g place) (no_extent g place)
+      (more_extents g place)
       _ _ _ c.loop-extent.marks c.args.extents.now c.loop-extent.extent-index _ c.loop-extent-test.true
       (rw c.claim_extent-problem.ensures.problem at c.in_ok-add_problem.ensures.added) c.loop-extent.invariant.found;
-  marked = one_left (claimed_by g) c.loop-extent.marks _ c.args.extents.now c.loop-extent.extent-index _ c.loop-extent-test.true c.loop-extent.invariant.marked;
+  marked = one_left (claimed_by g) c.loop-extent.marks _ c.args.extents.now c.loop-extent.extent-index _ c.loop-extent-test.true
+      c.loop-extent.invariant.marked;
   begins = begins_more _ _ _ _ c.loop-extent.invariant.begins c.in_ok-add_problem.ensures.added;
 }
 
@@ -31,4 +33,5 @@ returns-clause-findings c = let g = c.args.geometry in let place = c.args.place 
 
 pub returns-clause-marks : goal.returns-clause-marks
 returns-clause-marks c =
-    all_left (claimed_by c.args.geometry) c.loop-extent.marks _ c.args.extents.now c.loop-extent.extent-index c.loop-extent-test.false c.loop-extent.invariant.marked
+    all_left (claimed_by c.args.geometry) c.loop-extent.marks _ c.args.extents.now c.loop-extent.extent-index c.loop-extent-test.false
+    c.loop-extent.invariant.marked

@@ -25,5 +25,6 @@ returns-in_err-add_problem-clause-front c =
 
 pub returns-clause-findings : goal.returns-clause-findings
 returns-clause-findings c = let g = c.args.geometry in let place = c.args.place in
-    all_found (λ m f. found_at place (free_claim_of g m f)) (claimed_by_free g) (piece_findings g place) (no_piece g place) (more_pieces g place)
+    all_found (λ m f. found_at place (free_claim_of g m f)) (claimed_by_free g) (piece_findings g place) (no_piece g place)
+    (more_pieces g place)
     _ _ c.loop-piece.marks c.args.pieces.now c.loop-piece.piece-index c.loop-piece-test.false c.loop-piece.invariant.found

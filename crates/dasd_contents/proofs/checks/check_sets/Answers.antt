@@ -9,12 +9,15 @@ pub loop-block-init : goal.loop-block-init
 loop-block-init c = record { found = refl; marked = refl; begins = begins_none _ }
 
 pub loop-block-preserved : goal.loop-block-preserved
-loop-block-preserved c = let g = c.args.volume.geometry in let blocks = c.args.volume.blocks.now in rw c.in_ok-check_block.ensures.marks record {
-  found = one_found (block_findings g blocks) (claimed_by_block g blocks) (sets_findings g blocks) (no_set g blocks) (more_sets g blocks)
-      _ _ _ c.loop-block.marks blocks c.loop-block.block-index _ c.loop-block-test.true c.in_ok-check_block.ensures.findings c.loop-block.invariant.found;
-  marked = one_left (claimed_by_block g blocks) c.loop-block.marks _ blocks c.loop-block.block-index _ c.loop-block-test.true c.loop-block.invariant.marked;
-  begins = begins_more _ _ _ _ c.loop-block.invariant.begins c.in_ok-check_block.ensures.findings;
-}
+loop-block-preserved c = let g = c.args.volume.geometry in let blocks = c.args.volume.blocks.now in
+    rw c.in_ok-check_block.ensures.marks record {
+      found = one_found (block_findings g blocks) (claimed_by_block g blocks) (sets_findings g blocks) (no_set g blocks) (more_sets g blocks)
+          _ _ _ c.loop-block.marks blocks c.loop-block.block-index _ c.loop-block-test.true c.in_ok-check_block.ensures.findings
+          c.loop-block.invariant.found;
+      marked = one_left (claimed_by_block g blocks) c.loop-block.marks _ blocks c.loop-block.block-index _ c.loop-block-test.true
+          c.loop-block.invariant.marked;
+      begins = begins_more _ _ _ _ c.loop-block.invariant.begins c.in_ok-check_block.ensures.findings;
+    }
 
 pub returns-in_err-check_block-clause-front : goal.returns-in_err-check_block-clause-front
 returns-in_err-check_block-clause-front c = let g = c.args.volume.geometry in let blocks = c.args.volume.blocks.now in
@@ -32,4 +35,5 @@ returns-clause-findings c = let g = c.args.volume.geometry in let blocks = c.arg
 
 pub returns-clause-marks : goal.returns-clause-marks
 returns-clause-marks c = let blocks = c.args.volume.blocks.now in
-    all_left (claimed_by_block c.args.volume.geometry blocks) c.loop-block.marks _ blocks c.loop-block.block-index c.loop-block-test.false c.loop-block.invariant.marked
+    all_left (claimed_by_block c.args.volume.geometry blocks) c.loop-block.marks _ blocks c.loop-block.block-index c.loop-block-test.false
+    c.loop-block.invariant.marked

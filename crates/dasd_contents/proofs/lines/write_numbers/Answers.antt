@@ -8,8 +8,20 @@ unfolding number_columns
 returns g c =
     let block = c.args.set.now.block in
     let written =
-    rw (c.laid_out.ensures, c.laid_out-2.ensures, c.laid_out-3.ensures, c.laid_out-4.ensures, c.laid_out-5.ensures) at c.writeln.ensures.bytes in
+    rw (
+      c.laid_out.ensures,
+      c.laid_out-2.ensures,
+      c.laid_out-3.ensures,
+      c.laid_out-4.ensures,
+      c.laid_out-5.ensures,
+    ) at c.writeln.ensures.bytes in
     let columns =
-    rw (column_is 5 block.record_length, column_is 5 block.block_length, column_is 6 c.tracks_owned-tracks.result, column_is 6 c.tracks_used-used.result, column_is 7 (length c.as_slice-extents.result.now))
+    rw (
+      column_is 5 block.record_length,
+      column_is 5 block.block_length,
+      column_is 6 c.tracks_owned-tracks.result,
+      column_is 6 c.tracks_used-used.result,
+      column_is 7 (length c.as_slice-extents.result.now),
+    )
     at written in
     rw (c.tracks_owned-tracks.ensures, c.tracks_used-used.ensures, c.as_slice-extents.ensures.value) at columns

@@ -6,4 +6,5 @@ use Rattle.dasd_contents.proofs.lines.write_sets.Given as goal
 -- the lines so far are written
 abbrev pub invariant-loop-block : goal.invariant-loop-block
 invariant-loop-block g l =
-    Appends (g.W.Write.contents l.fn.writer) (g.W.Write.contents l.writer) (flat_map (block_line l.geometry l.blocks) (take l.block-index l.blocks))
+    Appends (g.W.Write.contents l.fn.writer) (g.W.Write.contents l.writer) (flat_map (block_line l.geometry l.blocks)
+    (take l.block-index l.blocks))

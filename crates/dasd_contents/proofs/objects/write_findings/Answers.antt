@@ -4,9 +4,11 @@ use Rattle.dasd_contents.specs.Objects.{finding_object}
 use Rattle.dasd_contents.proofs.objects.write_findings.Goals as goal
 
 pub loop-finding-preserved : goal.loop-finding-preserved
-loop-finding-preserved g c = one_more_text _ _ _ (finding_object c.args.path.now) [] c.args.findings.now c.loop-finding.finding-index _ (search (rules, tests))
+loop-finding-preserved g c = one_more_text _ _ _ (finding_object c.args.path.now) [] c.args.findings.now c.loop-finding.finding-index _
+    (search (rules, tests))
     c.loop-finding.invariant c.in_ok-write_finding.ensures
 
 pub returns : goal.returns
 returns g c =
-    all_texts _ _ (finding_object c.args.path.now) [] c.args.findings.now c.loop-finding.finding-index (search (rules, tests)) c.loop-finding.invariant
+    all_texts _ _ (finding_object c.args.path.now) [] c.args.findings.now c.loop-finding.finding-index
+    (search (rules, tests)) c.loop-finding.invariant

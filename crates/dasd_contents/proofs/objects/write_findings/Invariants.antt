@@ -6,4 +6,5 @@ use Rattle.dasd_contents.proofs.objects.write_findings.Given as goal
 -- the objects so far are written
 abbrev pub invariant-loop-finding : goal.invariant-loop-finding
 invariant-loop-finding g l =
-    Appends (g.W.Write.contents l.fn.writer) (g.W.Write.contents l.writer) (flat_map (finding_object l.path) (take l.finding-index l.findings))
+    Appends (g.W.Write.contents l.fn.writer) (g.W.Write.contents l.writer) (flat_map (finding_object l.path)
+    (take l.finding-index l.findings))

@@ -4,7 +4,8 @@ use Rattle.dasd_contents.specs.Objects.{block_object}
 use Rattle.dasd_contents.proofs.objects.write_sets.Goals as goal
 
 pub loop-block-preserved : goal.loop-block-preserved
-loop-block-preserved g c = one_more_text _ _ _ (block_object c.args.volume.path.now c.args.volume.geometry c.args.blocks.now) [] c.args.blocks.now
+loop-block-preserved g c = one_more_text _ _ _ (block_object c.args.volume.path.now c.args.volume.geometry c.args.blocks.now) []
+    c.args.blocks.now
     c.loop-block.block-index _ (search (rules, tests)) c.loop-block.invariant c.in_ok-write_block.ensures.lines
 
 pub returns-clause-lines : goal.returns-clause-lines

@@ -23,7 +23,8 @@ pub loop-i-preserved : goal.loop-i-preserved
 loop-i-preserved g c = record {
   blocks = λ slots known.
       adds_more _ _ _ _ _ c.loop-i.i (c.loop-i.invariant.blocks slots known)
-      (subst (λ v. AddsOfTrack v (c.args.tracks.first + c.loop-i.i) c.loop-i.found c.read_one.new.found) c.loop-i.invariant.volume (search (rules, tests)) slots known);
+      (subst (λ v. AddsOfTrack v (c.args.tracks.first + c.loop-i.i) c.loop-i.found c.read_one.new.found) c.loop-i.invariant.volume
+      (search (rules, tests)) slots known);
   volume = search (rules, tests);
   failures = search (rules, tests);
 }

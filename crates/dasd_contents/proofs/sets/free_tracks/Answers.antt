@@ -10,7 +10,8 @@ loop-link-init c = c.new-pieces.ensures.items
 pub loop-link-preserved : goal.loop-link-preserved
 loop-link-preserved c =
     each_more [] _ _ pieces_in c.deref-link-items.result.now c.loop-link.link-index no_block c.loop-link-test.true c.loop-link.invariant
-    (subst (λ f. c.push_pieces.new.pieces.items ≡ c.loop-link.pieces.items ++ used_pieces f.free) c.free_space_block.ensures c.in_ok-push_pieces.ensures)
+    (subst (λ f. c.push_pieces.new.pieces.items ≡ c.loop-link.pieces.items ++ used_pieces f.free) c.free_space_block.ensures
+    c.in_ok-push_pieces.ensures)
 
 pub returns : goal.returns
 returns c =

@@ -6,7 +6,8 @@ pub loop-piece-init : goal.loop-piece-init
 loop-piece-init c = sym (append-nil c.args.pieces.now.items)
 
 pub loop-piece-preserved : goal.loop-piece-preserved
-loop-piece-preserved c = each_more _ _ _ _ c.args.more.now c.loop-piece.piece-index _ c.loop-piece-test.true c.loop-piece.invariant c.in_ok-push_piece.ensures
+loop-piece-preserved c = each_more _ _ _ _ c.args.more.now c.loop-piece.piece-index _ c.loop-piece-test.true c.loop-piece.invariant
+    c.in_ok-push_piece.ensures
 
 pub returns : goal.returns
 returns c = each_all _ _ _ c.args.more.now c.loop-piece.piece-index c.loop-piece-test.false c.loop-piece.invariant

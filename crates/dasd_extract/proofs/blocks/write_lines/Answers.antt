@@ -17,7 +17,8 @@ returns-in-Err g c =
 
 pub loop-preserved : goal.loop-preserved
 loop-preserved g c =
-    let is = this_step _ _ _ _ _ _ (Ok (Some c.in-Ok-Some.piece)) (rw (c.in-Ok-Some.field-0-is) at c.in-Ok-Some.ensures.value) c.loop-test.true in record {
+    let is = this_step _ _ _ _ _ _ (Ok (Some c.in-Ok-Some.piece)) (rw (c.in-Ok-Some.field-0-is) at c.in-Ok-Some.ensures.value)
+    c.loop-test.true in record {
       before = c.loop.invariant.before ++ piece_text c.args.block.now c.in-Ok-Some.piece;
       written = Appends-trans _ _ _ _ _ c.loop.invariant.written c.in_ok-write_piece-in-Ok-Some.ensures;
       whole = and_more _ _ _ c.loop.invariant.whole _ _ is;

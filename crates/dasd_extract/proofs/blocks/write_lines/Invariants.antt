@@ -9,6 +9,7 @@ abbrev pub invariant-loop : goal.invariant-loop
 invariant-loop g l = record {
   before : List ℕ;
   written : Appends (g.W.Write.contents l.fn.writer) (g.W.Write.contents l.writer) before;
-  whole : lines_written l.form l.track l.number l.block ≡ behind None before (lines_from (length l.block - l.counter) l.form l.track l.number l.block l.at);
+  whole : lines_written l.form l.track l.number l.block ≡ behind None before
+      (lines_from (length l.block - l.counter) l.form l.track l.number l.block l.at);
   within : l.at ≤ length l.block;
 }

@@ -5,14 +5,33 @@ use Rattle.dasd_jobs.proofs.jobs.check_files.Goals as goal
 pub returns-in-Ok-clause-lines : goal.returns-in-Ok-clause-lines
 returns-in-Ok-clause-lines g c =
     let v = c.in_ok-volume.volume in
-    record { geometry = v.geometry; contents = v.contents; opens = c.in_ok-volume.ensures.opens; mounts = c.in_ok-volume.ensures.mounts; so = c.in-Ok.ensures.lines }
+    record {
+      geometry = v.geometry;
+      contents = v.contents;
+      opens = c.in_ok-volume.ensures.opens;
+      mounts = c.in_ok-volume.ensures.mounts;
+      so = c.in-Ok.ensures.lines;
+    }
 
 pub returns-in-Ok-clause-number : goal.returns-in-Ok-clause-number
 returns-in-Ok-clause-number g c =
     let v = c.in_ok-volume.volume in
-    record { geometry = v.geometry; contents = v.contents; opens = c.in_ok-volume.ensures.opens; mounts = c.in_ok-volume.ensures.mounts; so = c.in-Ok.ensures.number }
+    record {
+      geometry = v.geometry;
+      contents = v.contents;
+      opens = c.in_ok-volume.ensures.opens;
+      mounts = c.in_ok-volume.ensures.mounts;
+      so = c.in-Ok.ensures.number;
+    }
 
 pub returns-clause-lines : goal.returns-clause-lines
 returns-clause-lines g c =
     let v = c.in_ok-volume.volume in
-    inr (record { geometry = v.geometry; contents = v.contents; opens = c.in_ok-volume.ensures.opens; mounts = c.in_ok-volume.ensures.mounts; so = c.in-Err.ensures.lines })
+    inr (record {
+      geometry = v.geometry;
+      contents = v.contents;
+      opens = c.in_ok-volume.ensures.opens;
+      mounts =
+          c.in_ok-volume.ensures.mounts;
+      so = c.in-Err.ensures.lines;
+    })

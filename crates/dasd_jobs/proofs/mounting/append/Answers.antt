@@ -6,7 +6,8 @@ use Rattle.dasd_jobs.proofs.mounting.append.Goals as goal
 
 pub returns-clause-content : goal.returns-clause-content
 returns-clause-content c =
-    ap (each (λ (f : FileState). f.content)) c.push.ensures.items ∙ each-append (λ (f : FileState). f.content) c.args.stores.now.items (Some c.args.store ∷ [])
+    ap (each (λ (f : FileState). f.content)) c.push.ensures.items ∙ each-append (λ (f : FileState). f.content) c.args.stores.now.items
+    (Some c.args.store ∷ [])
 
 pub returns-clause-as_made : goal.returns-clause-as_made
 returns-clause-as_made c before one =

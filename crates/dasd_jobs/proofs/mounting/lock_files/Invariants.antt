@@ -8,6 +8,7 @@ use Rattle.dasd_jobs.proofs.mounting.lock_files.Given as goal
 abbrev pub invariant-loop-path : goal.invariant-loop-path
 invariant-loop-path g l = record {
   kept : g.F.ImageFiles.written l.files ≡ g.F.ImageFiles.written l.fn.files;
-  opens : OpensPaths (map (λ path. path.now) (take l.path-index l.paths)) (map g.F.Opened.OpenedFile.content l.locked.items) (g.F.ImageFiles.opened l.fn.files) (g.F.ImageFiles.opened l.files);
+  opens : OpensPaths (map (λ path. path.now) (take l.path-index l.paths)) (map g.F.Opened.OpenedFile.content l.locked.items)
+      (g.F.ImageFiles.opened l.fn.files) (g.F.ImageFiles.opened l.files);
   heads : AllZip IsHeadOf (map g.F.Opened.OpenedFile.content l.locked.items) l.heads.items;
 }

@@ -25,8 +25,10 @@ loop-i-preserved g c =
           subst (λ (l : List (List ℕ)). AllZip IsWhole (take (c.loop-i.i + 1) contents) l)
           (sym (c.append.ensures.content ∙ ap (λ (b : List ℕ). each (λ (f : FileState). f.content) c.loop-i.stores.items ++ b ∷ []) held))
           (whole_more contents c.args.heads.now c.loop-i.i _ (each (λ (f : FileState). f.content) c.loop-i.stores.items) bytes
-          (let inside = c.loop-i-test.true in let same = both_long IsHeadOf contents c.args.heads.now c.requires.heads in omega (arith, inside, same)) c.requires.heads i.whole
-          (subst (λ (cs : List Content). StandsIn (slice_index_or cs c.loop-i.i None) 0 bytes) i.same c.in_ok-bytes.ensures.read) c.in_ok-bytes.ensures.count);
+          (let inside = c.loop-i-test.true in let same = both_long IsHeadOf contents c.args.heads.now c.requires.heads in
+          omega (arith, inside, same)) c.requires.heads i.whole
+          (subst (λ (cs : List Content). StandsIn (slice_index_or cs c.loop-i.i None) 0 bytes) i.same c.in_ok-bytes.ensures.read)
+          c.in_ok-bytes.ensures.count);
     }
 
 pub returns-clause-whole : goal.returns-clause-whole
@@ -34,7 +36,8 @@ returns-clause-whole g c =
     let content = g.O.OpenedFile.content in
     let contents = map content c.args.locked.now.items in
     subst (λ (cs : List Content). AllZip IsWhole cs (each (λ (f : FileState). f.content) c.loop-i.stores.items))
-    (take_all c.loop-i.i contents (let past = c.loop-i-test.false in let same = both_long IsHeadOf contents c.args.heads.now c.requires.heads in omega (arith, past, same))) c.loop-i.invariant.whole
+    (take_all c.loop-i.i contents (let past = c.loop-i-test.false in let same =
+    both_long IsHeadOf contents c.args.heads.now c.requires.heads in omega (arith, past, same))) c.loop-i.invariant.whole
 
 pub read_bytes-requires : goal.read_bytes-requires
 read_bytes-requires g c =

@@ -22,7 +22,8 @@ returns-clause-whole g c =
     let contents = map content c.in_ok-locked.locked.items in
     let paths = map (λ path. path.now) c.args.paths.now in
     let bytes = each (λ (f : FileState). f.content) c.in_ok-stores.stores.items in
-    IfOk-weaker c.mount.result (λ (i : ImageState). i.lasting.origins ≡ bytes) (λ (i : ImageState). ReadsWhole paths i.lasting.origins (opened c.args.files.now) (opened c.lock_files.new.files))
+    IfOk-weaker c.mount.result (λ (i : ImageState). i.lasting.origins ≡ bytes) (λ (i : ImageState). ReadsWhole paths i.lasting.origins
+    (opened c.args.files.now) (opened c.lock_files.new.files))
     (λ i are. record {
       contents = contents;
       opens = c.in_ok-locked.ensures.opens;

@@ -25,14 +25,16 @@ loop-i-preserved g c =
           record {
             written = next (rw (w.files-is) (w.in_ok-write_changed.ensures.writes.0
                 ∙ ap (λ s. g.F.ImageFiles.written c.loop-i.files ++ changed_file (slice_index_or c.args.paths.now i no_path).now s) at
-                ∙ ap (λ p. g.F.ImageFiles.written c.loop-i.files ++ changed_file p (file_at stores i)) (sym (get_or-map (λ (p : Bor (List ℕ)). p.now) c.args.paths.now i no_path))));
+                ∙ ap (λ p. g.F.ImageFiles.written c.loop-i.files ++ changed_file p (file_at stores i))
+                (sym (get_or-map (λ (p : Bor (List ℕ)). p.now) c.args.paths.now i no_path))));
             kept = and_kept (subst IsKept at w.in_ok-write_changed.ensures.writes.1);
             same = rw w.files-is (w.write_changed.ensures.same ∙ c.loop-i.invariant.same);
           }
       | else-i-stores w ↦
           let past : file_at stores i ≡ None = get_or_past stores i None (omega arith) in
           record {
-            written = next (rw (w.files-is) (sym (append-nil _) ∙ ap (λ s. g.F.ImageFiles.written c.loop-i.files ++ changed_file (path i) s) (sym past)));
+            written = next (rw (w.files-is) (sym (append-nil _) ∙ ap (λ s. g.F.ImageFiles.written c.loop-i.files ++ changed_file (path i) s)
+                (sym past)));
             kept = and_kept (rw past tt);
             same = rw w.files-is c.loop-i.invariant.same;
           }

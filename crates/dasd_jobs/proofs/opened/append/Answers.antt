@@ -6,4 +6,5 @@ use Rattle.dasd_jobs.proofs.opened.append.Goals as goal
 
 pub returns-clause-content : goal.returns-clause-content
 returns-clause-content c =
-    ap (each (λ (s : Stored). s.content)) c.push.ensures.items ∙ each-append (λ (s : Stored). s.content) c.args.stores.now.items (Some c.args.store ∷ [])
+    ap (each (λ (s : Stored). s.content)) c.push.ensures.items ∙ each-append (λ (s : Stored). s.content) c.args.stores.now.items
+    (Some c.args.store ∷ [])

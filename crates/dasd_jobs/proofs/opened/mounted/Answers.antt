@@ -9,7 +9,8 @@ pub loop-head-preserved : goal.loop-head-preserved
 loop-head-preserved c = record {
   there = c.append.ensures.there;
   count = (let count = c.append.ensures.count in let so_far = c.loop-head.invariant.count in omega (arith, count, so_far));
-  content = next_alone c.args.heads.now c.loop-head.head-index _ _ _ c.new.result.content c.loop-head-test.true c.loop-head.invariant.content c.append.ensures.content c.new.ensures;
+  content = next_alone c.args.heads.now c.loop-head.head-index _ _ _ c.new.result.content c.loop-head-test.true
+      c.loop-head.invariant.content c.append.ensures.content c.new.ensures;
 }
 
 -- no more headers come than an image has files
@@ -23,4 +24,5 @@ returns-then-is_full-clause-not_mounted c few =
 pub returns-in-Ok-clause-mounts : goal.returns-in-Ok-clause-mounts
 returns-in-Ok-clause-mounts c =
     let all = take_all c.loop-head.head-index c.args.heads.now (let past = c.loop-head-test.false in omega (arith, past)) in
-    ap mount_of (sym (c.loop-head.invariant.content ∙ ap (map alone) all)) ∙ c.in-Ok.ensures.holds.mounts ∙ ap (λ g. Ok g) (sym c.geometry.ensures.geometry)
+    ap mount_of (sym (c.loop-head.invariant.content ∙ ap (map alone) all)) ∙ c.in-Ok.ensures.holds.mounts
+    ∙ ap (λ g. Ok g) (sym c.geometry.ensures.geometry)

@@ -8,8 +8,10 @@ use Rattle.dasd_jobs.proofs.opened.volume_of.Goals as goal
 
 pub loop-head-preserved : goal.loop-head-preserved
 loop-head-preserved g c = record {
-  counts = next_counted c.args.geometry.track_size c.args.heads.now c.loop-head.tracks.items c.push.new.self.items c.loop-head.head-index _ c.tracks_in.result c.loop-head-test.true c.push.ensures.items c.loop-head.invariant.counts c.tracks_in.ensures;
-  count = rw c.push.ensures.items (let long = length-append c.loop-head.tracks.items (c.tracks_in.result ∷ []) in let so_far = c.loop-head.invariant.count in omega (arith, long, so_far));
+  counts = next_counted c.args.geometry.track_size c.args.heads.now c.loop-head.tracks.items c.push.new.self.items c.loop-head.head-index _
+      c.tracks_in.result c.loop-head-test.true c.push.ensures.items c.loop-head.invariant.counts c.tracks_in.ensures;
+  count = rw c.push.ensures.items (let long = length-append c.loop-head.tracks.items (c.tracks_in.result ∷ []) in let so_far =
+      c.loop-head.invariant.count in omega (arith, long, so_far));
 }
 
 pub invariant_of-result : goal.invariant_of-result
@@ -21,6 +23,7 @@ invariant_of-result g c =
     let all = take_all c.loop-head.head-index heads (let past = c.loop-head-test.false in omega (arith, past)) in
     let counts = subst (λ (l : List Head). AllZip (AreTracks size) l tracks) all c.loop-head.invariant.counts in (
       c.requires.valid,
-      sym (length-map c.args.files.items g.O.OpenedFile.content) ∙ both_long IsHeadOf contents heads c.requires.heads ∙ both_long (AreTracks size) heads tracks counts,
+      sym (length-map c.args.files.items g.O.OpenedFile.content) ∙ both_long IsHeadOf contents heads c.requires.heads
+          ∙ both_long (AreTracks size) heads tracks counts,
       lies c.args.geometry contents heads tracks c.requires.heads counts c.requires.mounts,
     )

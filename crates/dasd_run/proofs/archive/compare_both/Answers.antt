@@ -14,12 +14,14 @@ returns-in-Ok-open_volume-2-clause-compares g c = inr (record {
   so = record {
     geometry = v.geometry;
     contents = v.contents;
-    opens = subst (λ paths. OpensPaths paths v.contents before between) (ap (map (λ path. path.now)) c.as_slice-3.ensures.value) c.in-Ok-open_volume.ensures.opens;
+    opens = subst (λ paths. OpensPaths paths v.contents before between) (ap (map (λ path. path.now)) c.as_slice-3.ensures.value)
+        c.in-Ok-open_volume.ensures.opens;
     mounts = c.in-Ok-open_volume.ensures.mounts;
     so = record {
       geometry = w.geometry;
       contents = w.contents;
-      opens = subst (λ paths. OpensPaths paths w.contents between now) (ap (map (λ path. path.now)) c.as_slice-4.ensures.value) c.in-Ok-open_volume-2.ensures.opens;
+      opens = subst (λ paths. OpensPaths paths w.contents between now) (ap (map (λ path. path.now)) c.as_slice-4.ensures.value)
+          c.in-Ok-open_volume-2.ensures.opens;
       mounts = c.in-Ok-open_volume-2.ensures.mounts;
       so = compares;
     };
@@ -43,14 +45,16 @@ returns-in-Ok-open_volume-2-clause-compares g c = inr (record {
 
     Compares : Style → (path other : List ℕ) → Type 0
     Compares style path other =
-        ComparesVolumes c.compare_opened.result style path other c.args.asked.now.lists (volume_in v.geometry v.contents) (volume_in w.geometry w.contents)
+        ComparesVolumes c.compare_opened.result style path other c.args.asked.now.lists (volume_in v.geometry v.contents)
+        (volume_in w.geometry w.contents)
         (seen_by g.W.Write.contents c.args.writer.now) (seen_by g.W.Write.contents c.compare_opened.new.writer)
 
     path_is : c.as_str.result.now ≡ quoted_paths (one_of c.args.asked.now)
     path_is = c.as_str.ensures.value ∙ (c.in-Ok.ensures.text ∙ ap quoted_paths (ap (map (λ path. path.now)) c.as_slice.ensures.value))
 
     other_is : c.as_str-2.result.now ≡ quoted_paths (other_of c.args.asked.now)
-    other_is = c.as_str-2.ensures.value ∙ (c.in-Ok-quoted.ensures.text ∙ ap quoted_paths (ap (map (λ path. path.now)) c.as_slice-2.ensures.value))
+    other_is = c.as_str-2.ensures.value
+        ∙ (c.in-Ok-quoted.ensures.text ∙ ap quoted_paths (ap (map (λ path. path.now)) c.as_slice-2.ensures.value))
 
     compares : Compares (style_of c.args.asked.now.json) (quoted_paths (one_of c.args.asked.now)) (quoted_paths (other_of c.args.asked.now))
     compares =

@@ -77,14 +77,20 @@ returns-clause-runs g c =
       run = r;
       last = c.run_deck-run.new.channel;
       runs =
-          subst (λ (text : List ℕ). RunsText r text c.in_ok-channel.channel c.run_deck-run.new.channel (seen_by g.W.Write.contents c.args.writer.now) (seen_by g.W.Write.contents c.run_deck-run.new.writer)) c.as_slice.ensures.value
+          subst (λ (text : List ℕ). RunsText r text c.in_ok-channel.channel c.run_deck-run.new.channel
+          (seen_by g.W.Write.contents c.args.writer.now) (seen_by g.W.Write.contents c.run_deck-run.new.writer))
+          c.as_slice.ensures.value
           c.run_deck-run.ensures.runs;
       flushed = c.run_deck-run.ensures.flushed;
-      unless_run = stays_seen (seen_by g.W.Write.contents) r c.args.writer.now c.run_deck-run.new.writer c.run_deck-run.ensures.nothing_written;
+      unless_run = stays_seen (seen_by g.W.Write.contents) r c.args.writer.now c.run_deck-run.new.writer
+          c.run_deck-run.ensures.nothing_written;
       concluded = c.conclude-concluded.result;
       concludes =
-          subst (λ (vs : List Volume). Concludes r c.conclude-concluded.result vs c.run_deck-run.new.channel (written c.args.files.now) (written c.conclude-concluded.new.files)) c.as_slice-volumes.ensures.value
-          (subst (λ (before : List Replaced). Concludes r c.conclude-concluded.result c.as_slice-volumes.result.now c.run_deck-run.new.channel before (written c.conclude-concluded.new.files)) same_files c.conclude-concluded.ensures.concludes);
+          subst (λ (vs : List Volume). Concludes r c.conclude-concluded.result vs c.run_deck-run.new.channel (written c.args.files.now)
+          (written c.conclude-concluded.new.files)) c.as_slice-volumes.ensures.value
+          (subst (λ (before : List Replaced). Concludes r c.conclude-concluded.result c.as_slice-volumes.result.now
+          c.run_deck-run.new.channel before (written c.conclude-concluded.new.files)) same_files
+          c.conclude-concluded.ensures.concludes);
       traced = c.end_trace-traced.result;
       no_other = c.end_trace-traced.ensures.fault;
       told = search (rules, tests);
@@ -96,7 +102,9 @@ returns-clause-keeps g c =
     let written = g.F.ImageFiles.written in
     let same_files : written c.tell_fault.new.files ≡ written c.args.files.now =
     c.tell_fault.ensures.kept ∙ c.read_deck.ensures.kept ∙ c.build.ensures.kept ∙ c.begin_trace.ensures.kept in
-    let kept = kept_if_told (written c.args.files.now) (written c.conclude-concluded.new.files) c.conclude-concluded.result c.end_trace-traced.result Done
-    (subst (λ (before : List Replaced). IfErr c.conclude-concluded.result (λ e. keeps_files e ≡ true → written c.conclude-concluded.new.files ≡ before)) same_files c.conclude-concluded.ensures.keeps)
+    let kept = kept_if_told (written c.args.files.now) (written c.conclude-concluded.new.files) c.conclude-concluded.result
+    c.end_trace-traced.result Done
+    (subst (λ (before : List Replaced). IfErr c.conclude-concluded.result (λ e. keeps_files e ≡ true
+    → written c.conclude-concluded.new.files ≡ before)) same_files c.conclude-concluded.ensures.keeps)
     c.end_trace-traced.ensures.kept in
     search (rules, tests, kept)

@@ -9,5 +9,10 @@ returns-in-Ok g c =
 
 pub returns-in-Err : goal.returns-in-Err
 returns-in-Err g c =
-    let hashed = c.in-Err.ensures in
-    (Err c.in-Err.fault, ap Err c.of_printing.ensures, tt, λ e. ap (seen_by g.W.Write.contents) (hashed.none e), (hashed.lines, hashed.writes, tt))
+    let hashed = c.in-Err.ensures in (
+      Err c.in-Err.fault,
+      ap Err c.of_printing.ensures,
+      tt,
+      λ e. ap (seen_by g.W.Write.contents) (hashed.none e),
+      (hashed.lines, hashed.writes, tt),
+    )

@@ -25,7 +25,8 @@ returns-clause-saves g c =
       unsaved = c.finish-images.result.reset.unsaved;
       finishes = c.finish-images.ensures;
       saves =
-          subst (λ (before : List Replaced). SavesAll c.save_all.result (zip c.args.volumes.now images) before (written c.save_all.new.files))
+          subst (λ (before : List Replaced). SavesAll c.save_all.result (zip c.args.volumes.now images) before
+          (written c.save_all.new.files))
           (told_too ∙ told) c.save_all.ensures.saves;
     }
 

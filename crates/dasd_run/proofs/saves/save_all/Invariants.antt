@@ -9,6 +9,7 @@ use Rattle.dasd_run.proofs.saves.save_all.Given as goal
 abbrev pub invariant-loop-i : goal.invariant-loop-i
 invariant-loop-i g l = record {
   same : (k : ℕ) → l.i ≤ k → slice_index_or l.images k None ≡ slice_index_or l.fn.images k None;
-  whole : (r : Result (Unit {0}) ProgramFault) (now : List Replaced) → SavesAll r (drop l.i (zip l.volumes l.fn.images)) (g.F.ImageFiles.written l.files) now → SavesAll r (zip l.volumes l.fn.images) (g.F.ImageFiles.written l.fn.files) now;
+  whole : (r : Result (Unit {0}) ProgramFault) (now : List Replaced) → SavesAll r (drop l.i (zip l.volumes l.fn.images))
+      (g.F.ImageFiles.written l.files) now → SavesAll r (zip l.volumes l.fn.images) (g.F.ImageFiles.written l.fn.files) now;
   opened : g.F.ImageFiles.opened l.files ≡ g.F.ImageFiles.opened l.fn.files;
 }

@@ -14,4 +14,5 @@ loop-i-preserved g c = record {
 
 -- a header's line was not printed to its end
 pub returns-in-Err-clause-found : goal.returns-in-Err-clause-found
-returns-in-Err-clause-found g c = front_of_lines _ _ _ _ _ c.loop-i.i _ (search (rules, tests)) c.loop-i.invariant.found.0 (search (rules, tests))
+returns-in-Err-clause-found g c = front_of_lines _ _ _ _ _ c.loop-i.i _ (search (rules, tests)) c.loop-i.invariant.found.0
+    (search (rules, tests))

@@ -13,7 +13,8 @@ pub loop-path-preserved : goal.loop-path-preserved
 loop-path-preserved g c = record {
   kept = c.read_header.ensures.kept ∙ c.loop-path.invariant.kept;
   reads =
-      one_more_head (λ path. path.now) c.args.paths.now c.loop-path.path-index _ c.loop-path.heads.items c.push.new.self.items c.in-Ok.header
+      one_more_head (λ path. path.now) c.args.paths.now c.loop-path.path-index _ c.loop-path.heads.items c.push.new.self.items
+      c.in-Ok.header
       _ _ _ c.loop-path-test.true c.loop-path.invariant.reads c.in-Ok.ensures.head (search (rules, tests));
 }
 

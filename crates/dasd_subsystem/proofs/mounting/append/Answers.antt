@@ -5,4 +5,5 @@ use Rattle.dasd_subsystem.proofs.mounting.append.Goals as goal
 
 -- the file stands behind the others
 pub returns-clause-contents : goal.returns-clause-contents
-returns-clause-contents c = ap (each (λ f. f.content)) c.push.ensures.items ∙ each_append (λ f. f.content) c.args.files.now.items (Some c.args.file ∷ [])
+returns-clause-contents c = ap (each (λ f. f.content)) c.push.ensures.items ∙ each_append (λ f. f.content) c.args.files.now.items
+    (Some c.args.file ∷ [])

@@ -28,12 +28,14 @@ loop-head-preserved g c = record {
 
 -- a slot could not be read
 pub returns-then-is_err-clause-lines : goal.returns-then-is_err-clause-lines
-returns-then-is_err-clause-lines g c = λ slots known. lines_so_far finding_line _ _ _ c.loop-head.head _ (search (rules, tests)) (c.loop-head.invariant.lines slots known)
+returns-then-is_err-clause-lines g c = λ slots known. lines_so_far finding_line _ _ _ c.loop-head.head _ (search (rules, tests))
+    (c.loop-head.invariant.lines slots known)
 
 -- a line could not be written
 pub returns-in-Err-clause-lines : goal.returns-in-Err-clause-lines
 returns-in-Err-clause-lines g c =
-    λ slots known. front_of_lines finding_line _ _ _ _ c.loop-head.head _ (search (rules, tests)) (c.loop-head.invariant.lines slots known) (search (rules, tests))
+    λ slots known. front_of_lines finding_line _ _ _ _ c.loop-head.head _ (search (rules, tests)) (c.loop-head.invariant.lines slots known)
+    (search (rules, tests))
 
 -- each head is passed
 pub returns-clause-number : goal.returns-clause-number

@@ -8,7 +8,8 @@ abbrev pub invariant-loop-head : goal.invariant-loop-head
 invariant-loop-head g l =
     let before = g.V.SlotReader.volume l.fn.volume in
     let i = before.geometry in
-    let found = λ (slots : List (List ℕ)). of_each (λ head. findings_at l.cylinder head (track_seen i slots l.cylinder head)) l.head in record {
+    let found = λ (slots : List (List ℕ)). of_each (λ head. findings_at l.cylinder head (track_seen i slots l.cylinder head)) l.head in
+    record {
       number : (slots : List (List ℕ)) → before.slots ≡ Some slots → l.findings ≡ length (found slots);
       few : l.findings ≤ l.head;
       lines : (slots : List (List ℕ)) → before.slots ≡ Some slots

@@ -20,7 +20,8 @@ pub loop-cylinder-preserved : goal.loop-cylinder-preserved
 loop-cylinder-preserved g c = record {
   number = λ slots known. more_number _ c.loop-cylinder.cylinder _ _ (c.loop-cylinder.invariant.number slots known) (search (rules, tests));
   few = search (rules, tests);
-  lines = λ slots known. more_lines finding_line _ _ _ _ c.loop-cylinder.cylinder (c.loop-cylinder.invariant.lines slots known) (search (rules, tests));
+  lines = λ slots known. more_lines finding_line _ _ _ _ c.loop-cylinder.cylinder (c.loop-cylinder.invariant.lines slots known)
+      (search (rules, tests));
   sound = search (rules, tests);
   volume = search (rules, tests);
   failures = search (rules, tests);
@@ -31,4 +32,5 @@ loop-cylinder-preserved g c = record {
 pub returns-in_err-findings-clause-lines : goal.returns-in_err-findings-clause-lines
 returns-in_err-findings-clause-lines g c =
     let p = err_from_is_err_and c.from_residual.result c.from_residual.ensures.1 in
-    rw p.1 (λ slots known. front_of_lines finding_line _ _ _ _ c.loop-cylinder.cylinder _ (search (rules, tests)) (c.loop-cylinder.invariant.lines slots known) (search (rules, tests)))
+    rw p.1 (λ slots known. front_of_lines finding_line _ _ _ _ c.loop-cylinder.cylinder _ (search (rules, tests))
+    (c.loop-cylinder.invariant.lines slots known) (search (rules, tests)))

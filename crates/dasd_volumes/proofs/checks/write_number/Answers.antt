@@ -4,7 +4,8 @@ use Rattle.dasd_volumes.specs.Volumes.{number_line}
 use Rattle.dasd_volumes.proofs.checks.write_number.Goals as goal
 
 pub returns-clause-written : goal.returns-clause-written
-returns-clause-written g c = subst (λ t. WritesWhole c.write_flushed.result (seen_by g.W.Write.contents c.args.writer.now) (seen_by g.W.Write.contents c.write_flushed.new.writer) t) text c.write_flushed.ensures.written
+returns-clause-written g c = subst (λ t. WritesWhole c.write_flushed.result (seen_by g.W.Write.contents c.args.writer.now)
+    (seen_by g.W.Write.contents c.write_flushed.new.writer) t) text c.write_flushed.ensures.written
   where
     line : c.push_str.new.self.bytes ≡ number_line c.args.findings
     line = rw (c.push_str.ensures.bytes, c.put_decimal.ensures.text, c.new-line.ensures) (simp (append_assoc))

@@ -3,7 +3,8 @@ use Rattle.data_sets.proofs.Extents.{found_there, passed_over, no_extent}
 use Rattle.data_sets.proofs.addresses.track_of.Goals as goal
 
 pub returns-in-Found : goal.returns-in-Found
-returns-in-Found c = sym (c.loop-extent.invariant ∙ found_there _ _ _ _ _ c.loop-extent-test.true _ (sym c.step_over.ensures ∙ c.in-Found.is))
+returns-in-Found c = sym (c.loop-extent.invariant ∙ found_there _ _ _ _ _ c.loop-extent-test.true _ (sym c.step_over.ensures
+    ∙ c.in-Found.is))
 
 pub loop-extent-preserved : goal.loop-extent-preserved
 loop-extent-preserved c = c.loop-extent.invariant ∙ passed_over _ _ _ _ _ c.loop-extent-test.true _ (sym c.step_over.ensures ∙ c.in-Left.is)

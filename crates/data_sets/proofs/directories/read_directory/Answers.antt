@@ -22,7 +22,8 @@ pub loop-preserved : goal.loop-preserved
 loop-preserved c = elim c.match-directory_step.branch [
   | in-Entry+in_ok-push-in-Entry w ↦
       let is = this_step _ _ _ _ (sym c.directory_step.ensures ∙ w.in-Entry.is) c.loop-test.true in record {
-        entries = rw (w.entries-is, w.at-is, w.in_ok-push-in-Entry.ensures) (entries_more _ _ _ c.loop.invariant.entries c.loop.invariant.fault _ _ is);
+        entries = rw (w.entries-is, w.at-is, w.in_ok-push-in-Entry.ensures)
+            (entries_more _ _ _ c.loop.invariant.entries c.loop.invariant.fault _ _ is);
         fault = rw (w.at-is) (fault_more _ _ _ c.loop.invariant.entries c.loop.invariant.fault _ _ is);
       }
   | in-Skip w ↦

@@ -5,7 +5,8 @@ use Rattle.data_sets.proofs.lines.without_blanks.Given as goal
 
 -- what is passed is blanks
 abbrev pub invariant-loop-kept : goal.invariant-loop-kept
-invariant-loop-kept l = (l.kept ≤ length l.bytes) × (l.kept + suffix_len is_blank l.bytes ≡ length l.bytes + suffix_len is_blank (take l.kept l.bytes))
+invariant-loop-kept l = (l.kept ≤ length l.bytes) × (l.kept + suffix_len is_blank l.bytes ≡ length l.bytes + suffix_len is_blank
+    (take l.kept l.bytes))
 
 abbrev pub decreases-loop-kept : goal.decreases-loop-kept
 decreases-loop-kept l = l.kept

@@ -11,10 +11,15 @@ pub returns : goal.returns
 returns g c =
     let h = c.set_arm.ensures in
     let is : c.if-motion.set_arm ≡ arm_told c.args.motion =
-    elim c.if-motion.branch [ then-motion w ↦ w.set_arm-is ∙ sym (ap arm_told w.if-motion.true) | else-motion w ↦ w.set_arm-is ∙ sym (ap arm_told w.if-motion.false) ] in
+    elim c.if-motion.branch [
+      | then-motion w ↦ w.set_arm-is ∙ sym (ap arm_told w.if-motion.true)
+      | else-motion w ↦ w.set_arm-is
+          ∙ sym (ap arm_told w.if-motion.false)
+    ] in
     record {
       attached = h.attached;
       was = h.was;
       becomes = h.becomes ∙ ap (λ a. slice_set c.args.drives.now c.args.place (record h.attached { arm = a })) is;
-      pends = ap (λ d. Pending d c.args.csw) (inside c.device-device.result h.attached.device (c.device-device.ensures ∙ ap (option_map (λ (u : AttachedState). u.device)) h.was));
+      pends = ap (λ d. Pending d c.args.csw) (inside c.device-device.result h.attached.device (c.device-device.ensures
+          ∙ ap (option_map (λ (u : AttachedState). u.device)) h.was));
     }

@@ -4,16 +4,23 @@ use Rattle.s360_channel.proofs.Started.{armed_images, within, never_lost, interr
 use Rattle.s360_channel.proofs.interrupting.interrupt_device.Goals as goal
 
 pub returns-in_err-place-clause-does : goal.returns-in_err-place-clause-does
-returns-in_err-place-clause-does g c = λ rest distinct. absurd (never_lost c.in_ok-device.device c.args.drives.now (sym c.lowest_arrived.ensures ∙ c.in_ok-device.was) (sym c.place_of.ensures ∙ c.in_err-place.was))
+returns-in_err-place-clause-does g c =
+    λ rest distinct. absurd (never_lost c.in_ok-device.device c.args.drives.now (sym c.lowest_arrived.ensures ∙ c.in_ok-device.was)
+    (sym c.place_of.ensures ∙ c.in_err-place.was))
 
 pub set_arm-requires : goal.set_arm-requires
-set_arm-requires g c = (omega arith, within c.in_ok-device.device c.args.drives.now c.in_ok-place.place (sym c.place_of.ensures ∙ c.in_ok-place.was))
+set_arm-requires g c = (
+  omega arith,
+  within c.in_ok-device.device c.args.drives.now c.in_ok-place.place (sym c.place_of.ensures
+      ∙ c.in_ok-place.was),
+)
 
 pub returns-clause-does : goal.returns-clause-does
 returns-clause-does g c =
     let holds = g.M.MainStorage.holds in
     λ rest distinct.
-    interrupt_arrived c.args.number (holds c.args.storage.now) c.args.drives.now rest distinct c.in_ok-device.device c.in_ok-place.place c.interrupted.result c.set_arm.new.self (holds c.interrupted.new.storage)
+    interrupt_arrived c.args.number (holds c.args.storage.now) c.args.drives.now rest distinct c.in_ok-device.device c.in_ok-place.place
+    c.interrupted.result c.set_arm.new.self (holds c.interrupted.new.storage)
     (sym c.lowest_arrived.ensures ∙ c.in_ok-device.was) (sym c.place_of.ensures ∙ c.in_ok-place.was) c.set_arm.ensures
     (c.interrupted.ensures.told ∙ ap (λ csw. (256 * c.args.number + c.in_ok-device.device, csw)) c.csw_of_unit-csw.ensures)
     (c.interrupted.ensures.storage ∙ ap (λ csw. changed (csw_stored csw) (holds c.args.storage.now)) c.csw_of_unit-csw.ensures)

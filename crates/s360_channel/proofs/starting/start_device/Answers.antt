@@ -11,17 +11,20 @@ returns-in-Arrived-clause-does g c =
     let holds = g.M.MainStorage.holds in
     λ attached there number rest distinct.
     let k = c.status_stored-in-Arrived in
-    start_arrived number (holds c.args.storage.now) c.args.drives.now c.args.place attached there rest distinct k.result c.args.subchannel.now c.set_arm.new.self (holds k.new.storage)
+    start_arrived number (holds c.args.storage.now) c.args.drives.now c.args.place attached there rest distinct k.result
+    c.args.subchannel.now c.set_arm.new.self (holds k.new.storage)
     c.requires.idle (arm_there c.args.drives.now c.args.place attached _ there c.in-Arrived.ensures) c.set_arm.ensures
     (k.ensures.answer ∙ ap (λ unit. Stored (record { unit = unit; channel = no_channel_status })) c.busy_device_end.ensures)
-    (k.ensures.storage ∙ ap (λ unit. changed (status_stored unit.0 no_channel_status.0) (holds c.args.storage.now)) c.busy_device_end.ensures)
+    (k.ensures.storage ∙ ap (λ unit. changed (status_stored unit.0 no_channel_status.0) (holds c.args.storage.now))
+    c.busy_device_end.ensures)
 
 pub returns-in-AtRest-clause-does : goal.returns-in-AtRest-clause-does
 returns-in-AtRest-clause-does g c =
     let holds = g.M.MainStorage.holds in
     λ attached there number rest distinct.
     let k = c.start_program in
-    start_at_rest number (holds c.args.storage.now) c.args.drives.now c.args.place attached there rest distinct _ k.new.subchannel k.new.drives (holds k.new.storage)
+    start_at_rest number (holds c.args.storage.now) c.args.drives.now c.args.place attached there rest distinct _ k.new.subchannel
+    k.new.drives (holds k.new.storage)
     (arm_there c.args.drives.now c.args.place attached _ there c.in-AtRest.ensures) (k.ensures.does attached there number rest distinct)
 
 pub returns-in-Arrived-clause-images : goal.returns-in-Arrived-clause-images

@@ -9,7 +9,8 @@ pub set_arm-requires : goal.set_arm-requires
 set_arm-requires g c = (
   omega arith,
   let e = c.start.ensures in
-      let h : c.args.place < length c.start.new.self = slice_get_within c.start.new.self c.args.place _ (ap (λ us. slice_get us c.args.place) e.becomes ∙ get_set c.args.drives.now c.args.place e.attached _ e.was) in
+      let h : c.args.place < length c.start.new.self = slice_get_within c.start.new.self c.args.place _
+      (ap (λ us. slice_get us c.args.place) e.becomes ∙ get_set c.args.drives.now c.args.place e.attached _ e.was) in
       h,
 )
 
@@ -17,7 +18,8 @@ pub returns-in-Bad-clause-does : goal.returns-in-Bad-clause-does
 returns-in-Bad-clause-does g c =
     let holds = g.M.MainStorage.holds in
     λ attached there number rest distinct.
-    starts_bad number (holds c.args.storage.now) c.args.drives.now c.args.place attached there rest distinct c.caw_word-caw.result c.args.subchannel.now c.status_stored.result c.start.new.self (holds c.status_stored.new.storage)
+    starts_bad number (holds c.args.storage.now) c.args.drives.now c.args.place attached there rest distinct c.caw_word-caw.result
+    c.args.subchannel.now c.status_stored.result c.start.new.self (holds c.status_stored.new.storage)
     c.requires.idle c.caw_word-caw.ensures (c.in-Bad.ensures) c.status_stored.ensures.answer c.status_stored.ensures.storage
 
 pub returns-in-Rejected-clause-does : goal.returns-in-Rejected-clause-does
@@ -25,7 +27,8 @@ returns-in-Rejected-clause-does g c =
     let holds = g.M.MainStorage.holds in
     λ attached there number rest distinct.
     let k = c.status_stored-in-Rejected in
-    starts_rejected number (holds c.args.storage.now) c.args.drives.now c.args.place attached there rest distinct c.caw_word-caw.result c.args.subchannel.now k.result c.start.new.self (holds k.new.storage)
+    starts_rejected number (holds c.args.storage.now) c.args.drives.now c.args.place attached there rest distinct c.caw_word-caw.result
+    c.args.subchannel.now k.result c.start.new.self (holds k.new.storage)
     c.requires.idle c.caw_word-caw.ensures (c.in-Rejected.ensures) k.ensures.answer k.ensures.storage
 
 pub returns-in-Immediate-clause-does : goal.returns-in-Immediate-clause-does
@@ -33,17 +36,21 @@ returns-in-Immediate-clause-does g c =
     let holds = g.M.MainStorage.holds in
     λ attached there number rest distinct.
     let k = c.status_stored-in-Immediate in
-    starts_immediate number (holds c.args.storage.now) c.args.drives.now c.args.place attached there rest distinct c.caw_word-caw.result c.args.subchannel.now k.result c.start.new.self c.set_arm.new.self (holds k.new.storage)
+    starts_immediate number (holds c.args.storage.now) c.args.drives.now c.args.place attached there rest distinct c.caw_word-caw.result
+    c.args.subchannel.now k.result c.start.new.self c.set_arm.new.self (holds k.new.storage)
     c.in-Immediate.told c.in-Immediate.asked c.arm_after.result c.interruption_told.result
-    c.requires.idle c.caw_word-caw.ensures (c.in-Immediate.ensures) c.set_arm.ensures c.arm_after.ensures c.interruption_told.ensures k.ensures.answer k.ensures.storage
+    c.requires.idle c.caw_word-caw.ensures (c.in-Immediate.ensures) c.set_arm.ensures c.arm_after.ensures c.interruption_told.ensures
+    k.ensures.answer k.ensures.storage
 
 pub returns-in-Immediate-clause-images : goal.returns-in-Immediate-clause-images
 returns-in-Immediate-clause-images g c =
-    armed_images c.start.new.self c.args.place c.arm_after.result c.set_arm.new.self c.set_arm.ensures ∙ started_images c.args.drives.now c.args.place _ _ _ c.start.new.self c.start.ensures
+    armed_images c.start.new.self c.args.place c.arm_after.result c.set_arm.new.self c.set_arm.ensures
+    ∙ started_images c.args.drives.now c.args.place _ _ _ c.start.new.self c.start.ensures
 
 pub returns-in-Accepted-clause-does : goal.returns-in-Accepted-clause-does
 returns-in-Accepted-clause-does g c =
     let holds = g.M.MainStorage.holds in
     λ attached there number rest distinct.
-    starts_accepted number (holds c.args.storage.now) c.args.drives.now c.args.place attached there rest distinct c.accepted_stands.ensures c.caw_word-caw.result c.start.new.self c.in-Accepted.running
+    starts_accepted number (holds c.args.storage.now) c.args.drives.now c.args.place attached there rest distinct c.accepted_stands.ensures
+    c.caw_word-caw.result c.start.new.self c.in-Accepted.running
     c.caw_word-caw.ensures (c.in-Accepted.ensures)

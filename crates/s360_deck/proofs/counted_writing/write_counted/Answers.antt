@@ -7,6 +7,7 @@ pub returns-in_err-write_line-clause-written : goal.returns-in_err-write_line-cl
 returns-in_err-write_line-clause-written g c =
     let p = err_from_is_err_and c.from_residual.result c.from_residual.ensures.1 in
     rw p.1 (
-      behind_line _ _ _ c.args.answers.now c.loop-answer.answer-index _ (search (rules, tests)) (search (rules, tests)) c.loop-answer.invariant.taken c.in_err-write_line.ensures.0,
+      behind_line _ _ _ c.args.answers.now c.loop-answer.answer-index _ (search (rules, tests))
+          (search (rules, tests)) c.loop-answer.invariant.taken c.in_err-write_line.ensures.0,
       c.in_err-write_line.ensures.1 ∙ ap (λ (n : ℕ). n + 1) c.loop-answer.invariant.sound,
     )

@@ -5,6 +5,7 @@ use Rattle.s360_deck.proofs.digits.bytes_of_digits.Goals as goal
 
 pub loop-rest-preserved : goal.loop-rest-preserved
 loop-rest-preserved c = rw c.push.ensures.items (record {
-  spelled = one_byte_more c.loop-rest.bytes.items c.loop-rest.rest.now _ _ _ c.in-len2-up.len_at_least c.in_ok-high.ensures.value c.in_ok-low.ensures.value c.loop-rest.invariant.spelled;
+  spelled = one_byte_more c.loop-rest.bytes.items c.loop-rest.rest.now _ _ _ c.in-len2-up.len_at_least c.in_ok-high.ensures.value
+      c.in_ok-low.ensures.value c.loop-rest.invariant.spelled;
   size = rw (take_rest c.loop-rest.rest.now 2) (simp (length-append, length-drop) (omega arith));
 })

@@ -9,5 +9,6 @@ returns c =
     count_from_yields_List c.filter.result _ c.count.ensures.ran
     (YieldsList-from_filter _ (λ word. not (is_empty word))
     (YieldsList-at c.filter.ensures.source
-    (YieldsList-from_slice_split _ is_blank c.args.line.now c.split.ensures.rest c.split.ensures.done c.split.ensures.closure (λ x b q k. search (rules, tests))))
+    (YieldsList-from_slice_split _ is_blank c.args.line.now c.split.ensures.rest c.split.ensures.done c.split.ensures.closure
+    (λ x b q k. search (rules, tests))))
     c.filter.ensures.closure (λ x b q k. search (rules, tests)))

@@ -11,7 +11,8 @@ returns c =
     (YieldsList-at c.into_iter-word-iterator.ensures.into_iter_gives
     (YieldsList-from_filter _ (λ word. not (is_empty word))
     (YieldsList-at c.filter-found.ensures.source
-    (YieldsList-from_slice_split _ is_blank c.args.line.now c.split.ensures.rest c.split.ensures.done c.split.ensures.closure (λ x b q k. search (rules, tests))))
+    (YieldsList-from_slice_split _ is_blank c.args.line.now c.split.ensures.rest c.split.ensures.done c.split.ensures.closure
+    (λ x b q k. search (rules, tests))))
     c.filter-found.ensures.closure (λ x b q k. search (rules, tests))))
     c.loop-word.yielded _ c.loop-word.yielded_by c.next.result c.next.new.self c.in-None.is c.next.ensures.steps).0
 
@@ -21,7 +22,13 @@ unwrap-requires c =
     (YieldsList-at c.into_iter-word-iterator.ensures.into_iter_gives
     (YieldsList-from_filter _ (λ word. not (is_empty word))
     (YieldsList-at c.filter-found.ensures.source
-    (YieldsList-from_slice_split _ is_blank c.args.line.now c.split.ensures.rest c.split.ensures.done c.split.ensures.closure (λ x b q k. search (rules, tests))))
+    (YieldsList-from_slice_split _ is_blank c.args.line.now c.split.ensures.rest c.split.ensures.done c.split.ensures.closure
+    (λ x b q k. search (rules, tests))))
     c.filter-found.ensures.closure (λ x b q k. search (rules, tests))))
     c.loop-word.yielded _ c.loop-word.yielded_by c.next.result c.next.new.self c.in-Some.word c.in-Some.is c.next.ensures.steps in
-    c.push.ensures.succeeds (rw c.loop-word.words.ok.0 (omega (arith, turn.0, c.loop-word.invariant.room, ap length c.loop-word.invariant.words)))
+    c.push.ensures.succeeds (rw c.loop-word.words.ok.0 (omega (
+      arith,
+      turn.0,
+      c.loop-word.invariant.room,
+      ap length c.loop-word.invariant.words,
+    )))

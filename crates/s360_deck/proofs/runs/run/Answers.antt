@@ -5,7 +5,9 @@ use Rattle.s360_deck.proofs.runs.run.Goals as goal
 pub returns-in_err-events-clause-runs : goal.returns-in_err-events-clause-runs
 returns-in_err-events-clause-runs g c =
     let p = err_from_is_err_and c.from_residual-in_err-events.result c.from_residual-in_err-events.ensures.1 in
-    rw (p.1, p.2) (is_faulty c.in_err-events.field-0.0 (g.R.Read.remaining c.args.reader.now) (g.R.Read.remaining c.read_deck.new.reader) c.args.channel.now c.args.channel.now (g.W.Write.contents c.args.writer.now) (g.W.Write.contents c.args.writer.now) c.in_ok-text.text.items c.as_slice.result.now c.as_slice.ensures.value c.in_ok-text.ensures.ok c.in_err-events.ensures)
+    rw (p.1, p.2) (is_faulty c.in_err-events.field-0.0 (g.R.Read.remaining c.args.reader.now) (g.R.Read.remaining c.read_deck.new.reader)
+    c.args.channel.now c.args.channel.now (g.W.Write.contents c.args.writer.now) (g.W.Write.contents c.args.writer.now)
+    c.in_ok-text.text.items c.as_slice.result.now c.as_slice.ensures.value c.in_ok-text.ensures.ok c.in_err-events.ensures)
 
 pub returns-in_err-events-clause-no_event : goal.returns-in_err-events-clause-no_event
 returns-in_err-events-clause-no_event g c = same_stays c.from_residual-in_err-events.result c.args.channel.now
@@ -15,5 +17,7 @@ returns-in_err-events-clause-nothing_written g c = same_stays c.from_residual-in
 
 pub returns-clause-runs : goal.returns-clause-runs
 returns-clause-runs g c =
-    has_run c.write_answers.result _ _ _ _ _ _ c.in_ok-text.text.items c.as_slice.result.now c.in_ok-events.events.items c.as_slice-2.result.now c.in-Ok.answers.items c.as_slice-3.result.now
-    c.as_slice.ensures.value c.as_slice-2.ensures.value c.as_slice-3.ensures.value c.in_ok-text.ensures.ok c.in_ok-events.ensures c.in-Ok.ensures.answered c.in-Ok.ensures.follows c.write_answers.ensures
+    has_run c.write_answers.result _ _ _ _ _ _ c.in_ok-text.text.items c.as_slice.result.now c.in_ok-events.events.items
+    c.as_slice-2.result.now c.in-Ok.answers.items c.as_slice-3.result.now
+    c.as_slice.ensures.value c.as_slice-2.ensures.value c.as_slice-3.ensures.value c.in_ok-text.ensures.ok c.in_ok-events.ensures
+    c.in-Ok.ensures.answered c.in-Ok.ensures.follows c.write_answers.ensures

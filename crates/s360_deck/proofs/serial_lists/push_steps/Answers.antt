@@ -14,4 +14,5 @@ returns c =
     let whole : c.loop.counter ≡ c.args.units / 65535 = search (rules, tests) in
     let some : (c.args.units % 65535 == 0) ≡ false = search (rules, tests) in
     let pushed : c.push-2.new.self.items ≡ c.loop.events.items ++ Step (c.args.units % 65535) ∷ [] = search rules in
-    more_steps _ _ c.args.units c.loop.counter whole some (seen_more c.loop.events.items _ (Step (c.args.units % 65535)) _ pushed c.loop.invariant)
+    more_steps _ _ c.args.units c.loop.counter whole some (seen_more c.loop.events.items _ (Step (c.args.units % 65535)) _ pushed
+    c.loop.invariant)

@@ -9,7 +9,8 @@ pub returns-in_err-events-clause-runs : goal.returns-in_err-events-clause-runs
 returns-in_err-events-clause-runs g c =
     let p = err_from_is_err_and c.from_residual.result c.from_residual.ensures.1 in
     let written = seen_by g.W.Write.contents c.args.writer.now in
-    rw (p.1, p.2) (is_faulty c.in_err-events.field-0.0 c.args.channel.now c.args.channel.now written written c.args.text.now (omega arith) c.in_err-events.ensures)
+    rw (p.1, p.2) (is_faulty c.in_err-events.field-0.0 c.args.channel.now c.args.channel.now written written c.args.text.now
+    (omega arith) c.in_err-events.ensures)
 
 pub returns-in_err-events-clause-no_event : goal.returns-in_err-events-clause-no_event
 returns-in_err-events-clause-no_event g c = same_stays c.from_residual.result c.args.channel.now

@@ -8,6 +8,8 @@ returns-in-Immediate g c =
     let b = c.in-Immediate.ensures in
     let i = c.immediate in
     record {
-      begun = λ s. first_immediate a.key a.ccw a.place a.drive.now c.begin.new.self i.new.drive q.unwritten q.saved b.calls b.answer b.state s i.result i.ensures q.key q.next q.last;
-      quiet = first_quiet a.key a.ccw a.place a.drive.now c.begin.new.self i.new.drive q.unwritten q.saved b.calls b.answer b.state i.result i.ensures;
+      begun = λ s. first_immediate a.key a.ccw a.place a.drive.now c.begin.new.self i.new.drive q.unwritten q.saved b.calls b.answer b.state
+          s i.result i.ensures q.key q.next q.last;
+      quiet = first_quiet a.key a.ccw a.place a.drive.now c.begin.new.self i.new.drive q.unwritten q.saved b.calls b.answer b.state i.result
+          i.ensures;
     }

@@ -22,16 +22,21 @@ push-requires g c = room_for_one _ _ c.loop-event.event-index c.args.events.now 
 
 pub loop-event-preserved : goal.loop-event-preserved
 loop-event-preserved g c = record {
-  room = rw c.push.ensures.len (room_for_others _ _ _ c.loop-event.event-index c.args.events.now c.loop-event-test.true c.loop-event.invariant.room c.push.ensures.capacity);
+  room = rw c.push.ensures.len (room_for_others _ _ _ c.loop-event.event-index c.args.events.now c.loop-event-test.true
+      c.loop-event.invariant.room c.push.ensures.capacity);
   answered =
       rw (c.push.ensures.items, take_more c.args.events.now c.loop-event.event-index c.event-item.result c.loop-event-test.true)
-      (all_answered_one_more _ _ _ _ c.loop-event.invariant.answered (subst (λ e. IsAnswered e c.react-answer.result) c.event-item.is c.react-answer.ensures.answered));
+      (all_answered_one_more _ _ _ _ c.loop-event.invariant.answered (subst (λ e. IsAnswered e c.react-answer.result) c.event-item.is
+      c.react-answer.ensures.answered));
   driven = λ m stands.
       rw c.push.ensures.items
       (let drove = c.loop-event.invariant.driven m stands in
-      goes_on m c.args.events.now c.loop-event.event-index c.event-item.result c.loop-event.answers.items _ _ _ c.react-answer.result c.loop-event-test.true
-      (λ now is. subst (λ e. Does (event_seen e) now (answer_seen c.react-answer.result) c.loop-event.channel c.react-answer.new.channel) c.event-item.is (c.react-answer.ensures.happens now is).does)
-      (subst (λ e. CallsAtMost (most_calls (event_seen e) (answer_seen c.react-answer.result)) c.loop-event.channel c.react-answer.new.channel) c.event-item.is (c.react-answer.ensures.happens _ drove.stands).calls)
+      goes_on m c.args.events.now c.loop-event.event-index c.event-item.result c.loop-event.answers.items _ _ _ c.react-answer.result
+      c.loop-event-test.true
+      (λ now is. subst (λ e. Does (event_seen e) now (answer_seen c.react-answer.result) c.loop-event.channel c.react-answer.new.channel)
+      c.event-item.is (c.react-answer.ensures.happens now is).does)
+      (subst (λ e. CallsAtMost (most_calls (event_seen e) (answer_seen c.react-answer.result)) c.loop-event.channel
+      c.react-answer.new.channel) c.event-item.is (c.react-answer.ensures.happens _ drove.stands).calls)
       drove);
   watched = λ m stands.
       let now = (c.loop-event.invariant.driven m stands).stands in
@@ -67,4 +72,5 @@ returns-clause-watched g c m stands =
 
 pub returns-clause-answered : goal.returns-clause-answered
 returns-clause-answered g c =
-    subst (λ es. AllAnswered es c.loop-event.answers.items) (take_past c.loop-event.event-index c.args.events.now c.loop-event-test.false) c.loop-event.invariant.answered
+    subst (λ es. AllAnswered es c.loop-event.answers.items) (take_past c.loop-event.event-index c.args.events.now c.loop-event-test.false)
+    c.loop-event.invariant.answered

@@ -8,11 +8,13 @@ use Rattle.s360_trace.proofs.watching.react.Goals as goal
 pub returns-in-Step-clause-happens : goal.returns-in-Step-clause-happens
 returns-in-Step-clause-happens g c m stands =
     subst (λ e. Happens (event_seen e) m (machine.Stepped c.step.result) c.args.channel.now c.step.new.channel) (sym c.in-Step.is)
-    (subst (λ n. Happens (machine.StepBy n) m (machine.Stepped c.step.result) c.args.channel.now c.step.new.channel) c.from.ensures (c.step.ensures.happens m stands))
+    (subst (λ n. Happens (machine.StepBy n) m (machine.Stepped c.step.result) c.args.channel.now c.step.new.channel) c.from.ensures
+    (c.step.ensures.happens m stands))
 
 pub returns-in-Run-clause-happens : goal.returns-in-Run-clause-happens
 returns-in-Run-clause-happens g c m stands =
-    subst (λ e. Happens (event_seen e) m (machine.Stepped c.step-in-Run.result) c.args.channel.now c.step-in-Run.new.channel) (sym c.in-Run.is) (c.step-in-Run.ensures.happens m stands)
+    subst (λ e. Happens (event_seen e) m (machine.Stepped c.step-in-Run.result) c.args.channel.now c.step-in-Run.new.channel)
+    (sym c.in-Run.is) (c.step-in-Run.ensures.happens m stands)
 
 pub returns-in-Step-clause-within : goal.returns-in-Step-clause-within
 returns-in-Step-clause-within g c m stands =

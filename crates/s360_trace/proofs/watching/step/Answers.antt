@@ -14,8 +14,10 @@ loop-init g c = record {
 
 pub returns-then-not-runs-clause-happens : goal.returns-then-not-runs-clause-happens
 returns-then-not-runs-clause-happens g c m stands =
-    subst (λ n. Happens (machine.StepBy n) m (machine.Stepped c.loop.done) c.args.channel.now c.loop.channel) (rest_of c.loop.counter c.args.units c.loop-test.true)
-    (over_before m c.loop.counter _ c.loop.done _ _ stands.sound (c.loop.invariant.happens m stands) (λ now is. sym (c.runs.ensures now is) ∙ c.if-not-runs.true))
+    subst (λ n. Happens (machine.StepBy n) m (machine.Stepped c.loop.done) c.args.channel.now c.loop.channel)
+    (rest_of c.loop.counter c.args.units c.loop-test.true)
+    (over_before m c.loop.counter _ c.loop.done _ _ stands.sound (c.loop.invariant.happens m stands) (λ now is. sym (c.runs.ensures now is)
+    ∙ c.if-not-runs.true))
 
 pub loop-preserved : goal.loop-preserved
 loop-preserved g c = record {
@@ -32,5 +34,6 @@ loop-preserved g c = record {
 
 pub returns-clause-happens : goal.returns-clause-happens
 returns-clause-happens g c m stands =
-    subst (λ n. Happens (machine.StepBy n) m (machine.Stepped c.loop.done) c.args.channel.now c.loop.channel) (all_of c.loop.counter c.args.units c.loop.auto.counter-end c.loop-test.false)
+    subst (λ n. Happens (machine.StepBy n) m (machine.Stepped c.loop.done) c.args.channel.now c.loop.channel)
+    (all_of c.loop.counter c.args.units c.loop.auto.counter-end c.loop-test.false)
     (c.loop.invariant.happens m stands)

@@ -6,7 +6,8 @@ use Rattle.text_lines.proofs.digits.+put_digits.Goals as goal
 pub returns-then-width-lt2-clause-text : goal.returns-then-width-lt2-clause-text
 returns-then-width-lt2-clause-text t c =
     c.push.ensures.ascii c.glyph.ensures.ascii
-    ∙ ap (λ (l : List ℕ). c.args.digits.now.bytes ++ l) (ap (λ (g : ℕ). g ∷ []) c.glyph.ensures.glyph ∙ sym (last_alone c.args.width c.args.number c.if-width-lt2.true c.if-number-lt16.true))
+    ∙ ap (λ (l : List ℕ). c.args.digits.now.bytes ++ l) (ap (λ (g : ℕ). g ∷ []) c.glyph.ensures.glyph
+    ∙ sym (last_alone c.args.width c.args.number c.if-width-lt2.true c.if-number-lt16.true))
 
 pub put_digits-requires : goal.put_digits-requires
 put_digits-requires t c =

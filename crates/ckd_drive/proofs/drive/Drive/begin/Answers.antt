@@ -16,6 +16,13 @@ invariant_of-self g c = c.start-self-inside.ensures.stands
 pub returns : goal.returns
 returns g c =
     let s = c.start-self-inside in
-    let x = has_begun (parts_in c.self.inside) (parts_held s.new.self s.new.mark s.result) c.args.self.now c.args.code c.self.view_is c.requires s.ensures in
+    let x = has_begun (parts_in c.self.inside) (parts_held s.new.self s.new.mark s.result) c.args.self.now c.args.code c.self.view_is
+    c.requires s.ensures in
     let answer = c.begun.ensures ∙ x.answer in
-    record { state = x.comes.state; answer = answer; calls = x.comes.calls; reported = begin_reports c.args.self.now _ c.args.code _ x.comes.state answer x.comes.calls }
+    record {
+      state = x.comes.state;
+      answer = answer;
+      calls = x.comes.calls;
+      reported =
+          begin_reports c.args.self.now _ c.args.code _ x.comes.state answer x.comes.calls;
+    }

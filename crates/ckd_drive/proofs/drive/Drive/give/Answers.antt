@@ -6,5 +6,6 @@ use Rattle.ckd_drive.proofs.drive.Drive.give.Goals as goal
 pub invariant_of-self : goal.invariant_of-self
 invariant_of-self g c =
     let b = c.next_bytes in
-    let x = has_passed (parts_in c.self.inside) b.result.now c.args.self.now (length c.args.into.now) c.self.invariant c.in-Passing.is c.self.view_is c.requires.gives c.requires.room b.ensures.size b.ensures.bytes in
+    let x = has_passed (parts_in c.self.inside) b.result.now c.args.self.now (length c.args.into.now) c.self.invariant c.in-Passing.is
+    c.self.view_is c.requires.gives c.requires.room b.ensures.size b.ensures.bytes in
     rw (c.in-Passing.is, c.and-passed.ensures, c.give_on.ensures) (rw x.long at x.stands)

@@ -6,5 +6,6 @@ pub returns-clause-passes : goal.returns-clause-passes
 returns-clause-passes g c = λ _.
     let i = c.self.inside in (
       c.in-Some.area,
-      passing (half_done i.job) i.mark i.stage c.args.code c.args.wanted.now c.in-Some.area c.args.self.now c.in-Idle.is c.self.view_is c.in-Some.ensures,
+      passing (half_done i.job) i.mark i.stage c.args.code c.args.wanted.now c.in-Some.area c.args.self.now c.in-Idle.is c.self.view_is
+          c.in-Some.ensures,
     )

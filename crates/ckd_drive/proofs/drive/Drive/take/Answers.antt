@@ -5,9 +5,11 @@ use Rattle.ckd_drive.proofs.Moving.{taken_stands, taken_state}
 pub invariant_of-self : goal.invariant_of-self
 invariant_of-self g c =
     let t = c.absorb.ensures in
-    rw (c.in-Passing.is, c.and-self-inside.ensures, t.stays) (taken_stands {d = parts_in c.self.inside} c.self.invariant c.in-Passing.is t.absorbs)
+    rw (c.in-Passing.is, c.and-self-inside.ensures, t.stays) (taken_stands {d = parts_in c.self.inside} c.self.invariant c.in-Passing.is
+    t.absorbs)
 
 pub returns : goal.returns
 returns g c =
     let t = c.absorb.ensures in
-    rw (c.in-Passing.is, c.and-self-inside.ensures, t.stays) (taken_state {d = parts_in c.self.inside} c.args.self.now c.in-Passing.is c.self.view_is t.absorbs)
+    rw (c.in-Passing.is, c.and-self-inside.ensures, t.stays) (taken_state {d = parts_in c.self.inside} c.args.self.now c.in-Passing.is
+    c.self.view_is t.absorbs)

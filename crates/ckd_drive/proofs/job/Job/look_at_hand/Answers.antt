@@ -11,16 +11,26 @@ use Rattle.ckd_drive.proofs.job.Job.look_at_hand.Goals.{After-buffer}
 use Rattle.ckd_drive.proofs.job.Job.look_at_hand.Goals as goal
 
 -- the slot in which the area was found is in the buffer
-found : (g : Over) (c : After-buffer g) → FoundAgain (half_done c.args.self.now) (record c.args.self.now.opened { area = Some c.in-Found.area }) c.buffer.result.now
+found : (g : Over) (c : After-buffer g) → FoundAgain (half_done c.args.self.now) (record c.args.self.now.opened {
+  area =
+      Some c.in-Found.area;
+}) c.buffer.result.now
 found g c =
     let old = half_done c.args.self.now in
-    found_again old _ c.buffer.result.now c.args.kind c.requires.aim (rw c.in-Found.is at c.look_at.ensures.seen_is) (c.buffer.ensures.slot ∙ rw c.look_at.ensures.stays (slot_is old.cache (own_track old) _ c.requires.held refl))
+    found_again old _ c.buffer.result.now c.args.kind c.requires.aim (rw c.in-Found.is at c.look_at.ensures.seen_is) (c.buffer.ensures.slot
+    ∙ rw c.look_at.ensures.stays (slot_is old.cache (own_track old) _ c.requires.held refl))
 
 pub place_on-requires : goal.place_on-requires
 place_on-requires g c =
     let x = found g (goal.at.place_on-requires g c).After-buffer in
     let there = rw c.in-Found.is at c.look_at.ensures.there in
-    record { command = search rules; aim = search rules; readable = rw (x.slot_is, c.look_at.ensures.stays) x.whole; there = rw (x.slot_is, c.look_at.ensures.stays) there.1 }
+    record {
+      command = search rules;
+      aim = search rules;
+      readable = rw (x.slot_is, c.look_at.ensures.stays) x.whole;
+      there =
+          rw (x.slot_is, c.look_at.ensures.stays) there.1;
+    }
 
 pub returns-in-Found : goal.returns-in-Found
 returns-in-Found g c =
@@ -31,29 +41,47 @@ returns-in-Found g c =
     let ready = rw c.look_at.ensures.stays at p.ensures.ready in
     let stays = rw c.in-Found.is at c.look_at.ensures.registers in
     rw (c.look_at.ensures.stays, stays)
-    record { looks = found_looks old c.args.mark.now c.requires.stands _ p.new.progress p.result (rw x.slot_is at placed) (λ _. record { held = c.requires.held; whole = x.whole }) x.again x.first ready p.ensures.passing; loads = refl }
+    record {
+      looks = found_looks old c.args.mark.now c.requires.stands _ p.new.progress p.result (rw x.slot_is at placed)
+          (λ _. record { held = c.requires.held; whole = x.whole }) x.again x.first ready p.ensures.passing;
+      loads = refl;
+    }
 
 pub returns-in-IndexPassed : goal.returns-in-IndexPassed
 returns-in-IndexPassed g c =
     rw c.look_at.ensures.stays
-    record { looks = passed_looks _ c.args.mark.now c.requires.stands c.look_at.new.self.registers c.args.kind c.requires.aim c.requires.held (sym (rw c.in-IndexPassed.is at c.look_at.ensures.seen_is)); loads = refl }
+    record {
+      looks = passed_looks _ c.args.mark.now c.requires.stands c.look_at.new.self.registers c.args.kind c.requires.aim
+          c.requires.held (sym (rw c.in-IndexPassed.is at c.look_at.ensures.seen_is));
+      loads = refl;
+    }
 
 pub returns-in-Missed : goal.returns-in-Missed
 returns-in-Missed g c =
     rw c.look_at.ensures.stays
-    record { looks = missed_looks _ c.args.mark.now c.requires.stands c.look_at.new.self.registers c.requires.held (sym (rw c.in-Missed.is at c.look_at.ensures.seen_is)); loads = refl }
+    record {
+      looks = missed_looks _ c.args.mark.now c.requires.stands c.look_at.new.self.registers c.requires.held
+          (sym (rw c.in-Missed.is at c.look_at.ensures.seen_is));
+      loads = refl;
+    }
 
 pub returns-in-Ok : goal.returns-in-Ok
 returns-in-Ok g c =
     let q = c.look_at.new.self.registers in
-    let left : Leaves (half_done c.args.self.now) (half_done c.leave.new.self) c.leave.new.mark (moved_to q q.cylinder (q.head + 1)) = rw c.look_at.ensures.stays at c.in-Ok.ensures.leaves in
+    let left : Leaves (half_done c.args.self.now) (half_done c.leave.new.self) c.leave.new.mark (moved_to q q.cylinder (q.head + 1)) =
+    rw c.look_at.ensures.stays at c.in-Ok.ensures.leaves in
     record {
-      looks = next_looks _ c.args.mark.now c.requires.stands _ _ _ c.args.kind c.requires.aim (sym (rw c.in-NextHead.is at c.look_at.ensures.seen_is)) left;
+      looks = next_looks _ c.args.mark.now c.requires.stands _ _ _ c.args.kind c.requires.aim
+          (sym (rw c.in-NextHead.is at c.look_at.ensures.seen_is)) left;
       loads = ap (λ (h : HalfDone). h.cache.image.loads) left.0 ∙ loads_saved c.args.self.now.cache;
     }
 
 pub returns-in-Err : goal.returns-in-Err
 returns-in-Err g c =
     let stays = rw c.in-NextHead.is at c.look_at.ensures.registers in
-    let lost : Loses (half_done c.args.self.now) (half_done c.leave.new.self) c.leave.new.mark = rw (c.look_at.ensures.stays, stays) at c.in-Err.ensures.loses in
-    record { looks = lost_looks _ c.args.mark.now c.requires.stands _ _ _ (sym (rw c.in-NextHead.is at c.look_at.ensures.seen_is)) lost; loads = ap (λ (h : HalfDone). h.cache.image.loads) lost.job }
+    let lost : Loses (half_done c.args.self.now) (half_done c.leave.new.self) c.leave.new.mark =
+    rw (c.look_at.ensures.stays, stays) at c.in-Err.ensures.loses in
+    record {
+      looks = lost_looks _ c.args.mark.now c.requires.stands _ _ _ (sym (rw c.in-NextHead.is at c.look_at.ensures.seen_is)) lost;
+      loads = ap (λ (h : HalfDone). h.cache.image.loads) lost.job;
+    }

@@ -9,10 +9,12 @@ returns-in-Ok g c =
     let old = half_done c.args.self.now in
     let track : c.track_at-track.result ≡ own_track old = rw c.geometry.ensures.geometry at c.track_at-track.ensures.number in
     let h = c.look_at_hand in
-    held_looks old c.args.mark.now c.requires.stands c.hold.new.self c.args.kind (parts_held h.new.self h.new.mark h.result) c.requires.aim (rw track at c.in-Ok.ensures.ok) h.ensures.loads h.ensures.looks
+    held_looks old c.args.mark.now c.requires.stands c.hold.new.self c.args.kind (parts_held h.new.self h.new.mark h.result) c.requires.aim
+    (rw track at c.in-Ok.ensures.ok) h.ensures.loads h.ensures.looks
 
 pub returns-in-Err : goal.returns-in-Err
 returns-in-Err g c =
     let old = half_done c.args.self.now in
     let track : c.track_at-track.result ≡ own_track old = rw c.geometry.ensures.geometry at c.track_at-track.ensures.number in
-    unloaded_looks old c.args.mark.now c.requires.stands c.hold.new.self c.add_cause.new.registers c.args.kind c.requires.aim (rw track at c.in-Err.ensures.fails) c.in-Err.ensures.err c.add_cause.ensures
+    unloaded_looks old c.args.mark.now c.requires.stands c.hold.new.self c.add_cause.new.registers c.args.kind c.requires.aim
+    (rw track at c.in-Err.ensures.fails) c.in-Err.ensures.err c.add_cause.ensures

@@ -13,7 +13,8 @@ returns-in-NoArea g c =
     let old = half_done c.args.self.now in
     let x = c.place_without_area in
     let none : aim old.opened.command ≡ NoArea = rw c.requires.command at (sym c.aim_of.ensures ∙ c.in-NoArea.is) in
-    found_looks old c.args.mark.now c.requires.stands old.opened x.new.progress x.result (x.ensures.first (own_slot old)) (λ aimed. absurd (aimed none))
+    found_looks old c.args.mark.now c.requires.stands old.opened x.new.progress x.result (x.ensures.first (own_slot old))
+    (λ aimed. absurd (aimed none))
     (sight_without _ _ old.opened old.registers none) (sight_without _ _ old.opened old.registers none) x.ensures.ready x.ensures.passing
 
 pub returns-in-Credited : goal.returns-in-Credited
@@ -24,5 +25,7 @@ returns-in-Credited g c =
     let credit = c.requires.stands.work.credit in
     let held : old.cache.held ≡ Some (own_track old) = (rw aimed at credit).held in
     let slot = slot_is old.cache (own_track old) c.buffer.result.now held c.buffer.ensures.slot in
-    found_looks old c.args.mark.now c.requires.stands old.opened x.new.progress x.result (rw slot at (x.ensures.first old.registers)) (credit_hand old.cache (own_track old) old.opened aimed credit)
-    (sight_credited _ _ old.opened old.registers aimed) (sight_credited _ _ old.opened old.registers aimed) x.ensures.ready x.ensures.passing
+    found_looks old c.args.mark.now c.requires.stands old.opened x.new.progress x.result (rw slot at (x.ensures.first old.registers))
+    (credit_hand old.cache (own_track old) old.opened aimed credit)
+    (sight_credited _ _ old.opened old.registers aimed) (sight_credited _ _ old.opened old.registers aimed) x.ensures.ready
+    x.ensures.passing

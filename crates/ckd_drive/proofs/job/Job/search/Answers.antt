@@ -11,7 +11,9 @@ returns g c =
     let placed = rw c.requires.at at c.requires.may.works.goes.placed in
     rw (c.search_on.ensures, c.behind.ensures)
     record {
-      absorbs = search_absorbs half c.args.bytes.now c.bytes.result.now c.args.window c.args.so_far c.compared-so_far.result c.requires.may c.requires.at
-          (c.bytes.ensures ∙ slot_is half.cache (own_track half) c.buffer.result.now placed.0.at_hand.held c.buffer.ensures.slot) c.compared-so_far.ensures;
+      absorbs = search_absorbs half c.args.bytes.now c.bytes.result.now c.args.window c.args.so_far c.compared-so_far.result c.requires.may
+          c.requires.at
+          (c.bytes.ensures ∙ slot_is half.cache (own_track half) c.buffer.result.now placed.0.at_hand.held c.buffer.ensures.slot)
+          c.compared-so_far.ensures;
       stays = refl;
     }

@@ -11,4 +11,5 @@ returns g c =
     let at = rw track at c.in_ok-buffer.ensures in
     let lies = rw c.extent.ensures at c.part.ensures.lies in
     let fails = rw (c.comparison.ensures, c.bytes.ensures) at (sym c.verdict.ensures.value ∙ c.if-verdict.false) in
-    is_unlike h c.args.command c.args.kind c.args.wanted.now c.in_ok-buffer.buffer.now c.in-Found.area _ at (search rules) c.in-Found.ensures.next lies (c.if-window-wanted.false, fails)
+    is_unlike h c.args.command c.args.kind c.args.wanted.now c.in_ok-buffer.buffer.now c.in-Found.area _ at
+    (search rules) c.in-Found.ensures.next lies (c.if-window-wanted.false, fails)

@@ -9,7 +9,8 @@ use Rattle.ckd_image.proofs.images.Image.save.Goals as goal
 pub write_slot-requires-clause-exists : goal.write_slot-requires-clause-exists
 write_slot-requires-clause-exists g c =
     let i = c.self.inside in
-    rw (tracks_held g.S.ImageStore.content i.geometry (listed i.stores) i.tracks c.self.invariant.0 c.self.invariant.1 (search rules)) (rw (← c.self.view_is) at c.requires.exists)
+    rw (tracks_held g.S.ImageStore.content i.geometry (listed i.stores) i.tracks c.self.invariant.0 c.self.invariant.1 (search rules))
+    (rw (← c.self.view_is) at c.requires.exists)
 
 pub returns : goal.returns
 returns g c =
@@ -18,7 +19,10 @@ returns g c =
     let new = each g.S.ImageStore.content (listed c.write_slot.new.stores) in
     let origins = each g.S.ImageStore.origin (listed i.stores) in
     let failures = sum (each g.S.ImageStore.failures (listed c.write_slot.new.stores)) in
-    let it = saved i.geometry (each g.S.ImageStore.content (listed i.stores)) new origins c.args.slot.now c.args.track (sum (each g.S.ImageStore.failures (listed i.stores))) failures i.loads i.saves c.write_slot.result c.self.invariant.0 (ap accepted e.heads ∙ c.self.invariant.0)
+    let it = saved i.geometry (each g.S.ImageStore.content (listed i.stores)) new origins c.args.slot.now c.args.track
+    (sum (each g.S.ImageStore.failures (listed i.stores))) failures i.loads i.saves c.write_slot.result c.self.invariant.0
+    (ap accepted e.heads ∙ c.self.invariant.0)
     (rw (← c.self.view_is) at c.requires.exists) (rw (← c.self.view_is) at c.requires.size) e.headers e.written e.torn e.counted in
-    let k = subst (λ (was : ImageState). Saved was (seen i.geometry new origins failures i.loads (i.saves + 1)) c.args.slot.now c.args.track c.write_slot.result) c.self.view_is it in
+    let k = subst (λ (was : ImageState). Saved was (seen i.geometry new origins failures i.loads (i.saves + 1)) c.args.slot.now c.args.track
+    c.write_slot.result) c.self.view_is it in
     rw (e.same, c.next-self-inside.ensures) (record { geometry = k.geometry; ok = k.ok; err = k.err; size = k.size })

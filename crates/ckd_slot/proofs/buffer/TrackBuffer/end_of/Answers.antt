@@ -8,7 +8,11 @@ use Rattle.ckd_slot.proofs.buffer.TrackBuffer.end_of.Goals as goal
 pub returns-then-records-eq0 : goal.returns-then-records-eq0
 returns-then-records-eq0 c =
     let r = reads (rw c.self.view_is at c.self.invariant) c.requires.readable in
-    rw c.if-records-eq0.true (record { place = omega (arith, r.spells.home_address); room = omega (arith, few_records c.args.self.now (track_in c.args.self.now) r.spells) })
+    rw c.if-records-eq0.true (record {
+      place = omega (arith, r.spells.home_address);
+      room =
+          omega (arith, few_records c.args.self.now (track_in c.args.self.now) r.spells);
+    })
 
 pub record_window-requires-clause-room : goal.record_window-requires-clause-room
 record_window-requires-clause-room c =

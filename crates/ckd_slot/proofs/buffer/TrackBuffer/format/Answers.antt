@@ -11,56 +11,66 @@ use Rattle.ckd_slot.proofs.buffer.TrackBuffer.format.Goals as goal
 
 pub overflow_sub-place : goal.overflow_sub-place
 overflow_sub-place c =
-    let m = made_by c.args.number c.args.count c.args.place (rw c.self.view_is at c.self.invariant) c.requires.readable (are_bytes c.args.count (search rules)) (search rules) c.requires.can in
+    let m = made_by c.args.number c.args.count c.args.place (rw c.self.view_is at c.self.invariant) c.requires.readable
+    (are_bytes c.args.count (search rules)) (search rules) c.requires.can in
     omega (arith, m.start)
 
 pub overflow_cast-place : goal.overflow_cast-place
 overflow_cast-place c =
-    let m = made_by c.args.number c.args.count c.args.place (rw c.self.view_is at c.self.invariant) c.requires.readable (are_bytes c.args.count (search rules)) (search rules) c.requires.can in
+    let m = made_by c.args.number c.args.count c.args.place (rw c.self.view_is at c.self.invariant) c.requires.readable
+    (are_bytes c.args.count (search rules)) (search rules) c.requires.can in
     omega (arith, m.room, m.size)
 
 pub index_mut-requires : goal.index_mut-requires
 index_mut-requires c =
     let x = rw c.self.view_is at c.self.invariant in
-    let m = made_by c.args.number c.args.count c.args.place x c.requires.readable (are_bytes c.args.count (search rules)) (search rules) c.requires.can in
+    let m = made_by c.args.number c.args.count c.args.place x c.requires.readable (are_bytes c.args.count (search rules))
+    (search rules) c.requires.can in
     omega (arith, m.few, x.indexed.room)
 
 pub overflow_add-self : goal.overflow_add-self
 overflow_add-self c =
-    let m = made_by c.args.number c.args.count c.args.place (rw c.self.view_is at c.self.invariant) c.requires.readable (are_bytes c.args.count (search rules)) (search rules) c.requires.can in
+    let m = made_by c.args.number c.args.count c.args.place (rw c.self.view_is at c.self.invariant) c.requires.readable
+    (are_bytes c.args.count (search rules)) (search rules) c.requires.can in
     omega (arith, m.few, m.size)
 
 pub overflow_add-self-2 : goal.overflow_add-self-2
 overflow_add-self-2 c =
-    let m = made_by c.args.number c.args.count c.args.place (rw c.self.view_is at c.self.invariant) c.requires.readable (are_bytes c.args.count (search rules)) (search rules) c.requires.can in
+    let m = made_by c.args.number c.args.count c.args.place (rw c.self.view_is at c.self.invariant) c.requires.readable
+    (are_bytes c.args.count (search rules)) (search rules) c.requires.can in
     omega (arith, m.room, m.size)
 
 pub overflow_add-self-3 : goal.overflow_add-self-3
 overflow_add-self-3 c =
-    let m = made_by c.args.number c.args.count c.args.place (rw c.self.view_is at c.self.invariant) c.requires.readable (are_bytes c.args.count (search rules)) (search rules) c.requires.can in
+    let m = made_by c.args.number c.args.count c.args.place (rw c.self.view_is at c.self.invariant) c.requires.readable
+    (are_bytes c.args.count (search rules)) (search rules) c.requires.can in
     omega (arith, m.room, m.size)
 
 pub write_record-requires-clause-before : goal.write_record-requires-clause-before
 write_record-requires-clause-before c =
-    let m = made_by c.args.number c.args.count c.args.place (rw c.self.view_is at c.self.invariant) c.requires.readable (are_bytes c.args.count (search rules)) (search rules) c.requires.can in
+    let m = made_by c.args.number c.args.count c.args.place (rw c.self.view_is at c.self.invariant) c.requires.readable
+    (are_bytes c.args.count (search rules)) (search rules) c.requires.can in
     omega (arith, m.start)
 
 pub write_record-requires-clause-room : goal.write_record-requires-clause-room
 write_record-requires-clause-room c =
-    let m = made_by c.args.number c.args.count c.args.place (rw c.self.view_is at c.self.invariant) c.requires.readable (are_bytes c.args.count (search rules)) (search rules) c.requires.can in
+    let m = made_by c.args.number c.args.count c.args.place (rw c.self.view_is at c.self.invariant) c.requires.readable
+    (are_bytes c.args.count (search rules)) (search rules) c.requires.can in
     rw (c.deref_mut.ensures.value ∙ c.self.view_is) m.room
 
 pub invariant_of-self : goal.invariant_of-self
 invariant_of-self c =
     let s = c.args.self.now in
     let x = rw c.self.view_is at c.self.invariant in
-    let m = made_by c.args.number c.args.count c.args.place x c.requires.readable (are_bytes c.args.count (search rules)) (search rules) c.requires.can in
+    let m = made_by c.args.number c.args.count c.args.place x c.requires.readable (are_bytes c.args.count (search rules))
+    (search rules) c.requires.can in
     let k = m.fitting in
     let i = c.self.inside in
     let made = slot_of (length s) (made_on (track_of s) c.args.number c.args.count) in
     let at = end_of_records (track_in s) c.args.number in
     let z = at + 8 + body_length c.args.count + 8 in
-    let begun = rw (c.deref_mut.ensures.value ∙ c.self.view_is) at c.write_record.ensures ∙ written_slot k c.args.place c.args.bytes.now m.place c.requires.can.room in
+    let begun = rw (c.deref_mut.ensures.value ∙ c.self.view_is) at c.write_record.ensures
+    ∙ written_slot k c.args.place c.args.bytes.now m.place c.requires.can.room in
     let behind : c.args.place.start - 8 ≡ at = omega (arith, m.start) in
     let last : c.args.place.start + c.args.place.len + 8 ≡ z = omega (arith, m.start, m.len) in
     let room = format_room k in
@@ -72,9 +82,12 @@ invariant_of-self c =
     let long = length-slot_of (length s) (made_on (track_of s) c.args.number c.args.count) (format_fits k).room in
     let most : max z (c.args.place.start + length c.args.bytes.now) ≡ z = omega (arith, last, c.requires.can.room) in
     rw (with_items_is i.slot c.write_record.new.slot (search rules), begun, behind, last)
-    (rw most at (put_buffer c.args.place.start c.args.bytes.now base (omega (arith, last, long, room, c.requires.can.room)) c.requires.can.begins))
+    (rw most at (put_buffer c.args.place.start c.args.bytes.now base (omega (arith, last, long, room, c.requires.can.room))
+    c.requires.can.begins))
 
 pub returns-clause-slot : goal.returns-clause-slot
 returns-clause-slot c =
-    let m = made_by c.args.number c.args.count c.args.place (rw c.self.view_is at c.self.invariant) c.requires.readable (are_bytes c.args.count (search rules)) (search rules) c.requires.can in
-    rw (with_items_is c.self.inside.slot c.write_record.new.slot (search rules)) (rw (c.deref_mut.ensures.value ∙ c.self.view_is) at c.write_record.ensures ∙ written_slot m.fitting c.args.place c.args.bytes.now m.place c.requires.can.room)
+    let m = made_by c.args.number c.args.count c.args.place (rw c.self.view_is at c.self.invariant) c.requires.readable
+    (are_bytes c.args.count (search rules)) (search rules) c.requires.can in
+    rw (with_items_is c.self.inside.slot c.write_record.new.slot (search rules)) (rw (c.deref_mut.ensures.value
+    ∙ c.self.view_is) at c.write_record.ensures ∙ written_slot m.fitting c.args.place c.args.bytes.now m.place c.requires.can.room)

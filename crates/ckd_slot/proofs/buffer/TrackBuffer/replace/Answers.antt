@@ -17,7 +17,8 @@ write_area-requires c =
     let u = c.requires.there in
     let k = replaces s (track_in s) u.extent u.area w c.args.bytes.now (reads x c.requires.readable).spells u.is c.requires.first in
     let end : c.end_of-end.result ≡ end_offset (track_in s) = rw c.count.ensures at c.end_of-end.ensures.place ∙ end_is (track_in s) in
-    let area : w.start + w.len ≤ c.end_of-end.result = omega (arith, end, k.within, length-padded c.args.bytes.now w.len c.requires.first) in
+    let area : w.start + w.len ≤ c.end_of-end.result = omega (arith, end, k.within, length-padded c.args.bytes.now w.len c.requires.first)
+    in
     rw (c.deref_mut.ensures.value ∙ c.self.view_is) (record {
       area = area;
       room = c.end_of-end.ensures.room;
@@ -36,18 +37,31 @@ invariant_of-self c =
     let r = reads x c.requires.readable in
     let u = c.requires.there in
     let k = replaces s (track_in s) u.extent u.area c.args.place c.args.bytes.now r.spells u.is c.requires.first in
-    rw (with_items_is c.self.inside.slot c.write_area.new.slot (search rules), rw (c.deref_mut.ensures.value ∙ c.self.view_is, end_there c) at c.write_area.ensures ∙ k.law, end_there c) (updated_buffer x r k)
+    rw (
+      with_items_is c.self.inside.slot c.write_area.new.slot (search rules),
+      rw (
+        c.deref_mut.ensures.value ∙ c.self.view_is,
+        end_there c,
+      ) at c.write_area.ensures ∙ k.law,
+      end_there c,
+    ) (updated_buffer x r k)
 
 pub returns-clause-slot : goal.returns-clause-slot
 returns-clause-slot c = λ e a u.
     (let s = c.args.self.now in
-    let k = replaces s (track_in s) e a c.args.place c.args.bytes.now (reads (rw c.self.view_is at c.self.invariant) c.requires.readable).spells u c.requires.first in
-    rw (with_items_is c.self.inside.slot c.write_area.new.slot (search rules)) (rw (c.deref_mut.ensures.value ∙ c.self.view_is, end_there c) at c.write_area.ensures ∙ k.law))
+    let k = replaces s (track_in s) e a c.args.place c.args.bytes.now
+    (reads (rw c.self.view_is at c.self.invariant) c.requires.readable).spells u c.requires.first in
+    rw (with_items_is c.self.inside.slot c.write_area.new.slot (search rules)) (rw (
+      c.deref_mut.ensures.value ∙ c.self.view_is,
+      end_there c,
+    ) at c.write_area.ensures ∙ k.law))
 
 pub returns-clause-fits : goal.returns-clause-fits
 returns-clause-fits c = λ e a u.
     (let s = c.args.self.now in
-    (replaces s (track_in s) e a c.args.place c.args.bytes.now (reads (rw c.self.view_is at c.self.invariant) c.requires.readable).spells u c.requires.first).fits)
+    (replaces s (track_in s) e a c.args.place c.args.bytes.now (reads (rw c.self.view_is at c.self.invariant) c.requires.readable).spells u
+    c.requires.first).fits)
 
 pub returns-clause-fitted : goal.returns-clause-fitted
-returns-clause-fitted c = spelled_fits c.args.self.now (track_in c.args.self.now) (reads (rw c.self.view_is at c.self.invariant) c.requires.readable).spells
+returns-clause-fitted c = spelled_fits c.args.self.now (track_in c.args.self.now)
+    (reads (rw c.self.view_is at c.self.invariant) c.requires.readable).spells

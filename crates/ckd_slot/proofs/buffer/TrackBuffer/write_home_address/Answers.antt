@@ -16,7 +16,8 @@ invariant_of-self c =
     let five : length ha ≡ 5 = search rules in
     let made = rw (c.deref_mut.ensures.value ∙ c.self.view_is) at c.put_home_address.ensures in
     rw (with_items_is i.slot c.put_home_address.new.slot (search rules)) (record {
-      indexed = rw (made ∙ ha_slot s ha five c.requires) (indexed_slot (length s) (bare_track ha) i.offsets.items 0 (bare_fits (length s) ha five c.requires) x.indexed.room x.indexed.size (omega arith) refl);
+      indexed = rw (made ∙ ha_slot s ha five c.requires) (indexed_slot (length s) (bare_track ha) i.offsets.items 0
+          (bare_fits (length s) ha five c.requires) x.indexed.room x.indexed.size (omega arith) refl);
       cleared = ended_zeros s 0 ha 5 c.put_home_address.new.slot (omega (arith, five, c.requires)) c.requires made;
       charges = c.keep.ensures.kept (track_in i.slot.items).records _ refl c.self.invariant.charges;
     })
@@ -24,4 +25,5 @@ invariant_of-self c =
 pub returns-clause-slot : goal.returns-clause-slot
 returns-clause-slot c =
     let made = rw (c.deref_mut.ensures.value ∙ c.self.view_is) at c.put_home_address.ensures in
-    rw (with_items_is c.self.inside.slot c.put_home_address.new.slot (search rules)) (made ∙ ha_slot c.args.self.now c.args.home_address (search rules) c.requires)
+    rw (with_items_is c.self.inside.slot c.put_home_address.new.slot (search rules)) (made
+    ∙ ha_slot c.args.self.now c.args.home_address (search rules) c.requires)

@@ -5,4 +5,5 @@ use Rattle.ckd_slot.proofs.cache.TrackCache.put.Goals as goal
 
 pub returns : goal.returns
 returns g c =
-    rw (← c.self.view_is) (write_is (λ (s : List ℕ). overwritten s c.args.at c.args.bytes.now) c.self.invariant (rw (← c.self.view_is) at c.requires.held) c.put.ensures.slot)
+    rw (← c.self.view_is) (write_is (λ (s : List ℕ). overwritten s c.args.at c.args.bytes.now) c.self.invariant
+    (rw (← c.self.view_is) at c.requires.held) c.put.ensures.slot)

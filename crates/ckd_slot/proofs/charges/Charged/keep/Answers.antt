@@ -8,5 +8,6 @@ pub returns-else-self-records-clause-kept : goal.returns-else-self-records-claus
 returns-else-self-records-clause-kept c = λ old new same is.
     (let n = c.args.self.now.records in
     let le : n ≤ c.args.records = omega arith in
-    let first : take n old ≡ take n new = sym (take-take n c.args.records old le) ∙ ap (λ (rs : List Record). take n rs) (sym same) ∙ take-take n c.args.records new le in
+    let first : take n old ≡ take n new = sym (take-take n c.args.records old le) ∙ ap (λ (rs : List Record). take n rs) (sym same)
+    ∙ take-take n c.args.records new le in
     is ∙ ap (λ (rs : List Record). capacity_left c.args.self.now.model rs) first)

@@ -4,4 +4,5 @@ use Rattle.dasd_contents.proofs.Spelled.{year_and_day}
 use Rattle.dasd_contents.proofs.words.DayDisplay.fmt.Goals as goal
 
 pub returns-clause-writes : goal.returns-clause-writes
-returns-clause-writes g c plain ok = has_written_of_eq _ _ _ _ _ (year_and_day c.args.self.now.wide c.args.self.now.date (1900 + c.from.result) (search (rules, tests)) (search rules)) (search rules)
+returns-clause-writes g c plain ok = has_written_of_eq _ _ _ _ _ (year_and_day c.args.self.now.wide c.args.self.now.date
+    (1900 + c.from.result) (search (rules, tests)) (search rules)) (search rules)

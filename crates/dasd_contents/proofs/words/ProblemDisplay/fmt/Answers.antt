@@ -9,4 +9,5 @@ returns-in-UnknownFormat-clause-writes g c plain ok =
 
 pub returns-in-OtherNumber-clause-writes : goal.returns-in-OtherNumber-clause-writes
 returns-in-OtherNumber-clause-writes g c plain ok =
-    has_written_of_eq _ _ _ _ _ (other_number c.args.self.now c.in-OtherNumber.found c.in-OtherNumber.said c.in-OtherNumber.is) (search rules)
+    has_written_of_eq _ _ _ _ _ (other_number c.args.self.now c.in-OtherNumber.found c.in-OtherNumber.said c.in-OtherNumber.is)
+    (search rules)

@@ -16,6 +16,8 @@ returns-in-Ok-clause-slot g c =
     let size = i.geometry.track_size in
     let exists : c.args.track < tracks_of i.geometry = rw (← c.self.view_is) at c.requires.exists in
     let long : length slot ≡ size = c.load_from.auto.slot ∙ (rw (← c.self.view_is) at c.requires.size) in
-    let it = slot_read i.geometry contents i.tracks.items c.args.track slot c.self.invariant.2 (length-map i.files.items content ∙ c.self.invariant.1) exists long
-    (subst (λ (ts : List ℕ). StandsIn (slice_index_or contents (place_in ts c.args.track).file None) (512 + (place_in ts c.args.track).track * size) slot) c.as_slice.ensures.value c.in-Ok.ensures.read) in
+    let it = slot_read i.geometry contents i.tracks.items c.args.track slot c.self.invariant.2 (length-map i.files.items content
+    ∙ c.self.invariant.1) exists long
+    (subst (λ (ts : List ℕ). StandsIn (slice_index_or contents (place_in ts c.args.track).file None) (512 + (place_in ts c.args.track).track
+    * size) slot) c.as_slice.ensures.value c.in-Ok.ensures.read) in
     subst (λ (v : OpenedState). IsSlotOf (volume_in v.geometry v.contents) c.args.track slot) c.self.view_is it

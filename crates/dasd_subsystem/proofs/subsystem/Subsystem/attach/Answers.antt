@@ -12,5 +12,10 @@ returns-clause-refused c =
     let files = map (λ (file : Bor (List ℕ)). file.now) c.args.files.now in
     let some : is_some o ≡ true = search (rules, tests) in
     err_then c.attach_image.result (Refuses o device) (NotAttached o device files)
-    (λ e h. not_taken o device files e some (record { few = c.in_ok-image.ensures.few; image = c.in_ok-image.image; of_files = c.in_ok-image.ensures.image }) h)
+    (λ e h. not_taken o device files e some (record {
+      few = c.in_ok-image.ensures.few;
+      image = c.in_ok-image.image;
+      of_files =
+          c.in_ok-image.ensures.image;
+    }) h)
     c.attach_image.ensures.refused

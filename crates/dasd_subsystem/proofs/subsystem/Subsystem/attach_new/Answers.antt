@@ -9,7 +9,8 @@ use Rattle.dasd_subsystem.proofs.subsystem.Subsystem.attach_new.Goals as goal
 -- the image is the new one
 pub returns-clause-attached : goal.returns-clause-attached
 returns-clause-attached c =
-    subst (λ (i : ImageState). OnOk c.attach_image.result (AttachesImage c.args.address i c.args.self.now.channels c.attach_image.new.channels))
+    subst (λ (i : ImageState). OnOk c.attach_image.result
+    (AttachesImage c.args.address i c.args.self.now.channels c.attach_image.new.channels))
     c.in_ok-image.ensures.image c.attach_image.ensures.attached
 
 -- there is a volume, and the channel refuses it

@@ -9,16 +9,20 @@ pub returns-in-Tio-clause-does : goal.returns-in-Tio-clause-does
 returns-in-Tio-clause-does g c m stands = rw c.in-Tio.is (quiet_does _ m _ _ _ stands (c.tio.ensures.does m stands) c.tio.ensures.calls)
 
 pub returns-in-Arrive-clause-does : goal.returns-in-Arrive-clause-does
-returns-in-Arrive-clause-does g c m stands = rw c.in-Arrive.is (quiet_does _ m _ _ _ stands (c.arrive.ensures.does m stands) c.arrive.ensures.calls)
+returns-in-Arrive-clause-does g c m stands =
+    rw c.in-Arrive.is (quiet_does _ m _ _ _ stands (c.arrive.ensures.does m stands) c.arrive.ensures.calls)
 
 pub returns-in-Interrupt-clause-does : goal.returns-in-Interrupt-clause-does
-returns-in-Interrupt-clause-does g c m stands = rw c.in-Interrupt.is (quiet_does _ m _ _ _ stands (c.interrupt.ensures.does m stands) c.interrupt.ensures.calls)
+returns-in-Interrupt-clause-does g c m stands =
+    rw c.in-Interrupt.is (quiet_does _ m _ _ _ stands (c.interrupt.ensures.does m stands) c.interrupt.ensures.calls)
 
 pub returns-in-Store-clause-does : goal.returns-in-Store-clause-does
-returns-in-Store-clause-does g c m stands = rw (c.in-Store.is, c.is_ok.ensures.value, ← c.as_slice.ensures.value) (quiet_does _ m _ _ _ stands (c.poke.ensures.does m stands) c.poke.ensures.calls)
+returns-in-Store-clause-does g c m stands = rw (c.in-Store.is, c.is_ok.ensures.value, ← c.as_slice.ensures.value)
+    (quiet_does _ m _ _ _ stands (c.poke.ensures.does m stands) c.poke.ensures.calls)
 
 pub returns-in-Key-clause-does : goal.returns-in-Key-clause-does
-returns-in-Key-clause-does g c m stands = rw (c.in-Key.is, c.is_ok-in-Key.ensures.value, ← c.get.ensures.value) (quiet_does _ m _ _ _ stands (c.set_key.ensures.does m stands) c.set_key.ensures.calls)
+returns-in-Key-clause-does g c m stands = rw (c.in-Key.is, c.is_ok-in-Key.ensures.value, ← c.get.ensures.value)
+    (quiet_does _ m _ _ _ stands (c.set_key.ensures.does m stands) c.set_key.ensures.calls)
 
 pub returns-in-Show-clause-does : goal.returns-in-Show-clause-does
 returns-in-Show-clause-does g c m stands = rw c.in-Show.is (quiet_does _ m _ _ _ stands (c.shown.ensures m stands) refl)

@@ -3,7 +3,10 @@ use Rattle.s360_channel.proofs.Slots.{puts, drive_changes}
 use Rattle.s360_channel.proofs.drives.Drives.start.Goals as goal
 
 pub invariant_of-self : goal.invariant_of-self
-invariant_of-self g c = (puts _ _ _ c.self.invariant c.self.view_is (slice_get_within c.args.self.now c.args.place c.requires.attached c.requires.is_there) c.as_mut_slice.ensures.value c.in-Some.is).held
+invariant_of-self g c =
+    (puts _ _ _ c.self.invariant c.self.view_is (slice_get_within c.args.self.now c.args.place c.requires.attached c.requires.is_there)
+    c.as_mut_slice.ensures.value c.in-Some.is).held
 
 pub returns : goal.returns
-returns g c = drive_changes (puts _ _ _ c.self.invariant c.self.view_is (slice_get_within c.args.self.now c.args.place c.requires.attached c.requires.is_there) c.as_mut_slice.ensures.value c.in-Some.is) c.start.ensures
+returns g c = drive_changes (puts _ _ _ c.self.invariant c.self.view_is (slice_get_within c.args.self.now c.args.place c.requires.attached
+    c.requires.is_there) c.as_mut_slice.ensures.value c.in-Some.is) c.start.ensures

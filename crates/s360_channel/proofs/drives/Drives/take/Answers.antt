@@ -3,7 +3,8 @@ use Rattle.s360_channel.proofs.Slots.{held_at, never_none, removed}
 use Rattle.s360_channel.proofs.drives.Drives.take.Goals as goal
 
 pub unreachable-requires : goal.unreachable-requires
-unreachable-requires g c = never_none c.args.self.now c.args.place c.requires (sym c.in-None.is ∙ held_at _ c.self.invariant c.self.view_is c.requires c.remove.ensures.value)
+unreachable-requires g c = never_none c.args.self.now c.args.place c.requires (sym c.in-None.is
+    ∙ held_at _ c.self.invariant c.self.view_is c.requires c.remove.ensures.value)
 
 pub invariant_of-self : goal.invariant_of-self
 invariant_of-self g c = (removed _ _ c.self.invariant c.self.view_is c.remove.ensures.items).0

@@ -6,8 +6,10 @@ use Rattle.s360_channel.proofs.Slots.{first_taken}
 use Rattle.s360_channel.proofs.drives.Drives.take_first.Goals as goal
 
 pub returns-clause-taken : goal.returns-clause-taken
-returns-clause-taken g c = subst (λ us. TakesFirst c.args.self.now us (Some (c.device.inside.device, c.into_image.result))) (sym c.take.ensures.becomes)
-    (first_taken c.args.self.now c.take.result c.into_inner.result c.device.inside.device c.into_image.result c.take.ensures.was (ap (λ (u : AttachedState). u.device) c.device.view_is)
+returns-clause-taken g c = subst (λ us. TakesFirst c.args.self.now us (Some (c.device.inside.device, c.into_image.result)))
+    (sym c.take.ensures.becomes)
+    (first_taken c.args.self.now c.take.result c.into_inner.result c.device.inside.device c.into_image.result c.take.ensures.was
+    (ap (λ (u : AttachedState). u.device) c.device.view_is)
     (c.into_inner.ensures ∙ ap (λ (u : AttachedState). u.drive) c.device.view_is) c.into_image.ensures.image c.into_image.ensures.volume)
 
 pub returns-clause-rests : goal.returns-clause-rests

@@ -37,7 +37,8 @@ invariant_of-self-in-Some g c =
     let a = c.advance-advance in
     does_selector (StepBy c.args.units) (Stepped a.result.done) (2 * a.result.done) _ _ _ (holds a.new.storage)
     (rw (← c.self.view_is) at c.is_over.ensures) refl a.ensures.advances.how.storage
-    (λ m s. step_ends _ m c.in-Working.place c.in-Working.running c.in-Working.is s c.args.units a.result a.new.running (holds a.new.storage)
+    (λ m s. step_ends _ m c.in-Working.place c.in-Working.running c.in-Working.is s c.args.units a.result a.new.running
+    (holds a.new.storage)
     a.new.self a.ensures.advances c.in-Some.csw c.in-Some.motion c.in-Some.is _ _ c.end_program.ensures)
 
 pub invariant_of-self-in_default-ending : goal.invariant_of-self-in_default-ending
@@ -46,14 +47,16 @@ invariant_of-self-in_default-ending g c =
     let a = c.advance-advance in
     does_selector (StepBy c.args.units) (Stepped a.result.done) (2 * a.result.done) _ _ _ (holds a.new.storage)
     (rw (← c.self.view_is) at c.is_over.ensures) refl a.ensures.advances.how.storage
-    (λ m s. step_goes_on _ m c.in-Working.place c.in-Working.running c.in-Working.is s c.args.units a.result a.new.running (holds a.new.storage)
+    (λ m s. step_goes_on _ m c.in-Working.place c.in-Working.running c.in-Working.is s c.args.units a.result a.new.running
+    (holds a.new.storage)
     a.new.self a.ensures.advances (none_left a.result.ending c.in_default-ending.not-Some))
 
 pub returns-in-Some-clause-does : goal.returns-in-Some-clause-does
 returns-in-Some-clause-does g c =
     let holds = g.M.MainStorage.holds in
     rw (← c.self.view_is) (λ m s. let a = c.advance-advance in
-    (step_ends _ m c.in-Working.place c.in-Working.running c.in-Working.is s c.args.units a.result a.new.running (holds a.new.storage) a.new.self
+    (step_ends _ m c.in-Working.place c.in-Working.running c.in-Working.is s c.args.units a.result a.new.running
+    (holds a.new.storage) a.new.self
     a.ensures.advances c.in-Some.csw c.in-Some.motion c.in-Some.is _ _ c.end_program.ensures).0)
 
 pub returns-in-Some-clause-most : goal.returns-in-Some-clause-most
@@ -70,7 +73,8 @@ returns-in-Some-clause-calls g c =
     let a = c.advance-advance in
     let is = (rw (← c.self.view_is) at c.is_over.ensures).channel in
     rw (← c.self.view_is) (step_ends _ is.machine c.in-Working.place c.in-Working.running c.in-Working.is is.stands c.args.units a.result
-    a.new.running (holds a.new.storage) a.new.self a.ensures.advances c.in-Some.csw c.in-Some.motion c.in-Some.is _ _ c.end_program.ensures).1
+    a.new.running (holds a.new.storage) a.new.self a.ensures.advances c.in-Some.csw c.in-Some.motion c.in-Some.is _ _
+    c.end_program.ensures).1
 
 pub returns-in-Some-clause-keeps : goal.returns-in-Some-clause-keeps
 returns-in-Some-clause-keeps g c = c.advance-advance.ensures.advances.how.storage

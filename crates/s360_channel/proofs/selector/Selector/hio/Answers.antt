@@ -15,7 +15,8 @@ returns-in-Idle-clause-does g c =
     let holds = g.M.MainStorage.holds in
     rw (← c.self.view_is) (λ m s.
     let k = c.halt_device in
-    (halts_idle _ m c.args.address s c.if-address-self.false c.in-Idle.is k.result (holds k.new.storage) k.ensures.answer k.ensures.storage).0)
+    (halts_idle _ m c.args.address s c.if-address-self.false c.in-Idle.is k.result (holds k.new.storage) k.ensures.answer
+    k.ensures.storage).0)
 
 pub returns-in-Idle-clause-calls : goal.returns-in-Idle-clause-calls
 returns-in-Idle-clause-calls g c = none_calls 1 _ _ refl

@@ -19,7 +19,8 @@ invariant_of-self g c =
     let is = rw (← c.self.view_is) at c.is_over.ensures in
     let k = c.interrupt_device in
     quiet_selector Interrupt (Interrupted k.result) _ _ _ (holds k.new.storage) is refl k.ensures.keeps (λ m st.
-    rw c.in-Idle.is (interrupt_idle c.self.inside.number (holds c.args.storage.now) c.self.inside.drives m k.result (holds k.new.storage) k.new.drives
+    rw c.in-Idle.is (interrupt_idle c.self.inside.number (holds c.args.storage.now) c.self.inside.drives m k.result
+    (holds k.new.storage) k.new.drives
     (rw c.in-Idle.is at st) k.ensures.does k.ensures.images))
 
 pub returns-in-Idle-clause-does : goal.returns-in-Idle-clause-does
@@ -27,7 +28,8 @@ returns-in-Idle-clause-does g c =
     let holds = g.M.MainStorage.holds in
     rw (← c.self.view_is) (λ m st.
     let k = c.interrupt_device in
-    rw c.in-Idle.is (interrupt_idle c.self.inside.number (holds c.args.storage.now) c.self.inside.drives m k.result (holds k.new.storage) k.new.drives
+    rw c.in-Idle.is (interrupt_idle c.self.inside.number (holds c.args.storage.now) c.self.inside.drives m k.result
+    (holds k.new.storage) k.new.drives
     (rw c.in-Idle.is at st) k.ensures.does k.ensures.images))
 
 pub returns-in-Idle-clause-calls : goal.returns-in-Idle-clause-calls

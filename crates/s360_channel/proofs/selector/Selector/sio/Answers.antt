@@ -15,7 +15,8 @@ returns-in_default-clause-does g c =
     let holds = g.M.MainStorage.holds in
     let i = c.self.inside in
     rw (← c.self.view_is)
-    (λ m st. start_busy c.args.address i.number (holds c.args.storage.now) i.subchannel i.drives m st c.if-address-self.false c.in_default.not-Idle)
+    (λ m st. start_busy c.args.address i.number (holds c.args.storage.now) i.subchannel i.drives m st c.if-address-self.false
+    c.in_default.not-Idle)
 
 pub returns-in_default-place_of-clause-does : goal.returns-in_default-place_of-clause-does
 returns-in_default-place_of-clause-does g c =
@@ -42,7 +43,8 @@ invariant_of-self g c =
     let is = rw (← c.self.view_is) at c.is_over.ensures in
     let k = c.start_device in
     quiet_selector _ _ _ _ _ (holds k.new.storage) is refl k.ensures.keeps (λ m st.
-    start_at c.args.address c.self.inside.number (holds c.args.storage.now) c.self.inside.drives m (rw c.in-Idle.is at st) c.if-address-self.false
+    start_at c.args.address c.self.inside.number (holds c.args.storage.now) c.self.inside.drives m
+    (rw c.in-Idle.is at st) c.if-address-self.false
     c.in-Some.place _ (holds k.new.storage) k.new.subchannel k.new.drives
     (sym c.in-Some.ensures) k.ensures.does k.ensures.images)
 
@@ -51,7 +53,8 @@ returns-clause-does g c =
     let holds = g.M.MainStorage.holds in
     rw (← c.self.view_is) (λ m st.
     let k = c.start_device in
-    start_at c.args.address c.self.inside.number (holds c.args.storage.now) c.self.inside.drives m (rw c.in-Idle.is at st) c.if-address-self.false
+    start_at c.args.address c.self.inside.number (holds c.args.storage.now) c.self.inside.drives m
+    (rw c.in-Idle.is at st) c.if-address-self.false
     c.in-Some.place _ (holds k.new.storage) k.new.subchannel k.new.drives
     (sym c.in-Some.ensures) k.ensures.does k.ensures.images)
 

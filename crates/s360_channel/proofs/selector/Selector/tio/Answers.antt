@@ -61,5 +61,6 @@ returns-else-device-pending-clause-does g c =
     rw (← c.self.view_is) (λ m st.
     let k = c.csw_stored in
     rw k.ensures.answer
-    (test_pending c.args.address c.self.inside.number (holds c.args.storage.now) c.in-Pending.pending c.in-Pending.csw c.self.inside.drives m
+    (test_pending c.args.address c.self.inside.number (holds c.args.storage.now) c.in-Pending.pending c.in-Pending.csw c.self.inside.drives
+    m
     (rw c.in-Pending.is at st) c.if-address-self.false c.if-device-pending.false (holds k.new.storage) k.ensures.storage))

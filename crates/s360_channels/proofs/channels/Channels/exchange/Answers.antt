@@ -13,4 +13,5 @@ pub returns-clause-refused : goal.returns-clause-refused
 returns-clause-refused g c = rw (← c.self.view_is) (c.exchange.ensures.refused c.self.inside.storage)
 
 pub returns-clause-stays : goal.returns-clause-stays
-returns-clause-stays g c = on_err c.exchange.result (λ e. ap (λ v. across v c.self.inside.storage) e ∙ c.self.view_is) c.exchange.ensures.stays
+returns-clause-stays g c = on_err c.exchange.result (λ e. ap (λ v. across v c.self.inside.storage) e
+    ∙ c.self.view_is) c.exchange.ensures.stays

@@ -11,7 +11,11 @@ invariant_of-self-in_default-attach g c =
     let k = some_channel h in
     let d = c.in_default-attach.ensures in
     let same = keeps_selector d.attached in
-    fit_behind h same (still_alone h same (record { machine = attached (c.args.address % 256) c.args.image k.machine; stands = d.stands _ k.machine k.stands })) loud loud
+    fit_behind h same (still_alone h same (record {
+      machine = attached (c.args.address % 256) c.args.image k.machine;
+      stands =
+          d.stands _ k.machine k.stands;
+    })) loud loud
 
 pub returns-in_default-attach-clause-attached : goal.returns-in_default-attach-clause-attached
 returns-in_default-attach-clause-attached g c = λ s.

@@ -15,7 +15,11 @@ invariant_of-self-2 g c =
     let h = here _ c.in-Some.ensures.there c.self.invariant c.in-Some-list.is in
     let k = some_channel h in
     let d = c.in-Ok.ensures in
-    fit_behind h d.same (still_alone h d.same (record { machine = without_device (c.args.address % 256) k.machine; stands = (d.detached _ k.machine k.stands).stands })) loud loud
+    fit_behind h d.same (still_alone h d.same (record {
+      machine = without_device (c.args.address % 256) k.machine;
+      stands =
+          (d.detached _ k.machine k.stands).stands;
+    })) loud loud
 
 pub returns-clause-detached : goal.returns-clause-detached
 returns-clause-detached g c = λ s.

@@ -8,14 +8,19 @@ use Rattle.s360_channels.proofs.selectors.Selectors.exchange.Goals as goal
 pub returns-in-Err-clause-refused : goal.returns-in-Err-clause-refused
 returns-in-Err-clause-refused g c = λ s.
     let h = here _ c.in-Some.ensures.there c.self.invariant c.in-Some-list.is in
-    seen_here h (λ o s. RefusedExchange o s (c.args.address % 256) c.args.image (fault.Refused c.in-Err.fault)) c.self.view_is (c.in-Err.ensures.refused s)
+    seen_here h (λ o s. RefusedExchange o s (c.args.address % 256) c.args.image (fault.Refused c.in-Err.fault)) c.self.view_is
+    (c.in-Err.ensures.refused s)
 
 pub invariant_of-self-2 : goal.invariant_of-self-2
 invariant_of-self-2 g c =
     let h = here _ c.in-Some.ensures.there c.self.invariant c.in-Some-list.is in
     let k = some_channel h in
     let d = c.in-Ok.ensures in
-    fit_behind h d.same (still_alone h d.same (record { machine = with_pack (c.args.address % 256) c.args.image k.machine; stands = (d.exchanged _ k.machine k.stands).stands })) loud loud
+    fit_behind h d.same (still_alone h d.same (record {
+      machine = with_pack (c.args.address % 256) c.args.image k.machine;
+      stands =
+          (d.exchanged _ k.machine k.stands).stands;
+    })) loud loud
 
 pub returns-clause-exchanged : goal.returns-clause-exchanged
 returns-clause-exchanged g c = λ s.

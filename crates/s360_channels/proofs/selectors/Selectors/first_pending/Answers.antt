@@ -13,7 +13,8 @@ returns-then-is_pending_at g c = λ s.
     let v = c.args.self.now in record {
       waits = record {
         is_asked = sym c.is_open.ensures ∙ c.if-is_open.true;
-        interrupts = pends_here true n v s (subst (λ (b : Bool). PendsAt b (numbered n v.channels)) c.if-is_pending_at.true c.is_pending_at.ensures);
+        interrupts = pends_here true n v s (subst (λ (b : Bool). PendsAt b (numbered n v.channels)) c.if-is_pending_at.true
+            c.is_pending_at.ensures);
       };
       before = λ lower below asked. pends_here false lower v s (c.loop-number.invariant lower below asked);
     }

@@ -35,10 +35,19 @@ loop-left-preserved g c =
       no_check = λ q. w.no_check (i.no_check q);
       storage = record { size = e.storage.size ∙ i.storage.size; keys = e.storage.keys ∙ i.storage.keys };
       place = c.in-Units.ensures.place ∙ i.place;
-      calls = record { calls = omega (arith, w.some, w.few, i.within, k.calls, i.calls.calls); lasting = k.lasting ∙ i.calls.lasting; geometry = k.geometry ∙ i.calls.geometry };
-      walked = subst (λ done. walk (units done) a.self.now.key (phase_in (run_of a.self.now) (holds a.storage.now) a.drive.now) ≡ StandsIn (phase_in (run_of c.step.new.self) (holds c.step.new.storage) c.step.new.drive)) fewer
-          (more_units a.self.now.key l.self.key (phase_in (run_of a.self.now) (holds a.storage.now) a.drive.now) (phase_in (run_of l.self) (holds l.storage) l.drive) (phase_in (run_of c.step.new.self) (holds c.step.new.storage) c.step.new.drive) d n i.key i.walked w.goes);
-      quiet = still_quiet a.self.now.key l.self.key (phase_in (run_of a.self.now) (holds a.storage.now) a.drive.now) (phase_in (run_of l.self) (holds l.storage) l.drive) d n (a.units - (l.left - n)) a.drive.now l.drive c.step.new.drive i.key (omega (arith, w.few, i.within)) i.walked i.quiet e.quiet;
+      calls = record {
+        calls = omega (arith, w.some, w.few, i.within, k.calls, i.calls.calls);
+        lasting = k.lasting ∙ i.calls.lasting;
+        geometry = k.geometry ∙ i.calls.geometry;
+      };
+      walked = subst (λ done. walk (units done) a.self.now.key (phase_in (run_of a.self.now) (holds a.storage.now) a.drive.now)
+          ≡ StandsIn (phase_in (run_of c.step.new.self) (holds c.step.new.storage) c.step.new.drive)) fewer
+          (more_units a.self.now.key l.self.key (phase_in (run_of a.self.now) (holds a.storage.now) a.drive.now)
+          (phase_in (run_of l.self) (holds l.storage) l.drive) (phase_in (run_of c.step.new.self)
+          (holds c.step.new.storage) c.step.new.drive) d n i.key i.walked w.goes);
+      quiet = still_quiet a.self.now.key l.self.key (phase_in (run_of a.self.now) (holds a.storage.now) a.drive.now)
+          (phase_in (run_of l.self) (holds l.storage) l.drive) d n (a.units - (l.left - n)) a.drive.now l.drive c.step.new.drive i.key
+          (omega (arith, w.few, i.within)) i.walked i.quiet e.quiet;
     }
 
 pub returns-in-Over-clause-advances : goal.returns-in-Over-clause-advances
@@ -51,9 +60,14 @@ returns-in-Over-clause-advances g c =
     let w = c.in-Over.ensures.step.steps in
     let d = a.units - l.left in
     rw c.told.ensures
-    (subst (λ n. CameToEnd a.self.now.key (phase_in (run_of a.self.now) (holds a.storage.now) a.drive.now) a.units n (told_of c.step.new.self) (holds c.step.new.storage) a.drive.now c.step.new.drive) (in_all d w.earlier n a.units l.left w.last i.within w.few)
-    (last_unit a.self.now.key l.self.key (phase_in (run_of a.self.now) (holds a.storage.now) a.drive.now) w.at (d + w.earlier) a.units (told_of c.step.new.self) (holds c.step.new.storage) a.drive.now l.drive c.step.new.drive
-    i.key (more_units a.self.now.key l.self.key (phase_in (run_of a.self.now) (holds a.storage.now) a.drive.now) (phase_in (run_of l.self) (holds l.storage) l.drive) w.at d w.earlier i.key i.walked w.goes) i.failures (omega (arith, i.within, w.last, w.few)) w.ends))
+    (subst (λ n. CameToEnd a.self.now.key (phase_in (run_of a.self.now) (holds a.storage.now) a.drive.now) a.units n
+    (told_of c.step.new.self) (holds c.step.new.storage) a.drive.now c.step.new.drive)
+    (in_all d w.earlier n a.units l.left w.last i.within w.few)
+    (last_unit a.self.now.key l.self.key (phase_in (run_of a.self.now) (holds a.storage.now) a.drive.now) w.at (d + w.earlier) a.units
+    (told_of c.step.new.self) (holds c.step.new.storage) a.drive.now l.drive c.step.new.drive
+    i.key (more_units a.self.now.key l.self.key (phase_in (run_of a.self.now) (holds a.storage.now) a.drive.now)
+    (phase_in (run_of l.self) (holds l.storage) l.drive) w.at d w.earlier i.key i.walked w.goes) i.failures
+    (omega (arith, i.within, w.last, w.few)) w.ends))
 
 pub returns-in-Over-clause-quiet : goal.returns-in-Over-clause-quiet
 returns-in-Over-clause-quiet g c =
@@ -61,7 +75,9 @@ returns-in-Over-clause-quiet g c =
     let i = c.loop-left.invariant in
     let l = c.loop-left in
     let a = c.args in
-    still_quiet a.self.now.key l.self.key (phase_in (run_of a.self.now) (holds a.storage.now) a.drive.now) (phase_in (run_of l.self) (holds l.storage) l.drive) (a.units - l.left) c.in-Over.n ((a.units - l.left) + c.in-Over.n) a.drive.now l.drive c.step.new.drive i.key (omega arith) i.walked i.quiet c.in-Over.ensures.step.quiet
+    still_quiet a.self.now.key l.self.key (phase_in (run_of a.self.now) (holds a.storage.now) a.drive.now)
+    (phase_in (run_of l.self) (holds l.storage) l.drive) (a.units - l.left) c.in-Over.n ((a.units - l.left) + c.in-Over.n) a.drive.now
+    l.drive c.step.new.drive i.key (omega arith) i.walked i.quiet c.in-Over.ensures.step.quiet
 
 pub returns-clause-tells : goal.returns-clause-tells
 returns-clause-tells g c =

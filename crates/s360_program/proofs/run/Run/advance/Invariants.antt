@@ -18,8 +18,10 @@ invariant-loop-left g l = record {
   storage : KeepsStorage (g.M.MainStorage.holds l.fn.storage) (g.M.MainStorage.holds l.storage);
   place : g.M.MainStorage.place l.storage ≡ g.M.MainStorage.place l.fn.storage;
   calls : CallsAtMost (2 * (l.units - l.left)) l.fn.drive l.drive;
-  walked : walk (units (l.units - l.left)) l.fn.self.key (phase_in (run_of l.fn.self) (g.M.MainStorage.holds l.fn.storage) l.fn.drive) ≡ StandsIn (phase_in (run_of l.self) (g.M.MainStorage.holds l.storage) l.drive);
-  quiet : NeedNoStore l.fn.self.key (phase_in (run_of l.fn.self) (g.M.MainStorage.holds l.fn.storage) l.fn.drive) (l.units - l.left) → l.drive.image ≡ l.fn.drive.image;
+  walked : walk (units (l.units - l.left)) l.fn.self.key (phase_in (run_of l.fn.self) (g.M.MainStorage.holds l.fn.storage) l.fn.drive)
+      ≡ StandsIn (phase_in (run_of l.self) (g.M.MainStorage.holds l.storage) l.drive);
+  quiet : NeedNoStore l.fn.self.key (phase_in (run_of l.fn.self) (g.M.MainStorage.holds l.fn.storage) l.fn.drive) (l.units - l.left)
+      → l.drive.image ≡ l.fn.drive.image;
 }
 
 abbrev pub decreases-loop-left : goal.decreases-loop-left

@@ -12,7 +12,14 @@ returns-then-not-chains-clause-comes g c = λ s.
     let p = c.end_program in (
       refl,
       concludes a.self.now.key (place_of a.self.now.place) k.result s _ a.drive.now e.new.self p.new.drive e.result
-          (record { saved = c.requires.saved; state = e.ensures.state; ending = e.ensures.ending; calls = e.ensures.calls; reports = e.ensures.reported })
+          (record {
+            saved = c.requires.saved;
+            state = e.ensures.state;
+            ending = e.ensures.ending;
+            calls = e.ensures.calls;
+            reports =
+                e.ensures.reported;
+          })
           p.ensures a.ccw a.incorrect k.ensures (sym c.chains.ensures ∙ c.if-not-chains.true),
     )
 
@@ -23,7 +30,19 @@ returns-clause-comes g c = λ s.
     let k = c.of_length-condition in
     let m = c.modify in (
       refl,
-      chains_on a.self.now (record a.self.now { place = m.new.self; comes = comes.NextCommand }) s a.ccw a.incorrect k.result a.drive.now e.new.self e.result
-          (record { saved = c.requires.saved; state = e.ensures.state; ending = e.ensures.ending; calls = e.ensures.calls; reports = e.ensures.reported }) k.ensures (sym c.chains.ensures ∙ c.if-not-chains.false)
-          c.requires.key refl refl m.ensures.place (record { next = m.ensures.next; last = omega (arith, m.ensures.last, c.requires.last) }),
+      chains_on a.self.now (record a.self.now { place = m.new.self; comes = comes.NextCommand }) s a.ccw a.incorrect k.result a.drive.now
+          e.new.self e.result
+          (record {
+            saved = c.requires.saved;
+            state = e.ensures.state;
+            ending = e.ensures.ending;
+            calls = e.ensures.calls;
+            reports =
+                e.ensures.reported;
+          }) k.ensures (sym c.chains.ensures ∙ c.if-not-chains.false)
+          c.requires.key refl refl m.ensures.place (record {
+            next = m.ensures.next;
+            last =
+                omega (arith, m.ensures.last, c.requires.last);
+          }),
     )

@@ -23,10 +23,12 @@ returns-then-not-has_moved g c =
     record {
       cut = λ s.
           rw c.told.ensures
-          (ends_now (λ f. EndsIn s ((standing_in r.key (phase_in (run_of r) s d)).cut f)) (untouched d.state) r.key (place_of r.place) condition.Clear s (told_of p.new.run) d p.new.drive refl c.requires.stands.saved
+          (ends_now (λ f. EndsIn s ((standing_in r.key (phase_in (run_of r) s d)).cut f)) (untouched d.state) r.key
+          (place_of r.place) condition.Clear s (told_of p.new.run) d p.new.drive refl c.requires.stands.saved
           p.ensures
           (λ f. ap (EndsIn s) (cut_untouched r.key (stage_of r) (place_of r.place) s d d.work f c.requires.stands.fits none)));
-      calls = λ s. subst (λ w. CallsStore false w d p.new.drive) (untouched_written (stage_of r) (place_of r.place) s d.state d.work c.requires.stands.fits none) p.ensures.calls;
+      calls = λ s. subst (λ w. CallsStore false w d p.new.drive) (untouched_written (stage_of r) (place_of r.place) s d.state d.work
+          c.requires.stands.fits none) p.ensures.calls;
       lost = search rules;
     }
 
@@ -40,13 +42,24 @@ returns g c =
     record {
       cut = λ s.
           rw c.told-2.ensures
-          (same_ends (λ f. EndsIn s ((standing_in r.key (phase_in (run_of r) s d)).cut f)) (λ f. EndsIn s (ending f r.key (place_of r.place) (closed_of f d d.work) no_channel_status)) (told_of p.new.run) s d p.new.drive
+          (same_ends (λ f. EndsIn s ((standing_in r.key (phase_in (run_of r) s d)).cut f))
+          (λ f. EndsIn s (ending f r.key (place_of r.place) (closed_of f d d.work) no_channel_status))
+          (told_of p.new.run) s d p.new.drive
           (λ f. ap (EndsIn s) (cut_touched r.key (stage_of r) (place_of r.place) s d d.work f c.requires.stands.fits some))
           (stops r.key (place_of r.place) condition.Clear s (told_of p.new.run) d e.new.self p.new.drive e.result
-          (record { saved = c.requires.stands.saved; state = e.ensures.state; ending = e.ensures.ending; calls = e.ensures.calls; reports = e.ensures.reported })
+          (record {
+            saved = c.requires.stands.saved;
+            state = e.ensures.state;
+            ending = e.ensures.ending;
+            calls = e.ensures.calls;
+            reports =
+                e.ensures.reported;
+          })
           p.ensures));
       calls = λ s.
-          subst (λ w. CallsStore false w d p.new.drive) (touched_written (stage_of r) (place_of r.place) s d e.new.self c.requires.stands.fits some e.ensures.state e.ensures.calls)
-          (saves_together (end_saves d) (is_written e.new.self.state) d e.new.self p.new.drive (end_moved d e.new.self e.ensures.state) e.ensures.calls p.ensures.calls);
+          subst (λ w. CallsStore false w d p.new.drive) (touched_written (stage_of r) (place_of r.place) s d e.new.self
+          c.requires.stands.fits some e.ensures.state e.ensures.calls)
+          (saves_together (end_saves d) (is_written e.new.self.state) d e.new.self p.new.drive (end_moved d e.new.self e.ensures.state)
+          e.ensures.calls p.ensures.calls);
       lost = search rules;
     }

@@ -14,9 +14,11 @@ returns-then-not-chains-clause-steps g c = λ most s bytes p.
     let e = c.end_whole-ended in
     let k = c.of_length-condition in
     let q = c.end_program in
-    rw c.from.ensures (whole_steps r most s d bytes a.read c.requires.fits c.requires.stage p q.new.run (step.Over 1) q.new.drive (search rules) (
+    rw c.from.ensures (whole_steps r most s d bytes a.read c.requires.fits c.requires.stage p q.new.run (step.Over 1) q.new.drive
+    (search rules) (
       refl,
-      concludes r.key (place_of (record r.place { residual = 0 })) k.result _ _ (passed_drive d bytes a.read p.gives) e.new.self q.new.drive e.result
+      concludes r.key (place_of (record r.place { residual = 0 })) k.result _ _ (passed_drive d bytes a.read p.gives) e.new.self q.new.drive
+          e.result
           (passed_ends d bytes a.read p.gives e.result e.new.self c.requires.fits.stands.saved e.ensures.ending e.ensures.ended)
           q.ensures r.ccw false k.ensures (sym c.chains.ensures ∙ c.if-not-chains.true),
     ))
@@ -29,9 +31,19 @@ returns-clause-steps g c = λ most s bytes p.
     let e = c.end_whole-ended in
     let k = c.of_length-condition in
     let m = c.modify in
-    rw c.from-2.ensures (whole_steps r most s d bytes a.read c.requires.fits c.requires.stage p (record r { place = m.new.self; comes = comes.NextCommand }) (step.Units 1) e.new.self (search rules) (
+    rw c.from-2.ensures (whole_steps r most s d bytes a.read c.requires.fits c.requires.stage p (record r {
+      place = m.new.self;
+      comes =
+          comes.NextCommand;
+    }) (step.Units 1) e.new.self (search rules) (
       refl,
-      chains_on (record r { place = record r.place { residual = 0 } }) (record r { place = m.new.self; comes = comes.NextCommand }) _ r.ccw false k.result (passed_drive d bytes a.read p.gives) e.new.self e.result
-          (passed_ends d bytes a.read p.gives e.result e.new.self c.requires.fits.stands.saved e.ensures.ending e.ensures.ended) k.ensures (sym c.chains.ensures ∙ c.if-not-chains.false)
-          c.requires.fits.within.key refl refl m.ensures.place (record { next = m.ensures.next; last = omega (arith, m.ensures.last, c.requires.fits.within.place.last) }),
+      chains_on (record r { place = record r.place { residual = 0 } }) (record r { place = m.new.self; comes = comes.NextCommand }) _ r.ccw
+          false k.result (passed_drive d bytes a.read p.gives) e.new.self e.result
+          (passed_ends d bytes a.read p.gives e.result e.new.self c.requires.fits.stands.saved e.ensures.ending e.ensures.ended) k.ensures
+          (sym c.chains.ensures ∙ c.if-not-chains.false)
+          c.requires.fits.within.key refl refl m.ensures.place (record {
+            next = m.ensures.next;
+            last =
+                omega (arith, m.ensures.last, c.requires.fits.within.place.last);
+          }),
     ))

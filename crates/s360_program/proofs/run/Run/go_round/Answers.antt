@@ -5,7 +5,11 @@ use Rattle.s360_program.proofs.run.Run.go_round.Goals as goal
 pub loop-left-init : goal.loop-left-init
 loop-left-init g c =
     let a = c.args in
-    record { within = omega arith; rounds = no_round a.self.now (g.M.MainStorage.holds a.storage.now) a.most (a.most - a.most) a.drive.now (omega arith) c.requires.fits }
+    record {
+      within = omega arith;
+      rounds = no_round a.self.now (g.M.MainStorage.holds a.storage.now) a.most (a.most - a.most) a.drive.now
+          (omega arith) c.requires.fits;
+    }
 
 pub pass_by-requires : goal.pass_by-requires
 pass_by-requires g c = record { idle = idle_there c.args.self.now c.loop-left.drive c.requires.stage c.loop-left.invariant.rounds.fits }
@@ -30,7 +34,8 @@ loop-left-preserved g c =
     rw c.from-round.ensures
     record {
       within = omega (arith, i.within);
-      rounds = one_more a.self.now s ccw p.0 w.result.now c.loop-left.drive c.pass_by.new.self c.requires.stage back all p.1 a.most c.loop-left.left a.drive.now i.within few i.rounds;
+      rounds = one_more a.self.now s ccw p.0 w.result.now c.loop-left.drive c.pass_by.new.self c.requires.stage back all p.1 a.most
+          c.loop-left.left a.drive.now i.within few i.rounds;
     }
 
 pub overflow_sub-result-2 : goal.overflow_sub-result-2

@@ -23,8 +23,10 @@ returns-in-Some g c =
     let p = x.ensures in
     let n = c.store in
     let t = c.finish in
-    let may : (i : ℕ) → i < length x.bytes.now → IsTrue (may_store (holds a.storage.now) a.self.now.key (a.self.now.ccw.address + i)) = λ i h. p.may i (omega (arith, h, p.counts)) in
-    let all : n.result ≡ length x.bytes.now = stores_all (holds a.storage.now) a.self.now.key a.self.now.ccw.address n.result (length x.bytes.now) n.ensures.bound may n.ensures.next in
+    let may : (i : ℕ) → i < length x.bytes.now → IsTrue (may_store (holds a.storage.now) a.self.now.key (a.self.now.ccw.address + i)) =
+    λ i h. p.may i (omega (arith, h, p.counts)) in
+    let all : n.result ≡ length x.bytes.now = stores_all (holds a.storage.now) a.self.now.key a.self.now.ccw.address n.result
+    (length x.bytes.now) n.ensures.bound may n.ensures.next in
     let is = all_stored (holds a.storage.now) (holds n.new.self) a.self.now.ccw.address n.result x.bytes.now all n.ensures.change in
     record {
       step = record {
@@ -45,9 +47,17 @@ returns-in-Failed g c =
     let d = c.args.drive.now in
     let l = c.in-Failed.ensures in
     let p = c.end_program in
-    let k : Looked r d c.look.new.self = record { fits = c.requires.fits; at = c.requires.stage; state = l.state; calls = l.calls; reports = l.reported } in
+    let k : Looked r d c.look.new.self = record {
+      fits = c.requires.fits;
+      at = c.requires.stage;
+      state = l.state;
+      calls = l.calls;
+      reports =
+          l.reported;
+    } in
     record {
-      step = quietly r p.new.run s s d p.new.drive c.args.most (step.Over 1) k.fits (kept s) (fails_quiet r d c.look.new.self p.new.drive k p.ensures.calls)
+      step = quietly r p.new.run s s d p.new.drive c.args.most (step.Over 1) k.fits (kept s)
+          (fails_quiet r d c.look.new.self p.new.drive k p.ensures.calls)
           (over_once r.key (phase_in (run_of r) s d) c.args.most _ s d p.new.drive c.requires.some
           (look_fails r s d c.look.new.self k _ p.new.drive l.answer p.ensures));
       found = tt;
@@ -62,7 +72,14 @@ returns-in-Passed g c =
     let s = holds c.args.storage.now in
     let d = c.args.drive.now in
     let l = c.in-Passed.ensures in
-    let k : Looked r d c.look.new.self = record { fits = c.requires.fits; at = c.requires.stage; state = l.state; calls = l.calls; reports = l.reported } in
+    let k : Looked r d c.look.new.self = record {
+      fits = c.requires.fits;
+      at = c.requires.stage;
+      state = l.state;
+      calls = l.calls;
+      reports =
+          l.reported;
+    } in
     record {
       step = quietly r r s s d c.look.new.self c.args.most (step.Units 1) k.fits (kept s) (looks_quiet r d c.look.new.self k)
           (look_passes r s d c.look.new.self k c.args.most c.requires.some l.answer);
@@ -78,7 +95,14 @@ complete-requires g c =
     let s = holds c.args.storage.now in
     let d = c.args.drive.now in
     let l = c.in-Ready.ensures in
-    let k : Looked r d c.look.new.self = record { fits = c.requires.fits; at = c.requires.stage; state = l.state; calls = l.calls; reports = l.reported } in
+    let k : Looked r d c.look.new.self = record {
+      fits = c.requires.fits;
+      at = c.requires.stage;
+      state = l.state;
+      calls = l.calls;
+      reports =
+          l.reported;
+    } in
     record {
       fits = look_fits r s d c.look.new.self k c.in-Ready.left l.answer;
       some = (looking_within r d k.fits k.at).2;
@@ -94,8 +118,10 @@ returns-then-not-chains_data g c =
     let l = c.in-Ready.ensures in
     let t = c.complete in
     record {
-      step = finds r t.new.self (holds c.args.storage.now) (holds t.new.storage) c.in-Ready.left c.args.most c.args.drive.now c.look.new.self t.new.drive
-          (record { fits = c.requires.fits; at = c.requires.stage; state = l.state; calls = l.calls; reports = l.reported }) l.answer t.ensures.loads
+      step = finds r t.new.self (holds c.args.storage.now) (holds t.new.storage) c.in-Ready.left c.args.most c.args.drive.now
+          c.look.new.self t.new.drive
+          (record { fits = c.requires.fits; at = c.requires.stage; state = l.state; calls = l.calls; reports = l.reported }) l.answer
+          t.ensures.loads
           (record { steps = t.ensures.steps c.args.most (omega arith); storage = t.ensures.storage; quiet = t.ensures.quiet });
       found = tt;
       place = search rules;

@@ -11,7 +11,8 @@ use Rattle.s360_program.proofs.run.Run.next.Goals as goal
 pub returns-then-n-gt0-clause-step : goal.returns-then-n-gt0-clause-step
 returns-then-n-gt0-clause-step g c =
     let r = c.pass_rounds-n in
-    round_step c.args.self.now (g.M.MainStorage.holds c.args.storage.now) c.args.most r.result c.args.drive.now r.new.drive (omega (arith, c.if-n-gt0.true)) r.ensures
+    round_step c.args.self.now (g.M.MainStorage.holds c.args.storage.now) c.args.most r.result c.args.drive.now r.new.drive
+    (omega (arith, c.if-n-gt0.true)) r.ensures
 
 pub returns-clause-step : goal.returns-clause-step
 returns-clause-step g c =
@@ -19,6 +20,8 @@ returns-clause-step g c =
     let r = c.args.self.now in
     let n = c.next_command in
     let same = c.pass_rounds-n.ensures.none (omega (arith, c.if-n-gt0.false)) in
-    one_unit r n.new.self s s c.args.drive.now n.new.drive c.args.most n.result c.requires.fits c.requires.some (kept s) (rw same at n.ensures.quiet)
+    one_unit r n.new.self s s c.args.drive.now n.new.drive c.args.most n.result c.requires.fits c.requires.some (kept s)
+    (rw same at n.ensures.quiet)
     (subst (λ p. ComesBy r.key (λ f. unit f r.key p) n.result n.new.self s c.args.drive.now n.new.drive)
-    (sym (ap (λ k. phase_by (stage_by k r.ccw r.address) (place_of r.place) s c.args.drive.now.state c.args.drive.now.work) c.requires.stage)) (rw same at n.ensures.comes))
+    (sym (ap (λ k. phase_by (stage_by k r.ccw r.address) (place_of r.place) s c.args.drive.now.state c.args.drive.now.work)
+    c.requires.stage)) (rw same at n.ensures.comes))

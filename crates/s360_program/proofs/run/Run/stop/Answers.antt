@@ -10,6 +10,13 @@ returns-clause-comes g c = λ s.
     let p = c.end_program in (
       refl,
       stops a.self.now.key (place_of a.self.now.place) a.condition s _ a.drive.now e.new.self p.new.drive e.result
-          (record { saved = c.requires.saved; state = e.ensures.state; ending = e.ensures.ending; calls = e.ensures.calls; reports = e.ensures.reported })
+          (record {
+            saved = c.requires.saved;
+            state = e.ensures.state;
+            ending = e.ensures.ending;
+            calls = e.ensures.calls;
+            reports =
+                e.ensures.reported;
+          })
           p.ensures,
     )

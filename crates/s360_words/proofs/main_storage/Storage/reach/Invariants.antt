@@ -5,7 +5,8 @@ use Rattle.s360_words.proofs.main_storage.Storage.reach.Given as goal
 -- each byte from the start up to here, within the end, is in a block that may be stored into
 abbrev pub invariant-loop-reach : goal.invariant-loop-reach
 invariant-loop-reach l =
-    (l.start ≤ l.reach) × ((i : ℕ) → l.start ≤ i → i < l.reach → i < l.end → admits (slice_index l.self-inside.keys.items (i / 2048)) l.key ≡ true)
+    (l.start ≤ l.reach) × ((i : ℕ) → l.start ≤ i → i < l.reach → i < l.end → admits (slice_index l.self-inside.keys.items (i / 2048)) l.key
+    ≡ true)
 
 abbrev pub decreases-loop-reach : goal.decreases-loop-reach
 decreases-loop-reach l = l.end - l.reach

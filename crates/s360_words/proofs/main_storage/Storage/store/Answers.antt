@@ -6,4 +6,5 @@ pub returns-else-n-gt0-clause-change : goal.returns-else-n-gt0-clause-change
 returns-else-n-gt0-clause-change c =
     let n : c.reach-n.result ≡ 0 = omega (arith, c.if-n-gt0.false) in
     let none : length (take c.reach-n.result c.args.bytes.now) ≡ 0 = ap (λ n. length (take n c.args.bytes.now)) n in
-    sym (ap (λ b. record c.args.self.now { bytes = b }) (overwritten-none c.args.self.now.bytes c.args.at (take c.reach-n.result c.args.bytes.now) none))
+    sym (ap (λ b. record c.args.self.now { bytes = b }) (overwritten-none c.args.self.now.bytes c.args.at
+    (take c.reach-n.result c.args.bytes.now) none))

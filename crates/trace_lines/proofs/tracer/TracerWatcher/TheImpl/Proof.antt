@@ -29,7 +29,8 @@ use prog.Memory
 pub bound : Statement.statement
 bound = λ γ'' x x' x'' W-Write W-Write-dict W-Destruct-dict M 𝓤 𝓛 𝓜 𝓡 x'3 x'4. record {
   look = λ x'5 x'6 S-ImageStore S-ImageStore-dict S-Destruct-dict x'7 x'8.
-      let fits = Logic.sep 𝓤 (Monad.fact 𝓤 (Nat.◌<◌ (Memory.size (Param.layout (Channel.the_row (Param.param 1 x'5) S-ImageStore))) (Nat.◌^◌ 2 63))) (Logic.emp 𝓤) in
+      let fits = Logic.sep 𝓤 (Monad.fact 𝓤 (Nat.◌<◌ (Memory.size (Param.layout (Channel.the_row (Param.param 1 x'5) S-ImageStore)))
+      (Nat.◌^◌ 2 63))) (Logic.emp 𝓤) in
       Impl.implements
       𝓛
       (look.signature
