@@ -180,9 +180,16 @@ def reserved_byte_of_the_second_file_is_found_there(s: Scratch) -> None:
 
 
 @row
-def header_alone_and_files_of_one_highest_cylinder_have_their_reason(s: Scratch) -> None:
+def files_of_a_wrong_length_and_of_one_highest_cylinder_have_their_reason(s: Scratch) -> None:
     s.put("head.ckd", header(MODEL))
-    same(s.dasd("list", "--verbose", "head.ckd"), fault("wrong length\n  head.ckd: its length is 512 bytes"))
+    whole = "wrong length\n  head.ckd: its length is 512 bytes, and an image is 512 bytes and whole cylinders of 40960"
+    same(s.dasd("list", "--verbose", "head.ckd"), fault(whole))
+    s.put("a.ckd", header(MODEL, 1, 1) + new_cylinder(0))
+    s.put("b.ckd", header(MODEL, 2, 0) + new_cylinder(2))
+    taken = "wrong length\n  a.ckd: its length is 41472 bytes, and its cylinders take 82432"
+    same(s.dasd("list", "--verbose", "a.ckd", "b.ckd"), fault(taken))
+    s.put("short.ckd", b"CKD_P370")
+    same(s.dasd("list", "--verbose", "short.ckd"), fault("wrong length\n  short.ckd: its length is 8 bytes, and its header has 512"))
     s.put("a.ckd", header(MODEL, 1, 1) + new_cylinder(0) + new_cylinder(1))
     s.put("b.ckd", header(MODEL, 2, 1) + new_cylinder(2))
     s.put("c.ckd", header(MODEL, 3, 0) + new_cylinder(3))

@@ -186,17 +186,21 @@ def names_that_are_no_text_are_refused(s: Scratch) -> None:
     is_held(s.path(name), held)
 
 
+# What is said of a length that is no image's.
+WHOLE = "and an image is 512 bytes and whole cylinders of 40960"
+
+
 @row
 def fault_is_an_object_where_objects_are_asked_for(s: Scratch) -> None:
     s.put("short.ckd", volume()[:-1])
     s.put("two.ckd", volume())
     wanted = {
         ("vtoc", "none.ckd"): ("none.ckd", "read fault", ["none.ckd: No such file or directory"]),
-        ("check", "--strict", "short.ckd"): ("short.ckd", "wrong length", ["short.ckd: its length is 41471 bytes"]),
+        ("check", "--strict", "short.ckd"): ("short.ckd", "wrong length", [f"short.ckd: its length is 41471 bytes, {WHOLE}"]),
         ("list", "two.ckd", "two.ckd"): ("two.ckd+two.ckd", "image in several files", None),
         ("dump", "two.ckd", "5", "0"): ("two.ckd", "no such track", ["dasd list says how many cylinders and heads a volume has"]),
         ("compare", "two.ckd", "none.ckd"): ("two.ckd", "read fault", ["none.ckd: No such file or directory"]),
-        ("extract", "--all", ".", "short.ckd"): ("short.ckd", "wrong length", ["short.ckd: its length is 41471 bytes"]),
+        ("extract", "--all", ".", "short.ckd"): ("short.ckd", "wrong length", [f"short.ckd: its length is 41471 bytes, {WHOLE}"]),
     }
     for words, (path, text, remarks) in wanted.items():
         status, out, told = s.dasd(*words, "--json")

@@ -26,7 +26,7 @@ RIGHT: list[tuple[str, dict[str, Any]]] = [
     ("extract", {"path": "a", "files": 1, "findings": 1}),
     ("hash", {"path": "a", "hash": "0123456789abcdef" * 4, "unreadable": 0}),
     ("vtoc", {"path": "a", "serial": "ABC123", "owner": ""}),
-    ("vtoc", {"path": "a", "fault": "wrong length", "remarks": ["a: its length is 41471 bytes"]}),
+    ("vtoc", {"path": "a", "fault": "wrong length", "remarks": ["a: its length is 41471 bytes, and an image is 512 bytes and whole cylinders of 40960"]}),
     ("hash", {"path": "a", "fault": "wrong length", "remarks": []}),
 ]
 # A line, and what of it is another: None takes a member away.

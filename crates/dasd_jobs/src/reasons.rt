@@ -51,8 +51,12 @@ enum Reason {
     Highest(u16, usize),
     /// None follows it, and this is its highest cylinder.
     NoneFollows(u16),
-    /// A file of this length does not end behind a cylinder.
-    Length(u64),
+    /// A file of this length has no whole header.
+    NoHeader(u64),
+    /// Others follow it, and it has this length instead of that which its cylinders take.
+    OtherLength(u64, u64),
+    /// A file of this length does not end behind a cylinder of so many bytes.
+    Length(u64, u64),
 }
 
 impl fmt::Display for Reason {
@@ -88,7 +92,21 @@ impl fmt::Display for Reason {
             Reason::NoneFollows(highest) => {
                 write!(f, "its highest cylinder is {highest}, and no file follows")
             }
-            Reason::Length(len) => write!(f, "its length is {len} bytes"),
+            Reason::NoHeader(len) => {
+                write!(f, "its length is {len} bytes, and its header has {HEADER}")
+            }
+            Reason::OtherLength(len, wanted) => {
+                write!(
+                    f,
+                    "its length is {len} bytes, and its cylinders take {wanted}"
+                )
+            }
+            Reason::Length(len, cylinder) => {
+                write!(
+                    f,
+                    "its length is {len} bytes, and an image is {HEADER} bytes and whole cylinders of {cylinder}"
+                )
+            }
         }
     }
 }
@@ -129,7 +147,7 @@ fn remark_of<'a>(paths: &[&'a str], heads: &[Head], fault: MountFault) -> Option
     for (place, (path, head)) in paths.iter().zip(heads).enumerate() {
         let reason = match fault {
             MountFault::Split => reason_of_split(heads, place, head, before),
-            MountFault::Length => reason_of_length(head),
+            MountFault::Length => reason_of_length(heads, place, head, before),
             fault => (!is_header(&head.header)).then_some(Reason::Fault(fault)),
         };
         if let Some(reason) = reason {
@@ -172,10 +190,25 @@ fn reason_of_split(
     (highest <= least).then_some(Reason::Highest(highest, behind))
 }
 
-// Why a file of this length is none of an image, where it does not end behind a cylinder.
-fn reason_of_length(head: &Head) -> Option<Reason> {
+// Why the file at this place does not have the length of one of these: one that others follow has its cylinders, and the last one whole ones.
+fn reason_of_length(
+    heads: &[Head],
+    place: usize,
+    head: &Head,
+    before: Option<Head>,
+) -> Option<Reason> {
+    let (header, len) = (HEADER as u64, head.len);
+    if len < header {
+        return Some(Reason::NoHeader(len));
+    }
     let (cylinder, _) = head.layout();
-    let slots = head.len.saturating_sub(HEADER as u64);
+    if place.saturating_add(1) < heads.len() {
+        let from = before.map_or(0, |before| u64::from(before.highest()) + 1);
+        let cylinders = (u64::from(head.highest()) + 1).saturating_sub(from);
+        let wanted = header.saturating_add(cylinders.saturating_mul(cylinder));
+        return (len != wanted).then_some(Reason::OtherLength(len, wanted));
+    }
+    let slots = len - header;
     let is_whole = slots > 0 && slots.checked_rem(cylinder) == Some(0);
-    (!is_whole).then_some(Reason::Length(head.len))
+    (!is_whole).then_some(Reason::Length(len, cylinder))
 }
