@@ -120,7 +120,8 @@ pub struct Place {
 /// Shows where storage lies. Between two calls its bytes are C's to read and write: each change is one that the processor makes.
 #[unsafe(no_mangle)]
 pub extern "C" fn dasd_show_storage(handle: &mut Handle, alloc: Global, shown: &mut Place) -> i32
-    ensures { Calls handle.old.slot.held handle.new.slot.held result (λ old new. (new ≡ old) × ((result ≡ pos 0) × (shown.new.len ≡ length old.storage.bytes))) }
+    ensures { Calls handle.old.slot.held handle.new.slot.held result (λ old new. (new ≡ old)
+        × ((result ≡ pos 0) × (shown.new.len ≡ length old.storage.bytes))) }
 {
     let Some(mut subsystem) = take(handle, alloc) else {
         return NOTHING_HELD;

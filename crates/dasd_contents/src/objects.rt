@@ -39,7 +39,8 @@ pub fn write_objects<W: Write>(
     contents: &Contents,
 ) -> Result<(), VolumeFault>
     ensures lines { OnOk result (Takes (seen_by W.contents writer.old) (seen_by W.contents writer.new) (contents_objects path.now geometry contents.now)) }
-    ensures front { OnErr result (TakesFront (seen_by W.contents writer.old) (seen_by W.contents writer.new) (contents_objects path.now geometry contents.now)) }
+    ensures front { OnErr result (TakesFront (seen_by W.contents writer.old) (seen_by W.contents writer.new)
+        (contents_objects path.now geometry contents.now)) }
     ensures writes { CountsWrites result (seen_by W.contents writer.old) (seen_by W.contents writer.new) }
     ensures none { IfErr result (λ e. e ≡ VolumeFault.OutOfMemory → writer.new ≡ writer.old) }
     ensures fault { IfErr result (λ e. e ≢ VolumeFault.Store) }

@@ -30,14 +30,15 @@ close_end f o b = by (closing_of o b) (closing_of o b).moves_off (closing_facts 
   where
     by : {w : Bool} (c : Closing) (moves_off : Bool) → IsClosing o.state.registers b w c → let d = closed f o.state c moves_off in
         IsEnd d.unit d.motion
-    by c true h = elim (left_by f o.state.mark) as (λ x. let d = saving x o.state failed (closed_moving o.state c) in IsEnd d.unit d.motion) [
-      | Some left ↦ record { channel_end = refl; device_end = refl }
-      | None ↦ record {
-        channel_end = h.channel_end;
-        device_end =
-            h.device_end;
-      }
-    ]
+    by c true h = elim (left_by f o.state.mark)
+        as (λ x. let d = saving x o.state failed (closed_moving o.state c) in IsEnd d.unit d.motion) [
+          | Some left ↦ record { channel_end = refl; device_end = refl }
+          | None ↦ record {
+            channel_end = h.channel_end;
+            device_end =
+                h.device_end;
+          }
+        ]
     by c false h = record { channel_end = h.channel_end; device_end = h.device_end }
 
 pub joins_check : (unit : UnitStatus) → tells (with_unit_check unit) UNIT_CHECK ≡ true

@@ -11,7 +11,8 @@ loop-block-init c = record { found = refl; marked = refl; begins = begins_none _
 pub loop-block-preserved : goal.loop-block-preserved
 loop-block-preserved c = let g = c.args.volume.geometry in let blocks = c.args.volume.blocks.now in
     rw c.in_ok-check_block.ensures.marks record {
-      found = one_found (block_findings g blocks) (claimed_by_block g blocks) (sets_findings g blocks) (no_set g blocks) (more_sets g blocks)
+      found = one_found (block_findings g blocks) (claimed_by_block g blocks) (sets_findings g blocks) (no_set g blocks)
+          (more_sets g blocks)
           _ _ _ c.loop-block.marks blocks c.loop-block.block-index _ c.loop-block-test.true c.in_ok-check_block.ensures.findings
           c.loop-block.invariant.found;
       marked = one_left (claimed_by_block g blocks) c.loop-block.marks _ blocks c.loop-block.block-index _ c.loop-block-test.true
