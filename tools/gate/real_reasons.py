@@ -12,6 +12,8 @@ import time
 from tools.gate.scratch_files import ANSWERS, NOBODY, WRITE, How, Scratch, Skipped, fault, is_held, row, same, volume, waiting_run
 
 VERBOSE = "--verbose"
+# A group that nobody is in.
+OTHER_GROUP = 1001
 
 
 # Before a deck is run.
@@ -54,12 +56,45 @@ def folder_that_may_not_be_written_is_told_before_the_deck(s: Scratch) -> None:
 
 
 @row
-def owner_that_can_not_be_kept_is_told_before_the_deck(s: Scratch) -> None:
+def owner_and_group_that_can_not_be_kept_are_told_before_the_deck(s: Scratch) -> None:
     if os.geteuid() != 0:
         raise Skipped("no other user without root")
     put_own(s, 0o666)
     s.folder.chmod(0o755)
     os.chown(s.path("own"), NOBODY, NOBODY)
+    is_warned(s, "Operation not permitted", How(is_nobodys=True))
+    same(os.listdir(s.path("own")), ["vol.ckd"])
+
+
+@row
+def file_of_another_user_is_saved_with_its_group(s: Scratch) -> None:
+    if os.geteuid() != 0:
+        raise Skipped("no other user without root")
+    put_own(s, 0o664)
+    s.folder.chmod(0o755)
+    os.chown(s.path("own"), NOBODY, OTHER_GROUP)
+    s.path("own").chmod(0o2755)  # new files have the folder's group
+    told = f"  own/vol.ckd: it was user 0's, and is user {NOBODY}'s now; its group is kept\n"
+    plays: list[tuple[list[str], str, str]] = [([], "D5D6D7D8", ""), ([VERBOSE], "C1C2C3C4", told)]
+    for words, data, said in plays:
+        os.chown(s.path("own/vol.ckd"), 0, NOBODY)
+        s.path("own/vol.ckd").chmod(0o6664)
+        ended = s.write(*words, "90=own/vol.ckd", data=data, how=How(is_nobodys=True))
+        same(ended, (0, ANSWERS.format(unit="190"), said))
+        is_held(s.path("own/vol.ckd"), volume(data=data))
+        found = s.path("own/vol.ckd").stat()
+        same((found.st_uid, found.st_gid, oct(found.st_mode & 0o7777)), (NOBODY, NOBODY, oct(0o664)), "whose it is, and its mode")
+    same(os.listdir(s.path("own")), ["vol.ckd"])
+
+
+@row
+def file_of_another_user_where_names_are_its_owners_is_told_before_the_deck(s: Scratch) -> None:
+    if os.geteuid() != 0:
+        raise Skipped("no other user without root")
+    put_own(s, 0o664)
+    s.folder.chmod(0o755)
+    os.chown(s.path("own/vol.ckd"), 0, NOBODY)
+    s.path("own").chmod(0o1777)
     is_warned(s, "Operation not permitted", How(is_nobodys=True))
     same(os.listdir(s.path("own")), ["vol.ckd"])
 

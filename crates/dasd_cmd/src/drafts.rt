@@ -10,7 +10,7 @@ use std::fs::{self, File, Metadata, OpenOptions, Permissions, TryLockError};
 use std::io::{Error, ErrorKind, Write};
 use std::os::unix::fs::{MetadataExt, OpenOptionsExt, PermissionsExt, fchown};
 use std::path::{Path, PathBuf};
-use std::{io, process};
+use std::{fmt, io, process};
 
 /// What the name of a new file begins with, before the number of its program and a number of its own.
 pub(crate) const NAME_BEGIN: &str = ".dasd-";
@@ -20,6 +20,12 @@ const NAMES: u32 = 1_000;
 
 /// The bits of a mode that are kept.
 const MODE: u32 = 0o7777;
+
+/// Those of them that have a program run with the rights of the file's owner or group.
+const SET_ID: u32 = 0o6000;
+
+/// The bit of a folder's mode that lets nobody but a file's owner and its own rename what others have there.
+const STICKY: u32 = 0o1000;
 
 /// The file that is replaced: its path without symbolic links, and what was known of it as it was locked.
 #[derive(Drop)]
@@ -39,6 +45,8 @@ pub(crate) struct HostDraft<'a> {
     /// The path as it was given.
     given: String,
     old: Option<Old>,
+    /// Whether the old one's owner could not be kept.
+    is_taken_over: bool,
     written: Trace,
     refused: Count,
     len: u64,
@@ -58,6 +66,7 @@ impl Drop for HostDraft<'_> {
             beside: _,
             given: _,
             old: _,
+            is_taken_over: _,
             written: _,
             refused: _,
             len: _,
@@ -67,7 +76,7 @@ impl Drop for HostDraft<'_> {
 }
 
 impl<'a> HostDraft<'a> {
-    /// Begins a file without bytes, with mode and owner of the old one.
+    /// Begins a file without bytes, with owner, group and mode of the old one, or with what `keep_owner` keeps of them.
     pub(crate) fn begin(
         host: &'a HostRuntime,
         remarks: &'a Remarks<'a>,
@@ -81,20 +90,21 @@ impl<'a> HostDraft<'a> {
             Some(old) => create_beside(host, old.path.as_path(), 0o600)?,
             None => create_beside(host, Path::new(path), 0o666)?,
         };
-        let draft = HostDraft {
+        let mut draft = HostDraft {
             host,
             remarks,
             file,
             beside,
             given,
             old,
+            is_taken_over: false,
             written: Trace::new(),
             refused: Count::new(),
             len: 0,
             is_put: false,
         };
         if let Some(old) = &draft.old {
-            keep_owner(&draft.file, &old.known)?;
+            draft.is_taken_over = !keep_owner(host, &draft.file, old)?;
         }
         Ok(draft)
     }
@@ -117,7 +127,24 @@ impl<'a> HostDraft<'a> {
         let mut draft = self;
         draft.move_to(path)?;
         draft.is_put = true;
+        if draft.is_taken_over {
+            draft.note_owners();
+        }
         Ok(())
+    }
+
+    // Notes whose the old file was, and whose the new one is.
+    fn note_owners(&self) {
+        let Some(old) = &self.old else {
+            return;
+        };
+        if let Ok(new) = self.file.metadata() {
+            self.remarks.note(&TakenOver {
+                path: self.given.as_str(),
+                before: old.known.uid(),
+                now: new.uid(),
+            });
+        }
     }
 
     // Has the file on the disk, and gives it its name.
@@ -173,6 +200,24 @@ impl ImageStore for HostDraft<'_> {
                 Err(StoreFault)
             }
         }
+    }
+}
+
+/// A file whose owner was refused to the new one.
+#[derive(Clone, Copy)]
+struct TakenOver<'a> {
+    path: &'a str,
+    before: u32,
+    now: u32,
+}
+
+impl fmt::Display for TakenOver<'_> {
+    fn fmt<W: fmt::Write>(&self, f: &mut fmt::Formatter<W>) -> fmt::Result {
+        let TakenOver { path, before, now } = *self;
+        write!(
+            f,
+            "{path}: it was user {before}'s, and is user {now}'s now; its group is kept"
+        )
     }
 }
 
@@ -238,13 +283,38 @@ pub(crate) fn folder_of(path: Path<'_>) -> Path<'_> {
     }
 }
 
-// Gives a file the owner and the mode of another; the owner first, since that takes bits of the mode away.
-fn keep_owner(file: &File, old: &Metadata) -> io::Result<()> {
+// Gives a new file the owner, the group and the mode of the old one, and says whether the owner is kept. Where the host refuses him, the
+// group alone is kept, which those who may use the file are in; without it the file is refused. The owner comes first, since that takes
+// bits of the mode away.
+fn keep_owner(host: &HostRuntime, file: &File, old: &Old) -> io::Result<bool> {
     let new = file.metadata()?;
-    if new.uid() != old.uid() || new.gid() != old.gid() {
-        fchown(file, Some(old.uid()), Some(old.gid()))?;
+    let (owner, group) = (old.known.uid(), old.known.gid());
+    let mut mode = old.known.mode() & MODE;
+    let mut is_kept = true;
+    if new.uid() != owner || new.gid() != group {
+        if let Err(fault) = fchown(file, Some(owner), Some(group)) {
+            if !may_take_over(host, &new, old, &fault)? {
+                return Err(fault);
+            }
+            if new.gid() != group {
+                fchown(file, None, Some(group))?;
+            }
+            mode &= !SET_ID;
+            is_kept = false;
+        }
     }
-    file.set_permissions(Permissions::from_mode(old.mode() & MODE))
+    file.set_permissions(Permissions::from_mode(mode))?;
+    Ok(is_kept)
+}
+
+// Whether a new file may take the place of one whose owner was refused: it is another's, and its folder lets everybody rename who may
+// write there.
+fn may_take_over(host: &HostRuntime, new: &Metadata, old: &Old, fault: &Error) -> io::Result<bool> {
+    if fault.kind() != ErrorKind::PermissionDenied || new.uid() == old.known.uid() {
+        return Ok(false);
+    }
+    let folder = fs::metadata(host, folder_of(old.path.as_path()).as_str())?;
+    Ok(folder.mode() & STICKY == 0 || folder.uid() == new.uid())
 }
 
 // Gives a file the name of another, whose place it takes, and has that on the disk.
