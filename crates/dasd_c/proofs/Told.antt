@@ -4,8 +4,9 @@ use Rattle.std.specs.Prelude.{ℤ, pos}
 use Rattle.s360_events.specs.Seen.{condition_seen}
 use Rattle.s360_events.specs.declared.conditions.Condition.{Condition}
 use Rattle.s360_events.specs.declared.conditions.Condition.TheVariants as condition
-use Rattle.s360_laws.specs.Events.{Answer}
-use Rattle.dasd_c.specs.Codes.{code_of}
+use Rattle.s360_words.specs.declared.words.Csw.{Csw}
+use Rattle.s360_laws.specs.Events.{Answer, Interrupted}
+use Rattle.dasd_c.specs.Codes.{address_from, code_of}
 use Rattle.s360_channel.specs.Channel.{ChannelState}
 use Rattle.s360_channel.specs.Selector.{SelectorState}
 use Rattle.s360_channels.specs.Channels.{ChannelsState, OnChannel, OnFound, selector_at}
@@ -54,3 +55,8 @@ module _ {A : Type 0} (seen : A → Answer) (stored : (a : A) → code_of (seen 
   is_three (condition.Stored a) h = absurd (omega (arith, ap size_of (sym (stored a) ∙ h)))
   is_three condition.Two h = absurd (omega (arith, ap size_of h))
   is_three condition.Three h = refl
+
+-- without an interruption its address is not told
+pub untold : (taken : Option (ℕ × Csw)) (before : ℕ) {code : ℤ} → code ≡ code_of (Interrupted taken) → (code ≡ pos 1 → ⊥) → address_from (Interrupted taken) before ≡ before
+untold None before told h = refl
+untold (Some i) before told h = absurd (h told)

@@ -1,7 +1,9 @@
 -- What a channel refuses, told as a refusal of the subsystem.
-use Rattle.std.proofs.Common.{◌≡◌, inr, ◌<◌, ℕ, sym, subst, List, true, Option, Some, None, Result, Ok, Err, IfErr}
+use Rattle.std.proofs.Common.{◌≡◌, refl, inr, ◌<◌, ℕ, sym, subst, List, true, Option, Some, None, Result, Ok, Err, IfErr}
 use Rattle.std.proofs.lemmas.Bool.{false≢true}
-use Rattle.std.specs.Prelude.{is_some}
+use Rattle.std.specs.Prelude.{is_some, option_map}
+use Rattle.s360_words.specs.Storage.{Storage}
+use Rattle.s360_channel.specs.Selector.{SelectorState, over}
 use Rattle.s360_channel.specs.Channel.{ChannelState}
 use Rattle.s360_channel.specs.declared.faults.AttachFault.TheVariants as why
 use Rattle.s360_channels.specs.Adding.{WhyNot}
@@ -14,6 +16,11 @@ use Rattle.dasd_subsystem.specs.Attaching.{AreImage, NotAttached, NotAttachedNew
 pub err_then : {A E : Type 0} (r : Result A E) (P Q : E → Type 0) → ((e : E) → P e → Q e) → IfErr r P → IfErr r Q
 err_then (Ok a) P Q f h = h
 err_then (Err e) P Q f h = f e h
+
+-- there is a channel with a number, over whatever storage
+pub some_over : (s : Storage) (o : Option SelectorState) → is_some (option_map (λ c. over c s) o) ≡ is_some o
+some_over s None = refl
+some_over s (Some c) = refl
 
 refused_by : (c : ChannelState) (device : ℕ) (x : AttachFault) → WhyNot (Some c) device x → RefusedBy c device (refusal_of x)
 refused_by c device fault.NoChannel h = absurd h
