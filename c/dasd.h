@@ -87,6 +87,9 @@ enum dasd_fault {
     DASD_PROGRAM_RUNS = -17,    /* a channel program runs */
     DASD_ENDING_PENDS = -18,    /* the channel status word of this drive's program is not yet stored */
     DASD_DEVICE_END_OWED = -19, /* this drive's arm moves, or has arrived and has not interrupted */
+    DASD_NO_STORAGE = -20,      /* the handle owns no main storage: each call is lent it */
+    DASD_BAD_BLOCKS = -21,      /* main storage has one key for each block of 2,048 bytes */
+    DASD_OTHER_SIZE = -22,      /* the channels are for main storage of another size */
     /* Why files are no image, in the order in which they are looked at: */
     DASD_NOT_CKD_P370 = -32, /* not a CKD_P370 image */
     DASD_COMPRESSED = -33,   /* a compressed image, or a shadow file */
@@ -262,6 +265,48 @@ int32_t dasd_key(dasd *d, uint32_t at);
 
 /* Sets it. DASD_BAD_KEY, DASD_OUTSIDE_STORAGE. */
 int32_t dasd_set_key(dasd *d, uint32_t at, uint8_t key);
+
+/* --- Main storage that is lent ---
+ *
+ * An emulator that keeps main storage itself makes a handle that owns none, and lends its own for each call that needs it:
+ *
+ *     dasd_memory memory = {bytes, size, keys, size / 2048};
+ *     if (dasd_new_lent(&d, size, DASD_CHANNEL(1)) < 0) ...
+ *     if (dasd_lent_sio(&d, &memory, 0x190) == 0) ...
+ *
+ * No byte of it is copied, and no address of it is kept: between two calls the caller may read and write the bytes and the keys, map,
+ * share and move them. Whatever differs from what the call before left is what the processor stored, also while programs run.
+ *
+ * All calls above that need no storage take such a handle as any other. Those that do answer DASD_NO_STORAGE: dasd_sio, dasd_tio,
+ * dasd_hio, dasd_step, dasd_run_on, dasd_interrupt, and all below 'Main storage'. The calls here take also a handle that owns storage,
+ * which then stays as it is.
+ *
+ * WHAT THE CALLER OWES beside the rules above, and nothing checks: neither pointer is null; `bytes` leads to `size` bytes that may be
+ * written, and `keys` to `blocks` bytes; the two do not overlap; and while a call runs nobody else reads or writes the bytes, or writes
+ * the keys: processors that run in other threads wait meanwhile, by a lock. */
+
+/* Main storage: `size` bytes, and the storage key of each of its `blocks` blocks of 2,048 bytes. A key is the number 0 to 15. A key above
+ * 15 is not refused: its block admits the key 0 alone, and no channel program with another key stores there. So an emulator that keeps a
+ * key in the high four bits of a byte, beside reference and change, gives a list of the keys alone. */
+typedef struct dasd_memory {
+    uint8_t *bytes;
+    size_t size;
+    const uint8_t *keys;
+    size_t blocks;
+} dasd_memory;
+
+/* Makes the channels of a set, as dasd_new, for main storage of so many bytes, which each call is lent.
+ * DASD_IN_USE, DASD_BAD_CHANNELS, DASD_BAD_SIZE, DASD_NO_MEMORY. It does not answer DASD_NOTHING_HELD. */
+int32_t dasd_new_lent(dasd *d, uint32_t storage_bytes, uint8_t channels);
+
+/* The calls above of these names, over this memory. DASD_BAD_SIZE, no main storage has so many bytes; DASD_BAD_BLOCKS; DASD_OTHER_SIZE;
+ * in this order, behind DASD_NOTHING_HELD and before all others. `ran->units` says before dasd_lent_run_on how many units are done at
+ * most, and behind it how many were. */
+int32_t dasd_lent_sio(dasd *d, dasd_memory *memory, uint16_t address);
+int32_t dasd_lent_tio(dasd *d, dasd_memory *memory, uint16_t address);
+int32_t dasd_lent_hio(dasd *d, dasd_memory *memory, uint16_t address);
+int32_t dasd_lent_run_on(dasd *d, dasd_memory *memory, uint8_t channel, dasd_run *ran);
+int32_t dasd_lent_interrupt(dasd *d, dasd_memory *memory, uint8_t channels, uint16_t *address);
 
 #ifdef __cplusplus
 }

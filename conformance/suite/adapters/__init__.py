@@ -29,7 +29,7 @@ class Emulator:
 
 def make(spec: str, seconds: Optional[float] = None) -> Emulator:
     """The emulator that a word names: `model`, `dasd=COMMAND`, `dasd-traced=COMMAND`, `protocol=COMMAND`, `python=FILE:CLASS`,
-    `library=FILE`, `hercules` or `hercules=PROGRAM`. One that is a program may be silent for so many seconds; without a number, for
+    `library=FILE`, `lent=FILE`, `hercules` or `hercules=PROGRAM`. One that is a program may be silent for so many seconds; without a number, for
     those of its adapter."""
     kind, _, rest = spec.partition("=")
     patience: Dict[str, float] = {} if seconds is None else {"seconds": seconds}
@@ -48,6 +48,9 @@ def make(spec: str, seconds: Optional[float] = None) -> Emulator:
     if kind == "library":
         from .library import LibraryEmulator
         return LibraryEmulator(rest or None)
+    if kind == "lent":
+        from .lent import LentEmulator
+        return LentEmulator(rest or None)
     if kind in ("hercules", "hercules-seek-first"):
         from .hercules import HerculesEmulator
         return HerculesEmulator(rest or "hercules", seek_first=kind != "hercules", **patience)

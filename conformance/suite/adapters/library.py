@@ -36,6 +36,7 @@ class LibraryEmulator(Emulator):
     def __init__(self, file: Optional[str] = None) -> None:
         self.dasd = load(file)
         self.name = "libdasd %s" % ".".join(map(str, self.dasd.library_version()))
+        self.subsystem = self.dasd.Subsystem
 
     def play(self, vector: Vector) -> Outcome:
         try:
@@ -43,7 +44,7 @@ class LibraryEmulator(Emulator):
         except DeckFault as fault:
             return Outcome(fault=str(fault), after=vector.before())
         try:
-            with self.dasd.Subsystem(vector.storage, vector.channel) as channels:
+            with self.subsystem(vector.storage, vector.channel) as channels:
                 return self.play_at(channels, vector, events)
         except self.dasd.Fault as fault:
             return Outcome(broke="the library refuses a call: %s" % fault)

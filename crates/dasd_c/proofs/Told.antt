@@ -4,8 +4,9 @@ use Rattle.std.specs.Prelude.{ℤ, pos}
 use Rattle.s360_events.specs.Seen.{condition_seen}
 use Rattle.s360_events.specs.declared.conditions.Condition.{Condition}
 use Rattle.s360_events.specs.declared.conditions.Condition.TheVariants as condition
-use Rattle.s360_laws.specs.Events.{Answer}
-use Rattle.dasd_c.specs.Codes.{code_of}
+use Rattle.s360_words.specs.declared.words.Csw.{Csw}
+use Rattle.s360_laws.specs.Events.{Answer, Interrupted}
+use Rattle.dasd_c.specs.Codes.{address_from, code_of}
 use Rattle.s360_channel.specs.Channel.{ChannelState}
 use Rattle.s360_channel.specs.Selector.{SelectorState}
 use Rattle.s360_channels.specs.Channels.{ChannelsState, OnChannel, OnFound, selector_at}
@@ -32,14 +33,12 @@ not_both a h = cc
 -- An answer that is there only where the channel is: what it was, and that there was none.
 module _ {A : Type 0} (To : Option A → ChannelState → ChannelState → Type 0) (number : ℕ) (old new : ChannelsState) where
   pub there : (Other : ChannelState → ChannelState → Type 0) (Lacking : Type 0) (r : Option A) (a : A) → r ≡ Some a
-      → ((c d : ChannelState) → To (Some a) c d → Other c d) → OnChannel number (To r) (r ≡ None) old new
-      → OnChannel number Other Lacking old new
+      → ((c d : ChannelState) → To (Some a) c d → Other c d) → OnChannel number (To r) (r ≡ None) old new → OnChannel number Other Lacking old new
   there Other Lacking r a is does h =
       told (To (Some a)) Other (◌≡◌ {A = Option A} (Some a) None) Lacking number old new does (λ e. absurd (not_both a e))
       (subst (λ (r : Option A). OnChannel number (To r) (r ≡ None) old new) is h)
 
-  pub nobody : (Other : ChannelState → ChannelState → Type 0) (Lacking : Type 0) (r : Option A) → r ≡ None
-      → ((c d : ChannelState) → To None c d → ⊥)
+  pub nobody : (Other : ChannelState → ChannelState → Type 0) (Lacking : Type 0) (r : Option A) → r ≡ None → ((c d : ChannelState) → To None c d → ⊥)
       → Lacking → OnChannel number (To r) (r ≡ None) old new → OnChannel number Other Lacking old new
   nobody Other Lacking r is none lacks h =
       told (To None) Other (◌≡◌ {A = Option A} None None) Lacking number old new (λ c d h. absurd (none c d h)) (λ e. lacks)
@@ -56,3 +55,8 @@ module _ {A : Type 0} (seen : A → Answer) (stored : (a : A) → code_of (seen 
   is_three (condition.Stored a) h = absurd (omega (arith, ap size_of (sym (stored a) ∙ h)))
   is_three condition.Two h = absurd (omega (arith, ap size_of h))
   is_three condition.Three h = refl
+
+-- without an interruption its address is not told
+pub untold : (taken : Option (ℕ × Csw)) (before : ℕ) {code : ℤ} → code ≡ code_of (Interrupted taken) → (code ≡ pos 1 → ⊥) → address_from (Interrupted taken) before ≡ before
+untold None before told h = refl
+untold (Some i) before told h = absurd (h told)

@@ -1,29 +1,74 @@
 -- What the calls of a handle say and leave.
-use Rattle.std.specs.Prelude.{◌≡◌, ℤ, pos, ℕ, Bool, true, false, List, length, nat_lt, Option, Some, None, if◌then◌else◌}
-use Rattle.s360_words.specs.Storage.{Storage, Change, KeyOf}
+use Rattle.std.specs.Prelude.{◌≡◌, ℤ, pos, ℕ, Bool, true, false, List, length, nat_lt, Option, Some, None, ◌/◌, if◌then◌else◌}
+use Rattle.s360_words.specs.Storage.{Storage, Change, KeyOf, is_size}
 use Rattle.s360_words.specs.declared.words.Csw.{Csw}
 use Rattle.s360_laws.specs.Events as machine
 use Rattle.s360_laws.specs.Machine.{part_of}
+use Rattle.s360_program.specs.Lent.{IsStorage}
 use Rattle.s360_channel.specs.Channel.{ChannelState}
 use Rattle.s360_channel.specs.Views.{key_in}
 use Rattle.s360_channels.specs.Asked.{TestsAt, is_attached}
 use Rattle.s360_channels.specs.Channels.{ChannelsState, OnChannel, Quietly, AtMost, Runs, Stores, channel_at}
-use Rattle.s360_channels.specs.Interrupting.{IsPending, TakesFirst}
+use Rattle.s360_channels.specs.Interrupting.{IsPending, TakesFirst, TakesOf}
+use Rattle.s360_channels.specs.Selectors.{SelectorsState, across}
 use Rattle.s360_channels.specs.Turns.{Steps}
 use Rattle.s360_channel.specs.declared.view.RunOn.{RunOn}
 use Rattle.dasd_subsystem.specs.declared.subsystem.Subsystem.{Subsystem}
 use Rattle.dasd_c.specs.declared.turns.Ran.{Ran}
 use Rattle.dasd_c.specs.declared.turns.Track.{Track}
-use Rattle.dasd_c.specs.Codes.{code_of, nothing_held, outside_storage, bad_key, address_from}
+use Rattle.dasd_c.specs.Codes.{code_of, nothing_held, no_storage, outside_storage, bad_blocks, bad_key, bad_size, other_size, address_from}
 use Rattle.dasd_c.specs.Shown.{ran_shown, track_shown}
 
 -- A call of a handle that holds nothing says so, and the handle holds nothing afterwards; otherwise the call does this to the channels
 -- that the handle holds.
+abbrev pub Holds : (old new : Option Subsystem) → (code : ℤ) → (Subsystem → Subsystem → Type 0) → Type 0
+Holds None None code does = code ≡ nothing_held
+Holds None (Some new) code does = ⊥
+Holds (Some old) None code does = ⊥
+Holds (Some old) (Some new) code does = does old new
+
+-- What a call does to channels over the main storage that they own. Where they own none it says so, and nothing changes.
+abbrev pub OverOwn : (own left : Option Storage) → (old new : SelectorsState) → (code : ℤ) → (ChannelsState → ChannelsState → Type 0) → Type 0
+OverOwn None None old new code does = (code ≡ no_storage) × (new ≡ old)
+OverOwn None (Some t) old new code does = ⊥
+OverOwn (Some s) None old new code does = ⊥
+OverOwn (Some s) (Some t) old new code does = does (across old s) (across new t)
+
+abbrev pub Own : (code : ℤ) → (ChannelsState → ChannelsState → Type 0) → (old new : Subsystem) → Type 0
+Own code does old new = OverOwn old.storage new.storage old.channels new.channels code does
+
 abbrev pub Calls : (old new : Option Subsystem) → (code : ℤ) → (ChannelsState → ChannelsState → Type 0) → Type 0
-Calls None None code does = code ≡ nothing_held
-Calls None (Some new) code does = ⊥
-Calls (Some old) None code does = ⊥
-Calls (Some old) (Some new) code does = does old.channels new.channels
+Calls old new code does = Holds old new code (Own code does)
+
+-- What a call does whatever the storage is: one that they own stays.
+abbrev pub Everywhere : (SelectorsState → SelectorsState → Type 0) → (old new : Subsystem) → Type 0
+Everywhere does old new = (new.storage ≡ old.storage) × does old.channels new.channels
+
+abbrev pub OverAny : (ChannelsState → ChannelsState → Type 0) → (old new : SelectorsState) → Type 0
+OverAny does old new = (s : Storage) → does (across old s) (across new s)
+
+abbrev pub CallsAny : (old new : Option Subsystem) → (code : ℤ) → (ChannelsState → ChannelsState → Type 0) → Type 0
+CallsAny old new code does = Holds old new code (Everywhere (OverAny does))
+
+-- Why bytes and keys are not taken as main storage, in this order: no storage has so many bytes; there is not one key for each block;
+-- the channels are for storage of another size.
+pub data RefusesMemory (size : ℕ) (memory : Storage) (code : ℤ) : Type 0 where
+  BadSize : code ≡ bad_size → is_size (length memory.bytes) ≡ false → RefusesMemory size memory code
+  BadBlocks : code ≡ bad_blocks → is_size (length memory.bytes) ≡ true → (length memory.keys ≡ length memory.bytes / 2048 → ⊥) → RefusesMemory size memory code
+  OtherSize : code ≡ other_size → IsStorage memory → (length memory.bytes ≡ size → ⊥) → RefusesMemory size memory code
+
+-- What a call does to channels over main storage that it is lent: or the memory is refused, and nothing changes. Storage that they own
+-- stays.
+pub data OverLent (code : ℤ) (does : ChannelsState → ChannelsState → Type 0) (memory left : Storage) (old new : Subsystem) : Type 0 where
+  Lends : new.storage ≡ old.storage → does (across old.channels memory) (across new.channels left) → OverLent code does memory left old new
+  Refuses : RefusesMemory old.channels.size memory code → left ≡ memory → new ≡ old → OverLent code does memory left old new
+
+-- Where the handle holds nothing, nothing is lent either.
+abbrev pub CallsLent : (old new : Option Subsystem) → (code : ℤ) → (ChannelsState → ChannelsState → Type 0) → (memory left : Storage) → Type 0
+CallsLent None None code does memory left = (code ≡ nothing_held) × (left ≡ memory)
+CallsLent None (Some new) code does memory left = ⊥
+CallsLent (Some old) None code does memory left = ⊥
+CallsLent (Some old) (Some new) code does memory left = OverLent code does memory left old new
 
 -- the first where a test holds, and otherwise the second
 abbrev pub Either : Bool → Type 0 → Type 0 → Type 0
@@ -77,6 +122,13 @@ pub record TellsFirst (channels : ℕ) (code : ℤ) (before address : ℕ) (old 
   pub told : code ≡ code_of (machine.Interrupted taken)
   pub from : address ≡ address_from (machine.Interrupted taken) before
   pub takes : TakesFirst channels taken old new
+
+-- The same of the channel with a number.
+pub record TellsTaken (number : ℕ) (code : ℤ) (before address : ℕ) (old new : ChannelsState) : Type 0 where
+  pub taken : Option (ℕ × Csw)
+  pub told : code ≡ code_of (machine.Interrupted taken)
+  pub from : address ≡ address_from (machine.Interrupted taken) before
+  pub takes : TakesOf (Some number) taken old new
 
 -- Whether one would be taken: 1 or 0.
 pub record TellsPending (channels : ℕ) (code : ℤ) (s : ChannelsState) : Type 0 where

@@ -11,8 +11,8 @@ use Rattle.s360_channels.specs.declared.faults.DetachFault.TheVariants as detach
 use Rattle.dasd_subsystem.specs.declared.refusal.Refusal.{Refusal}
 use Rattle.dasd_subsystem.specs.declared.refusal.Refusal.TheVariants as refusal
 
--- DASD_NOTHING_HELD, DASD_IN_USE, DASD_OUTSIDE_STORAGE, DASD_BAD_KEY, DASD_BAD_MODEL, DASD_NO_CHANNEL, DASD_NO_DRIVE, DASD_NO_FILE,
--- DASD_PROGRAM_RUNS
+-- DASD_NOTHING_HELD, DASD_IN_USE, DASD_OUTSIDE_STORAGE, DASD_BAD_SIZE, DASD_BAD_KEY, DASD_BAD_MODEL, DASD_NO_CHANNEL, DASD_NO_DRIVE,
+-- DASD_NO_FILE, DASD_PROGRAM_RUNS, DASD_NO_STORAGE, DASD_BAD_BLOCKS, DASD_OTHER_SIZE
 abbrev pub nothing_held : ℤ
 nothing_held = neg_ℤ (pos 1)
 
@@ -21,6 +21,9 @@ in_use = neg_ℤ (pos 2)
 
 abbrev pub outside_storage : ℤ
 outside_storage = neg_ℤ (pos 4)
+
+abbrev pub bad_size : ℤ
+bad_size = neg_ℤ (pos 5)
 
 abbrev pub bad_key : ℤ
 bad_key = neg_ℤ (pos 7)
@@ -39,6 +42,15 @@ no_file = neg_ℤ (pos 16)
 
 abbrev pub program_runs : ℤ
 program_runs = neg_ℤ (pos 17)
+
+abbrev pub no_storage : ℤ
+no_storage = neg_ℤ (pos 20)
+
+abbrev pub bad_blocks : ℤ
+bad_blocks = neg_ℤ (pos 21)
+
+abbrev pub other_size : ℤ
+other_size = neg_ℤ (pos 22)
 
 -- a condition code
 abbrev pub number_of : ConditionCode → ℤ
@@ -78,7 +90,7 @@ mount_code mount.StoreFault = neg_ℤ (pos 39)
 -- why something was not made or attached
 abbrev pub refusal_code : Refusal → ℤ
 refusal_code refusal.OutOfMemory = neg_ℤ (pos 3)
-refusal_code refusal.BadSize = neg_ℤ (pos 5)
+refusal_code refusal.BadSize = bad_size
 refusal_code refusal.BadChannels = neg_ℤ (pos 6)
 refusal_code refusal.NoCylinders = neg_ℤ (pos 9)
 refusal_code refusal.NoChannel = no_channel

@@ -1,10 +1,12 @@
 //! Drives are attached and detached.
 
 ghost use Rattle.std.specs.Prelude.{◌≡◌, ◌/◌, ◌%◌, map, pos};
+ghost use Rattle.s360_words.specs.Storage.{Storage as StorageState};
 ghost use Rattle.s360_channels.specs.Channels.{channel_at};
+ghost use Rattle.s360_channels.specs.Selectors.{across};
 ghost use Rattle.dasd_subsystem.specs.Attaching.{AreImage, Attaches, NotAttached, NotMounted};
 ghost use Rattle.dasd_c.specs.Attaching.{AttachesOf, Detached, DoneOrRefused, RefusesDetach, RefusesOf, TellsWhy, model_of};
-ghost use Rattle.dasd_c.specs.Calls.{Calls};
+ghost use Rattle.dasd_c.specs.Calls.{CallsAny};
 ghost use Rattle.dasd_c.specs.Codes.{refusal_code};
 
 use crate::handle::{Handle, put, take};
@@ -12,7 +14,7 @@ use crate::tell::{BAD_MODEL, DONE, NOTHING_HELD, of_detach, of_refusal};
 use ckd_track::DriveModel;
 use dasd_files::VolumeFile;
 use dasd_subsystem::{Subsystem, check};
-use s360_channels::Channels;
+use s360_channels::Selectors;
 use std::alloc::Global;
 
 /// Whether these files, in their order, are an image.
@@ -35,8 +37,8 @@ pub extern "C" fn dasd_attach(
     address: u16,
     files: &[&[u8]],
 ) -> i32
-    ensures { Calls handle.old.slot.held handle.new.slot.held result (λ old new. DoneOrRefused result old new
-        (Attaches address (map (λ file. file.now) files.now) old new)
+    ensures { CallsAny handle.old.slot.held handle.new.slot.held result
+        (λ old new. DoneOrRefused result old new (Attaches address (map (λ file. file.now) files.now) old new)
         (TellsWhy refusal_code (NotAttached (channel_at (address / 256) old) (address % 256) (map (λ file. file.now) files.now)) result)) }
 {
     let Some(mut subsystem) = take(handle, alloc) else {
@@ -48,9 +50,11 @@ pub extern "C" fn dasd_attach(
 }
 
 fn attach(subsystem: &mut Subsystem, alloc: Global, address: u16, files: &[&[u8]]) -> i32
-    ensures { DoneOrRefused result subsystem.old.channels subsystem.new.channels (Attaches address (map (λ file. file.now) files.now) subsystem.old.channels
-        subsystem.new.channels)
-        (TellsWhy refusal_code (NotAttached (channel_at (address / 256) subsystem.old.channels) (address % 256) (map (λ file. file.now) files.now)) result) }
+    ensures does { (s : StorageState) → DoneOrRefused result (across subsystem.old.channels s) (across subsystem.new.channels s)
+        (Attaches address (map (λ file. file.now) files.now) (across subsystem.old.channels s) (across subsystem.new.channels s))
+        (TellsWhy refusal_code (NotAttached (channel_at (address / 256) (across subsystem.old.channels s)) (address % 256)
+        (map (λ file. file.now) files.now)) result) }
+    ensures storage { subsystem.new.storage ≡ subsystem.old.storage }
 {
     match subsystem.attach(alloc, address, files) {
         Ok(()) => DONE,
@@ -67,8 +71,8 @@ pub extern "C" fn dasd_attach_new(
     model: u16,
     cylinders: u16,
 ) -> i32
-    ensures { Calls handle.old.slot.held handle.new.slot.held result (λ old new. DoneOrRefused result old new
-        (AttachesOf (model_of model) address cylinders old new)
+    ensures { CallsAny handle.old.slot.held handle.new.slot.held result
+        (λ old new. DoneOrRefused result old new (AttachesOf (model_of model) address cylinders old new)
         (RefusesOf (model_of model) address cylinders result old)) }
 {
     let Some(mut subsystem) = take(handle, alloc) else {
@@ -86,9 +90,10 @@ fn attach_new(
     model: u16,
     cylinders: u16,
 ) -> i32
-    ensures { DoneOrRefused result subsystem.old.channels subsystem.new.channels (AttachesOf (model_of model) address cylinders subsystem.old.channels
-        subsystem.new.channels)
-        (RefusesOf (model_of model) address cylinders result subsystem.old.channels) }
+    ensures does { (s : StorageState) → DoneOrRefused result (across subsystem.old.channels s) (across subsystem.new.channels s)
+        (AttachesOf (model_of model) address cylinders (across subsystem.old.channels s) (across subsystem.new.channels s))
+        (RefusesOf (model_of model) address cylinders result (across subsystem.old.channels s)) }
+    ensures storage { subsystem.new.storage ≡ subsystem.old.storage }
 {
     let Some(model) = model_of(model) else {
         return BAD_MODEL;
@@ -112,8 +117,8 @@ fn model_of(number: u16) -> Option<DriveModel>
 /// Takes a drive off its channel, and frees its volume.
 #[unsafe(no_mangle)]
 pub extern "C" fn dasd_detach(handle: &mut Handle, alloc: Global, address: u16) -> i32
-    ensures { Calls handle.old.slot.held handle.new.slot.held result (λ old new. DoneOrRefused result old new (Detached address old new)
-        (RefusesDetach address result old)) }
+    ensures { CallsAny handle.old.slot.held handle.new.slot.held result
+        (λ old new. DoneOrRefused result old new (Detached address old new) (RefusesDetach address result old)) }
 {
     let Some(mut subsystem) = take(handle, alloc) else {
         return NOTHING_HELD;
@@ -123,8 +128,11 @@ pub extern "C" fn dasd_detach(handle: &mut Handle, alloc: Global, address: u16) 
     code
 }
 
-fn detach(channels: &mut Channels<VolumeFile>, address: u16) -> i32
-    ensures { DoneOrRefused result channels.old channels.new (Detached address channels.old channels.new) (RefusesDetach address result channels.old) }
+fn detach(channels: &mut Selectors<VolumeFile>, address: u16) -> i32
+    ensures does { (s : StorageState) → DoneOrRefused result (across channels.old s) (across channels.new s)
+        (Detached address (across channels.old s) (across channels.new s))
+        (RefusesDetach address result (across channels.old s)) }
+    ensures same { channels.new.size ≡ channels.old.size }
 {
     match channels.detach(address) {
         Ok(image) => {

@@ -1,7 +1,7 @@
 //! The handle, and how a subsystem is taken out of it and put back.
 
 ghost use Rattle.std.specs.Prelude.{◌≡◌, ◌==◌, ◌↔◌, Option, Some, None, IsSome, IfSome, IfOk, IfErr, is_some, option_map, pos, true, false, if◌then◌else◌};
-ghost use Rattle.dasd_subsystem.specs.Making.{NotMade, made};
+ghost use Rattle.dasd_subsystem.specs.Making.{MadeLent, MadeOwn, NotMade};
 ghost use Rattle.dasd_c.specs.Attaching.{TellsWhy};
 ghost use Rattle.dasd_c.specs.Codes.{nothing_held, in_use, refusal_code};
 ghost use Rattle.dasd_c.specs.declared.handle.TheConstants.{HELD};
@@ -76,7 +76,7 @@ pub extern "C" fn dasd_new(
     storage_bytes: u32,
     channels: u8,
 ) -> i32
-    ensures made { result ≡ pos 0 → IfSome handle.new.slot.held (λ s. s.channels ≡ made channels storage_bytes) }
+    ensures made { result ≡ pos 0 → IfSome handle.new.slot.held (λ s. MadeOwn channels storage_bytes s) }
     ensures held { result ≡ pos 0 → IsSome handle.new.slot.held }
     ensures stays { (result ≡ pos 0 → ⊥) → handle.new.slot.held ≡ handle.old.slot.held }
     ensures in_use { IsSome handle.old.slot.held → result ≡ in_use }
@@ -85,7 +85,7 @@ pub extern "C" fn dasd_new(
     if handle.stamp == HELD {
         return IN_USE;
     }
-    match boxed(alloc, storage_bytes, channels) {
+    match owning(alloc, storage_bytes, channels) {
         Ok(made) => {
             put(handle, made);
             DONE
@@ -95,11 +95,49 @@ pub extern "C" fn dasd_new(
 }
 
 // A subsystem on the heap, or why there is none.
-fn boxed(alloc: Global, storage_bytes: u32, channels: u8) -> Result<Box<Subsystem>, Refusal>
-    ensures made { IfOk result (λ s. s.value.channels ≡ made channels storage_bytes) }
+fn owning(alloc: Global, storage_bytes: u32, channels: u8) -> Result<Box<Subsystem>, Refusal>
+    ensures made { IfOk result (λ s. MadeOwn channels storage_bytes s.value) }
     ensures refused { IfErr result (λ e. NotMade channels storage_bytes e) }
 {
     let subsystem = Subsystem::new(alloc, channels, storage_bytes)?;
+    match Box::new(alloc, subsystem) {
+        Ok(boxed) => Ok(boxed),
+        Err(_) => Err(Refusal::OutOfMemory),
+    }
+}
+
+/// Makes the channels of this set, for storage of so many bytes that each call is lent, where the handle holds nothing.
+#[unsafe(no_mangle)]
+pub extern "C" fn dasd_new_lent(
+    handle: &mut Handle,
+    alloc: Global,
+    storage_bytes: u32,
+    channels: u8,
+) -> i32
+    ensures made { result ≡ pos 0 → IfSome handle.new.slot.held (λ s. MadeLent channels storage_bytes s) }
+    ensures held { result ≡ pos 0 → IsSome handle.new.slot.held }
+    ensures stays { (result ≡ pos 0 → ⊥) → handle.new.slot.held ≡ handle.old.slot.held }
+    ensures in_use { IsSome handle.old.slot.held → result ≡ in_use }
+    ensures refused { handle.old.slot.held ≡ None → (result ≡ pos 0 → ⊥) → TellsWhy refusal_code (NotMade channels storage_bytes) result }
+{
+    if handle.stamp == HELD {
+        return IN_USE;
+    }
+    match lending(alloc, storage_bytes, channels) {
+        Ok(made) => {
+            put(handle, made);
+            DONE
+        }
+        Err(refusal) => of_refusal(refusal),
+    }
+}
+
+// The same, which is lent its storage by each call.
+fn lending(alloc: Global, storage_bytes: u32, channels: u8) -> Result<Box<Subsystem>, Refusal>
+    ensures made { IfOk result (λ s. MadeLent channels storage_bytes s.value) }
+    ensures refused { IfErr result (λ e. NotMade channels storage_bytes e) }
+{
+    let subsystem = Subsystem::lent(channels, storage_bytes)?;
     match Box::new(alloc, subsystem) {
         Ok(boxed) => Ok(boxed),
         Err(_) => Err(Refusal::OutOfMemory),

@@ -6,6 +6,7 @@
 mod attaching;
 mod handle;
 mod instructions;
+mod lending;
 mod parts;
 mod showing;
 mod slot;

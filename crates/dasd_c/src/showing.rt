@@ -1,10 +1,11 @@
 //! What is shown of channels, drives and their volumes.
 
 ghost use Rattle.std.specs.Prelude.{◌≡◌, ◌/◌, ◌%◌, Some, length};
+ghost use Rattle.s360_words.specs.Storage.{Storage as StorageState};
 ghost use Rattle.s360_channels.specs.Channels.{channel_at};
-ghost use Rattle.dasd_c.specs.Calls.{Calls};
-ghost use Rattle.dasd_c.specs.Shown.{RunsAt, ShowsDriveOf, ShowsFileIn, ShowsFileOf, ShowsState, ShowsStateOf, arm_shown, drive_shown, drives_shown, is_two};
-ghost use Rattle.dasd_c.specs.Shown.{number_of_arm, number_of_model, numbers_of, unit_shown};
+ghost use Rattle.s360_channels.specs.Selectors.{across};
+ghost use Rattle.dasd_c.specs.Calls.{CallsAny};
+ghost use Rattle.dasd_c.specs.Shown.{RunsAt, ShowsDriveOf, ShowsFileIn, ShowsFileOf, ShowsState, ShowsStateOf, arm_shown, drive_shown, drives_shown, is_two, number_of_arm, number_of_model, numbers_of, unit_shown};
 
 use crate::handle::{Handle, put, take};
 use crate::tell::{DONE, NO_CHANNEL, NO_DRIVE, NO_FILE, NOTHING_HELD, PROGRAM_RUNS};
@@ -12,7 +13,7 @@ use ckd_image::{Image, ImageStore};
 use ckd_track::DriveModel;
 use dasd_files::VolumeFile;
 use s360_channel::{DriveView, SubchannelView, View};
-use s360_channels::Channels;
+use s360_channels::Selectors;
 use s360_events::Condition;
 use s360_laws::arm::Arm;
 use std::alloc::Global;
@@ -35,7 +36,7 @@ pub extern "C" fn dasd_show_file(
     file: u8,
     shown: &mut File,
 ) -> i32
-    ensures { Calls handle.old.slot.held handle.new.slot.held result (λ old new. (new ≡ old) × ShowsFileOf old address file result shown.old shown.new) }
+    ensures { CallsAny handle.old.slot.held handle.new.slot.held result (λ old new. (new ≡ old) × ShowsFileOf old address file result shown.old shown.new) }
 {
     let Some(subsystem) = take(handle, alloc) else {
         return NOTHING_HELD;
@@ -45,8 +46,8 @@ pub extern "C" fn dasd_show_file(
     code
 }
 
-fn show_file(channels: &Channels<VolumeFile>, address: u16, file: u8, shown: &mut File) -> i32
-    ensures { ShowsFileOf channels.now address file result shown.old shown.new }
+fn show_file(channels: &Selectors<VolumeFile>, address: u16, file: u8, shown: &mut File) -> i32
+    ensures { (s : StorageState) → ShowsFileOf (across channels.now s) address file result shown.old shown.new }
 {
     if runs(channels, address) {
         return PROGRAM_RUNS;
@@ -73,8 +74,8 @@ fn show_file_of(image: &Image<VolumeFile>, file: u8, shown: &mut File) -> i32
 }
 
 // Whether a program runs on the channel of an address: Test Channel says so.
-fn runs(channels: &Channels<VolumeFile>, address: u16) -> bool
-    ensures { RunsAt result channels.now.storage (channel_at (address / 256) channels.now) }
+fn runs(channels: &Selectors<VolumeFile>, address: u16) -> bool
+    ensures { (s : StorageState) → RunsAt result s (channel_at (address / 256) (across channels.now s)) }
 {
     is_two(channels.tch(address))
 }
@@ -122,8 +123,8 @@ pub extern "C" fn dasd_show_drive(
     address: u16,
     shown: &mut Drive,
 ) -> i32
-    ensures { Calls handle.old.slot.held handle.new.slot.held result (λ old new. (new ≡ old) × ShowsDriveOf (channel_at (address / 256) old)
-        (address % 256) result shown.old shown.new) }
+    ensures { CallsAny handle.old.slot.held handle.new.slot.held result
+        (λ old new. (new ≡ old) × ShowsDriveOf (channel_at (address / 256) old) (address % 256) result shown.old shown.new) }
 {
     let Some(subsystem) = take(handle, alloc) else {
         return NOTHING_HELD;
@@ -133,8 +134,8 @@ pub extern "C" fn dasd_show_drive(
     code
 }
 
-fn show_drive(channels: &Channels<VolumeFile>, address: u16, shown: &mut Drive) -> i32
-    ensures { ShowsDriveOf (channel_at (address / 256) channels.now) (address % 256) result shown.old shown.new }
+fn show_drive(channels: &Selectors<VolumeFile>, address: u16, shown: &mut Drive) -> i32
+    ensures { (s : StorageState) → ShowsDriveOf (channel_at (address / 256) (across channels.now s)) (address % 256) result shown.old shown.new }
 {
     if !channels.has((address / 256) as u8) {
         return NO_CHANNEL;
@@ -194,8 +195,8 @@ pub extern "C" fn dasd_show_channel(
     channel: u8,
     shown: &mut State,
 ) -> i32
-    ensures { Calls handle.old.slot.held handle.new.slot.held result (λ old new. (new ≡ old)
-        × ShowsStateOf (channel_at channel old) old.storage result shown.old shown.new) }
+    ensures { CallsAny handle.old.slot.held handle.new.slot.held result
+        (λ old new. (new ≡ old) × ShowsStateOf (channel_at channel old) old.storage result shown.old shown.new) }
 {
     let Some(subsystem) = take(handle, alloc) else {
         return NOTHING_HELD;
@@ -205,8 +206,8 @@ pub extern "C" fn dasd_show_channel(
     code
 }
 
-fn show_channel(channels: &Channels<VolumeFile>, number: u8, shown: &mut State) -> i32
-    ensures { ShowsStateOf (channel_at number channels.now) channels.now.storage result shown.old shown.new }
+fn show_channel(channels: &Selectors<VolumeFile>, number: u8, shown: &mut State) -> i32
+    ensures { (s : StorageState) → ShowsStateOf (channel_at number (across channels.now s)) s result shown.old shown.new }
 {
     match channels.state(number) {
         Some(state) => {

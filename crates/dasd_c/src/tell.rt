@@ -74,6 +74,15 @@ pub(crate) const ENDING_PENDS: i32 = -18;
 /// This drive's arm moves, or has arrived and has not interrupted.
 pub(crate) const DEVICE_END_OWED: i32 = -19;
 
+/// The channels own no main storage: each call is lent it.
+pub(crate) const NO_STORAGE: i32 = -20;
+
+/// Main storage has one key for each block of 2,048 bytes.
+pub(crate) const BAD_BLOCKS: i32 = -21;
+
+/// The channels are for main storage of another size.
+pub(crate) const OTHER_SIZE: i32 = -22;
+
 /// Why something was not made, attached, or is no image.
 pub(crate) fn of_refusal(refusal: Refusal) -> i32
     ensures { result ≡ refusal_code refusal }

@@ -1,2 +1,3 @@
 mod Copies
 mod Refusing
+pub mod Fitting

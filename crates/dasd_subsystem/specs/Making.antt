@@ -3,9 +3,10 @@ use Rattle.std.specs.Prelude.{◌≡◌, ◌≤◌, ◌==◌, ◌%◌, ◌&&◌,
 use Rattle.s360_words.specs.Storage.{cleared, is_size}
 use Rattle.s360_channel.specs.Selector.{SelectorState}
 use Rattle.s360_channels.specs.Adding.{is_taken, new_channel}
-use Rattle.s360_channels.specs.Channels.{ChannelsState}
+use Rattle.s360_channels.specs.Selectors.{SelectorsState}
 use Rattle.s360_channels.specs.Interrupting.{is_open}
 use Rattle.dasd_subsystem.specs.declared.refusal.Refusal.{Refusal}
+use Rattle.dasd_subsystem.specs.declared.subsystem.Subsystem.{Subsystem}
 use Rattle.dasd_subsystem.specs.declared.refusal.Refusal.TheVariants.{BadChannels, BadSize, OutOfMemory}
 
 -- A set of channels has the form of a system mask: it has some of the channels 0 to 6, and bit 7, which is no channel's, is not set.
@@ -20,9 +21,16 @@ made_at channels size number = if is_open channels number then Some (new_channel
 abbrev pub made_list : (channels size : ℕ) → List (Option SelectorState)
 made_list channels size = map (made_at channels size) (0 ∷ 1 ∷ 2 ∷ 3 ∷ 4 ∷ 5 ∷ 6 ∷ [])
 
--- a storage of so many zero bytes, and the channels of a set over it
-abbrev pub made : (channels size : ℕ) → ChannelsState
-made channels size = record { storage = cleared size; channels = made_list channels size }
+-- the channels of a set, for storage of a size
+abbrev pub made : (channels size : ℕ) → SelectorsState
+made channels size = record { size = size; channels = made_list channels size }
+
+-- the channels of a set over a storage of so many zero bytes, which they own, or are lent by each call
+abbrev pub MadeOwn : (channels size : ℕ) → Subsystem → Type 0
+MadeOwn channels size s = (s.channels ≡ made channels size) × (s.storage ≡ Some (cleared size))
+
+abbrev pub MadeLent : (channels size : ℕ) → Subsystem → Type 0
+MadeLent channels size s = (s.channels ≡ made channels size) × (s.storage ≡ None)
 
 -- channels and, if the set has it, the one with a number
 abbrev pub with_channel : (channels size number : ℕ) → List (Option SelectorState) → List (Option SelectorState)

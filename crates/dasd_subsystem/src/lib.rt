@@ -1,6 +1,7 @@
 //! Channels over one main storage, with drives whose volumes are in memory, as one value, for a program that can't hold them itself.
 #![tactic(auto)]
 
+mod attaching;
 mod making;
 mod mounting;
 mod refusal;

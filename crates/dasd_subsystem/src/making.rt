@@ -1,11 +1,12 @@
 //! The channels of a set are made.
 
-ghost use Rattle.std.specs.Prelude.{◌≡◌, ◌<◌, ◌+◌, length};
-ghost use Rattle.dasd_subsystem.specs.Making.{AreFree, is_set, made_list, with_channel};
+ghost use Rattle.std.specs.Prelude.{◌≡◌, ◌<◌, ◌+◌};
+ghost use Rattle.s360_words.specs.Storage.{is_size};
+ghost use Rattle.dasd_subsystem.specs.Making.{AreFree, is_set, made, with_channel};
 
 use dasd_files::VolumeFile;
-use s360_channels::{Channels, is_open};
-use s360_words::Storage;
+use s360_channels::{Selectors, is_open};
+use s360_words::{BLOCK_SIZE, MAX_SIZE, MIN_SIZE};
 
 /// Whether this is a set of channels.
 pub(crate) fn is_set(channels: u8) -> bool
@@ -14,11 +15,18 @@ pub(crate) fn is_set(channels: u8) -> bool
     channels != 0 && channels % 2 == 0
 }
 
-/// The channels of a set, over this storage. It takes no memory.
-pub(crate) fn made_over(channels: u8, storage: Storage) -> Channels<VolumeFile>
-    ensures { result ≡ record { storage = storage; channels = made_list channels (length storage.bytes) } }
+/// Whether there is a storage of this size.
+pub(crate) fn is_size(size: u32) -> bool
+    ensures { result ≡ is_size size }
 {
-    let mut made = Channels::new(storage);
+    size >= MIN_SIZE && size <= MAX_SIZE && size % BLOCK_SIZE == 0
+}
+
+/// The channels of a set, for storage of this size. It takes no memory.
+pub(crate) fn made_for(channels: u8, size: u32) -> Selectors<VolumeFile>
+    ensures { result ≡ made channels size }
+{
+    let mut made = Selectors::new(size);
     add(&mut made, channels, 0);
     add(&mut made, channels, 1);
     add(&mut made, channels, 2);
@@ -30,10 +38,10 @@ pub(crate) fn made_over(channels: u8, storage: Storage) -> Channels<VolumeFile>
 }
 
 // Adds the channel with a number, if the set has it.
-fn add(made: &mut Channels<VolumeFile>, channels: u8, number: u8)
+fn add(made: &mut Selectors<VolumeFile>, channels: u8, number: u8)
     requires number { number < 7 }
     requires free { AreFree number made.old.channels }
-    ensures added { made.new ≡ record made.old { channels = with_channel channels (length made.old.storage.bytes) number made.old.channels } }
+    ensures added { made.new ≡ record made.old { channels = with_channel channels made.old.size number made.old.channels } }
     ensures free { AreFree (number + 1) made.new.channels }
 {
     if !is_open(channels, number) {

@@ -7,8 +7,8 @@ use Rattle.dasd_c.proofs.instructions.tch.Goals as goal
 
 -- C is told the number of the channel's answer
 pub returns : goal.returns
-returns c = record {
+returns c = λ s. record {
   answer = condition_seen (λ u. WithCode One) c.tch.result;
   told = to_z-of_z w32 c.of_test.result (search rules) ∙ c.of_test.ensures;
-  tests = c.tch.ensures;
+  tests = c.tch.ensures s;
 }

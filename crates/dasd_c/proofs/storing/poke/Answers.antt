@@ -1,14 +1,11 @@
-use Rattle.std.proofs.Common.{rules, ◌≡◌, ◌∙◌, ap, Bool, w32}
-use Rattle.std.proofs.lemmas.Int.{to_z-of_z}
-use Rattle.std.specs.Prelude.{is_ok}
-use Rattle.s360_laws.specs.Events.{WasKept}
-use Rattle.dasd_c.specs.Codes.{code_of}
+use Rattle.std.proofs.Common.{◌∙◌}
+use Rattle.s360_words.specs.Storage.{Bytes}
+use Rattle.s360_channels.proofs.Changes.{kept_size}
+use Rattle.dasd_c.proofs.Owning.{own_size}
 use Rattle.dasd_c.proofs.storing.poke.Goals as goal
 
--- C is told whether all of it was within
-pub returns : goal.returns
-returns c = let same : c.is_ok.result ≡ is_ok c.poke.result = search rules in record {
-  kept = is_ok c.poke.result;
-  told = to_z-of_z w32 c.of_kept.result (search rules) ∙ c.of_kept.ensures ∙ ap (λ (kept : Bool). code_of (WasKept kept)) same;
-  stores = c.poke.ensures;
-}
+pub invariant_of-subsystem-2 : goal.invariant_of-subsystem-2
+invariant_of-subsystem-2 c =
+    let own = c.args.subsystem.now in
+    let s = c.in-Some.storage in
+    record { fits = kept_size c.put.result (Bytes c.args.at c.args.bytes.now) s c.put.new.self c.put.ensures.change ∙ own_size own.storage s own.channels c.in-Some.is own.fits }

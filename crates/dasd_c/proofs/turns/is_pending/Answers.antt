@@ -1,10 +1,10 @@
-use Rattle.std.proofs.Common.{rules, ◌∙◌, w32}
+use Rattle.std.proofs.Common.{rules, ◌≡◌, ◌∙◌, ap, Bool, is_some, w32}
 use Rattle.std.proofs.lemmas.Int.{to_z-of_z}
 use Rattle.dasd_c.proofs.turns.is_pending.Goals as goal
 
-pub returns : goal.returns
-returns c = record {
-  answer = c.is_pending.result;
+pub returns-clause-tells : goal.returns-clause-tells
+returns-clause-tells c = λ s. record {
+  answer = c.is_some.result;
   told = to_z-of_z w32 c.of_answer.result (search rules) ∙ c.of_answer.ensures;
-  is_pending = c.is_pending.ensures;
+  is_pending = record { first = c.poll.result; is_first = c.poll.ensures.first s; answers = search rules };
 }
