@@ -33,12 +33,14 @@ not_both a h = cc
 -- An answer that is there only where the channel is: what it was, and that there was none.
 module _ {A : Type 0} (To : Option A → ChannelState → ChannelState → Type 0) (number : ℕ) (old new : ChannelsState) where
   pub there : (Other : ChannelState → ChannelState → Type 0) (Lacking : Type 0) (r : Option A) (a : A) → r ≡ Some a
-      → ((c d : ChannelState) → To (Some a) c d → Other c d) → OnChannel number (To r) (r ≡ None) old new → OnChannel number Other Lacking old new
+      → ((c d : ChannelState) → To (Some a) c d → Other c d) → OnChannel number (To r) (r ≡ None) old new
+      → OnChannel number Other Lacking old new
   there Other Lacking r a is does h =
       told (To (Some a)) Other (◌≡◌ {A = Option A} (Some a) None) Lacking number old new does (λ e. absurd (not_both a e))
       (subst (λ (r : Option A). OnChannel number (To r) (r ≡ None) old new) is h)
 
-  pub nobody : (Other : ChannelState → ChannelState → Type 0) (Lacking : Type 0) (r : Option A) → r ≡ None → ((c d : ChannelState) → To None c d → ⊥)
+  pub nobody : (Other : ChannelState → ChannelState → Type 0) (Lacking : Type 0) (r : Option A) → r ≡ None
+      → ((c d : ChannelState) → To None c d → ⊥)
       → Lacking → OnChannel number (To r) (r ≡ None) old new → OnChannel number Other Lacking old new
   nobody Other Lacking r is none lacks h =
       told (To None) Other (◌≡◌ {A = Option A} None None) Lacking number old new (λ c d h. absurd (none c d h)) (λ e. lacks)
@@ -57,6 +59,7 @@ module _ {A : Type 0} (seen : A → Answer) (stored : (a : A) → code_of (seen 
   is_three condition.Three h = refl
 
 -- without an interruption its address is not told
-pub untold : (taken : Option (ℕ × Csw)) (before : ℕ) {code : ℤ} → code ≡ code_of (Interrupted taken) → (code ≡ pos 1 → ⊥) → address_from (Interrupted taken) before ≡ before
+pub untold : (taken : Option (ℕ × Csw)) (before : ℕ) {code : ℤ} → code ≡ code_of (Interrupted taken) → (code ≡ pos 1 → ⊥)
+    → address_from (Interrupted taken) before ≡ before
 untold None before told h = refl
 untold (Some i) before told h = absurd (h told)

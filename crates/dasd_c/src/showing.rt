@@ -5,7 +5,8 @@ ghost use Rattle.s360_words.specs.Storage.{Storage as StorageState};
 ghost use Rattle.s360_channels.specs.Channels.{channel_at};
 ghost use Rattle.s360_channels.specs.Selectors.{across};
 ghost use Rattle.dasd_c.specs.Calls.{CallsAny};
-ghost use Rattle.dasd_c.specs.Shown.{RunsAt, ShowsDriveOf, ShowsFileIn, ShowsFileOf, ShowsState, ShowsStateOf, arm_shown, drive_shown, drives_shown, is_two, number_of_arm, number_of_model, numbers_of, unit_shown};
+ghost use Rattle.dasd_c.specs.Shown.{RunsAt, ShowsDriveOf, ShowsFileIn, ShowsFileOf, ShowsState, ShowsStateOf, arm_shown, drive_shown, drives_shown, is_two};
+ghost use Rattle.dasd_c.specs.Shown.{number_of_arm, number_of_model, numbers_of, unit_shown};
 
 use crate::handle::{Handle, put, take};
 use crate::tell::{DONE, NO_CHANNEL, NO_DRIVE, NO_FILE, NOTHING_HELD, PROGRAM_RUNS};

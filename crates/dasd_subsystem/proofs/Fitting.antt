@@ -13,7 +13,12 @@ still_fits None old new same h = refl
 still_fits (Some s) old new same h = h ∙ sym same
 
 -- a subsystem with the same channels and the same storage is the same
-pub same_subsystem : (a : Subsystem) (cs : SelectorsState) (f : Fits a.storage cs) → cs ≡ a.channels → record { channels = cs; storage = a.storage; fits = f } ≡ a
+pub same_subsystem : (a : Subsystem) (cs : SelectorsState) (f : Fits a.storage cs) → cs ≡ a.channels → record {
+  channels = cs;
+  storage =
+      a.storage;
+  fits = f;
+} ≡ a
 same_subsystem a cs f e = λ i. record {
   channels = e i;
   storage = a.storage;

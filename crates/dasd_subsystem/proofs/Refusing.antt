@@ -32,11 +32,13 @@ by_channel : (c : ChannelState) (device : ℕ) (e : Refusal) → Refuses (Some c
 by_channel c device e r = subst (RefusedBy c device) (sym r.told) (refused_by c device r.fault r.is_why)
 
 -- a drive with the image of files
-pub not_taken : (o : Option ChannelState) (device : ℕ) (files : List (List ℕ)) (e : Refusal) → is_some o ≡ true → AreImage files → Refuses o device e → NotAttached o device files e
+pub not_taken : (o : Option ChannelState) (device : ℕ) (files : List (List ℕ)) (e : Refusal) → is_some o ≡ true → AreImage files
+    → Refuses o device e → NotAttached o device files e
 not_taken None device files e h image r = absurd (false≢true h)
 not_taken (Some c) device files e h image r = inr (image, by_channel c device e r)
 
 -- and one with a new volume
-pub not_taken_new : (o : Option ChannelState) (device cylinders : ℕ) (e : Refusal) → is_some o ≡ true → 0 < cylinders → Refuses o device e → NotAttachedNew o device cylinders e
+pub not_taken_new : (o : Option ChannelState) (device cylinders : ℕ) (e : Refusal) → is_some o ≡ true → 0 < cylinders → Refuses o device e
+    → NotAttachedNew o device cylinders e
 not_taken_new None device cylinders e h some r = absurd (false≢true h)
 not_taken_new (Some c) device cylinders e h some r = inr (some, by_channel c device e r)

@@ -9,4 +9,5 @@ pub returns-in-Ok-clause-does : goal.returns-in-Ok-clause-does
 returns-in-Ok-clause-does c = λ s.
     let old = across c.args.subsystem.now.channels s in
     let new = across c.attach_new.new.self.channels s in
-    Done refl (subst (λ (o : Option DriveModel). AttachesOf o c.args.address c.args.cylinders old new) (sym c.in-Some.is ∙ c.model_of.ensures) (c.in-Ok.ensures.attached s))
+    Done refl (subst (λ (o : Option DriveModel). AttachesOf o c.args.address c.args.cylinders old new) (sym c.in-Some.is
+    ∙ c.model_of.ensures) (c.in-Ok.ensures.attached s))

@@ -19,7 +19,8 @@ returns-clause-tells g c =
       record {
         answer = a;
         told = code;
-        does = told how how (c.sio.result ≡ condition.Three) (a ≡ WithCode Three) (c.args.address / 256) (across c.args.channels.now (holds c.args.storage.now))
+        does = told how how (c.sio.result ≡ condition.Three) (a ≡ WithCode Three) (c.args.address / 256)
+            (across c.args.channels.now (holds c.args.storage.now))
             (across c.sio.new.self (holds c.sio.new.storage))
             (λ b d h. h) (λ e. ap (condition_seen status_seen) e) c.sio.ensures.does;
       },

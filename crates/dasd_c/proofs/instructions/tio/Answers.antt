@@ -19,7 +19,8 @@ returns-clause-tells g c =
       record {
         answer = a;
         told = code;
-        does = told how how (c.tio.result ≡ condition.Three) (a ≡ WithCode Three) (c.args.address / 256) (across c.args.channels.now (holds c.args.storage.now))
+        does = told how how (c.tio.result ≡ condition.Three) (a ≡ WithCode Three) (c.args.address / 256)
+            (across c.args.channels.now (holds c.args.storage.now))
             (across c.tio.new.self (holds c.tio.new.storage))
             (λ b d h. h) (λ e. ap (condition_seen csw_seen) e) c.tio.ensures.does;
       },

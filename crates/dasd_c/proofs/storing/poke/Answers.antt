@@ -8,4 +8,7 @@ pub invariant_of-subsystem-2 : goal.invariant_of-subsystem-2
 invariant_of-subsystem-2 c =
     let own = c.args.subsystem.now in
     let s = c.in-Some.storage in
-    record { fits = kept_size c.put.result (Bytes c.args.at c.args.bytes.now) s c.put.new.self c.put.ensures.change ∙ own_size own.storage s own.channels c.in-Some.is own.fits }
+    record {
+      fits = kept_size c.put.result (Bytes c.args.at c.args.bytes.now) s c.put.new.self c.put.ensures.change
+          ∙ own_size own.storage s own.channels c.in-Some.is own.fits;
+    }

@@ -12,6 +12,7 @@ returns-clause-does c = λ s.
     let a = HasArrived c.arrive.result in let how = Quietly (Arrive c.args.address) a in record {
       answer = a;
       told = to_z-of_z w32 c.of_arrival.result (search rules) ∙ c.of_arrival.ensures;
-      does = told how how (c.arrive.result ≡ false) (a ≡ HasArrived false) (c.args.address / 256) (across c.args.channels.now s) (across c.arrive.new.self s)
+      does = told how how (c.arrive.result ≡ false) (a ≡ HasArrived false) (c.args.address / 256) (across c.args.channels.now s)
+          (across c.arrive.new.self s)
           (λ b d h. h) (λ e. ap HasArrived e) (c.arrive.ensures.does s);
     }

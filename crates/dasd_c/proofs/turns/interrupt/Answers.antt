@@ -13,7 +13,8 @@ returns-in_default-clause-does g c =
       from = refl;
       takes = record {
         first = None;
-        is_first = subst (λ (first : Option ℕ). FirstPending c.args.channels (across c.args.held.now s) first) c.in_default.is (c.poll.ensures.first s);
+        is_first = subst (λ (first : Option ℕ). FirstPending c.args.channels (across c.args.held.now s) first) c.in_default.is
+            (c.poll.ensures.first s);
         takes = (refl, ap (λ v. across v s) c.poll.ensures.stays);
       };
     }
@@ -29,7 +30,9 @@ returns-clause-does g c =
       from = t.from;
       takes = record {
         first = Some c.in-Some.number;
-        is_first = subst (λ (first : Option ℕ). FirstPending c.args.channels (across c.args.held.now s) first) c.in-Some.is (c.poll.ensures.first s);
-        takes = subst (λ v. TakesOf (Some c.in-Some.number) t.taken (across v s) (across c.taken_at.new.held (holds c.taken_at.new.storage))) c.poll.ensures.stays t.takes;
+        is_first = subst (λ (first : Option ℕ). FirstPending c.args.channels (across c.args.held.now s) first) c.in-Some.is
+            (c.poll.ensures.first s);
+        takes = subst (λ v. TakesOf (Some c.in-Some.number) t.taken (across v s)
+            (across c.taken_at.new.held (holds c.taken_at.new.storage))) c.poll.ensures.stays t.takes;
       };
     }

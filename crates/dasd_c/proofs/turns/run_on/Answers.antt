@@ -21,4 +21,5 @@ returns-then-is_available-clause-does g c =
     let ran : RunOn = record { units = 0; subchannel = Idle } in
     let shown = ran_shown ran in
     told (RunsTo c.args.units (Some ran)) (RunsFor c.args.units (pos 0) shown) ⊥ (Lacking (pos 0) c.args.ran.now shown) c.args.channel v v
-    (λ b d h. record { ran = ran; told = refl; shows = refl; runs = h }) (λ e. absurd e) (c.is_available.ensures c.if-is_available.true s c.args.units)
+    (λ b d h. record { ran = ran; told = refl; shows = refl; runs = h }) (λ e. absurd e)
+    (c.is_available.ensures c.if-is_available.true s c.args.units)

@@ -13,4 +13,5 @@ returns-clause-does g c = record {
 }
 
 pub returns-clause-untold : goal.returns-clause-untold
-returns-clause-untold g c = λ h. c.of_interruption.ensures.from ∙ untold c.interrupt_at.result c.args.address.now (to_z-of_z w32 c.of_interruption.result (search rules) ∙ c.of_interruption.ensures.told) h
+returns-clause-untold g c = λ h. c.of_interruption.ensures.from ∙ untold c.interrupt_at.result c.args.address.now
+    (to_z-of_z w32 c.of_interruption.result (search rules) ∙ c.of_interruption.ensures.told) h

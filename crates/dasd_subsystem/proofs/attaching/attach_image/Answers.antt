@@ -3,7 +3,11 @@ use Rattle.dasd_subsystem.proofs.attaching.attach_image.Goals as goal
 use Rattle.dasd_subsystem.proofs.attaching.attach_image.Goals.{in-Ok, in-Err}
 
 pub invariant_of-subsystem : goal.invariant_of-subsystem
-invariant_of-subsystem c = record { fits = still_fits c.args.subsystem.now.storage c.args.subsystem.now.channels c.attach.new.self c.attach.ensures.same c.args.subsystem.now.fits }
+invariant_of-subsystem c =
+    record {
+      fits = still_fits c.args.subsystem.now.storage c.args.subsystem.now.channels c.attach.new.self c.attach.ensures.same
+          c.args.subsystem.now.fits;
+    }
 
 pub returns-clause-stays : goal.returns-clause-stays
 returns-clause-stays c = elim c.match-attach.branch [

@@ -21,5 +21,10 @@ returns-clause-refused c = λ s.
     let has : is_some (numbered (c.args.address / 256) c.args.self.now.channels.channels) ≡ true = search (rules, tests) in
     let some : is_some o ≡ true = some_over s (numbered (c.args.address / 256) c.args.self.now.channels.channels) ∙ has in
     err_then c.attach_image.result (Refuses o device) (NotAttached o device files)
-    (λ e h. not_taken o device files e some (record { few = c.in_ok-image.ensures.few; image = c.in_ok-image.image; of_files = c.in_ok-image.ensures.image }) h)
+    (λ e h. not_taken o device files e some (record {
+      few = c.in_ok-image.ensures.few;
+      image = c.in_ok-image.image;
+      of_files =
+          c.in_ok-image.ensures.image;
+    }) h)
     (c.attach_image.ensures.refused s)

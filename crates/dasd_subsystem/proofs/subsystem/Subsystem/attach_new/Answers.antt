@@ -10,7 +10,8 @@ use Rattle.dasd_subsystem.proofs.subsystem.Subsystem.attach_new.Goals as goal
 -- the image is the new one
 pub returns-clause-attached : goal.returns-clause-attached
 returns-clause-attached c = λ s.
-    subst (λ (i : ImageState). OnOk c.attach_image.result (AttachesImage c.args.address i (across c.args.self.now.channels s) (across c.attach_image.new.subsystem.channels s)))
+    subst (λ (i : ImageState). OnOk c.attach_image.result (AttachesImage c.args.address i (across c.args.self.now.channels s)
+    (across c.attach_image.new.subsystem.channels s)))
     c.in_ok-image.ensures.image (c.attach_image.ensures.attached s)
 
 -- there is a volume, and the channel refuses it
