@@ -35,6 +35,12 @@ class Storage(ctypes.Structure):
     _fields_ = [("at", ctypes.c_void_p), ("len", ctypes.c_size_t)]
 
 
+class Memory(ctypes.Structure):
+    """Main storage that a call is lent: its bytes, and the key of each block of them."""
+
+    _fields_ = [("bytes", ctypes.c_void_p), ("size", ctypes.c_size_t), ("keys", ctypes.c_void_p), ("blocks", ctypes.c_size_t)]
+
+
 class Ran(ctypes.Structure):
     """What came of a run."""
 
@@ -111,6 +117,12 @@ _CALLS: Dict[str, List[Any]] = {
     "poke": [_U32, ctypes.c_char_p, _SIZE],
     "key": [_U32],
     "set_key": [_U32, _U8],
+    "new_lent": [_U32, _U8],
+    "lent_sio": [_to(Memory), _U16],
+    "lent_tio": [_to(Memory), _U16],
+    "lent_hio": [_to(Memory), _U16],
+    "lent_run_on": [_to(Memory), _U8, _to(Ran)],
+    "lent_interrupt": [_to(Memory), _U8, ctypes.POINTER(_U16)],
 }
 
 

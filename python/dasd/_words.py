@@ -28,6 +28,9 @@ class FaultCode(enum.IntEnum):
     PROGRAM_RUNS = -17
     ENDING_PENDS = -18
     DEVICE_END_OWED = -19
+    NO_STORAGE = -20
+    BAD_BLOCKS = -21
+    OTHER_SIZE = -22
     NOT_CKD_P370 = -32
     COMPRESSED = -33
     DEVICE_TYPE = -34
@@ -58,6 +61,9 @@ _TEXTS = {
     FaultCode.PROGRAM_RUNS: "a channel program runs",
     FaultCode.ENDING_PENDS: "the channel status word of this drive's program is not yet stored",
     FaultCode.DEVICE_END_OWED: "this drive's arm moves, or has arrived and has not interrupted",
+    FaultCode.NO_STORAGE: "the handle owns no main storage: each call is lent it",
+    FaultCode.BAD_BLOCKS: "main storage has one key for each block of 2,048 bytes",
+    FaultCode.OTHER_SIZE: "the channels are for main storage of another size",
     FaultCode.NOT_CKD_P370: "not a CKD_P370 image",
     FaultCode.COMPRESSED: "a compressed image, or a shadow file",
     FaultCode.DEVICE_TYPE: "neither a 2311 nor a 2314",

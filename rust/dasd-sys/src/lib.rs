@@ -64,6 +64,21 @@ pub struct dasd_storage {
     pub len: usize,
 }
 
+/// Main storage that a call is lent. Neither pointer is null, and the two ranges do not overlap; while a call runs nobody else reads or
+/// writes the bytes, or writes the keys. No address is kept.
+#[repr(C)]
+#[derive(Clone, Copy, Debug)]
+pub struct dasd_memory {
+    /// Where its bytes begin.
+    pub bytes: *mut u8,
+    /// How many they are.
+    pub size: usize,
+    /// Where the storage keys begin, one for each block of 2,048 bytes. A key is 0 to 15; above that, its block admits the key 0 alone.
+    pub keys: *const u8,
+    /// How many they are.
+    pub blocks: usize,
+}
+
 /// What is known of a drive without a channel program.
 #[repr(C)]
 #[derive(Clone, Copy, Debug, Default)]
@@ -184,4 +199,16 @@ extern "C" {
     pub fn dasd_key(d: *mut dasd, at: u32) -> i32;
     /// Sets it.
     pub fn dasd_set_key(d: *mut dasd, at: u32, key: u8) -> i32;
+    /// Makes the channels of this set, as [`dasd_new`], for main storage of so many bytes, which each call is lent.
+    pub fn dasd_new_lent(d: *mut dasd, storage_bytes: u32, channels: u8) -> i32;
+    /// Start I/O, over main storage that is lent.
+    pub fn dasd_lent_sio(d: *mut dasd, memory: *mut dasd_memory, address: u16) -> i32;
+    /// Test I/O, over main storage that is lent.
+    pub fn dasd_lent_tio(d: *mut dasd, memory: *mut dasd_memory, address: u16) -> i32;
+    /// Halt I/O, over main storage that is lent.
+    pub fn dasd_lent_hio(d: *mut dasd, memory: *mut dasd_memory, address: u16) -> i32;
+    /// As [`dasd_run_on`], over main storage that is lent: `units` of `ran` is how many units are done at most, and then how many were.
+    pub fn dasd_lent_run_on(d: *mut dasd, memory: *mut dasd_memory, channel: u8, ran: *mut dasd_run) -> i32;
+    /// As [`dasd_interrupt`], over main storage that is lent.
+    pub fn dasd_lent_interrupt(d: *mut dasd, memory: *mut dasd_memory, channels: u8, address: *mut u16) -> i32;
 }

@@ -81,6 +81,12 @@ faults! {
     EndingPends = -18,
     /// this drive's arm moves, or has arrived and has not interrupted
     DeviceEndOwed = -19,
+    /// the handle owns no main storage: each call is lent it
+    NoStorage = -20,
+    /// main storage has one key for each block of 2,048 bytes
+    BadBlocks = -21,
+    /// the channels are for main storage of another size
+    OtherSize = -22,
     /// not a CKD_P370 image
     NotCkdP370 = -32,
     /// a compressed image, or a shadow file
@@ -117,7 +123,7 @@ mod tests {
         let header = Path::new(env!("CARGO_MANIFEST_DIR")).join("../../c/dasd.h");
         let Ok(header) = std::fs::read_to_string(header) else { return }; // a published crate has none
         let faults: Vec<_> = header.lines().filter_map(told).collect();
-        assert!(faults.len() >= 27);
+        assert!(faults.len() >= 30);
         for (code, text) in faults {
             assert_eq!((Fault::of(code).code(), Fault::of(code).to_string().as_str()), (code, text));
             assert!(!matches!(Fault::of(code), Fault::Other(_)), "{text}");
