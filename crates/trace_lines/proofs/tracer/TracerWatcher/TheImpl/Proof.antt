@@ -283,7 +283,7 @@ bound = λ γ'' x x' x'' W-Write W-Write-dict W-Destruct-dict M 𝓤 𝓛 𝓜 �
       S-Destruct-dict).kept
       a
       ws))
-      λ x. Impl.to_emp
+      λ x. Logic.id⊢
       𝓤
       _)
       (Table.widened
