@@ -5,6 +5,8 @@
  *     disks.storage()[0x48] = ...
  *     if (disks.sio(0x190) == 0) ...
  *
+ * A program that keeps main storage itself makes a libdasd::LentSubsystem, and lends its own to each call that needs it.
+ *
  * What a call does, dasd.h says, and its words are used here. All of this header is inline: the library is linked as for C.
  *
  * REFUSALS ARE EXCEPTIONS, libdasd::Fault, and not values that carry an answer or a fault, for three reasons. A constructor has no other
@@ -18,8 +20,8 @@
  *
  * WHAT THE CALLER OWES is what dasd.h asks, but for what this header does: a Subsystem is made, moved and freed by the rules of C++, and
  * a null pointer with no bytes is allowed. It remains that no bytes that are given to a call lie in main storage or in a file that is
- * shown; that a Subsystem is in one call at a time, asking calls too, none of which is const therefore; and that a span of what a call
- * shows is used no longer than that call's text says. */
+ * shown; that a Subsystem is in one call at a time, asking calls too, none of which is const therefore; that a span of what a call
+ * shows is used no longer than that call's text says; and what stands at LentSubsystem. */
 #ifndef DASD_HPP
 #define DASD_HPP
 
@@ -230,27 +232,14 @@ struct File {
 
 /* --- The subsystem --- */
 
-/* Main storage, and one to seven channels over it, with their drives and the volumes of these. It is moved, and not copied; what a call
- * has shown stays where it is when it is moved. One that was made without words, was moved from or was freed holds nothing: each call but
- * free and get then throws DASD_NOTHING_HELD. Of each call the faults are named that it may throw beside this one. */
-class Subsystem {
+/* One to seven channels, with their drives and the volumes of these, whoever keeps main storage: what a Subsystem and a LentSubsystem have in
+ * common. It is moved, and not copied; what a call has shown stays where it is when it is moved. One that was made without words, was moved
+ * from or was freed holds nothing: each call but free and get then throws DASD_NOTHING_HELD. Of each call the faults are named that it may
+ * throw beside this one. */
+class Channels {
   public:
-    /* Nothing. */
-    Subsystem() noexcept = default;
-
-    /* Main storage of so many bytes, all zero and with keys 0, and the channels of this set over it, without drives.
-     * DASD_BAD_CHANNELS, DASD_BAD_SIZE, DASD_NO_MEMORY; std::bad_alloc. */
-    Subsystem(std::uint32_t storage_bytes, std::uint8_t channels) : handle(new dasd DASD_NOTHING) {
-        detail::done(dasd_new(handle.get(), storage_bytes, channels));
-    }
-
-    Subsystem(const Subsystem &) = delete;
-    Subsystem &operator=(const Subsystem &) = delete;
-    Subsystem(Subsystem &&) noexcept = default;
-    /* Frees what it held before. */
-    Subsystem &operator=(Subsystem &&) noexcept = default;
-    /* Frees all that it holds, its volumes too, whether they were saved or not. */
-    ~Subsystem() = default;
+    Channels(const Channels &) = delete;
+    Channels &operator=(const Channels &) = delete;
 
     /* Frees all that it holds. It holds nothing then. */
     void free() noexcept { handle.reset(); }
@@ -298,6 +287,75 @@ class Subsystem {
         return shown;
     }
 
+    /* --- Channels --- */
+
+    /* Test Channel, of the channel of an address: 0, it is available; 1, a channel status word pends; 2, a program runs; 3, no channel. */
+    int tch(std::uint16_t address) { return detail::done(dasd_tch(held(), address)); }
+
+    /* The arm of the drive at an address has arrived: whether it moved, so that its device end is to be stored. The caller's clock says
+     * when. False too, where there is no such drive. */
+    bool arrive(std::uint16_t address) { return detail::done(dasd_arrive(held(), address)) == 1; }
+
+    /* Whether interrupt would take an interruption from one of these channels now. */
+    bool is_pending(std::uint8_t channels = all_channels) { return detail::done(dasd_is_pending(held(), channels)) == 1; }
+
+    /* Resets a channel and its drives, and no other channel: a program that runs is cut, what pends is lost, arms are at rest, sense bytes
+     * are zero. A track that the program had written and that could not be saved; no file in memory refuses to be written.
+     * DASD_NO_CHANNEL. */
+    std::optional<dasd_track> reset(std::uint8_t channel) {
+        dasd_track unsaved{};
+        if (detail::done(dasd_reset(held(), channel, &unsaved)) == 0) return std::nullopt;
+        return unsaved;
+    }
+
+    /* What a channel does, and its drives. DASD_NO_CHANNEL. */
+    dasd_state channel(std::uint8_t number) {
+        dasd_state shown{};
+        detail::done(dasd_show_channel(held(), number, &shown));
+        return shown;
+    }
+
+  protected:
+    Channels() noexcept = default;
+    Channels(Channels &&) noexcept = default;
+    /* Frees what it held before. */
+    Channels &operator=(Channels &&) noexcept = default;
+    /* Frees all that it holds, its volumes too, whether they were saved or not. */
+    ~Channels() = default;
+
+    /* A handle that holds nothing yet. */
+    dasd *made() {
+        handle.reset(new dasd DASD_NOTHING);
+        return handle.get();
+    }
+
+    dasd *held() const {
+        if (!handle) throw Fault(DASD_NOTHING_HELD);
+        return handle.get();
+    }
+
+  private:
+    struct Freer {
+        void operator()(dasd *held) const noexcept {
+            dasd_free(held);
+            delete held;
+        }
+    };
+
+    /* Of its own place, so that a move leaves the handle where it is: dasd.h forbids copies of it. */
+    std::unique_ptr<dasd, Freer> handle;
+};
+
+/* Main storage, and channels over it. */
+class Subsystem : public Channels {
+  public:
+    /* Nothing. */
+    Subsystem() noexcept = default;
+
+    /* Main storage of so many bytes, all zero and with keys 0, and the channels of this set over it, without drives.
+     * DASD_BAD_CHANNELS, DASD_BAD_SIZE, DASD_NO_MEMORY; std::bad_alloc. */
+    Subsystem(std::uint32_t storage_bytes, std::uint8_t channels) { detail::done(dasd_new(made(), storage_bytes, channels)); }
+
     /* --- The processor's instructions: the condition code, 0 to 3, which is 3 where there is no channel of that number --- */
 
     /* Start I/O: 0, the program that the channel address word at 72 leads to was accepted, and runs by step or run_on; 1, status was stored
@@ -310,9 +368,6 @@ class Subsystem {
     /* Halt I/O: 0, a channel status word pends, and stays; 1, nothing ran, and a status of zeros was stored at 68; 2, the program that ran is
      * cut, and its channel status word pends; 3, no drive. */
     int hio(std::uint16_t address) { return detail::done(dasd_hio(held(), address)); }
-
-    /* Test Channel, of the channel of an address: 0, it is available; 1, a channel status word pends; 2, a program runs; 3, no channel. */
-    int tch(std::uint16_t address) { return detail::done(dasd_tch(held(), address)); }
 
     /* --- What happens beside the processor --- */
 
@@ -331,35 +386,12 @@ class Subsystem {
         return ran;
     }
 
-    /* The arm of the drive at an address has arrived: whether it moved, so that its device end is to be stored. The caller's clock says
-     * when. False too, where there is no such drive. */
-    bool arrive(std::uint16_t address) { return detail::done(dasd_arrive(held(), address)) == 1; }
-
-    /* Whether interrupt would take an interruption from one of these channels now. */
-    bool is_pending(std::uint8_t channels = all_channels) { return detail::done(dasd_is_pending(held(), channels)) == 1; }
-
     /* The processor takes an interruption from the channel with the lowest number, of this set, that has one: its address, and its channel
      * status word is stored at 64; nothing, where there is none. For the set, give the system mask of the program status word. */
     std::optional<std::uint16_t> interrupt(std::uint8_t channels = all_channels) {
         std::uint16_t address = 0;
         if (detail::done(dasd_interrupt(held(), channels, &address)) == 0) return std::nullopt;
         return address;
-    }
-
-    /* Resets a channel and its drives, and no other channel: a program that runs is cut, what pends is lost, arms are at rest, sense bytes
-     * are zero. A track that the program had written and that could not be saved; no file in memory refuses to be written.
-     * DASD_NO_CHANNEL. */
-    std::optional<dasd_track> reset(std::uint8_t channel) {
-        dasd_track unsaved{};
-        if (detail::done(dasd_reset(held(), channel, &unsaved)) == 0) return std::nullopt;
-        return unsaved;
-    }
-
-    /* What a channel does, and its drives. DASD_NO_CHANNEL. */
-    dasd_state channel(std::uint8_t number) {
-        dasd_state shown{};
-        detail::done(dasd_show_channel(held(), number, &shown));
-        return shown;
     }
 
     /* --- Main storage --- */
@@ -382,22 +414,66 @@ class Subsystem {
     /* The storage key, 0 to 15, of the block of 2,048 bytes that has this address; and sets it. DASD_OUTSIDE_STORAGE; DASD_BAD_KEY. */
     std::uint8_t key(std::uint32_t at) { return static_cast<std::uint8_t>(detail::done(dasd_key(held(), at))); }
     void set_key(std::uint32_t at, std::uint8_t key) { detail::done(dasd_set_key(held(), at, key)); }
+};
+
+/* --- Main storage that is lent --- */
+
+/* Main storage that a program keeps, for the time of a call: its bytes, and the storage key of each block of 2,048 of them, a byte each. A
+ * key is the number 0 to 15; a block with a key above 15 admits the key 0 alone. The two do not overlap. */
+struct Memory {
+    Span<std::uint8_t> bytes;
+    Bytes keys;
+};
+
+namespace detail {
+
+/* Memory for C, whose pointers are not null. */
+class Lent {
+  public:
+    explicit Lent(const Memory &memory) noexcept
+        : at{memory.bytes.empty() ? &none : memory.bytes.data(), memory.bytes.size(), place_of(memory.keys), memory.keys.size()} {}
+    Lent(const Lent &) = delete;
+    Lent &operator=(const Lent &) = delete;
+
+    dasd_memory *get() noexcept { return &at; }
 
   private:
-    struct Freer {
-        void operator()(dasd *held) const noexcept {
-            dasd_free(held);
-            delete held;
-        }
-    };
+    std::uint8_t none = 0;
+    dasd_memory at;
+};
 
-    dasd *held() const {
-        if (!handle) throw Fault(DASD_NOTHING_HELD);
-        return handle.get();
+} // namespace detail
+
+/* Channels for main storage of one size, which each call that needs it is lent. Nothing of it is copied, and no address is kept: between two
+ * calls the bytes and the keys are the program's, and may be somewhere else at the next. While a call runs, nobody else reads or writes the
+ * bytes, or writes the keys. What these calls do and answer is said at those of a Subsystem. Each of them throws, behind
+ * DASD_NOTHING_HELD and before all others: DASD_BAD_SIZE, no main storage has so many bytes; DASD_BAD_BLOCKS; DASD_OTHER_SIZE. */
+class LentSubsystem : public Channels {
+  public:
+    /* Nothing. */
+    LentSubsystem() noexcept = default;
+
+    /* The channels of this set for main storage of so many bytes, without drives.
+     * DASD_BAD_CHANNELS, DASD_BAD_SIZE, DASD_NO_MEMORY; std::bad_alloc. */
+    LentSubsystem(std::uint32_t storage_bytes, std::uint8_t channels) { detail::done(dasd_new_lent(made(), storage_bytes, channels)); }
+
+    int sio(const Memory &memory, std::uint16_t address) { return detail::done(dasd_lent_sio(held(), detail::Lent(memory).get(), address)); }
+    int tio(const Memory &memory, std::uint16_t address) { return detail::done(dasd_lent_tio(held(), detail::Lent(memory).get(), address)); }
+    int hio(const Memory &memory, std::uint16_t address) { return detail::done(dasd_lent_hio(held(), detail::Lent(memory).get(), address)); }
+
+    /* DASD_NO_CHANNEL. */
+    std::uint32_t step(const Memory &memory, std::uint8_t channel, std::uint32_t units) { return run_on(memory, channel, units).units; }
+    dasd_run run_on(const Memory &memory, std::uint8_t channel, std::uint32_t units) {
+        dasd_run ran{units, 0, 0, 0, 0};
+        detail::done(dasd_lent_run_on(held(), detail::Lent(memory).get(), channel, &ran));
+        return ran;
     }
 
-    /* Of its own place, so that a move leaves the handle where it is: dasd.h forbids copies of it. */
-    std::unique_ptr<dasd, Freer> handle;
+    std::optional<std::uint16_t> interrupt(const Memory &memory, std::uint8_t channels = all_channels) {
+        std::uint16_t address = 0;
+        if (detail::done(dasd_lent_interrupt(held(), detail::Lent(memory).get(), channels, &address)) == 0) return std::nullopt;
+        return address;
+    }
 };
 
 } // namespace with_std_span or with_own_span

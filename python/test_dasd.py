@@ -22,16 +22,21 @@ from dasd import _library
 READ_R0 = bytes.fromhex("1600020020000010")
 
 
-def made() -> dasd.Subsystem:
-    """Channel 1 with a new 2314 at 190, and a channel address word that names 100."""
-    disks = dasd.Subsystem(65536, 1)
-    disks.attach_new(0x190, 2314, 2)
-    disks.storage[0x48:0x4C] = bytes.fromhex("00000100")
-    return disks
+#: What makes channels of these numbers over main storage of so many bytes.
+Maker = Callable[..., dasd.Channels]
 
 
 class Calls(unittest.TestCase):
     """Each call, over one handle."""
+
+    maker: Maker = dasd.Subsystem
+
+    def made(self) -> dasd.Channels:
+        """Channel 1 with a new 2314 at 190, and a channel address word that names 100."""
+        disks = self.maker(65536, 1)
+        disks.attach_new(0x190, 2314, 2)
+        disks.storage[0x48:0x4C] = bytes.fromhex("00000100")
+        return disks
 
     def refused(self, name: str, call: Callable[..., object], *arguments: object) -> None:
         """A call raises the Fault of this name."""
@@ -43,7 +48,7 @@ class Calls(unittest.TestCase):
         self.assertEqual(".".join(map(str, dasd.library_version())), dasd.__version__)
 
     def test_a_record_is_read(self) -> None:
-        with made() as disks:
+        with self.made() as disks:
             disks.storage[0x100:0x108] = READ_R0
             self.assertEqual(disks.sio(0x190), 0)
             self.assertEqual((disks.sio(0x190), disks.tio(0x190), disks.tch(0x100)), (2, 2, 2))
@@ -57,7 +62,7 @@ class Calls(unittest.TestCase):
             self.assertIsNone(disks.reset(1))
 
     def test_a_volume_goes_from_one_to_another(self) -> None:
-        with made() as disks, dasd.Subsystem(4096, 0) as others:
+        with self.made() as disks, self.maker(4096, 0) as others:
             image, changes = disks.file(0x190)
             dasd.check(image)
             self.refused("LENGTH", dasd.check, image[:-1])
@@ -71,7 +76,7 @@ class Calls(unittest.TestCase):
             self.refused("NO_DRIVE", others.detach, 0x001)
 
     def test_an_arm_moves(self) -> None:
-        with made() as disks:
+        with self.made() as disks:
             disks.storage[0x100:0x108] = bytes.fromhex("0700020020000006")
             disks.storage[0x200:0x206] = bytes.fromhex("000000010003")
             self.assertEqual(disks.sio(0x190), 0)
@@ -83,7 +88,7 @@ class Calls(unittest.TestCase):
             self.assertEqual(state, dasd.ChannelState(dasd.Subchannel.AVAILABLE, 0, False, (dasd.AttachedDrive(0x90, dasd.Arm.ARRIVED),)))
 
     def test_refusals(self) -> None:
-        with made() as disks:
+        with self.made() as disks:
             self.refused("OUTSIDE_STORAGE", disks.peek, 65536, 1)
             self.refused("OUTSIDE_STORAGE", disks.poke, 65535, b"ab")
             self.refused("BAD_KEY", disks.set_key, 0, 16)
@@ -98,12 +103,12 @@ class Calls(unittest.TestCase):
         with self.assertRaises(dasd.Fault):
             _ = disks.storage
         disks.close()
-        self.refused("BAD_SIZE", dasd.Subsystem, 1000, 1)
-        self.refused("BAD_CHANNELS", dasd.Subsystem, 4096, 7)
-        self.refused("BAD_CHANNELS", dasd.Subsystem, 4096)
+        self.refused("BAD_SIZE", self.maker, 1000, 1)
+        self.refused("BAD_CHANNELS", self.maker, 4096, 7)
+        self.refused("BAD_CHANNELS", self.maker, 4096)
 
     def test_several_channels(self) -> None:
-        with dasd.Subsystem(65536, 1, 2) as disks:
+        with self.maker(65536, 1, 2) as disks:
             disks.attach_new(0x190, 2314, 2)
             disks.attach_new(0x290, 2311, 1)
             self.refused("NO_CHANNEL", disks.attach_new, 0x390, 2311, 1)
@@ -121,7 +126,7 @@ class Calls(unittest.TestCase):
             self.assertEqual((disks.tch(0x100), disks.tch(0x200)), (0, 2))
 
     def test_an_interruption_that_a_program_asks_for(self) -> None:
-        with made() as disks:
+        with self.made() as disks:
             # No-Operation with the flag of program-controlled interruption, and Read R0, which it is chained to
             disks.storage[0x100:0x110] = bytes.fromhex("0300000048000001") + READ_R0
             self.assertEqual(disks.sio(0x190), 0)
@@ -130,7 +135,7 @@ class Calls(unittest.TestCase):
             self.assertEqual((disks.interrupt(), disks.run_on(1, 0).asked), (0x190, False))
 
     def test_units_that_are_done_in_pieces(self) -> None:
-        with made() as disks, made() as others:
+        with self.made() as disks, self.made() as others:
             # No-Operation, and Transfer in Channel back to it: a program without an end
             for it in (disks, others):
                 it.storage[0x100:0x110] = bytes.fromhex("03000000400000010800010000000000")
@@ -215,13 +220,13 @@ def parse(line: bytes) -> Union[None, str, Event]:
     return name, operands
 
 
-def csw(disks: dasd.Subsystem, both: bool = True) -> str:
+def csw(disks: dasd.Channels, both: bool = True) -> str:
     """The channel status word that stands in storage, or its status bytes alone."""
     halves = disks.peek(64, 8)
     return f"{halves[:4].hex()} {halves[4:].hex()}".upper() if both else halves[4:6].hex().upper()
 
 
-def condition(disks: dasd.Subsystem, name: str, address: int, code: int) -> str:
+def condition(disks: dasd.Channels, name: str, address: int, code: int) -> str:
     """An instruction's answer."""
     return f"{name} {address:03X} CC {code}" + (f" {csw(disks, name == 'TIO')}" if code == 1 else "")
 
@@ -235,7 +240,7 @@ def kept(call: Callable[..., None], *arguments: object) -> str:
         return "OUTSIDE"
 
 
-def stored(disks: dasd.Subsystem, name: str, at: int, words: List[str]) -> str:
+def stored(disks: dasd.Channels, name: str, at: int, words: List[str]) -> str:
     """The answer to an event that stores or shows."""
     if name == "STORE":
         return f"STORE {kept(disks.poke, at, bytes.fromhex(words[1]))}"
@@ -247,7 +252,7 @@ def stored(disks: dasd.Subsystem, name: str, at: int, words: List[str]) -> str:
         return "SHOW OUTSIDE"
 
 
-def play(disks: dasd.Subsystem, number: int, name: str, words: List[str]) -> str:
+def play(disks: dasd.Channels, number: int, name: str, words: List[str]) -> str:
     """The answer to an event."""
     at = int(words[0] or "16777216", 10 if name in ("STEP", "RUN") else 16) if words else 0
     if name in ("SIO", "TIO", "HIO"):
@@ -283,7 +288,7 @@ def deck_of(lines: List[Line]) -> Tuple[List[Event], Optional[str]]:
     return ([], faults[0]) if faults else ([it for it in events if isinstance(it, tuple)], None)
 
 
-def attach(disks: dasd.Subsystem, address: int, source: Sequence[str], folder: str) -> None:
+def attach(disks: dasd.Channels, address: int, source: Sequence[str], folder: str) -> None:
     """Attaches a new volume, or that of these files."""
     if source[0] == "new":
         disks.attach_new(address, int(source[1]), int(source[2]))
@@ -291,7 +296,7 @@ def attach(disks: dasd.Subsystem, address: int, source: Sequence[str], folder: s
     disks.attach(address, *(Path(folder, it).read_bytes() for it in source))
 
 
-def whole(disks: dasd.Subsystem, address: int) -> bytes:
+def whole(disks: dasd.Channels, address: int) -> bytes:
     """All files of a drive's volume, one behind the other."""
     files: List[bytes] = []
     try:
@@ -303,18 +308,18 @@ def whole(disks: dasd.Subsystem, address: int) -> bytes:
     return b"".join(files)
 
 
-def image_is(disks: dasd.Subsystem, channel: int, line: str) -> bool:
+def image_is(disks: dasd.Channels, channel: int, line: str) -> bool:
     """Whether a drive's volume has the digest that a line says."""
     found = re.fullmatch(r"(\w+) sha256 (\w+)", line)
     return found is not None and hashlib.sha256(whole(disks, channel << 8 | int(found[1], 16))).hexdigest() == found[2]
 
 
-def comes_out(lines: List[Line], folder: str) -> bool:
+def comes_out(maker: Maker, lines: List[Line], folder: str) -> bool:
     """Whether a vector's fault, answers and images come out as they must."""
     of = {word: [rest for it, rest in lines if it == word] for word, _ in lines}
     wanted: List[Optional[str]] = [*of["fault"]] if "fault" in of else [None]
     number, (events, fault) = int(of["channel"][0]), deck_of(lines)
-    with dasd.Subsystem(int(of["storage"][0]), number) as disks:
+    with maker(int(of["storage"][0]), number) as disks:
         for volume in of.get("volume", []):
             unit, *source = volume.split()
             attach(disks, number << 8 | int(unit, 16), source, folder)
@@ -327,11 +332,14 @@ def comes_out(lines: List[Line], folder: str) -> bool:
 class Vectors(unittest.TestCase):
     """The vectors of the conformance suite, where they are."""
 
+    maker: Maker = dasd.Subsystem
+
     def test_vectors(self) -> None:
         folder = os.environ.get("DASD_VECTORS")
         if not folder:
             self.skipTest("DASD_VECTORS names no folder")
-        outcomes = {name: comes_out(lines, folder) for path in sorted(glob.glob(f"{folder}/*.vectors")) for name, lines in read(path)}
+        paths = sorted(glob.glob(f"{folder}/*.vectors"))
+        outcomes = {name: comes_out(self.maker, lines, folder) for path in paths for name, lines in read(path)}
         self.assertEqual([name for name, it in outcomes.items() if not it], [])
         print(f"python: {sum(outcomes.values())} of {len(outcomes)} vectors come out as they must")
         self.assertGreater(len(outcomes), 400)

@@ -13,6 +13,8 @@
 using libdasd::Bytes;
 using libdasd::Fault;
 using libdasd::Files;
+using libdasd::LentSubsystem;
+using libdasd::Memory;
 using libdasd::Subsystem;
 
 namespace {
@@ -21,6 +23,8 @@ using Octets = std::vector<std::uint8_t>;
 
 static_assert(!std::is_copy_constructible_v<Subsystem> && !std::is_copy_assignable_v<Subsystem>, "no copy");
 static_assert(std::is_nothrow_move_constructible_v<Subsystem> && std::is_nothrow_move_assignable_v<Subsystem>, "moves");
+static_assert(!std::is_copy_constructible_v<LentSubsystem> && std::is_nothrow_move_constructible_v<LentSubsystem>, "and so is the other");
+static_assert(!std::is_constructible_v<Subsystem, LentSubsystem> && !std::is_default_constructible_v<libdasd::Channels>, "each is its own");
 static_assert(libdasd::channel_set({}) == 0 && libdasd::channel_set({0, 6, 6}) == 0x82, "sets");
 static_assert(libdasd::channel_set({0, 1, 2, 3, 4, 5, 6}) == libdasd::all_channels, "all of them");
 
@@ -194,6 +198,97 @@ void owners() {
     CHECK(dasd_tch(several[1].get(), 0x100) == 0);
 }
 
+// Main storage that a program keeps, and channel 1 with a new 2314 at 190.
+struct Kept {
+    Octets bytes = Octets(65536), keys = Octets(32);
+    LentSubsystem disks = LentSubsystem(65536, libdasd::channel_set({1}));
+};
+
+// The same with a program at 100 that reads record 0 to 200 with the key 1.
+Kept kept_with_program() {
+    Kept kept;
+    kept.disks.attach_new(drive, 2314, 2);
+    kept.keys[0] = 1;
+    kept.bytes[0x48] = 0x10;
+    kept.bytes[0x4A] = 1;
+    std::copy(read_r0.begin(), read_r0.end(), kept.bytes.begin() + 0x100);
+    return kept;
+}
+
+Memory memory_of(Kept &kept) { return {kept.bytes, kept.keys}; }
+
+// It is at another place from now on, and what was there before is gone.
+void move(Kept &kept) {
+    for (Octets *it : {&kept.bytes, &kept.keys}) {
+        Octets other = *it;
+        std::swap(*it, other);
+        std::fill(other.begin(), other.end(), std::uint8_t{0xA5});
+    }
+}
+
+// Lets the program run, a unit at a time, from place to place; and takes its interruption.
+void run(Kept &kept) {
+    LentSubsystem &disks = kept.disks;
+    CHECK(disks.sio(memory_of(kept), drive) == 0 && disks.tio(memory_of(kept), drive) == 2 && disks.step(memory_of(kept), 1, 2) == 2);
+    dasd_run ran{};
+    do {
+        move(kept);
+        ran = disks.run_on(memory_of(kept), 1, 1);
+        CHECK(ran.units == 1);
+    } while (ran.subchannel == DASD_WORKING);
+    move(kept);
+    CHECK(ran.subchannel == DASD_ENDED && ran.device == 0x90 && disks.is_pending());
+    CHECK(!disks.interrupt(memory_of(kept), libdasd::channel_set({2})) && disks.interrupt(memory_of(kept)) == drive);
+    CHECK(!disks.interrupt(memory_of(kept)) && disks.tch(0x100) == 0);
+}
+
+const Octets record_0 = {0, 0, 0, 0, 0, 0, 0, 8, 0, 0, 0, 0, 0, 0, 0, 0};
+
+bool is_read(const Kept &kept) { return std::equal(record_0.begin(), record_0.end(), kept.bytes.begin() + 0x200); }
+
+void storage_is_lent() {
+    Kept kept = kept_with_program();
+    run(kept);
+    CHECK(is_read(kept) && kept.bytes[68] == 0x0C && kept.bytes[69] == 0);
+    CHECK(kept.disks.hio(memory_of(kept), drive) == 1 && kept.disks.step(memory_of(kept), 1, 9) == 0 && !kept.disks.reset(1));
+    CHECK(kept.disks.file(drive).bytes.size() == 512 + 2 * 20 * 7680 && kept.disks.channel(1).drives == 1);
+    // a part of a larger memory, and a key that admits the key 0 alone
+    Octets large(196608);
+    kept.keys[0] = 0xF1;
+    std::copy(kept.bytes.begin(), kept.bytes.end(), large.begin() + 65537);
+    const Memory part = {{large.data() + 65537, 65536}, kept.keys};
+    CHECK(kept.disks.sio(part, drive) == 0 && kept.disks.run_on(part, 1, 1000).subchannel == DASD_ENDED && kept.disks.interrupt(part) == drive);
+    CHECK(large[65537 + 0x45] == 0x10 && large[65536] == 0 && large[2 * 65536 + 1] == 0); // protection check
+    CHECK(dasd_sio(kept.disks.get(), drive) == DASD_NO_STORAGE);
+}
+
+// The number with which each call that is lent this memory is refused; 0 where they differ.
+std::int32_t all_refused(LentSubsystem &disks, const Memory &memory) {
+    const std::int32_t code = refused([&] { disks.sio(memory, drive); });
+    const bool same = code == refused([&] { disks.tio(memory, drive); }) && code == refused([&] { disks.hio(memory, drive); }) &&
+                      code == refused([&] { (void)disks.step(memory, 1, 1); }) && code == refused([&] { (void)disks.run_on(memory, 1, 1); }) &&
+                      code == refused([&] { (void)disks.interrupt(memory); });
+    return same ? code : DASD_DONE;
+}
+
+void what_is_not_lent() {
+    Kept kept = kept_with_program();
+    Octets large(65536 + 2048), keys(65536);
+    const auto memory = [&](std::size_t size, std::size_t blocks) { return Memory{{large.data(), size}, {keys.data(), blocks}}; };
+    CHECK(all_refused(kept.disks, Memory{}) == DASD_BAD_SIZE && all_refused(kept.disks, memory(2048, 1)) == DASD_BAD_SIZE);
+    CHECK(all_refused(kept.disks, memory(65535, 32)) == DASD_BAD_SIZE && all_refused(kept.disks, memory(65536, 0)) == DASD_BAD_BLOCKS);
+    CHECK(all_refused(kept.disks, memory(65536, 31)) == DASD_BAD_BLOCKS && all_refused(kept.disks, memory(65536, 65536)) == DASD_BAD_BLOCKS);
+    CHECK(all_refused(kept.disks, memory(65536 + 2048, 33)) == DASD_OTHER_SIZE && all_refused(kept.disks, memory(4096, 2)) == DASD_OTHER_SIZE);
+    CHECK(std::count(large.begin(), large.end(), 0) == 65536 + 2048 && kept.disks.tch(0x100) == 0);
+    CHECK(refused([&] { (void)kept.disks.run_on(memory_of(kept), 3, 1); }) == DASD_NO_CHANNEL);
+    CHECK(refused([] { LentSubsystem(1000, DASD_CHANNEL(1)); }) == DASD_BAD_SIZE &&
+          refused([] { LentSubsystem(4096, 0); }) == DASD_BAD_CHANNELS);
+    LentSubsystem none, other = std::move(kept.disks);
+    CHECK(!none && all_refused(none, memory(65536, 32)) == DASD_NOTHING_HELD && refused([&] { none.tch(drive); }) == DASD_NOTHING_HELD);
+    CHECK(all_refused(kept.disks, memory_of(kept)) == DASD_NOTHING_HELD); // NOLINT(bugprone-use-after-move): what is left is documented
+    CHECK(other.sio(memory_of(kept), drive) == 0);
+}
+
 void what_is_not_made() {
     CHECK(refused([] { Subsystem(1000, DASD_CHANNEL(1)); }) == DASD_BAD_SIZE && refused([] { Subsystem(4096, 0); }) == DASD_BAD_CHANNELS);
     CHECK(refused([] { (void)libdasd::channel_set({7}); }) == DASD_BAD_CHANNELS);
@@ -231,10 +326,16 @@ int texts() {
 
 // NOLINTBEGIN(bugprone-reserved-identifier): the linker's names
 extern "C" {
+std::int32_t __real_dasd_lent_sio(dasd *d, dasd_memory *memory, std::uint16_t address);
 std::int32_t __real_dasd_check(const dasd_bytes *files, std::size_t count);
 std::int32_t __real_dasd_attach(dasd *d, std::uint16_t address, const dasd_bytes *files, std::size_t count);
 std::int32_t __real_dasd_peek(dasd *d, std::uint32_t at, std::uint8_t *into, std::size_t len);
 std::int32_t __real_dasd_poke(dasd *d, std::uint32_t at, const std::uint8_t *bytes, std::size_t len);
+
+std::int32_t __wrap_dasd_lent_sio(dasd *d, dasd_memory *memory, std::uint16_t address) {
+    CHECK(memory != nullptr && memory->bytes != nullptr && memory->keys != nullptr);
+    return __real_dasd_lent_sio(d, memory, address);
+}
 
 std::int32_t __wrap_dasd_check(const dasd_bytes *files, std::size_t count) {
     CHECK(files != nullptr && std::all_of(files, files + count, [](const dasd_bytes &it) { return it.at != nullptr; }));
@@ -269,6 +370,8 @@ int main(int count, char **words) { // NOLINT(bugprone-exception-escape)
     storage_is_the_callers();
     no_bytes();
     owners();
+    storage_is_lent();
+    what_is_not_lent();
     what_is_not_made();
     faults();
     return failures ? EXIT_FAILURE : EXIT_SUCCESS;

@@ -6,7 +6,7 @@ cxx=$1 archive=$2 out=$3
 here=$(dirname "$0")
 work=$(mktemp -d)
 trap 'rm -rf "$work"' EXIT
-wrap=-Wl,--wrap=dasd_check,--wrap=dasd_attach,--wrap=dasd_peek,--wrap=dasd_poke
+wrap=-Wl,--wrap=dasd_lent_sio,--wrap=dasd_check,--wrap=dasd_attach,--wrap=dasd_peek,--wrap=dasd_poke
 warnings="-Wall -Wextra -Wpedantic -Wshadow -Wconversion -Werror"
 
 sed -n 's/^u\{0,1\}int32_t \(dasd_[a-z_]*\)(.*/\1/p' "$here/../dasd.h" | sort > "$work/declared"

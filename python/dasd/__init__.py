@@ -22,7 +22,7 @@ No program in plain Python reaches memory that was freed; any thread may call; a
 from __future__ import annotations
 
 from ._library import INTERFACE
-from ._subsystem import ALL_CHANNELS, BytesLike, Subsystem, channel_set, check, library_version
+from ._subsystem import ALL_CHANNELS, BytesLike, Channels, LentSubsystem, Subsystem, WritableBytes, channel_set, check, library_version
 from ._words import (
     Arm,
     AttachedDrive,
@@ -46,15 +46,18 @@ __all__ = [
     "AttachedDrive",
     "BytesLike",
     "ChannelState",
+    "Channels",
     "DriveState",
     "Fault",
     "FaultCode",
+    "LentSubsystem",
     "Run",
     "Subchannel",
     "Subsystem",
     "Track",
     "Version",
     "VolumeFile",
+    "WritableBytes",
     "channel_set",
     "check",
     "fault_text",

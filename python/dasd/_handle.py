@@ -7,7 +7,7 @@ import threading
 from typing import Callable, Tuple
 
 from . import _library
-from ._words import Fault
+from ._words import Fault, FaultCode
 
 calls = _library.load()
 
@@ -24,7 +24,10 @@ def done(code: int) -> int:
 
 class Handle:
     """What the library holds for a subsystem. It is freed when the last goes that refers to it: the subsystem, until it is closed, and
-    each view of main storage."""
+    each view of main storage that it owns."""
+
+    #: the call of the library that makes it
+    made_by = "new"
 
     def __init__(self, storage_bytes: int, channels: int) -> None:
         self._held = _library.Handle()
@@ -33,7 +36,7 @@ class Handle:
         self._is_copying = False
         # another module may be gone before this object, at the end of the interpreter
         self._free = calls.dasd_free
-        self.call("new", storage_bytes, channels)
+        self.call(self.made_by, storage_bytes, channels)
 
     def __del__(self) -> None:
         if getattr(self, "_free", None) is not None:
@@ -74,6 +77,41 @@ class Handle:
         if self._is_copying:
             raise RuntimeError("a call of a subsystem while this thread copies a file of it")
 
+    # Calls that need main storage: here that which the handle owns
+
+    def over(self, name: str, *arguments: object) -> int:
+        """Makes a call over main storage."""
+        return self.call(name, *arguments)
+
+    def step(self, channel: int, units: int) -> int:
+        """Lets a channel's program do so many units at most; how many it did."""
+        did = ctypes.c_uint32()
+        self.call("step", channel, units, ctypes.byref(did))
+        return did.value
+
+    def run_on(self, channel: int, units: int, ran: _library.Ran) -> int:
+        """The same, with what the channel does behind them."""
+        self.call("run_on", channel, units, ctypes.byref(ran))
+        return int(ran.units)
+
+    def peek(self, at: int, count: int) -> bytes:
+        """A copy of so many bytes from an address on."""
+        into = ctypes.create_string_buffer(max(count, 1))
+        self.call("peek", at, into, count)
+        return into.raw[:count]
+
+    def poke(self, at: int, data: bytes) -> None:
+        """Stores these bytes from an address on."""
+        self.call("poke", at, data, len(data))
+
+    def key(self, at: int) -> int:
+        """The key of the block that has this address."""
+        return self.call("key", at)
+
+    def set_key(self, at: int, key: int) -> None:
+        """Sets it."""
+        self.call("set_key", at, key)
+
     def storage(self) -> memoryview:
         """Main storage itself, which holds this handle as long as a view of it is there."""
         place = _library.Storage()
@@ -81,3 +119,76 @@ class Handle:
         of_all = _library.storage_type(place.len).from_address(place.at)
         of_all.handle = self
         return memoryview(of_all).cast("B")
+
+
+class Lent:
+    """Main storage that a program keeps, as long as it is lent: nothing takes the bytes or the keys away, or makes them fewer, meanwhile.
+
+    The library writes the bytes where they are. The keys it reads in a copy that is made for each call, so that they may lie anywhere, and
+    need not be such as can be written."""
+
+    def __init__(self, memory: memoryview, keys: memoryview) -> None:
+        size, blocks = memory.nbytes, keys.nbytes
+        held, copied = _library.storage_type(size).from_buffer(memory), _library.storage_type(blocks)()
+        self.memory, self.keys, self._copied = memoryview(held).cast("B"), keys.cast("B"), memoryview(copied).cast("B")
+        self._at = _library.Memory(ctypes.addressof(held), size, ctypes.addressof(copied), blocks)
+
+    def now(self) -> object:
+        """It for C, with its keys of now."""
+        self._copied[:] = self.keys
+        return ctypes.byref(self._at)
+
+
+class LentHandle(Handle):
+    """A handle that owns no main storage, and is lent it."""
+
+    made_by = "new_lent"
+
+    def __init__(self, lent: Lent, channels: int) -> None:
+        super().__init__(lent.memory.nbytes, channels)
+        self.lent = lent
+
+    def lend(self, lent: Lent) -> None:
+        """Has other memory of the same size from now on."""
+        if lent.memory.nbytes != self.lent.memory.nbytes:
+            raise Fault(FaultCode.OTHER_SIZE)
+        with self._lock:
+            self.lent = lent
+
+    def over(self, name: str, *arguments: object) -> int:
+        lent = self.lent  # stays until the call is over, whatever is lent meanwhile
+        return self.call("lent_" + name, lent.now(), *arguments)
+
+    def step(self, channel: int, units: int) -> int:
+        return self.run_on(channel, units, _library.Ran())
+
+    def run_on(self, channel: int, units: int, ran: _library.Ran) -> int:
+        ran.units = units
+        self.over("run_on", channel, ctypes.byref(ran))
+        return int(ran.units)
+
+    def _within(self, at: int, count: int) -> memoryview:
+        """So many bytes from an address on."""
+        memory = self.lent.memory
+        if count and at + count > memory.nbytes:
+            raise Fault(FaultCode.OUTSIDE_STORAGE)
+        return memory[at : at + count]
+
+    def peek(self, at: int, count: int) -> bytes:
+        return bytes(self._within(at, count))
+
+    def poke(self, at: int, data: bytes) -> None:
+        self._within(at, len(data))[:] = data
+
+    def key(self, at: int) -> int:
+        self._within(at, 1)
+        return int(self.lent.keys[at // _library.BLOCK])
+
+    def set_key(self, at: int, key: int) -> None:
+        if key > 15:
+            raise Fault(FaultCode.BAD_KEY)
+        self._within(at, 1)
+        self.lent.keys[at // _library.BLOCK] = key
+
+    def storage(self) -> memoryview:
+        return self.lent.memory

@@ -10,6 +10,9 @@ from typing import Any, Dict, List, Type
 #: The number of the binary interface that these declarations are.
 INTERFACE = 1
 
+#: How many bytes of main storage have a key in common.
+BLOCK = 2048
+
 
 class Handle(ctypes.Structure):
     """What a caller holds of a subsystem; all zero it holds nothing."""
@@ -142,7 +145,7 @@ def storage_type(size: int) -> Any:
 
 
 def load() -> ctypes.PyDLL:
-    """The library, with its calls declared. An ImportError says where it was looked for, or that it has another interface.
+    """The library, with its calls declared. An ImportError says where it was looked for, or that it has another interface or too few calls.
 
     A call keeps the interpreter's lock: none lasts long, and so no other thread of Python stores into main storage while one is made."""
     at = place()
@@ -151,7 +154,10 @@ def load() -> ctypes.PyDLL:
     except OSError as why:
         raise ImportError(f"libdasd is not to be had ({why}): DASD_LIBRARY names its file, or the system's loader has to know it") from why
     for name, arguments in _CALLS.items():
-        call = getattr(library, "dasd_" + name)
+        try:
+            call = getattr(library, "dasd_" + name)
+        except AttributeError:
+            raise ImportError(f"{at} has no dasd_{name}: it is older than this module") from None
         call.argtypes, call.restype = [_to(Handle), *arguments], ctypes.c_int32
     library.dasd_check.argtypes, library.dasd_check.restype = [_to(Bytes), _SIZE], ctypes.c_int32
     for name in ("version", "interface"):

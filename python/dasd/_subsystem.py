@@ -6,21 +6,26 @@ import ctypes
 import mmap
 import operator
 from types import TracebackType
-from typing import NoReturn, Optional, Sequence, Tuple, Type, Union
+from typing import NoReturn, Optional, Sequence, Tuple, Type, TypeVar, Union
 
 from . import _library
-from ._handle import Handle, calls, done
+from ._handle import Handle, Lent, LentHandle, calls, done
 from ._words import Arm, AttachedDrive, ChannelState, DriveState, Fault, FaultCode, Run, Subchannel, Track, Version, VolumeFile
 
 #: What a call takes as bytes: all of the object's, whatever its items are. Of other objects with bytes take a memoryview.
 BytesLike = Union[bytes, bytearray, memoryview, mmap.mmap]
 
+#: Main storage that a program keeps: all of the object's bytes, whatever its items are. Of other objects take a memoryview.
+WritableBytes = Union[bytearray, memoryview, mmap.mmap]
+
+_Kind = TypeVar("_Kind", bound="Channels")
+
 #: The channels 0 to 6, as a system mask.
 ALL_CHANNELS = 0xFE
 
 _U8, _U16, _U32 = 0xFF, 0xFFFF, 0xFFFF_FFFF
-# No storage has so many bytes.
-_TOO_MANY = (1 << 24) + 1
+# Main storage has so many bytes or more; none has so many.
+_LEAST, _TOO_MANY = 4096, (1 << 24) + 1
 
 
 def _number(name: str, given: int, most: int) -> int:
@@ -47,6 +52,19 @@ def _pairs(files: Sequence[BytesLike]) -> Tuple[ctypes.Array[_library.Bytes], in
     return (_library.Bytes * max(len(whole), 1))(*(_library.Bytes(it, len(it)) for it in whole)), len(whole)
 
 
+def _lent(memory: WritableBytes, keys: BytesLike) -> Lent:
+    """Main storage that is lent. A Fault where it is none, BAD_SIZE or BAD_BLOCKS; a TypeError where C would find other bytes or keys than
+    Python, or may not write them."""
+    whole, each = memoryview(memory), memoryview(keys)
+    if each.itemsize != 1:
+        raise TypeError(f"a key is a byte, and not an item of {each.itemsize} bytes")
+    if whole.nbytes % _library.BLOCK or not _LEAST <= whole.nbytes < _TOO_MANY:
+        raise Fault(FaultCode.BAD_SIZE)
+    if each.nbytes != whole.nbytes // _library.BLOCK:
+        raise Fault(FaultCode.BAD_BLOCKS)
+    return Lent(whole, each)
+
+
 def library_version() -> Version:
     """The version of the library that was loaded."""
     n: int = calls.dasd_version()
@@ -70,11 +88,11 @@ def check(*files: BytesLike) -> None:
     done(calls.dasd_check(*_pairs(files)))
 
 
-class Subsystem:
-    """Main storage, and one to seven channels over it, each with up to eight drives and their volumes.
+class Channels:
+    """One to seven channels over main storage, each with up to eight drives and their volumes: a Subsystem, which has main storage of its
+    own, or a LentSubsystem, which is lent it.
 
-    It is freed by `close`, or by the end of a `with`, or when nothing refers to it; and not before the last view of `storage` is gone.
-    It is not copied or pickled.
+    It is freed by `close`, or by the end of a `with`, or when nothing refers to it. It is not copied or pickled.
 
     Any thread may call, and may store into `storage`: calls are made one after another, and a store comes before or behind a call. What
     stores without the interpreter's lock, as `readinto` of a file does, is kept out by the program while it calls.
@@ -87,15 +105,9 @@ class Subsystem:
     wrong number is there; an address, a mask, or a count that is out of range raises a ValueError. None is cut.
     """
 
-    def __init__(self, storage_bytes: int, *channels: int) -> None:
-        """Main storage of so many zero bytes, with keys 0, and the channels of these numbers, 0 to 6, without drives.
-
-        BAD_CHANNELS; BAD_SIZE, where the bytes are no multiple of 2,048 from 4,096 to 16,777,216; NO_MEMORY.
-        """
-        self._held: Optional[Handle] = None
-        handle = Handle(_refusable(storage_bytes, _U32, 0), channel_set(*channels))
+    def __init__(self, handle: Handle) -> None:
         self._storage: Optional[memoryview] = handle.storage()
-        self._held = handle
+        self._held: Optional[Handle] = handle
 
     @property
     def _handle(self) -> Handle:
@@ -107,19 +119,19 @@ class Subsystem:
     def _call(self, name: str, *arguments: object) -> int:
         return self._handle.call(name, *arguments)
 
-    def __enter__(self) -> Subsystem:
+    def __enter__(self: _Kind) -> _Kind:
         return self
 
     def __exit__(self, kind: Optional[Type[BaseException]], raised: Optional[BaseException], trace: Optional[TracebackType]) -> None:
         self.close()
 
     def __reduce_ex__(self, protocol: object) -> NoReturn:
-        raise TypeError("a Subsystem is not copied or pickled")
+        raise TypeError(f"a {type(self).__name__} is not copied or pickled")
 
     def close(self) -> None:
-        """Lets go of all of it, unsaved volumes too; a second time does nothing.
+        """Lets go of all of it, unsaved volumes too, and of what is lent; a second time does nothing.
 
-        Views of `storage` that are still there stay valid, and the memory is freed with the last of them.
+        Views of `storage` that are still there stay valid, and its memory is there until the last of them is gone.
         """
         self._storage = None
         self._held = None
@@ -133,7 +145,7 @@ class Subsystem:
     def storage(self) -> memoryview:
         """Main storage itself, not a copy, a byte an item: what is stored there between two calls, the processor stores.
 
-        A processor takes it once: it stays where it is. NOTHING_HELD.
+        A processor takes it once: it stays where it is, unless other memory is lent. NOTHING_HELD.
         """
         storage = self._storage
         if storage is None:
@@ -189,16 +201,16 @@ class Subsystem:
     def sio(self, address: int) -> int:
         """Start I/O: 0, the program that the channel address word at 72 leads to was accepted, and runs by step or run_on; 1, status was
         stored at 68; 2, the channel is busy; 3, no drive has this address."""
-        return self._call("sio", _number("address", address, _U16))
+        return self._handle.over("sio", _number("address", address, _U16))
 
     def tio(self, address: int) -> int:
         """Test I/O: 0, the drive is available; 1, a channel status word was stored at 64; 2, the channel is busy; 3, no drive."""
-        return self._call("tio", _number("address", address, _U16))
+        return self._handle.over("tio", _number("address", address, _U16))
 
     def hio(self, address: int) -> int:
         """Halt I/O: 0, a channel status word pends, and stays; 1, nothing ran, and a status of zeros was stored at 68; 2, the program that
         ran is cut, and its channel status word pends; 3, no drive."""
-        return self._call("hio", _number("address", address, _U16))
+        return self._handle.over("hio", _number("address", address, _U16))
 
     def tch(self, address: int) -> int:
         """Test Channel, of the channel of an address: 0, available; 1, a channel status word pends; 2, a program runs; 3, no channel."""
@@ -212,24 +224,13 @@ class Subsystem:
         A unit is a word that is fetched, an index that passes, a byte that moves, or an end. A long run lets other threads of Python go
         on. NO_CHANNEL.
         """
-        handle, number, part = self._handle, _refusable(channel, _U8, _U8), ctypes.c_uint32()
-
-        def some(most: int) -> int:
-            handle.call("step", number, most, ctypes.byref(part))
-            return part.value
-
-        return handle.in_pieces(_number("units", units, _U32), some)
+        handle, number = self._handle, _refusable(channel, _U8, _U8)
+        return handle.in_pieces(_number("units", units, _U32), lambda most: handle.step(number, most))
 
     def run_on(self, channel: int, units: int) -> Run:
         """The same, with what the channel does behind them. NO_CHANNEL."""
         handle, number, ran = self._handle, _refusable(channel, _U8, _U8), _library.Ran()
-
-        def some(most: int) -> int:
-            handle.call("run_on", number, most, ctypes.byref(ran))
-            did: int = ran.units
-            return did
-
-        did = handle.in_pieces(_number("units", units, _U32), some)
+        did = handle.in_pieces(_number("units", units, _U32), lambda most: handle.run_on(number, most, ran))
         return Run(did, Subchannel(ran.subchannel), ran.device, ran.asked == 1)
 
     def arrive(self, address: int) -> bool:
@@ -244,7 +245,7 @@ class Subsystem:
         """Takes an interruption from the channel with the lowest number, of those of a system mask, that has one: its address; its
         channel status word is stored at 64. None where there is none."""
         address = ctypes.c_uint16()
-        return address.value if self._call("interrupt", _number("mask", mask, _U8), ctypes.byref(address)) else None
+        return address.value if self._handle.over("interrupt", _number("mask", mask, _U8), ctypes.byref(address)) else None
 
     def reset(self, channel: int) -> Optional[Track]:
         """Resets a channel and its drives, and no other: a program that runs is cut, what pends is lost, arms are at rest, sense bytes
@@ -264,20 +265,56 @@ class Subsystem:
 
     def peek(self, at: int, count: int) -> bytes:
         """A copy of so many bytes of storage from an address on. OUTSIDE_STORAGE."""
-        wanted = min(_number("count", count, (1 << 64) - 1), _TOO_MANY)
-        into = ctypes.create_string_buffer(max(wanted, 1))
-        self._call("peek", _refusable(at, _U32, _U32), into, wanted)
-        return into.raw[:wanted]
+        return self._handle.peek(_refusable(at, _U32, _U32), min(_number("count", count, (1 << 64) - 1), _TOO_MANY))
 
     def poke(self, at: int, data: BytesLike) -> None:
         """Stores these bytes from an address on, all or none. OUTSIDE_STORAGE."""
-        held = _bytes_of(data)
-        self._call("poke", _refusable(at, _U32, _U32), held, len(held))
+        self._handle.poke(_refusable(at, _U32, _U32), _bytes_of(data))
 
     def key(self, at: int) -> int:
         """The storage key, 0 to 15, of the block of 2,048 bytes that has this address. OUTSIDE_STORAGE."""
-        return self._call("key", _refusable(at, _U32, _U32))
+        return self._handle.key(_refusable(at, _U32, _U32))
 
     def set_key(self, at: int, key: int) -> None:
         """Sets it. BAD_KEY, OUTSIDE_STORAGE."""
-        self._call("set_key", _refusable(at, _U32, _U32), _refusable(key, _U8, _U8))
+        self._handle.set_key(_refusable(at, _U32, _U32), _refusable(key, _U8, _U8))
+
+
+class Subsystem(Channels):
+    """Channels over main storage of its own, which is there until the last view of `storage` is gone."""
+
+    def __init__(self, storage_bytes: int, *channels: int) -> None:
+        """Main storage of so many zero bytes, with keys 0, and the channels of these numbers, 0 to 6, without drives.
+
+        BAD_CHANNELS; BAD_SIZE, where the bytes are no multiple of 2,048 from 4,096 to 16,777,216; NO_MEMORY.
+        """
+        super().__init__(Handle(_refusable(storage_bytes, _U32, 0), channel_set(*channels)))
+
+
+class LentSubsystem(Channels):
+    """Channels over main storage that the program keeps; each call does and answers what that of a Subsystem does.
+
+    The bytes and the keys are objects with a buffer, as a bytearray, an mmap or an array. They are lent until `close`, or until others are
+    lent, or until nothing refers to this value; so long Python refuses whatever would free them or change their number, as `close` of an
+    mmap and `append` of a bytearray. The bytes are written where they are, without a copy, and what the program stores there between two
+    calls the processor stores. The keys are read anew for each call; `set_key` writes them, where they can be written.
+
+    A key is 0 to 15. A block with a key above 15 admits the key 0 alone, and no channel program with another key stores there: so give a
+    list of the keys alone, without reference and change bits beside them.
+    """
+
+    def __init__(self, memory: WritableBytes, keys: BytesLike, *channels: int) -> None:
+        """Channels of these numbers, 0 to 6, without drives, over this memory, with a key for each block of 2,048 bytes of it.
+
+        BAD_SIZE, where the bytes are no multiple of 2,048 from 4,096 to 16,777,216; BAD_BLOCKS; BAD_CHANNELS; NO_MEMORY. A TypeError
+        where the bytes can't be written, an item of the keys has more than a byte, or bytes or keys don't lie in a row.
+        """
+        super().__init__(LentHandle(_lent(memory, keys), channel_set(*channels)))
+
+    def lend(self, memory: WritableBytes, keys: BytesLike) -> None:
+        """Lends other memory of the same size from now on, also while programs run: what differs in it is what the processor stored.
+        What was lent before is free. What the above raises; OTHER_SIZE; NOTHING_HELD."""
+        handle, lent = self._handle, _lent(memory, keys)
+        assert isinstance(handle, LentHandle)
+        handle.lend(lent)
+        self._storage = handle.storage()
