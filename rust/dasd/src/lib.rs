@@ -16,18 +16,21 @@
 //! # Ok::<(), dasd::Fault>(())
 //! ```
 //!
+//! A program that keeps main storage itself makes a [`LentSubsystem`].
+//!
 //! The library comes with `dasd-sys`, whose page says how it is linked. What of it is proved stands in its repository; this crate is
 //! tested.
 #![deny(missing_docs)]
 
 mod calls;
 mod events;
+mod lent;
 mod subsystem;
 mod fault;
 mod words;
 
 pub use crate::calls::Calls;
-pub use crate::subsystem::{check, version, DriveView, File, RunOn, Subsystem, View};
+pub use crate::subsystem::{check, version, DriveView, File, Lent, LentSubsystem, Owned, RunOn, Subsystem, View};
 pub use crate::events::{Answer, Event};
 pub use crate::fault::Fault;
 pub use crate::words::{Address, Arm, ChannelSet, Condition, Csw, DriveModel, Status, SubchannelView};

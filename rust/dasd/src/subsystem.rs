@@ -3,22 +3,35 @@
 use crate::{Address, Arm, Calls, ChannelSet, Condition, Csw, DriveModel, Fault, Status, SubchannelView};
 use dasd_sys as sys;
 use std::cell::Cell;
+use std::marker::PhantomData;
 
 const CSW: u32 = 64;
 
 /// Main storage, and the channels over it with their drives and the volumes of these. A call for an address or a number is made at that
-/// channel, and every other channel stays.
+/// channel, and every other channel stays. A `Subsystem` has main storage of its own; a [`LentSubsystem`] is lent that of the program.
 ///
 /// What a call lends borrows this value, so that no other call is made while it is used. It may go to another thread, and is used by
 /// one at a time.
 #[derive(Debug)]
-pub struct Subsystem {
+pub struct Subsystem<Storage = Owned> {
     // in a place of its own, which a move of this value leaves as it is: dasd.h forbids that the handle is copied
-    handle: Box<sys::dasd>,
+    pub(crate) handle: Box<sys::dasd>,
+    storage: PhantomData<Storage>,
 }
 
+/// Main storage is the [`Subsystem`]'s own.
+#[derive(Debug)]
+pub enum Owned {}
+
+/// Main storage is lent by each call of a [`LentSubsystem`] that needs it.
+#[derive(Debug)]
+pub enum Lent {}
+
+/// Channels for main storage of one size that the program keeps: each call that needs it is lent it.
+pub type LentSubsystem = Subsystem<Lent>;
+
 // SAFETY: the library proves that what a handle holds may go to another thread; nothing else leads to it.
-unsafe impl Send for Subsystem {}
+unsafe impl<Storage> Send for Subsystem<Storage> {}
 
 /// A file of a volume, lent to be saved.
 #[derive(Clone, Copy, Debug)]
@@ -64,7 +77,7 @@ pub struct RunOn {
     pub subchannel: SubchannelView,
 }
 
-fn done(code: i32) -> Result<u32, Fault> {
+pub(crate) fn done(code: i32) -> Result<u32, Fault> {
     u32::try_from(code).map_err(|_| Fault::of(code))
 }
 
@@ -76,11 +89,21 @@ fn arm_of(number: u8) -> Arm {
     }
 }
 
-fn subchannel_of(number: u8, device: u8, asked: u8) -> SubchannelView {
+pub(crate) fn subchannel_of(number: u8, device: u8, asked: u8) -> SubchannelView {
     match number {
         0 => SubchannelView::Idle,
         1 => SubchannelView::Working(device, asked == 1),
         _ => SubchannelView::Pending(device),
+    }
+}
+
+/// What an instruction answers, with what it stored.
+pub(crate) fn condition<T>(code: i32, stored: impl FnOnce() -> T) -> Condition<T> {
+    match code {
+        0 => Condition::Zero,
+        1 => Condition::Stored(stored()),
+        2 => Condition::Two,
+        _ => Condition::Three,
     }
 }
 
@@ -90,17 +113,11 @@ fn pairs(files: &[&[u8]]) -> Vec<sys::dasd_bytes> {
 
 // In each call below: SAFETY: the handle is this value's own and was made by `new`; what else is passed is a value of its type, or bytes
 // with their length, that no other argument overlaps, and that can't lie in storage or in a file, since those are lent by `&mut self`.
-impl Subsystem {
-    /// Main storage of so many zero bytes, with keys 0, and the channels of this set over it, without drives. The set has one to seven of
-    /// the channels 0 to 6, and the bytes are a multiple of 2,048 from 4,096 to 16,777,216.
-    ///
-    /// # Errors
-    ///
-    /// `BadChannels`, `BadSize`, `NoMemory`.
-    pub fn new(storage_bytes: u32, channels: ChannelSet) -> Result<Subsystem, Fault> {
+impl<Storage> Subsystem<Storage> {
+    pub(crate) fn made(make: impl FnOnce(&mut sys::dasd) -> i32) -> Result<Self, Fault> {
         let mut handle = Box::new(sys::dasd { stamp: 0, place: std::ptr::null_mut() });
-        done(unsafe { sys::dasd_new(&mut *handle, storage_bytes, channels.0) })?;
-        Ok(Subsystem { handle })
+        done(make(&mut handle))?;
+        Ok(Subsystem { handle, storage: PhantomData })
     }
 
     /// Attaches a drive with the volume that these files, one to eight in their order, hold. They are copied. The arm is at rest at
@@ -167,41 +184,81 @@ impl Subsystem {
         })
     }
 
+    /// Test Channel, of the channel of an address: `Zero`, it is available; `Stored`, a channel status word pends, and none is stored now;
+    /// `Two`, a program runs; `Three`, there is no such channel.
+    pub fn tch(&mut self, address: Address) -> Condition<()> {
+        condition(unsafe { sys::dasd_tch(&mut *self.handle, address.0) }, || ())
+    }
+
+    /// The arm of the drive at an address has arrived; whether it moved, so that its device end is to be stored. The caller's clock says
+    /// when.
+    pub fn arrive(&mut self, address: Address) -> bool {
+        unsafe { sys::dasd_arrive(&mut *self.handle, address.0) == 1 }
+    }
+
+    /// Whether an interruption would be taken from one of these channels now.
+    pub fn is_pending(&mut self, channels: ChannelSet) -> bool {
+        unsafe { sys::dasd_is_pending(&mut *self.handle, channels.0) == 1 }
+    }
+
+    /// Resets a channel and its drives, and no other: a program that runs is cut, what pends is lost, arms are at rest, sense bytes are
+    /// zero. Address, cylinder and head of a track that the program had written and that could not be saved.
+    ///
+    /// # Errors
+    ///
+    /// `NoChannel`.
+    pub fn reset(&mut self, channel: u8) -> Result<Option<(Address, u16, u16)>, Fault> {
+        let mut track = sys::dasd_track::default();
+        let code = done(unsafe { sys::dasd_reset(&mut *self.handle, channel, &mut track) })?;
+        Ok((code == 1).then_some((Address(track.address), track.cylinder, track.head)))
+    }
+
+    /// A channel, as it is shown.
+    ///
+    /// # Errors
+    ///
+    /// `NoChannel`.
+    pub fn channel(&mut self, number: u8) -> Result<View, Fault> {
+        let mut shown = sys::dasd_state::default();
+        done(unsafe { sys::dasd_show_channel(&mut *self.handle, number, &mut shown) })?;
+        let drives = shown.units.iter().zip(shown.arms).take(usize::from(shown.drives));
+        Ok(View {
+            subchannel: subchannel_of(shown.subchannel, shown.device, shown.asked),
+            drives: drives.map(|(unit, arm)| (*unit, arm_of(arm))).collect(),
+        })
+    }
+}
+
+impl Subsystem {
+    /// Main storage of so many zero bytes, with keys 0, and the channels of this set over it, without drives. The set has one to seven of
+    /// the channels 0 to 6, and the bytes are a multiple of 2,048 from 4,096 to 16,777,216.
+    ///
+    /// # Errors
+    ///
+    /// `BadChannels`, `BadSize`, `NoMemory`.
+    pub fn new(storage_bytes: u32, channels: ChannelSet) -> Result<Subsystem, Fault> {
+        Subsystem::made(|handle| unsafe { sys::dasd_new(handle, storage_bytes, channels.0) })
+    }
+
     /// Start I/O: `Zero`, the program that the channel address word at 72 leads to was accepted, and runs by [`Subsystem::run_on`];
     /// `Stored`, this status was stored at 68; `Two`, the channel is busy; `Three`, no drive has this address.
     pub fn sio(&mut self, address: Address) -> Condition<Status> {
         let code = unsafe { sys::dasd_sio(&mut *self.handle, address.0) };
-        self.condition(code, |csw| csw.status)
+        condition(code, || self.csw().status)
     }
 
     /// Test I/O: `Zero`, the drive is available; `Stored`, this channel status word was stored at 64; `Two`, the channel is busy; `Three`,
     /// no drive has this address.
     pub fn tio(&mut self, address: Address) -> Condition<Csw> {
         let code = unsafe { sys::dasd_tio(&mut *self.handle, address.0) };
-        self.condition(code, |csw| csw)
+        condition(code, || self.csw())
     }
 
     /// Halt I/O: `Zero`, a channel status word pends, and stays; `Stored`, nothing ran, and a status of zeros was stored at 68; `Two`, the
     /// program that ran is cut, and its channel status word pends; `Three`, no drive has this address.
     pub fn hio(&mut self, address: Address) -> Condition<Status> {
         let code = unsafe { sys::dasd_hio(&mut *self.handle, address.0) };
-        self.condition(code, |csw| csw.status)
-    }
-
-    /// Test Channel, of the channel of an address: `Zero`, it is available; `Stored`, a channel status word pends, and none is stored now;
-    /// `Two`, a program runs; `Three`, there is no such channel.
-    pub fn tch(&mut self, address: Address) -> Condition<()> {
-        let code = unsafe { sys::dasd_tch(&mut *self.handle, address.0) };
-        self.condition(code, |_| ())
-    }
-
-    fn condition<T>(&mut self, code: i32, stored: impl Fn(Csw) -> T) -> Condition<T> {
-        match code {
-            0 => Condition::Zero,
-            1 => Condition::Stored(stored(self.csw())),
-            2 => Condition::Two,
-            _ => Condition::Three,
-        }
+        condition(code, || self.csw().status)
     }
 
     /// The channel status word that stands in storage.
@@ -234,50 +291,12 @@ impl Subsystem {
         Ok(RunOn { units: ran.units, subchannel: subchannel_of(ran.subchannel, ran.device, ran.asked) })
     }
 
-    /// The arm of the drive at an address has arrived; whether it moved, so that its device end is to be stored. The caller's clock says
-    /// when.
-    pub fn arrive(&mut self, address: Address) -> bool {
-        unsafe { sys::dasd_arrive(&mut *self.handle, address.0) == 1 }
-    }
-
-    /// Whether an interruption would be taken from one of these channels now.
-    pub fn is_pending(&mut self, channels: ChannelSet) -> bool {
-        unsafe { sys::dasd_is_pending(&mut *self.handle, channels.0) == 1 }
-    }
-
     /// Takes an interruption from the first channel, by number, of this set that has one: its address, and the channel status word that is
     /// stored.
     pub fn interrupt(&mut self, channels: ChannelSet) -> Option<(Address, Csw)> {
         let mut address = 0;
         let taken = unsafe { sys::dasd_interrupt(&mut *self.handle, channels.0, &mut address) == 1 };
         taken.then(|| (Address(address), self.csw()))
-    }
-
-    /// Resets a channel and its drives, and no other: a program that runs is cut, what pends is lost, arms are at rest, sense bytes are
-    /// zero. Address, cylinder and head of a track that the program had written and that could not be saved.
-    ///
-    /// # Errors
-    ///
-    /// `NoChannel`.
-    pub fn reset(&mut self, channel: u8) -> Result<Option<(Address, u16, u16)>, Fault> {
-        let mut track = sys::dasd_track::default();
-        let code = done(unsafe { sys::dasd_reset(&mut *self.handle, channel, &mut track) })?;
-        Ok((code == 1).then_some((Address(track.address), track.cylinder, track.head)))
-    }
-
-    /// A channel, as it is shown.
-    ///
-    /// # Errors
-    ///
-    /// `NoChannel`.
-    pub fn channel(&mut self, number: u8) -> Result<View, Fault> {
-        let mut shown = sys::dasd_state::default();
-        done(unsafe { sys::dasd_show_channel(&mut *self.handle, number, &mut shown) })?;
-        let drives = shown.units.iter().zip(shown.arms).take(usize::from(shown.drives));
-        Ok(View {
-            subchannel: subchannel_of(shown.subchannel, shown.device, shown.asked),
-            drives: drives.map(|(unit, arm)| (*unit, arm_of(arm))).collect(),
-        })
     }
 
     /// Main storage, without a copy: what is stored here the processor stores. It borrows this value, so that no call is made while it is
@@ -378,7 +397,7 @@ impl Subsystem {
     }
 }
 
-impl Drop for Subsystem {
+impl<Storage> Drop for Subsystem<Storage> {
     fn drop(&mut self) {
         unsafe { sys::dasd_free(&mut *self.handle) };
     }
