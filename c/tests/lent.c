@@ -1,6 +1,6 @@
 /* lent.c - main storage that is lent: taken by malloc, mapped, a part of a larger memory; moved between two units of a program; and
  * memories that are refused by name. */
-#define _DEFAULT_SOURCE
+#define _DEFAULT_SOURCE /* NOLINT(bugprone-reserved-identifier): what glibc asks for where MAP_ANONYMOUS is wanted */
 #include <stdint.h>
 #include <stdlib.h>
 #include <string.h>
@@ -48,7 +48,8 @@ static void runs(dasd *d, dasd_memory *m) {
 }
 
 static void wherever_it_lies(void) {
-    uint8_t keys[BLOCKS], *large = malloc(3 * SIZE), *mapped = mmap(NULL, SIZE, PROT_READ | PROT_WRITE, MAP_SHARED | MAP_ANONYMOUS, -1, 0);
+    uint8_t keys[BLOCKS], *large = malloc((size_t)3 * SIZE),
+                          *mapped = mmap(NULL, SIZE, PROT_READ | PROT_WRITE, MAP_SHARED | MAP_ANONYMOUS, -1, 0);
     uint8_t *places[] = {large, large + SIZE + 1, mapped};
     CHECK(large && mapped != MAP_FAILED);
     for (size_t i = 0; i < sizeof places / sizeof *places; i++) {

@@ -1,5 +1,5 @@
 /* moved.c - see moved.h. The memory of a handle is taken by malloc or mapped in turn; what stood at the place before is spoilt. */
-#define _DEFAULT_SOURCE
+#define _DEFAULT_SOURCE /* NOLINT(bugprone-reserved-identifier): what glibc asks for where MAP_ANONYMOUS is wanted */
 #define MOVING
 #include "moved.h"
 
