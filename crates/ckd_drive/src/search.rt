@@ -1,12 +1,14 @@
 //! A search that fails as a whole: nothing but where the track stands has changed behind it, and nothing half done is kept.
 
-ghost use Rattle.std.specs.Prelude.{◌≡◌, List, ℕ, IfSome, true, false};
+ghost use Rattle.std.specs.Prelude.{◌≡◌, ◌<◌, List, ℕ, IfSome, is_some, length, true, false};
 ghost use Rattle.ckd_command.specs.declared.tables.Aim.TheVariants.{Next as Aims};
 ghost use Rattle.ckd_command.specs.declared.tables.Action.TheVariants.{Search};
 ghost use Rattle.ckd_command.specs.Commands.{IsAtTrack};
 ghost use Rattle.ckd_command.specs.Tables.{aim, action_of};
 ghost use Rattle.ckd_position.specs.declared.areas.Area.{Area as AreaValue};
 ghost use Rattle.ckd_drive.specs.Jobs.{half_done, IsUnlike, IsUnlikeBy};
+ghost use Rattle.ckd_command.specs.Drive.{is_written};
+ghost use Rattle.ckd_drive.specs.Searches.{TellsSearch, TellsCode, fails_at_once, searched_by};
 ghost use Rattle.ckd_drive.specs.Work.{PassesBy, is_idle};
 
 use crate::answers::Stage;
@@ -17,6 +19,16 @@ use ckd_image::ImageStore;
 use ckd_position::{Area, Kind, Next, Position, verdict};
 use ckd_sense::{Command, Sense};
 
+// The kind of area that a search looks for; none for another command.
+fn searched(action: Action, aim: Aim) -> Option<Kind>
+    ensures { result ≡ searched_by action aim }
+{
+    match (action, aim) {
+        (Action::Search, Aim::Next(kind)) => Some(kind),
+        _ => None,
+    }
+}
+
 impl<S: ImageStore> Job<S> {
     // The next area of this kind, if it is on the track at hand, is as long as these bytes, and does not satisfy this search.
     #[inline(always)]
@@ -24,7 +36,8 @@ impl<S: ImageStore> Job<S> {
         requires arm { IsAtTrack self.now.cache.image.geometry self.now.registers }
         requires aim { aim command ≡ Aims kind }
         requires search { action_of command ≡ Search }
-        ensures { IfSome result (IsUnlike (half_done self.now) command kind wanted.now) }
+        ensures unlike { IfSome result (IsUnlike (half_done self.now) command kind wanted.now) }
+        ensures tells { 0 < length wanted.now → TellsSearch (half_done self.now) command wanted.now (is_some result) }
     {
         let geometry = self.cache.geometry();
         let track = geometry.track_at(self.registers.cylinder, self.registers.head);
@@ -50,17 +63,16 @@ impl<S: ImageStore> Job<S> {
     #[inline(never)]
     fn unlike_elsewhere(&self, code: u8, wanted: &[u8]) -> Option<Area>
         requires arm { IsAtTrack self.now.cache.image.geometry self.now.registers }
-        ensures { IfSome result (IsUnlikeBy (half_done self.now) code wanted.now) }
+        ensures unlike { IfSome result (IsUnlikeBy (half_done self.now) code wanted.now) }
+        ensures tells { 0 < length wanted.now → TellsCode (half_done self.now) code wanted.now (is_some result) }
     {
         let Some(read) = Command::decode(code) else {
             return None;
         };
-        let Aim::Next(kind) = tables::aim_of(read.command) else {
-            return None;
-        };
-        let Action::Search = tables::action_of(read.command) else {
-            return None;
-        };
+        let kind = searched(
+            tables::action_of(read.command),
+            tables::aim_of(read.command),
+        )?;
         self.unlike(read.command, kind, wanted)
     }
 
@@ -68,7 +80,8 @@ impl<S: ImageStore> Job<S> {
     #[inline(always)]
     fn unlike_by(&self, code: u8, wanted: &[u8]) -> Option<Area>
         requires arm { IsAtTrack self.now.cache.image.geometry self.now.registers }
-        ensures { IfSome result (IsUnlikeBy (half_done self.now) code wanted.now) }
+        ensures unlike { IfSome result (IsUnlikeBy (half_done self.now) code wanted.now) }
+        ensures tells { 0 < length wanted.now → TellsCode (half_done self.now) code wanted.now (is_some result) }
     {
         match code {
             0x31 | 0xB1 => self.unlike(Command::SearchIdEqual, Kind::AnyCount, wanted),
@@ -79,13 +92,15 @@ impl<S: ImageStore> Job<S> {
 
 impl<S: ImageStore> Drive<S> {
     /// Passes by the next area of the search of this code, where none is open: if the area is on the track at hand, is as long as
-    /// these bytes, and does not satisfy the search. By `begin`, a look, `take` of these bytes, and `end` it would come to the
+    /// these bytes, and does not satisfy the search; a track that was written, and is not saved, always is at hand. By `begin`, a look, `take` of these bytes, and `end` it would come to the
     /// same. Nothing changes where it answers false.
     #[inline(always)]
     pub fn pass_by(&mut self, code: u8, wanted: &[u8]) -> bool
         requires idle { is_idle self.old.work ≡ true }
         ensures passes { result ≡ true → (area : AreaValue) × PassesBy code wanted.now area self.old self.new }
         ensures stays { result ≡ false → self.new ≡ self.old }
+        ensures only { result ≡ true → 0 < length wanted.now → fails_at_once code wanted.now self.old ≡ true }
+        ensures written { is_written self.old.state ≡ true → 0 < length wanted.now → result ≡ fails_at_once code wanted.now self.old }
     {
         let Stage::Idle = self.stage else {
             unreachable!()
