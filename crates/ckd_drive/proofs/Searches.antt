@@ -32,7 +32,7 @@ use Rattle.ckd_command.specs.declared.tables.Action.{Action}
 use Rattle.ckd_command.specs.declared.tables.Action.TheVariants as action
 use Rattle.ckd_command.specs.declared.tables.Aim.{Aim}
 use Rattle.ckd_command.specs.declared.tables.Aim.TheVariants.{Next}
-use Rattle.ckd_command.specs.Answers.{Sight, Found}
+use Rattle.ckd_command.specs.Answers.{Sight}
 use Rattle.ckd_command.specs.Commands.{area_bytes, begin_allowed, beginning, closing, ends, ending_status, refusal, search_ends, sight, sight_of, started}
 use Rattle.ckd_command.specs.Drive.{State, Open, Started, Ready, begin, begun, is_written, is_written_by, look, looked, close, length_of, track_under, no_sense}
 use Rattle.ckd_command.specs.Tables.{aim, action_of, extent_of, area_left, comparison, is_search}

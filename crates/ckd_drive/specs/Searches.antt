@@ -1,5 +1,5 @@
 -- Whether a search fails at once.
-use Rattle.std.specs.Prelude.{◌≡◌, ℕ, List, Bool, true, false, ◌&&◌, ◌==◌, Option, Some, None, length}
+use Rattle.std.specs.Prelude.{◌≡◌, ℕ, List, Bool, false, ◌&&◌, ◌==◌, Option, Some, None, length}
 use Rattle.ckd_position.specs.declared.areas.Kind.{Kind}
 use Rattle.ckd_sense.specs.declared.commands.Command.{Command}
 use Rattle.ckd_command.specs.declared.tables.Action.{Action}

@@ -91,9 +91,12 @@ impl<S: ImageStore> Job<S> {
 }
 
 impl<S: ImageStore> Drive<S> {
-    /// Passes by the next area of the search of this code, where none is open: if the area is on the track at hand, is as long as
-    /// these bytes, and does not satisfy the search; a track that was written, and is not saved, always is at hand. By `begin`, a look, `take` of these bytes, and `end` it would come to the
-    /// same. Nothing changes where it answers false.
+    /// Passes by the next area of the search of this code, where no command is open: if the area is on the track at hand, is as
+    /// long as these bytes, and does not satisfy the search (component descriptions, 'Search Commands'). By `begin`, a look,
+    /// `take` of these bytes, and `end` it would come to the same. Where it answers false nothing has changed.
+    ///
+    /// It passes by only where that search would fail at once; and there always, where the track under the arm is written and
+    /// not saved, and so is at hand.
     #[inline(always)]
     pub fn pass_by(&mut self, code: u8, wanted: &[u8]) -> bool
         requires idle { is_idle self.old.work ≡ true }
