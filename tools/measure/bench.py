@@ -1,4 +1,5 @@
-"""Counts what the works of the bench execute, and prints the table of docs/TIMES.md: at a drive, by whole programs, at a channel and through the C library.
+"""Counts what the works of the bench execute, and prints the tables of docs/TIMES.md: at a drive, by whole programs, at a channel and through the
+C library; then what cuts cost: the work A at a channel, so many units at a time.
 
     tools/run measure/bench [--bench FILE] [--handle FILE] [WORK..]
 
@@ -29,6 +30,8 @@ WORKS = {
     "W": "seven Write Count, Key and Data",
 }
 WAYS: list[list[str]] = [[], ["programs"], ["channel"]]
+UNCUT = 65535
+CUTS = [1000, 100]
 COLLECTED = re.compile(r"Collected : (\d+)")
 NO_REP_STOSB = "glibc.cpu.x86_rep_stosb_threshold=1000000"
 
@@ -43,9 +46,14 @@ def executed(words: list[str]) -> int:
     return int(found[1])
 
 
+def of_a_pass(words: list[str], *behind: str) -> float:
+    """What one pass of a work takes, in millions."""
+    return (executed([*words, "1", *behind]) - executed([*words, "0", *behind])) / 1e6
+
+
 def millions(words: list[str]) -> str:
-    """What one pass of a work takes."""
-    return f"{(executed([*words, '1']) - executed([*words, '0'])) / 1e6:.2f}"
+    """The same, as it is printed."""
+    return f"{of_a_pass(words):.2f}"
 
 
 def row(work: str, bench: Path, handle: Path) -> str:
@@ -53,6 +61,13 @@ def row(work: str, bench: Path, handle: Path) -> str:
     cells = [millions([str(bench), *way, work]) for way in WAYS]
     cells.append(millions([str(handle), work]) if handle.exists() else "")
     return f"| {work}: {WORKS[work]} | " + " | ".join(cells) + " |"
+
+
+def cut_rows(bench: Path) -> list[str]:
+    """The lines of a work that is cut: the least number of units first that leaves it whole."""
+    counts = {units: of_a_pass([str(bench), "channel", "A"], str(units)) for units in [UNCUT, *CUTS]}
+    whole = counts[UNCUT]
+    return [f"| A by {units:,} units | {count:.2f} | {count / whole:.2f} |" for units, count in counts.items()]
 
 
 def main() -> None:
@@ -70,6 +85,10 @@ def main() -> None:
     print("| Work | Drive alone | Whole programs | At a channel | Through C |\n|---|---|---|---|---|")
     with ThreadPoolExecutor(2) as pool:
         for line in pool.map(lambda work: row(work, given.bench, given.handle), given.works):
+            print(line, flush=True)
+    if "A" in given.works:
+        print("\n| At a channel, so many units at a time | | Beside uncut |\n|---|---|---|")
+        for line in cut_rows(given.bench):
             print(line, flush=True)
 
 

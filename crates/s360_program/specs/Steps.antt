@@ -302,6 +302,18 @@ pub record PassesWhole (r : Run) (most : ℕ) (s : Storage) (d : DriveState) (by
   pub stores : skips r.ccw ≡ false
   pub may : (i : ℕ) → i < r.place.residual → IsTrue (may_store s r.key (r.ccw.address + i))
 
+-- So many units are bytes of a read under way: the drive has found its area and has so many left, its word counts no fewer and does not
+-- skip them, and all of them may be stored.
+pub record AreOfRead (r : Run) (n : ℕ) (s : Storage) (d : DriveState) : Type 0 where
+  pub at : r.comes ≡ comes.Bytes
+  pub some : 0 < n
+  pub counts : n ≤ r.place.residual
+  pub stores : skips r.ccw ≡ false
+  pub left : ℕ
+  pub flows : Flows (record { gives = true; left = left }) d d
+  pub has : n ≤ left
+  pub may : (i : ℕ) → i < n → IsTrue (may_store s r.key (r.address + i))
+
 -- Rounds: a search that fails, and the transfer in channel behind it that leads back to it.
 
 -- what units of whole rounds leave: the program where it stood, the drive without a call of its store, and no more units than were

@@ -11,6 +11,7 @@ mod place;
 pub mod program;
 mod rounds;
 mod run;
+mod slices;
 mod starting;
 mod units;
 pub mod view;

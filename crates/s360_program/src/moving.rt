@@ -1,7 +1,7 @@
 //! Bytes between storage and a drive, as many at once as may pass (Principles of Operation, Input/Output Operations: 'Skipping',
 //! 'Program Check', 'Protection Check').
 
-ghost use Rattle.std.specs.Prelude.{nat_lt, ◌≡◌, ◌+◌, true, false, length, slice_range, ◌||◌, ◌==◌, ℕ, ◌<◌, ◌≤◌, ◌^◌, IsTrue};
+ghost use Rattle.std.specs.Prelude.{IfSome, nat_lt, ◌≡◌, ◌+◌, true, false, length, slice_range, ◌||◌, ◌==◌, ℕ, ◌<◌, ◌≤◌, ◌^◌, IsTrue};
 ghost use Rattle.s360_words.specs.declared.words.Ccw.{Ccw};
 ghost use Rattle.s360_words.specs.Storage.{may_store};
 ghost use Rattle.ckd_drive.specs.Work.{left_of, gives_now, takes_now, given_now, passed_of, moved_on};
@@ -59,6 +59,19 @@ pub(crate) fn flow_of<S: ImageStore>(drive: &mut Drive<S>) -> Flow
         unreachable!()
     };
     Flow { gives: false, left }
+}
+
+/// How many more bytes a drive gives that has found the area of its command, if it gives them.
+#[inline(always)]
+pub(crate) fn left_to_give<S: ImageStore>(drive: &Drive<S>) -> Option<usize>
+    requires { HasFound drive.now }
+    ensures { IfSome result (λ left. Flows (record { gives = true; left = left }) drive.now drive.now) }
+{
+    match drive.phase() {
+        Phase::Gives { passed: _, left } => Some(left),
+        Phase::Takes { passed: _, left: _ } => None,
+        Phase::Idle | Phase::Over | Phase::Looking => unreachable!(),
+    }
 }
 
 /// Whether a drive that has found the area of its command gives the bytes.

@@ -155,6 +155,13 @@ impl Running {
         ensures quiet { NeedNoStore self.old.key (phase_in self.old (M.holds storage.old) drive.old) result.done
             → drive.new.image ≡ drive.old.image }
     {
+        if self.run.is_within_read(units, storage, drive) {
+            self.run.pass_read_bytes(units, storage, drive);
+            return Ran {
+                done: units,
+                ending: None,
+            };
+        }
         let mut run = self.run;
         let ran = run.advance(units, storage, drive);
         if ran.ending.is_none() {
