@@ -191,7 +191,7 @@ module _ (r r2 : Run) (s : Storage) (a : Step) (d0 d1 d2 : DriveState) (flow : F
 -- Bytes.
 
 -- what a drive that has found the area reports again
-pub again : (d : DriveState) → HasFound d → (left_of d.work ≡ 0 → (gives_now d.work ≡ true) ⊎ (length (passed_of d.work) ≡ 8 → ⊥))
+again : (d : DriveState) → HasFound d → (left_of d.work ≡ 0 → (gives_now d.work ≡ true) ⊎ (length (passed_of d.work) ≡ 8 → ⊥))
     → Flows (record { gives = gives_now d.work; left = left_of d.work }) d d
 again d f all = by d.work f all
   where
