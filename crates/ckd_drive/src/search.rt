@@ -5,7 +5,7 @@ ghost use Rattle.ckd_command.specs.declared.tables.Aim.TheVariants.{Next as Aims
 ghost use Rattle.ckd_command.specs.declared.tables.Action.TheVariants.{Search};
 ghost use Rattle.ckd_command.specs.Commands.{IsAtTrack};
 ghost use Rattle.ckd_command.specs.Drive.{is_written};
-ghost use Rattle.ckd_command.specs.Tables.{aim, action_of};
+ghost use Rattle.ckd_command.specs.Tables.{aim, action_of, extent_of};
 ghost use Rattle.ckd_position.specs.Contents.{is_readable};
 ghost use Rattle.ckd_slot.specs.Cache.{slot_at_hand};
 ghost use Rattle.ckd_track.specs.Track.{track_of};
@@ -19,15 +19,16 @@ use crate::drive::Drive;
 use crate::job::Job;
 use ckd_command::{Action, Aim, tables};
 use ckd_image::ImageStore;
-use ckd_position::{Area, Kind, Next, Position, verdict};
+use ckd_position::{Area, Extent, Kind, Next, Position, verdict};
 use ckd_sense::{Command, Sense};
 use ckd_slot::TrackBuffer;
 
-/// A search, and the kind of area that it looks for.
+/// A search, the kind of area that it looks for, and the bytes of it that it compares.
 #[derive(Clone, Copy)]
 struct Sought {
     command: Command,
     kind: Kind,
+    extent: Extent,
 }
 
 // The kind of area that a search looks for; none for another command.
@@ -54,6 +55,7 @@ impl<S: ImageStore> Job<S> {
         requires readable { is_readable (track_of buffer.now) ≡ true }
         requires aim { aim sought.command ≡ Aims sought.kind }
         requires search { action_of sought.command ≡ Search }
+        requires extent { extent_of sought.command ≡ sought.extent }
         ensures unlike { IfSome result (IsUnlike (turned_to position (half_done self.now)) sought.command sought.kind wanted.now) }
         ensures tells { 0 < length wanted.now
             → TellsSearch (turned_to position (half_done self.now)) sought.command wanted.now (is_some result) }
@@ -61,7 +63,7 @@ impl<S: ImageStore> Job<S> {
         let Next::Found(area) = buffer.next_area(position, sought.kind) else {
             return None;
         };
-        let (window, _) = buffer.part(tables::extent(sought.command), area);
+        let (window, _) = buffer.part(sought.extent, area);
         if window.len != wanted.len() {
             return None;
         }
@@ -79,6 +81,7 @@ impl<S: ImageStore> Job<S> {
         requires arm { IsAtTrack self.now.cache.image.geometry self.now.registers }
         requires aim { aim sought.command ≡ Aims sought.kind }
         requires search { action_of sought.command ≡ Search }
+        requires extent { extent_of sought.command ≡ sought.extent }
         ensures most { result.0 ≤ most }
         ensures unlike { Turns (λ p. IsUnlike (turned_to p (half_done self.now)) sought.command sought.kind wanted.now)
             self.now.registers.position result.0 result.1 }
@@ -105,6 +108,29 @@ impl<S: ImageStore> Job<S> {
         (passed, position)
     }
 
+    // The same, with a loop for each of the searches that systems make most: what it looks for is known then as it is compiled.
+    #[inline(always)]
+    fn pass_sought(&self, sought: Sought, wanted: &[u8], most: u32) -> (u32, Position)
+        requires arm { IsAtTrack self.now.cache.image.geometry self.now.registers }
+        requires aim { aim sought.command ≡ Aims sought.kind }
+        requires search { action_of sought.command ≡ Search }
+        requires extent { extent_of sought.command ≡ sought.extent }
+        ensures most { result.0 ≤ most }
+        ensures unlike { Turns (λ p. IsUnlike (turned_to p (half_done self.now)) sought.command sought.kind wanted.now)
+            self.now.registers.position result.0 result.1 }
+        ensures tells { 0 < length wanted.now → result.0 < most
+            → TellsSearch (turned_to result.1 (half_done self.now)) sought.command wanted.now false }
+    {
+        let command = sought.command;
+        match (sought.kind, sought.extent) {
+            (Kind::AnyCount, Extent::Identifier) => {
+                self.pass_unlike(Sought { command, kind: Kind::AnyCount, extent: Extent::Identifier }, wanted, most)
+            }
+            (Kind::Key, Extent::Key) => self.pass_unlike(Sought { command, kind: Kind::Key, extent: Extent::Key }, wanted, most),
+            _ => self.pass_unlike(sought, wanted, most),
+        }
+    }
+
     // The same, of the search of a code that is not the commonest.
     #[inline(never)]
     fn pass_elsewhere(&self, code: u8, wanted: &[u8], most: u32) -> (u32, Position)
@@ -125,14 +151,9 @@ impl<S: ImageStore> Job<S> {
         ) else {
             return none;
         };
-        self.pass_unlike(
-            Sought {
-                command: read.command,
-                kind,
-            },
-            wanted,
-            most,
-        )
+        let command = read.command;
+        let extent = tables::extent(command);
+        self.pass_sought(Sought { command, kind, extent }, wanted, most)
     }
 
     // The same, of the search of this code.
@@ -145,15 +166,9 @@ impl<S: ImageStore> Job<S> {
         ensures tells { 0 < length wanted.now → result.0 < most
             → TellsCode (turned result.0 result.1 (half_done self.now)) code wanted.now false }
     {
+        let (command, kind, extent) = (Command::SearchIdEqual, Kind::AnyCount, Extent::Identifier);
         match code {
-            0x31 | 0xB1 => self.pass_unlike(
-                Sought {
-                    command: Command::SearchIdEqual,
-                    kind: Kind::AnyCount,
-                },
-                wanted,
-                most,
-            ),
+            0x31 | 0xB1 => self.pass_unlike(Sought { command, kind, extent }, wanted, most),
             _ => self.pass_elsewhere(code, wanted, most),
         }
     }
