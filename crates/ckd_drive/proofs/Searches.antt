@@ -1,5 +1,6 @@
 -- A search that fails at once, on the track at hand.
-use Rattle.std.proofs.Common.{◌≡◌, ◌⊎◌, inl, inr, ◌∙◌, ap, sym, refl, subst, arith, ℕ, zero, suc, ◌<◌, List, Bool, true, false, Option, Some, None, length}
+use Rattle.std.proofs.Common.{◌≡◌, ◌⊎◌, inl, inr, ◌∙◌, ap, sym, refl, subst, arith, ℕ, zero, suc, ◌<◌, List, Bool, true, false, Option}
+use Rattle.std.proofs.Common.{Some, None, length}
 use Rattle.std.proofs.lemmas.Bool.Decides.{nat_tests}
 use Rattle.std.specs.Prelude.{◌+◌, ◌&&◌, ◌==◌, if◌then◌else◌, nat_lt, slice_range, IfSome}
 use Rattle.std.proofs.lemmas.Option.{cond_some}
@@ -34,8 +35,10 @@ use Rattle.ckd_command.specs.declared.tables.Action.TheVariants as action
 use Rattle.ckd_command.specs.declared.tables.Aim.{Aim}
 use Rattle.ckd_command.specs.declared.tables.Aim.TheVariants.{Next}
 use Rattle.ckd_command.specs.Answers.{Sight}
-use Rattle.ckd_command.specs.Commands.{area_bytes, begin_allowed, beginning, closing, ends, ending_status, refusal, search_ends, sight, sight_of, started}
-use Rattle.ckd_command.specs.Drive.{State, Open, Started, Ready, begin, begun, is_written, is_written_by, look, looked, close, length_of, track_under, no_sense}
+use Rattle.ckd_command.specs.Commands.{area_bytes, begin_allowed, beginning, closing, ends, ending_status, refusal, search_ends, sight}
+use Rattle.ckd_command.specs.Commands.{sight_of, started}
+use Rattle.ckd_command.specs.Drive.{State, Open, Started, Ready, begin, begun, is_written, is_written_by, look, looked, close, length_of}
+use Rattle.ckd_command.specs.Drive.{track_under, no_sense}
 use Rattle.ckd_command.specs.Tables.{aim, action_of, extent_of, area_left, comparison, is_search}
 use Rattle.ckd_command.proofs.Closings.{area_by, closing_by}
 use Rattle.ckd_command.proofs.Lengths.{length_by}
@@ -47,7 +50,8 @@ use Rattle.ckd_drive.specs.declared.answers.Stage.{Stage}
 use Rattle.ckd_drive.specs.declared.answers.Stage.TheVariants.{Idle}
 use Rattle.ckd_drive.specs.Invariant.{HalfDone, Stands, own_slot, own_track, parts_of, state_of}
 use Rattle.ckd_drive.specs.Jobs.{IsUnlike, IsUnlikeBy}
-use Rattle.ckd_drive.specs.Searches.{TellsCode, TellsSearch, Turns, asked_by, fails_at_once, fails_begun, fails_by, idle_state, searched_by, turned, turned_to}
+use Rattle.ckd_drive.specs.Searches.{TellsCode, TellsSearch, Turns, asked_by, fails_at_once, fails_begun, fails_by, idle_state, searched_by}
+use Rattle.ckd_drive.specs.Searches.{turned, turned_to}
 use Rattle.ckd_drive.specs.Work.{DriveState, PassesBy, PassesOn, state_past}
 use Rattle.ckd_drive.proofs.Standing.{slot_is}
 use Rattle.ckd_drive.proofs.Wholes.{held_of}
@@ -150,9 +154,11 @@ permitted mask c e = rw (no_write mask.writes c e, no_seek mask.seeks c e) refl
 
 -- Its begin.
 
-begins : (c : Command) (multi_track : Bool) (code : ℕ) (s : State) → action_of c ≡ action.Search → decoded code ≡ Some (record { command = c; multi_track = multi_track }) → begin None code s ≡ Started (asked_by c multi_track s)
+begins : (c : Command) (multi_track : Bool) (code : ℕ) (s : State) → action_of c ≡ action.Search
+    → decoded code ≡ Some (record { command = c; multi_track = multi_track }) → begin None code s ≡ Started (asked_by c multi_track s)
 unfolding beginning
-begins command.SearchHomeAddressEqual multi_track code s e is = rw (is, permitted s.registers.file_mask command.SearchHomeAddressEqual e) refl
+begins command.SearchHomeAddressEqual multi_track code s e is = rw
+    (is, permitted s.registers.file_mask command.SearchHomeAddressEqual e) refl
 begins command.SearchIdEqual multi_track code s e is = rw (is, permitted s.registers.file_mask command.SearchIdEqual e) refl
 begins command.SearchIdHigh multi_track code s e is = rw (is, permitted s.registers.file_mask command.SearchIdHigh e) refl
 begins command.SearchIdEqualOrHigh multi_track code s e is = rw (is, permitted s.registers.file_mask command.SearchIdEqualOrHigh e) refl
@@ -199,7 +205,8 @@ module _ (h : HalfDone) (m : Mark) (code : ℕ) (wanted : List ℕ) (a : Area) (
 
   closes : closing h.cache.image.geometry track found.opened found.state.registers wanted ≡ ends (after.state.registers) ending_status
   closes = closing_by action.Search h.cache.image.geometry track found.opened found.state.registers wanted u.searches
-      ∙ rw (area_by action.Search track found.opened found.state.registers u.searches, u.unlike.fails, and-false (nat_lt 0 (length wanted)), left_there u.command a u.searches) refl
+      ∙ rw (area_by action.Search track found.opened found.state.registers u.searches, u.unlike.fails, and-false (nat_lt 0
+      (length wanted)), left_there u.command a u.searches) refl
 
   pub passes_by : PassesBy code wanted a before after
   passes_by = record {
@@ -283,14 +290,16 @@ some_bytes : (n : ℕ) → 0 < n → nat_lt 0 n ≡ true
 some_bytes n h = grind (arith, nat_tests)
 
 -- no track but the one at hand
-pub tells_elsewhere : (h : HalfDone) (c : Command) (wanted : List ℕ) → None ≡ slot_at_hand h.cache (own_track h) → TellsSearch h c wanted false
+pub tells_elsewhere : (h : HalfDone) (c : Command) (wanted : List ℕ) → None ≡ slot_at_hand h.cache (own_track h)
+    → TellsSearch h c wanted false
 tells_elsewhere h c wanted at m multi_track = rw (not_held (holds h.cache.held (own_track h)) at) refl
   where
     not_held : (b : Bool) → None ≡ (if b then Some (slot_held h.cache) else None) → b ≡ false
     not_held true e = absurd (cc e)
     not_held false e = refl
 
-module _ (h : HalfDone) (c : Command) (k : Kind) (wanted slot : List ℕ) (at : Some slot ≡ slot_at_hand h.cache (own_track h)) (aimed : aim c ≡ Next k) (searches : action_of c ≡ action.Search) where
+module _ (h : HalfDone) (c : Command) (k : Kind) (wanted slot : List ℕ) (at : Some slot
+    ≡ slot_at_hand h.cache (own_track h)) (aimed : aim c ≡ Next k) (searches : action_of c ≡ action.Search) where
   own : slot ≡ own_slot h
   own = slot_there h slot at
 
@@ -302,7 +311,8 @@ module _ (h : HalfDone) (c : Command) (k : Kind) (wanted slot : List ℕ) (at : 
     asked_here = asked_by c multi_track (idle_state h m)
 
     sees : (x : NextArea) → is_readable (track_of slot) ≡ true → x ≡ next_of_kind (track_or_none (track_of slot)) h.registers.position k
-        → sight h.cache.image.geometry (track_of (own_slot h)) asked_here.opened asked_here.state.registers ≡ sight_of h.cache.image.geometry asked_here.opened asked_here.state.registers x
+        → sight h.cache.image.geometry (track_of (own_slot h)) asked_here.opened asked_here.state.registers
+        ≡ sight_of h.cache.image.geometry asked_here.opened asked_here.state.registers x
     unfolding sight
     sees x whole is = rw (← own, aimed, searches, whole, ← is) refl
 
@@ -310,11 +320,15 @@ module _ (h : HalfDone) (c : Command) (k : Kind) (wanted slot : List ℕ) (at : 
     unfolding sight
     unread_here unread = rw at_hand (rw (← own, aimed, searches, unread) refl)
 
-    passed_here : is_readable (track_of slot) ≡ true → next.IndexPassed ≡ next_of_kind (track_or_none (track_of slot)) h.registers.position k → false ≡ (holds h.cache.held (own_track h) && fails_by (look None asked_here) wanted)
+    passed_here : is_readable (track_of slot) ≡ true → next.IndexPassed
+        ≡ next_of_kind (track_or_none (track_of slot)) h.registers.position k
+            → false ≡ (holds h.cache.held (own_track h) && fails_by (look None asked_here) wanted)
     passed_here whole is = rw (at_hand, sees next.IndexPassed whole is)
-        (passing (λ (x : Sight). false ≡ fails_by (looked None asked_here x) wanted) h.cache.image.geometry asked_here.opened asked_here.state.registers refl (λ e. refl) (λ s e. refl))
+        (passing (λ (x : Sight). false ≡ fails_by (looked None asked_here x) wanted) h.cache.image.geometry asked_here.opened
+            asked_here.state.registers refl (λ e. refl) (λ s e. refl))
 
-    module _ (a : Area) (w : Window) (whole : is_readable (track_of slot) ≡ true) (comes : next.Found a ≡ next_of_kind (track_or_none (track_of slot)) h.registers.position k)
+    module _ (a : Area) (w : Window) (whole : is_readable (track_of slot) ≡ true) (comes : next.Found a
+        ≡ next_of_kind (track_or_none (track_of slot)) h.registers.position k)
         (lies : Lies slot w (bytes_of (extent_of c) (track_of slot) a)) where
       abbrev found_here : Open
       found_here = record asked_here { opened = record asked_here.opened { area = Some a } }
@@ -329,44 +343,57 @@ module _ (h : HalfDone) (c : Command) (k : Kind) (wanted slot : List ℕ) (at : 
       long = length_by action.Search h.cache.image.geometry track_here found_here.opened found_here.state.registers wanted searches
           ∙ ap length (area_by action.Search track_here found_here.opened found_here.state.registers searches) ∙ rw (← own) lies.size
 
-      found_as : (b : Bool) → b ≡ ((w.len == length wanted) && ((close None found_here wanted).unit.0 == ending_status)) → b ≡ (holds h.cache.held (own_track h) && fails_by (look None asked_here) wanted)
+      found_as : (b : Bool) → b ≡ ((w.len == length wanted) && ((close None found_here wanted).unit.0 == ending_status))
+          → b ≡ (holds h.cache.held (own_track h) && fails_by (look None asked_here) wanted)
       found_as b e = rw (at_hand, sees (next.Found a) whole comes, searches, long) e
 
       other_length : (w.len ≡ length wanted → ⊥) → false ≡ (holds h.cache.held (own_track h) && fails_by (look None asked_here) wanted)
       other_length short = found_as false (rw (not_same w.len (length wanted) short) refl)
 
       found_closes : (b : Bool) → is_satisfied (comparison c) (slice_range slot w.start (w.start + w.len)) wanted ≡ b
-          → closing h.cache.image.geometry track_here found_here.opened found_here.state.registers wanted ≡ search_ends found_here.opened found_here.state.registers (nat_lt 0 (length wanted) && b) (length wanted == length (slice_range slot w.start (w.start + w.len)))
-      found_closes b is = closing_by action.Search h.cache.image.geometry track_here found_here.opened found_here.state.registers wanted searches ∙ rw (area_is, is) refl
+          → closing h.cache.image.geometry track_here found_here.opened found_here.state.registers wanted
+          ≡ search_ends found_here.opened found_here.state.registers (nat_lt 0 (length wanted) && b) (length wanted == length
+              (slice_range slot w.start (w.start + w.len)))
+      found_closes b is = closing_by action.Search h.cache.image.geometry track_here found_here.opened found_here.state.registers wanted
+          searches ∙ rw (area_is, is) refl
 
-      satisfied : 0 < length wanted → is_satisfied (comparison c) (slice_range slot w.start (w.start + w.len)) wanted ≡ true → false ≡ (holds h.cache.held (own_track h) && fails_by (look None asked_here) wanted)
-      satisfied some is = found_as false (rw (found_closes true is, some_bytes (length wanted) some) (sym (and-false (w.len == length wanted))))
+      satisfied : 0 < length wanted → is_satisfied (comparison c) (slice_range slot w.start (w.start + w.len)) wanted ≡ true
+          → false ≡ (holds h.cache.held (own_track h) && fails_by (look None asked_here) wanted)
+      satisfied some is = found_as false (rw (found_closes true is, some_bytes (length wanted) some) (sym (and-false
+          (w.len == length wanted))))
 
-      failed_here : w.len ≡ length wanted → is_satisfied (comparison c) (slice_range slot w.start (w.start + w.len)) wanted ≡ false → true ≡ (holds h.cache.held (own_track h) && fails_by (look None asked_here) wanted)
+      failed_here : w.len ≡ length wanted → is_satisfied (comparison c) (slice_range slot w.start (w.start + w.len)) wanted ≡ false
+          → true ≡ (holds h.cache.held (own_track h) && fails_by (look None asked_here) wanted)
       failed_here e is = found_as true (rw (found_closes false is, and-false (nat_lt 0 (length wanted)), same w.len (length wanted) e) refl)
 
   pub tells_unread : is_readable (track_of slot) ≡ false → TellsSearch h c wanted false
   tells_unread unread m multi_track = unread_here m multi_track unread
 
-  pub tells_passed : is_readable (track_of slot) ≡ true → next.IndexPassed ≡ next_of_kind (track_or_none (track_of slot)) h.registers.position k → TellsSearch h c wanted false
+  pub tells_passed : is_readable (track_of slot) ≡ true → next.IndexPassed
+      ≡ next_of_kind (track_or_none (track_of slot)) h.registers.position k → TellsSearch h c wanted false
   tells_passed whole is m multi_track = passed_here m multi_track whole is
 
-  module _ (a : Area) (w : Window) (whole : is_readable (track_of slot) ≡ true) (comes : next.Found a ≡ next_of_kind (track_or_none (track_of slot)) h.registers.position k)
+  module _ (a : Area) (w : Window) (whole : is_readable (track_of slot) ≡ true) (comes : next.Found a
+      ≡ next_of_kind (track_or_none (track_of slot)) h.registers.position k)
       (lies : Lies slot w (bytes_of (extent_of c) (track_of slot) a)) where
     pub tells_length : (w.len ≡ length wanted → ⊥) → TellsSearch h c wanted false
     tells_length short m multi_track = other_length m multi_track a w whole comes lies short
 
-    pub tells_satisfied : 0 < length wanted → is_satisfied (comparison c) (slice_range slot w.start (w.start + w.len)) wanted ≡ true → TellsSearch h c wanted false
+    pub tells_satisfied : 0 < length wanted → is_satisfied (comparison c) (slice_range slot w.start (w.start + w.len)) wanted ≡ true
+        → TellsSearch h c wanted false
     tells_satisfied some is m multi_track = satisfied m multi_track a w whole comes lies some is
 
-    pub tells_failed : w.len ≡ length wanted → is_satisfied (comparison c) (slice_range slot w.start (w.start + w.len)) wanted ≡ false → TellsSearch h c wanted true
+    pub tells_failed : w.len ≡ length wanted → is_satisfied (comparison c) (slice_range slot w.start (w.start + w.len)) wanted ≡ false
+        → TellsSearch h c wanted true
     tells_failed e is m multi_track = failed_here m multi_track a w whole comes lies e is
 
 -- By the code.
 
-pub tells_code : (h : HalfDone) (code : ℕ) (wanted : List ℕ) (read : CommandCode) (k : Kind) (b : Bool) → Some read ≡ decoded code → Some k ≡ searched_by (action_of read.command) (aim read.command)
+pub tells_code : (h : HalfDone) (code : ℕ) (wanted : List ℕ) (read : CommandCode) (k : Kind) (b : Bool) → Some read ≡ decoded code
+    → Some k ≡ searched_by (action_of read.command) (aim read.command)
     → TellsSearch h read.command wanted b → TellsCode h code wanted b
-tells_code h code wanted read k b decodes searched tells m = rw (begins read.command read.multi_track code (idle_state h m) (searched_is (action_of read.command) (aim read.command) k searched).0 (sym decodes)) (tells m read.multi_track)
+tells_code h code wanted read k b decodes searched tells m = rw (begins read.command read.multi_track code (idle_state h m) (searched_is
+    (action_of read.command) (aim read.command) k searched).0 (sym decodes)) (tells m read.multi_track)
 
 no_search : (c : Command) → None ≡ searched_by (action_of c) (aim c) → is_search (action_of c) ≡ false
 no_search command.SearchHomeAddressEqual e = absurd (cc e)
@@ -379,32 +406,41 @@ no_search command.SearchKeyEqualOrHigh e = absurd (cc e)
 no_search _ e = refl
 
 look_other : (o : Open) (bytes : List ℕ) → is_search (action_of o.opened.command) ≡ false → fails_by (look None o) bytes ≡ false
-look_other o bytes e = sight_by (λ (x : Sight). fails_by (looked None o x) bytes ≡ false) o.state.volume.geometry (track_under o.state) o.opened o.state.registers (rw e refl) (λ a. rw e refl) refl refl (λ h. refl) (λ c h. refl)
+look_other o bytes e = sight_by (λ (x : Sight). fails_by (looked None o x) bytes
+    ≡ false) o.state.volume.geometry (track_under o.state) o.opened o.state.registers (rw e refl) (λ a. rw e refl) refl refl (λ h. refl)
+        (λ c h. refl)
 
-started_other : (c : Command) (multi_track : Bool) (area : Option Area) (s : State) (r : Registers) (bytes : List ℕ) → is_search (action_of c) ≡ false
+started_other : (c : Command) (multi_track : Bool) (area : Option Area) (s : State) (r : Registers) (bytes : List ℕ)
+    → is_search (action_of c) ≡ false
     → fails_begun (begun None s (started c r (record { command = c; multi_track = multi_track; area = area }))) bytes ≡ false
 started_other command.NoOperation multi_track area s r bytes e = refl
 started_other command.Recalibrate multi_track area s r bytes e = refl
 started_other command.ReadIpl multi_track area s r bytes e = look_other _ bytes e
 started_other _ multi_track area s r bytes e = look_other _ bytes e
 
-other_begins : (read : CommandCode) (s : State) (bytes : List ℕ) (x : Option Sense) → is_search (action_of read.command) ≡ false → fails_begun (begun None s (begin_allowed read s.registers x)) bytes ≡ false
+other_begins : (read : CommandCode) (s : State) (bytes : List ℕ) (x : Option Sense) → is_search (action_of read.command) ≡ false
+    → fails_begun (begun None s (begin_allowed read s.registers x)) bytes ≡ false
 other_begins read s bytes (Some cause) e = refl
 other_begins read s bytes None e = started_other read.command read.multi_track _ s _ bytes e
 
-code_begins : (code : ℕ) (s : State) (bytes : List ℕ) (x : Option CommandCode) → decoded code ≡ x → ((read : CommandCode) → x ≡ Some read → is_search (action_of read.command) ≡ false) → fails_begun (begin None code s) bytes ≡ false
+code_begins : (code : ℕ) (s : State) (bytes : List ℕ) (x : Option CommandCode) → decoded code ≡ x → ((read : CommandCode)
+    → x ≡ Some read → is_search (action_of read.command) ≡ false) → fails_begun (begin None code s) bytes ≡ false
 unfolding beginning
 code_begins code s bytes None is other = rw is refl
 code_begins code s bytes (Some read) is other = rw is (other_begins read s bytes (refusal read.command s.registers) (other read refl))
 
 pub tells_none : (h : HalfDone) (code : ℕ) (wanted : List ℕ) → None ≡ decoded code → TellsCode h code wanted false
-tells_none h code wanted none m = rw (code_begins code (idle_state h m) wanted None (sym none) (λ read e. absurd (cc e))) (sym (and-false (holds h.cache.held (own_track h))))
+tells_none h code wanted none m = rw (code_begins code (idle_state h m) wanted None (sym none) (λ read e. absurd (cc e))) (sym (and-false
+    (holds h.cache.held (own_track h))))
 
-other_is : (read r : CommandCode) → Some read ≡ Some r → is_search (action_of read.command) ≡ false → is_search (action_of r.command) ≡ false
+other_is : (read r : CommandCode) → Some read ≡ Some r → is_search (action_of read.command) ≡ false
+    → is_search (action_of r.command) ≡ false
 other_is read r e h = (let same : read ≡ r = cc e in subst (λ (q : CommandCode). is_search (action_of q.command) ≡ false) same h)
 
-pub tells_other : (h : HalfDone) (code : ℕ) (wanted : List ℕ) (read : CommandCode) → Some read ≡ decoded code → None ≡ searched_by (action_of read.command) (aim read.command) → TellsCode h code wanted false
-tells_other h code wanted read decodes other m = rw (code_begins code (idle_state h m) wanted (Some read) (sym decodes) (λ r e. other_is read r e (no_search read.command other))) (sym (and-false (holds h.cache.held (own_track h))))
+pub tells_other : (h : HalfDone) (code : ℕ) (wanted : List ℕ) (read : CommandCode) → Some read ≡ decoded code
+    → None ≡ searched_by (action_of read.command) (aim read.command) → TellsCode h code wanted false
+tells_other h code wanted read decodes other m = rw (code_begins code (idle_state h m) wanted (Some read) (sym decodes)
+    (λ r e. other_is read r e (no_search read.command other))) (sym (and-false (holds h.cache.held (own_track h))))
 
 -- behind the areas that have passed
 pub tells_behind : (h : HalfDone) (code : ℕ) (wanted : List ℕ) (read : CommandCode) (k : Kind) (b : Bool) (n : ℕ) (p : Position)

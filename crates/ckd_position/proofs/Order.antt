@@ -1,5 +1,6 @@
 -- What the order of byte strings says of the place where they first differ.
-use Rattle.std.proofs.Common.{◌≡◌, ◌↔◌, ℕ, zero, suc, ◌<◌, ◌≤◌, inl, inr, List, [], ◌∷◌, length, take, refl, arith, IsTrue, Bool, true, false, nat_eq}
+use Rattle.std.proofs.Common.{◌≡◌, ◌↔◌, ℕ, zero, suc, ◌<◌, ◌≤◌, inl, inr, List, [], ◌∷◌, length, take, refl, arith, IsTrue, Bool, true}
+use Rattle.std.proofs.Common.{false, nat_eq}
 use Rattle.std.specs.Prelude.{⊤, slice_index}
 use Rattle.std.specs.Ordering.{is_eq, nat_cmp, ordering_then}
 use Rattle.std.specs.Cmp.Lexicographic.{pointwise, slice_cmp}

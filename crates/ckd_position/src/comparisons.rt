@@ -68,6 +68,7 @@ fn is_same(area: &[u8], comparand: &[u8]) -> bool
 
 /// Whether the bytes of an area are as the search asks, beside as many bytes as it is given: unsigned bytes, from the
 /// left (component descriptions of the 2841 and the 2314, 'Search Commands').
+#[inline(always)]
 #[tactic(auto, using(crate::proofs::Order::satisfied_means))]
 pub fn verdict(compare: Compare, area: &[u8], comparand: &[u8]) -> bool
     requires { length comparand.now ≤ length area.now }

@@ -1,5 +1,6 @@
 -- Rounds: a search that fails, and the transfer in channel behind it that leads back to it.
-use Rattle.std.proofs.Common.{◌≡◌, ◌∙◌, ℕ, zero, suc, ◌+◌, ◌-◌, ◌*◌, ◌<◌, ◌≤◌, refl, sym, ap, subst, arith, zero-mul, suc-mul, List, length, take, drop, None}
+use Rattle.std.proofs.Common.{◌≡◌, ◌∙◌, ℕ, zero, suc, ◌+◌, ◌-◌, ◌*◌, ◌<◌, ◌≤◌, refl, sym, ap, subst, arith, zero-mul, suc-mul, List, length}
+use Rattle.std.proofs.Common.{take, drop, None}
 use Rattle.ckd_image.specs.Image.{ImageState}
 use Rattle.s360_words.specs.Storage.{Storage}
 use Rattle.s360_words.specs.declared.words.Ccw.{Ccw}
