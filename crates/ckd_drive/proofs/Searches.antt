@@ -465,23 +465,26 @@ written_at_hand h m stands marked =
     let held : h.cache.held ≡ Some (own_track h) = stands.anchored changed in
     rw held (same (own_track h) (own_track h) refl)
 
+-- an idle drive of these parts, which stand together
+abbrev pub Stood : HalfDone → Mark → Stage → DriveState → Type 0
+Stood h m s old = (s ≡ Idle) × (state_of (parts_of h m s) ≡ old) × Stands (parts_of h m s)
+
 -- none has passed
 pub written_none : (h : HalfDone) (m : Mark) (s : Stage) (code : ℕ) (wanted : List ℕ) (n most : ℕ) (p : Position) (old : DriveState)
-    → n ≡ 0 → s ≡ Idle → state_of (parts_of h m s) ≡ old → Stands (parts_of h m s)
-    → (n < most → TellsCode (turned n p h) code wanted false) → 0 < most
+    → Stood h m s old → (n ≡ 0) × (0 < most) × (n < most → TellsCode (turned n p h) code wanted false)
     → is_written old.state ≡ true → fails_at_once code wanted old ≡ false
-written_none h m s code wanted (suc n) most p old none idle is stands tells few written = absurd (cc none)
-written_none h m s code wanted zero most p old none idle is stands tells few written =
+written_none h m s code wanted (suc n) most p old stood (none, few, tells) written = absurd (cc none)
+written_none h m s code wanted zero most p old (idle, is, stands) (none, few, tells) written =
     let marked : is_written_by m ≡ true = rw (← is) at written in
     let there = written_at_hand h m (rw idle at stands) marked in
     rw (← is, idle) (sym (rw there at (tells few m)))
 
 -- some have passed
 pub written_some : (h : HalfDone) (m : Mark) (s : Stage) (code : ℕ) (wanted : List ℕ) (n : ℕ) (p : Position) (old : DriveState)
-    → (n ≡ 0 → ⊥) → s ≡ Idle → state_of (parts_of h m s) ≡ old → Stands (parts_of h m s) → TellsCode (turned n p h) code wanted false
+    → Stood h m s old → (n ≡ 0 → ⊥) → TellsCode (turned n p h) code wanted false
     → is_written old.state ≡ true → fails_at_once code wanted (state_of (parts_of (turned_to p h) m s)) ≡ false
-written_some h m s code wanted zero p old some idle is stands tells written = absurd (some refl)
-written_some h m s code wanted (suc n) p old some idle is stands tells written =
+written_some h m s code wanted zero p old stood some tells written = absurd (some refl)
+written_some h m s code wanted (suc n) p old (idle, is, stands) some tells written =
     let marked : is_written_by m ≡ true = rw (← is) at written in
     let there = written_at_hand h m (rw idle at stands) marked in
     rw idle (sym (rw there at (tells m)))

@@ -1,5 +1,6 @@
 -- Rounds: a search that fails, and the transfer in channel behind it that leads back to it.
-use Rattle.std.proofs.Common.{◌≡◌, ◌∙◌, ℕ, zero, suc, ◌+◌, ◌-◌, ◌*◌, ◌<◌, ◌≤◌, refl, sym, ap, subst, arith, zero-mul, suc-mul, List, length}
+use Rattle.std.proofs.Common.{◌≡◌, ◌∙◌, ℕ, zero, suc, ◌+◌, ◌-◌, ◌*◌, ◌<◌, ◌≤◌, ◌/◌, le_trans, mul-le-mul_right, div-mul-le_self, refl, sym}
+use Rattle.std.proofs.Common.{ap, subst, arith, zero-mul, suc-mul, List, length}
 use Rattle.std.proofs.Common.{take, drop, None}
 use Rattle.ckd_image.specs.Image.{ImageState}
 use Rattle.s360_words.specs.Storage.{Storage}
@@ -65,6 +66,10 @@ saved_on Saved r q e = refl
 saved_on Written r q e = refl
 saved_on Lost r q e = absurd (cc e)
 
+-- as many rounds as so many units allow are no more units
+pub within_units : (n most round : ℕ) → n ≤ most / round → n * round ≤ most
+within_units n most round few = le_trans (mul-le-mul_right round few) (div-mul-le_self most round)
+
 -- One round more; it names the drive before all, before this one and behind it.
 module _ (r : Run) (s : Storage) (ccw : Ccw) (area : Area) (bytes : List ℕ) (d1 d2 : DriveState) (at : r.comes ≡ comes.NextCommand)
     (back : LeadsBack s (place_of r.place) ccw)
@@ -101,17 +106,18 @@ module _ (r : Run) (s : Storage) (ccw : Ccw) (area : Area) (bytes : List ℕ) (d
   }
 
 -- as many rounds as areas that pass by
-pub all_rounds : (r : Run) (s : Storage) (ccw : Ccw) (bytes : List ℕ) (n most : ℕ) (old new : DriveState) → r.comes ≡ comes.NextCommand
-    → LeadsBack s (place_of r.place) ccw → bytes ≡ take ccw.count (drop ccw.address s.bytes) → Fits r old
-    → PassesOn ccw.code bytes n old new → n * (ccw.count + 3) ≤ most → GoesRound r s most (n * (ccw.count + 3)) old new
-all_rounds r s ccw bytes zero most old new at back all fits passed few =
-    rw passed (no_round r s most (0 * (ccw.count + 3)) old (zero-mul (ccw.count + 3)) fits)
-all_rounds r s ccw bytes (suc n) most old new at back all fits (before, area, earlier, by) few =
-    let more : suc n * (ccw.count + 3) ≡ n * (ccw.count + 3) + (ccw.count + 3) = suc-mul n (ccw.count + 3) in
-    let fewer : n * (ccw.count + 3) + (ccw.count + 3) ≤ most = rw more at few in
-    let less : n * (ccw.count + 3) ≤ most = omega (arith, fewer) in
-    rw more (one_more r s ccw area bytes before new at back all by most (n * (ccw.count + 3)) old fewer
-    (all_rounds r s ccw bytes n most old before at back all fits earlier less))
+module _ (r : Run) (s : Storage) (ccw : Ccw) (bytes : List ℕ) (at : r.comes ≡ comes.NextCommand) (back : LeadsBack s (place_of r.place) ccw)
+    (all : bytes ≡ take ccw.count (drop ccw.address s.bytes)) where
+  pub all_rounds : (n most : ℕ) (old new : DriveState) → Fits r old → PassesOn ccw.code bytes n old new → n * (ccw.count + 3) ≤ most
+      → GoesRound r s most (n * (ccw.count + 3)) old new
+  all_rounds zero most old new fits passed few =
+      rw passed (no_round r s most (0 * (ccw.count + 3)) old (zero-mul (ccw.count + 3)) fits)
+  all_rounds (suc n) most old new fits (before, area, earlier, by) few =
+      let more : suc n * (ccw.count + 3) ≡ n * (ccw.count + 3) + (ccw.count + 3) = suc-mul n (ccw.count + 3) in
+      let fewer : n * (ccw.count + 3) + (ccw.count + 3) ≤ most = rw more at few in
+      let less : n * (ccw.count + 3) ≤ most = omega (arith, fewer) in
+      rw more (one_more r s ccw area bytes before new at back all by most (n * (ccw.count + 3)) old fewer
+      (all_rounds n most old before fits earlier less))
 
 -- rounds are a step
 pub round_step : (r : Run) (s : Storage) (most n : ℕ) (d0 d1 : DriveState) → 0 < n → GoesRound r s most n d0 d1

@@ -7,7 +7,7 @@ returns-then-passed-eq0-clause-written g c = λ written some few.
     let i = c.self.inside in
     let by = c.pass_by-passed in
     written_none (half_done i.job) i.mark i.stage c.args.code c.args.wanted.now by.result.0 c.args.most by.result.1 c.args.self.now
-    c.if-passed-eq0.true c.in-Idle.is c.self.view_is c.self.invariant (by.ensures.tells some) few written
+    (c.in-Idle.is, c.self.view_is, c.self.invariant) (c.if-passed-eq0.true, few, by.ensures.tells some) written
 
 pub returns-clause-passes : goal.returns-clause-passes
 returns-clause-passes g c =
@@ -21,4 +21,4 @@ returns-clause-written g c = λ written some few.
     let i = c.self.inside in
     let by = c.pass_by-passed in
     written_some (half_done i.job) i.mark i.stage c.args.code c.args.wanted.now by.result.0 by.result.1 c.args.self.now
-    c.if-passed-eq0.false c.in-Idle.is c.self.view_is c.self.invariant (by.ensures.tells some few) written
+    (c.in-Idle.is, c.self.view_is, c.self.invariant) c.if-passed-eq0.false (by.ensures.tells some few) written
