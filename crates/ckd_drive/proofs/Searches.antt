@@ -2,7 +2,7 @@
 use Rattle.std.proofs.Common.{◌≡◌, ◌⊎◌, inl, inr, ◌∙◌, ap, sym, refl, subst, arith, ℕ, zero, suc, ◌<◌, List, Bool, true, false, Option}
 use Rattle.std.proofs.Common.{Some, None, length}
 use Rattle.std.proofs.lemmas.Bool.Decides.{nat_tests}
-use Rattle.std.specs.Prelude.{◌+◌, ◌&&◌, ◌==◌, if◌then◌else◌, nat_lt, slice_range, IfSome}
+use Rattle.std.specs.Prelude.{◌+◌, ◌&&◌, ◌==◌, if◌then◌else◌, nat_lt, slice_range}
 use Rattle.std.proofs.lemmas.Option.{cond_some}
 use Rattle.std.proofs.Math.Bool.{and-false}
 use Rattle.ckd_track.specs.Track.{track_of, track_or_none}
@@ -38,7 +38,7 @@ use Rattle.ckd_command.specs.Answers.{Sight}
 use Rattle.ckd_command.specs.Commands.{area_bytes, begin_allowed, beginning, closing, ends, ending_status, refusal, search_ends, sight}
 use Rattle.ckd_command.specs.Commands.{sight_of, started}
 use Rattle.ckd_command.specs.Drive.{State, Open, Started, Ready, begin, begun, is_written, is_written_by, look, looked, close, length_of}
-use Rattle.ckd_command.specs.Drive.{track_under, no_sense}
+use Rattle.ckd_command.specs.Drive.{track_under}
 use Rattle.ckd_command.specs.Tables.{aim, action_of, extent_of, area_left, comparison, is_search}
 use Rattle.ckd_command.proofs.Closings.{area_by, closing_by}
 use Rattle.ckd_command.proofs.Lengths.{length_by}
@@ -205,8 +205,13 @@ module _ (h : HalfDone) (m : Mark) (code : ℕ) (wanted : List ℕ) (a : Area) (
 
   closes : closing h.cache.image.geometry track found.opened found.state.registers wanted ≡ ends (after.state.registers) ending_status
   closes = closing_by action.Search h.cache.image.geometry track found.opened found.state.registers wanted u.searches
-      ∙ rw (area_by action.Search track found.opened found.state.registers u.searches, u.unlike.fails, and-false (nat_lt 0
-      (length wanted)), left_there u.command a u.searches) refl
+      ∙ rw (
+        area_by action.Search track found.opened found.state.registers u.searches,
+        u.unlike.fails,
+        and-false (nat_lt 0
+            (length wanted)),
+        left_there u.command a u.searches,
+      ) refl
 
   pub passes_by : PassesBy code wanted a before after
   passes_by = record {
@@ -322,10 +327,10 @@ module _ (h : HalfDone) (c : Command) (k : Kind) (wanted slot : List ℕ) (at : 
 
     passed_here : is_readable (track_of slot) ≡ true → next.IndexPassed
         ≡ next_of_kind (track_or_none (track_of slot)) h.registers.position k
-            → false ≡ (holds h.cache.held (own_track h) && fails_by (look None asked_here) wanted)
+        → false ≡ (holds h.cache.held (own_track h) && fails_by (look None asked_here) wanted)
     passed_here whole is = rw (at_hand, sees next.IndexPassed whole is)
         (passing (λ (x : Sight). false ≡ fails_by (looked None asked_here x) wanted) h.cache.image.geometry asked_here.opened
-            asked_here.state.registers refl (λ e. refl) (λ s e. refl))
+        asked_here.state.registers refl (λ e. refl) (λ s e. refl))
 
     module _ (a : Area) (w : Window) (whole : is_readable (track_of slot) ≡ true) (comes : next.Found a
         ≡ next_of_kind (track_or_none (track_of slot)) h.registers.position k)
@@ -353,7 +358,7 @@ module _ (h : HalfDone) (c : Command) (k : Kind) (wanted slot : List ℕ) (at : 
       found_closes : (b : Bool) → is_satisfied (comparison c) (slice_range slot w.start (w.start + w.len)) wanted ≡ b
           → closing h.cache.image.geometry track_here found_here.opened found_here.state.registers wanted
           ≡ search_ends found_here.opened found_here.state.registers (nat_lt 0 (length wanted) && b) (length wanted == length
-              (slice_range slot w.start (w.start + w.len)))
+          (slice_range slot w.start (w.start + w.len)))
       found_closes b is = closing_by action.Search h.cache.image.geometry track_here found_here.opened found_here.state.registers wanted
           searches ∙ rw (area_is, is) refl
 
@@ -408,7 +413,7 @@ no_search _ e = refl
 look_other : (o : Open) (bytes : List ℕ) → is_search (action_of o.opened.command) ≡ false → fails_by (look None o) bytes ≡ false
 look_other o bytes e = sight_by (λ (x : Sight). fails_by (looked None o x) bytes
     ≡ false) o.state.volume.geometry (track_under o.state) o.opened o.state.registers (rw e refl) (λ a. rw e refl) refl refl (λ h. refl)
-        (λ c h. refl)
+    (λ c h. refl)
 
 started_other : (c : Command) (multi_track : Bool) (area : Option Area) (s : State) (r : Registers) (bytes : List ℕ)
     → is_search (action_of c) ≡ false

@@ -124,9 +124,25 @@ impl<S: ImageStore> Job<S> {
         let command = sought.command;
         match (sought.kind, sought.extent) {
             (Kind::AnyCount, Extent::Identifier) => {
-                self.pass_unlike(Sought { command, kind: Kind::AnyCount, extent: Extent::Identifier }, wanted, most)
+                self.pass_unlike(
+                    Sought {
+                        command,
+                        kind: Kind::AnyCount,
+                        extent: Extent::Identifier,
+                    },
+                    wanted,
+                    most,
+                )
             }
-            (Kind::Key, Extent::Key) => self.pass_unlike(Sought { command, kind: Kind::Key, extent: Extent::Key }, wanted, most),
+            (Kind::Key, Extent::Key) => self.pass_unlike(
+                Sought {
+                    command,
+                    kind: Kind::Key,
+                    extent: Extent::Key,
+                },
+                wanted,
+                most,
+            ),
             _ => self.pass_unlike(sought, wanted, most),
         }
     }
@@ -153,7 +169,15 @@ impl<S: ImageStore> Job<S> {
         };
         let command = read.command;
         let extent = tables::extent(command);
-        self.pass_sought(Sought { command, kind, extent }, wanted, most)
+        self.pass_sought(
+            Sought {
+                command,
+                kind,
+                extent,
+            },
+            wanted,
+            most,
+        )
     }
 
     // The same, of the search of this code.
@@ -168,7 +192,15 @@ impl<S: ImageStore> Job<S> {
     {
         let (command, kind, extent) = (Command::SearchIdEqual, Kind::AnyCount, Extent::Identifier);
         match code {
-            0x31 | 0xB1 => self.pass_unlike(Sought { command, kind, extent }, wanted, most),
+            0x31 | 0xB1 => self.pass_unlike(
+                Sought {
+                    command,
+                    kind,
+                    extent,
+                },
+                wanted,
+                most,
+            ),
             _ => self.pass_elsewhere(code, wanted, most),
         }
     }
