@@ -4,3 +4,4 @@ pub mod Passing
 pub mod Calls
 pub mod Jobs
 pub mod Laws
+pub mod Searches

@@ -1,5 +1,5 @@
 -- A drive between two calls, as those see it who call it.
-use Rattle.std.specs.Prelude.{◌≡◌, ◌⊎◌, ℕ, ◌+◌, ◌-◌, List, [], ◌++◌, Bool, true, false, not, ◌&&◌, ◌==◌, Option, Some, None, length, slice_index_or}
+use Rattle.std.specs.Prelude.{◌≡◌, ◌⊎◌, ℕ, zero, suc, ◌+◌, ◌-◌, List, [], ◌++◌, Bool, true, false, not, ◌&&◌, ◌==◌, Option, Some, None, length, slice_index_or}
 use Rattle.std.specs.Prelude.{if◌then◌else◌}
 use Rattle.ckd_image.specs.Image.{ImageState}
 use Rattle.ckd_command.specs.declared.registers.Mark.{Mark}
@@ -9,7 +9,7 @@ use Rattle.ckd_command.specs.declared.tables.Aim.TheVariants.{Next}
 use Rattle.ckd_command.specs.Answers.{Beginning, ToCylinderZero, Sight, NextHead}
 use Rattle.ckd_command.specs.declared.close.DriveEnding.{DriveEnding}
 use Rattle.ckd_command.specs.declared.begin.Opened.{Opened}
-use Rattle.ckd_command.specs.Tables.{aim, action_of, is_giving}
+use Rattle.ckd_command.specs.Tables.{aim, action_of, is_giving, is_search}
 use Rattle.ckd_sense.specs.declared.commands.Command.{Command}
 use Rattle.ckd_sense.specs.declared.commands.Command.TheVariants.{ReadData, ReadCountKeyAndData}
 use Rattle.ckd_position.specs.declared.areas.Area.{Area}
@@ -369,10 +369,17 @@ pub record PassesBy (code : ℕ) (bytes : List ℕ) (area : Area) (old new : Dri
   pub found : Open
   pub begins : begin None code old.state ≡ Started asked
   pub finds : look None asked ≡ Ready found
+  pub searches : is_search (action_of found.opened.command) ≡ true
   pub takes : is_giving (action_of found.opened.command) ≡ false
   pub wants : (b : List ℕ) → length_of found b ≡ length bytes
   pub ends : close None found bytes ≡ record { state = new.state; unit = record { 0 = ending_status }; motion = false }
   pub stays : new ≡ record old { state = state_past old.state area }
+
+-- so many areas pass by so, one behind another
+abbrev pub PassesOn : (code : ℕ) → (bytes : List ℕ) → (passed : ℕ) → (old new : DriveState) → Type 0
+PassesOn code bytes zero old new = new ≡ old
+PassesOn code bytes (suc n) old new =
+    (before : DriveState) × (area : Area) × PassesOn code bytes n old before × PassesBy code bytes area before new
 
 -- A new drive.
 

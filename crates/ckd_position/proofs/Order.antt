@@ -1,8 +1,9 @@
 -- What the order of byte strings says of the place where they first differ.
-use Rattle.std.proofs.Common.{◌≡◌, ◌↔◌, ℕ, zero, suc, ◌<◌, ◌≤◌, inl, inr, List, [], ◌∷◌, length, take, refl, arith, IsTrue, Bool}
+use Rattle.std.proofs.Common.{◌≡◌, ◌↔◌, ℕ, zero, suc, ◌<◌, ◌≤◌, inl, inr, List, [], ◌∷◌, length, take, refl, arith, IsTrue, Bool, true}
+use Rattle.std.proofs.Common.{false, nat_eq}
 use Rattle.std.specs.Prelude.{⊤, slice_index}
-use Rattle.std.specs.Ordering.{nat_cmp, ordering_then}
-use Rattle.std.specs.Cmp.Lexicographic.{slice_cmp}
+use Rattle.std.specs.Ordering.{is_eq, nat_cmp, ordering_then}
+use Rattle.std.specs.Cmp.Lexicographic.{pointwise, slice_cmp}
 use Rattle.std.specs.declared.cmp.Ordering.{Ordering}
 use Rattle.std.specs.declared.cmp.Ordering.TheVariants.{Less, Equal, Greater}
 use Rattle.std.proofs.lemmas.Cmp.{ranked}
@@ -10,6 +11,20 @@ use Rattle.std.proofs.lemmas.Bool.Decides.{nat_tests}
 use Rattle.ckd_position.specs.Comparisons.{accepts, is_satisfied, Satisfies, IsHigher}
 use Rattle.ckd_position.specs.declared.comparisons.Compare.{Compare}
 use Rattle.ckd_position.specs.declared.comparisons.Compare.TheVariants as compare
+
+-- bytes that are the same are those whose order is that of equals
+
+same_at : (x y : ℕ) (xs ys : List ℕ) (o : Ordering) → o ≡ nat_cmp x y → pointwise nat_eq xs ys ≡ is_eq (slice_cmp nat_cmp xs ys)
+    → pointwise nat_eq (x ∷ xs) (y ∷ ys) ≡ is_eq (slice_cmp nat_cmp (x ∷ xs) (y ∷ ys))
+same_at x y xs ys Equal e rest = let same : nat_eq x y ≡ true = grind (arith, nat_tests, ranked x y Equal e) in rw (← e, same) rest
+same_at x y xs ys Less e rest = let other : nat_eq x y ≡ false = grind (arith, nat_tests, ranked x y Less e) in rw (← e, other) refl
+same_at x y xs ys Greater e rest = let other : nat_eq x y ≡ false = grind (arith, nat_tests, ranked x y Greater e) in rw (← e, other) refl
+
+pub same_bytes : (xs ys : List ℕ) → pointwise nat_eq xs ys ≡ is_eq (slice_cmp nat_cmp xs ys)
+same_bytes [] [] = refl
+same_bytes [] (y ∷ ys) = refl
+same_bytes (x ∷ xs) [] = refl
+same_bytes (x ∷ xs) (y ∷ ys) = same_at x y xs ys (nat_cmp x y) refl (same_bytes xs ys)
 
 -- what the order of the first bytes of the one to all of the other means; where it is lower, nothing is asked
 abbrev Means : Ordering → List ℕ → List ℕ → Type 0

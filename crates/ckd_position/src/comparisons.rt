@@ -1,7 +1,7 @@
 //! What a search asks of an area.
 
 ghost use Rattle.std.specs.Prelude.{◌≡◌, ◌↔◌, ◌≤◌, IsTrue, length};
-ghost use Rattle.std.specs.Ordering.{nat_cmp, ordering_then};
+ghost use Rattle.std.specs.Ordering.{is_eq, nat_cmp, ordering_then};
 ghost use Rattle.std.specs.Cmp.Lexicographic.{slice_cmp};
 ghost use Rattle.ckd_position.specs.Comparisons.{accepts, is_satisfied, Satisfies};
 
@@ -53,8 +53,22 @@ fn order_of(area: &[u8], comparand: &[u8]) -> Ordering
     area.cmp(comparand)
 }
 
+// Whether an area's bytes are those given. Those of an identifier by themselves too.
+#[inline(always)]
+#[tactic(auto, using(crate::proofs::Order::same_bytes))]
+fn is_same(area: &[u8], comparand: &[u8]) -> bool
+    ensures { result ≡ is_eq (slice_cmp nat_cmp area.now comparand.now) }
+{
+    let identifiers = (<&[u8; 5]>::try_from(area), <&[u8; 5]>::try_from(comparand));
+    if let (Ok(identifier), Ok(other)) = identifiers {
+        return identifier == other;
+    }
+    area == comparand
+}
+
 /// Whether the bytes of an area are as the search asks, beside as many bytes as it is given: unsigned bytes, from the
 /// left (component descriptions of the 2841 and the 2314, 'Search Commands').
+#[inline(always)]
 #[tactic(auto, using(crate::proofs::Order::satisfied_means))]
 pub fn verdict(compare: Compare, area: &[u8], comparand: &[u8]) -> bool
     requires { length comparand.now ≤ length area.now }
@@ -62,5 +76,8 @@ pub fn verdict(compare: Compare, area: &[u8], comparand: &[u8]) -> bool
     ensures meaning { IsTrue result ↔ Satisfies compare area.now comparand.now }
 {
     let beside = &area[..comparand.len()];
-    compare.accepts(compared(Ordering::Equal, beside, comparand))
+    match compare {
+        Compare::Equal => is_same(beside, comparand),
+        _ => compare.accepts(compared(Ordering::Equal, beside, comparand)),
+    }
 }

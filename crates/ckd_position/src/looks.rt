@@ -106,6 +106,8 @@ fn has_key(view: &TrackView, number: usize) -> bool
 }
 
 /// The key area of the first record that has one, from this record on.
+// In line, since a search for a key asks it for each record that it passes by.
+#[inline(always)]
 #[tactic(auto, using(crate::proofs::Walk::next_key_here, crate::proofs::Walk::next_key_later, crate::proofs::Walk::no_key_past))]
 fn next_key(view: &TrackView, from: usize) -> Next
     ensures next { result ≡ next_key_from view.now from }

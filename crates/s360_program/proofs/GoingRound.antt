@@ -1,5 +1,7 @@
 -- Rounds: a search that fails, and the transfer in channel behind it that leads back to it.
-use Rattle.std.proofs.Common.{◌≡◌, ◌∙◌, ℕ, ◌+◌, ◌-◌, ◌<◌, ◌≤◌, refl, sym, ap, subst, arith, List, length, take, drop, None}
+use Rattle.std.proofs.Common.{◌≡◌, ◌∙◌, ℕ, zero, suc, ◌+◌, ◌-◌, ◌*◌, ◌<◌, ◌≤◌, ◌/◌, le_trans, mul-le-mul_right, div-mul-le_self, refl, sym}
+use Rattle.std.proofs.Common.{ap, subst, arith, zero-mul, suc-mul, List, length}
+use Rattle.std.proofs.Common.{take, drop, None}
 use Rattle.ckd_image.specs.Image.{ImageState}
 use Rattle.s360_words.specs.Storage.{Storage}
 use Rattle.s360_words.specs.declared.words.Ccw.{Ccw}
@@ -9,7 +11,7 @@ use Rattle.ckd_command.specs.declared.registers.Mark.TheVariants.{Saved, Written
 use Rattle.ckd_command.specs.declared.registers.Registers.{Registers}
 use Rattle.ckd_command.specs.Drive.{State, unsaved, unsaved_by}
 use Rattle.std.specs.Prelude.{min, slice_range, true}
-use Rattle.ckd_drive.specs.Work.{DriveState, Work, Idle, Over, Looking, Passing, PassesBy, is_idle, state_past}
+use Rattle.ckd_drive.specs.Work.{DriveState, Work, Idle, Over, Looking, Passing, PassesBy, PassesOn, is_idle, state_past}
 use Rattle.s360_runs.specs.Rounds.{LeadsBack}
 use Rattle.s360_runs.specs.Rounds as rounds
 use Rattle.s360_runs.specs.Scripts.{units}
@@ -64,8 +66,9 @@ saved_on Saved r q e = refl
 saved_on Written r q e = refl
 saved_on Lost r q e = absurd (cc e)
 
-fewer_left : (all left n : ℕ) → left ≤ all → n ≤ left → (all - left) + n ≡ all - (left - n)
-fewer_left all left n h k = omega arith
+-- as many rounds as so many units allow are no more units
+pub within_units : (n most round : ℕ) → n ≤ most / round → n * round ≤ most
+within_units n most round few = le_trans (mul-le-mul_right round few) (div-mul-le_self most round)
 
 -- One round more; it names the drive before all, before this one and behind it.
 module _ (r : Run) (s : Storage) (ccw : Ccw) (area : Area) (bytes : List ℕ) (d1 d2 : DriveState) (at : r.comes ≡ comes.NextCommand)
@@ -90,19 +93,31 @@ module _ (r : Run) (s : Storage) (ccw : Ccw) (area : Area) (bytes : List ℕ) (d
   saved : unsaved d1.state ≡ None → unsaved d2.state ≡ None
   saved h = rw p.stays (saved_on d1.state.mark d1.state.registers (state_past d1.state area).registers h)
 
-  pub one_more : (most left : ℕ) (d0 : DriveState) → left ≤ most → ccw.count + 3 ≤ left → GoesRound r s most (most - left) d0 d1
-      → GoesRound r s most (most - (left - (ccw.count + 3))) d0 d2
-  one_more most left d0 within few g = record {
-    few = omega arith;
-    goes = subst (λ n. walk (units n) r.key (phase_in (run_of r) s d0) ≡ StandsIn (phase_in (run_of r) s d2))
-        (fewer_left most left (ccw.count + 3) within few)
-        (more_units r.key r.key (phase_in (run_of r) s d0) (phase_in (run_of r) s d1) (phase_in (run_of r) s d2) (most - left)
-        (ccw.count + 3) refl g.goes round);
+  pub one_more : (most n : ℕ) (d0 : DriveState) → n + (ccw.count + 3) ≤ most → GoesRound r s most n d0 d1
+      → GoesRound r s most (n + (ccw.count + 3)) d0 d2
+  one_more most n d0 few g = record {
+    few = few;
+    goes = more_units r.key r.key (phase_in (run_of r) s d0) (phase_in (run_of r) s d1) (phase_in (run_of r) s d2) n (ccw.count + 3) refl
+        g.goes round;
     image = ap (λ (d : DriveState). d.image) p.stays ∙ g.image;
     fits = record { within = g.fits.within; stands = record { fits = stage_fits; saved = saved g.fits.stands.saved } };
     no_check = λ q. rw p.stays refl;
-    none = λ z. absurd (omega (arith, z, within, few));
+    none = λ z. absurd (omega (arith, z));
   }
+
+-- as many rounds as areas that pass by
+module _ (r : Run) (s : Storage) (ccw : Ccw) (bytes : List ℕ) (at : r.comes ≡ comes.NextCommand) (back : LeadsBack s (place_of r.place) ccw)
+    (all : bytes ≡ take ccw.count (drop ccw.address s.bytes)) where
+  pub all_rounds : (n most : ℕ) (old new : DriveState) → Fits r old → PassesOn ccw.code bytes n old new → n * (ccw.count + 3) ≤ most
+      → GoesRound r s most (n * (ccw.count + 3)) old new
+  all_rounds zero most old new fits passed few =
+      rw passed (no_round r s most (0 * (ccw.count + 3)) old (zero-mul (ccw.count + 3)) fits)
+  all_rounds (suc n) most old new fits (before, area, earlier, by) few =
+      let more : suc n * (ccw.count + 3) ≡ n * (ccw.count + 3) + (ccw.count + 3) = suc-mul n (ccw.count + 3) in
+      let fewer : n * (ccw.count + 3) + (ccw.count + 3) ≤ most = rw more at few in
+      let less : n * (ccw.count + 3) ≤ most = omega (arith, fewer) in
+      rw more (one_more r s ccw area bytes before new at back all by most (n * (ccw.count + 3)) old fewer
+      (all_rounds n most old before fits earlier less))
 
 -- rounds are a step
 pub round_step : (r : Run) (s : Storage) (most n : ℕ) (d0 d1 : DriveState) → 0 < n → GoesRound r s most n d0 d1

@@ -89,13 +89,6 @@ impl Run {
         };
         let wanted = storage.bytes_from(ccw.address, usize::from(ccw.count));
         let round = u32::from(ccw.count) + 3;
-        let mut left = most;
-        while left >= round {
-            if !drive.pass_by(ccw.code, wanted) {
-                return most - left;
-            }
-            left -= round;
-        }
-        most - left
+        drive.pass_by(ccw.code, wanted, most / round) * round
     }
 }

@@ -74,7 +74,7 @@ pub fn bytes_move_at_once()
 {}
 
 /// A search that fails, and the transfer in channel behind it that leads back to it, are three units and one for each byte of the
-/// search; behind them the program stands where it stood, and only the drive's position has changed.
+/// search; behind them the program stands where it stood, and only the drive has changed, as the search left it.
 pub fn round_is_units()
     ensures { RoundIsUnits }
 {}
