@@ -13,14 +13,15 @@
  * what a pointer leads to either. An instruction answers its condition code, 0 to 3. A call that is not documented to answer a
  * fault answers DASD_NOTHING_HELD alone, where the handle holds nothing; so do all others, before anything else.
  *
- * WHAT NO CALL DOES. None blocks, starts a thread, opens a file, prints, or calls back. Only dasd_new, dasd_attach,
- * dasd_attach_new and dasd_check take memory, by malloc, and want of it is an ordinary fault.
+ * WHAT NO CALL DOES. None blocks, starts a thread, opens a file, prints, or calls back. Only dasd_new, dasd_new_lent, dasd_copy,
+ * dasd_attach, dasd_attach_new and dasd_check take memory, by malloc, and want of it is an ordinary fault.
  *
  * WHAT THE CALLER OWES, and nothing checks:
  *   1. A pointer leads to a value of its type, and a pointer and a length to so many bytes. No two arguments of a call overlap, and
  *      none lies in the main storage or in a volume's file that a call has shown. A pointer to bytes is not null, even where there
  *      are none.
- *   2. A handle is DASD_NOTHING before its first use. While it holds something it is not copied and its fields are left alone.
+ *   2. A handle is DASD_NOTHING before its first use. While it holds something it is not copied but by dasd_copy, and its fields are
+ *      left alone.
  *   3. A handle is in one call at a time. Between two calls it may go to another thread, by whatever orders the two: a lock, the
  *      start of a thread, a join. Two handles have nothing in common.
  *   4. malloc, realloc and free are one allocator. No call is made in a signal handler.
@@ -111,6 +112,13 @@ uint32_t dasd_interface(void);
  * to seven of the channels 0 to 6, and not bit 7, which is no channel's. Main storage is there once, for all of them.
  * DASD_IN_USE, DASD_BAD_CHANNELS, DASD_BAD_SIZE, DASD_NO_MEMORY. It does not answer DASD_NOTHING_HELD. */
 int32_t dasd_new(dasd *d, uint32_t storage_bytes, uint8_t channels);
+
+/* Makes `copy`, a handle that holds nothing, hold a second of all that this one holds, as it is between two calls, also in the middle of
+ * channel programs: main storage and its keys, where they are the handle's; what each channel runs, what pends, and what arms do; the
+ * drives with their sense bytes; and their volumes. Whatever is called of both from then on is answered alike, over memory with the same
+ * bytes and keys where it is lent, and no call of one changes the other. So a program is stepped backwards, or tried and gone back to. It
+ * costs what copying all volumes does. DASD_IN_USE, `copy` holds something; DASD_NO_MEMORY. Where it is refused both are as they were. */
+int32_t dasd_copy(dasd *d, dasd *copy);
 
 /* Frees all that the handle holds, its volumes too, whether they were saved or not. The handle holds nothing then. */
 int32_t dasd_free(dasd *d);

@@ -329,6 +329,9 @@ class Channels {
         return handle.get();
     }
 
+    /* Holds a second of what that one holds. DASD_NO_MEMORY; std::bad_alloc. */
+    void copy_from(const Channels &from) { detail::done(dasd_copy(from.held(), made())); }
+
     dasd *held() const {
         if (!handle) throw Fault(DASD_NOTHING_HELD);
         return handle.get();
@@ -355,6 +358,14 @@ class Subsystem : public Channels {
     /* Main storage of so many bytes, all zero and with keys 0, and the channels of this set over it, without drives.
      * DASD_BAD_CHANNELS, DASD_BAD_SIZE, DASD_NO_MEMORY; std::bad_alloc. */
     Subsystem(std::uint32_t storage_bytes, std::uint8_t channels) { detail::done(dasd_new(made(), storage_bytes, channels)); }
+
+    /* A second one that is as this one is between two calls, also in the middle of channel programs, with its volumes and its main storage:
+     * whatever is called of both from then on is answered alike, and no call of one changes the other. DASD_NO_MEMORY; std::bad_alloc. */
+    Subsystem copy() const {
+        Subsystem second;
+        second.copy_from(*this);
+        return second;
+    }
 
     /* --- The processor's instructions: the condition code, 0 to 3, which is 3 where there is no channel of that number --- */
 
@@ -456,6 +467,13 @@ class LentSubsystem : public Channels {
     /* The channels of this set for main storage of so many bytes, without drives.
      * DASD_BAD_CHANNELS, DASD_BAD_SIZE, DASD_NO_MEMORY; std::bad_alloc. */
     LentSubsystem(std::uint32_t storage_bytes, std::uint8_t channels) { detail::done(dasd_new_lent(made(), storage_bytes, channels)); }
+
+    /* As that of a Subsystem; over memory with the same bytes and keys both answer alike. */
+    LentSubsystem copy() const {
+        LentSubsystem second;
+        second.copy_from(*this);
+        return second;
+    }
 
     int sio(const Memory &memory, std::uint16_t address) { return detail::done(dasd_lent_sio(held(), detail::Lent(memory).get(), address)); }
     int tio(const Memory &memory, std::uint16_t address) { return detail::done(dasd_lent_tio(held(), detail::Lent(memory).get(), address)); }

@@ -329,6 +329,27 @@ def comes_out(maker: Maker, lines: List[Line], folder: str) -> bool:
         return [fault] == wanted and answers == of.get("<", []) and same
 
 
+class Copies(unittest.TestCase):
+    """A copy and what was copied go their own ways."""
+
+    def test_a_copy_goes_its_own_way(self) -> None:
+        disks = dasd.Subsystem(65536, 1)
+        disks.attach_new(0x190, 2314, 2)
+        disks.storage[0x48:0x4C] = bytes.fromhex("00000100")
+        disks.storage[0x100:0x108] = READ_R0
+        self.assertEqual((disks.sio(0x190), disks.step(1, 5)), (0, 5))
+        second = disks.copy()
+        self.assertIs(second.run_on(1, 1000).subchannel, dasd.Subchannel.ENDED)
+        self.assertIs(disks.channel(1).subchannel, dasd.Subchannel.WORKING)
+        self.assertNotEqual(disks.storage, second.storage)
+        self.assertIs(disks.run_on(1, 1000).subchannel, dasd.Subchannel.ENDED)
+        self.assertEqual((disks.interrupt(), second.interrupt()), (0x190, 0x190))
+        self.assertEqual((disks.storage, disks.file(0x190)), (second.storage, second.file(0x190)))
+        disks.close()
+        self.assertEqual((second.tio(0x190), second.peek(0x200, 8).hex()), (0, "0000000000000008"))
+        self.assertRaises(dasd.Fault, disks.copy)
+
+
 class Vectors(unittest.TestCase):
     """The vectors of the conformance suite, where they are."""
 

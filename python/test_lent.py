@@ -150,6 +150,22 @@ class Lives(unittest.TestCase):
         del view
         memory.append(1)
 
+    def test_a_copy_is_lent_its_own(self) -> None:
+        memory = bytearray(SIZE)
+        disks = dasd.LentSubsystem(memory, bytes(BLOCKS), 1)
+        disks.attach_new(0x190, 2314, 1)
+        disks.poke(0x48, bytes([0, 0, 1, 0]))
+        disks.poke(0x100, READ_R0)
+        self.assertEqual((disks.sio(0x190), disks.step(1, 5)), (0, 5))
+        self.assertRaises(dasd.Fault, disks.copy, bytearray(SIZE + 2048), bytes(BLOCKS + 1))
+        others = bytearray(memory)
+        second = disks.copy(others, bytes(BLOCKS))
+        self.assertIs(second.run_on(1, 1000).subchannel, dasd.Subchannel.ENDED)
+        self.assertIs(disks.channel(1).subchannel, dasd.Subchannel.WORKING)
+        self.assertEqual((others[0x200:0x210], memory[0x200:0x210] == RECORD_0), (RECORD_0, False))
+        self.assertIs(disks.run_on(1, 1000).subchannel, dasd.Subchannel.ENDED)
+        self.assertEqual((disks.interrupt(), second.interrupt(), memory), (0x190, 0x190, others))
+
     def test_no_copy(self) -> None:
         with Kept(SIZE, 1) as disks:
             copiers: Sequence[Call] = (copy.copy, copy.deepcopy, pickle.dumps)

@@ -176,6 +176,23 @@ void refuses_all(Subsystem &none) {
     none.free();
 }
 
+// In the middle of a program, which each then ends by itself.
+void a_copy_goes_its_own_way() {
+    Subsystem disks = made(read_r0);
+    CHECK(disks.sio(drive) == 0 && disks.step(1, 5) == 5);
+    Subsystem second = disks.copy();
+    CHECK(second.run_on(1, 1000).subchannel == DASD_ENDED && second.interrupt() == drive);
+    CHECK(disks.channel(1).subchannel == DASD_WORKING && second.channel(1).subchannel == DASD_AVAILABLE && disks.key(0) == 0);
+    const Octets whole(second.storage().begin() + 0x200, second.storage().begin() + 0x210);
+    CHECK(!std::equal(whole.begin(), whole.end(), disks.storage().begin() + 0x200));
+    CHECK(disks.run_on(1, 1000).subchannel == DASD_ENDED && disks.interrupt() == drive);
+    CHECK(std::equal(second.storage().begin(), second.storage().end(), disks.storage().begin()) && image_of(disks) == image_of(second));
+    second = disks.copy();
+    CHECK(second.tio(drive) == 0 && refused([] { Subsystem().copy(); }) == DASD_NOTHING_HELD);
+    const LentSubsystem lent(4096, libdasd::channel_set({1}));
+    CHECK(lent.copy().tch(drive) == 0 && refused([] { LentSubsystem().copy(); }) == DASD_NOTHING_HELD);
+}
+
 void owners() {
     Subsystem none, first = made(read_r0);
     refuses_all(none);
@@ -369,6 +386,7 @@ int main(int count, char **words) { // NOLINT(bugprone-exception-escape)
     several_channels();
     storage_is_the_callers();
     no_bytes();
+    a_copy_goes_its_own_way();
     owners();
     storage_is_lent();
     what_is_not_lent();

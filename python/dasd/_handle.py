@@ -26,17 +26,24 @@ class Handle:
     """What the library holds for a subsystem. It is freed when the last goes that refers to it: the subsystem, until it is closed, and
     each view of main storage that it owns."""
 
-    #: the call of the library that makes it
-    made_by = "new"
-
-    def __init__(self, storage_bytes: int, channels: int) -> None:
+    def __init__(self, make: Callable[[object], int]) -> None:
+        """What `make` has a handle that holds nothing hold; it answers what its call does."""
         self._held = _library.Handle()
         self._at = ctypes.byref(self._held)
         self._lock = threading.RLock()
         self._is_copying = False
         # another module may be gone before this object, at the end of the interpreter
         self._free = calls.dasd_free
-        self.call(self.made_by, storage_bytes, channels)
+        done(make(self._at))
+
+    @staticmethod
+    def new(storage_bytes: int, channels: int) -> Handle:
+        """A handle with main storage of its own."""
+        return Handle(lambda at: int(calls.dasd_new(at, storage_bytes, channels)))
+
+    def copy(self) -> Handle:
+        """A second handle, which holds a copy of all that this one holds."""
+        return Handle(lambda at: self.call("copy", at))
 
     def __del__(self) -> None:
         if getattr(self, "_free", None) is not None:
@@ -142,16 +149,27 @@ class Lent:
 class LentHandle(Handle):
     """A handle that owns no main storage, and is lent it."""
 
-    made_by = "new_lent"
-
-    def __init__(self, lent: Lent, channels: int) -> None:
-        super().__init__(lent.memory.nbytes, channels)
+    def __init__(self, lent: Lent, make: Callable[[object], int]) -> None:
+        super().__init__(make)
         self.lent = lent
+
+    @staticmethod
+    def new_over(lent: Lent, channels: int) -> LentHandle:
+        """A handle that is lent this."""
+        return LentHandle(lent, lambda at: int(calls.dasd_new_lent(at, lent.memory.nbytes, channels)))
+
+    def copy_over(self, lent: Lent) -> LentHandle:
+        """A second handle, which holds a copy of all that this one holds, and is lent other memory of the same size."""
+        self._refuse_other_size(lent)
+        return LentHandle(lent, lambda at: self.call("copy", at))
+
+    def _refuse_other_size(self, lent: Lent) -> None:
+        if lent.memory.nbytes != self.lent.memory.nbytes:
+            raise Fault(FaultCode.OTHER_SIZE)
 
     def lend(self, lent: Lent) -> None:
         """Has other memory of the same size from now on."""
-        if lent.memory.nbytes != self.lent.memory.nbytes:
-            raise Fault(FaultCode.OTHER_SIZE)
+        self._refuse_other_size(lent)
         with self._lock:
             self.lent = lent
 

@@ -98,6 +98,7 @@ _U8, _U16, _U32, _SIZE = ctypes.c_uint8, ctypes.c_uint16, ctypes.c_uint32, ctype
 # The calls that take a handle: their arguments behind it.
 _CALLS: Dict[str, List[Any]] = {
     "new": [_U32, _U8],
+    "copy": [_to(Handle)],
     "free": [],
     "attach": [_U16, _to(Bytes), _SIZE],
     "attach_new": [_U16, _U16, _U16],

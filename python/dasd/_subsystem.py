@@ -92,7 +92,7 @@ class Channels:
     """One to seven channels over main storage, each with up to eight drives and their volumes: a Subsystem, which has main storage of its
     own, or a LentSubsystem, which is lent it.
 
-    It is freed by `close`, or by the end of a `with`, or when nothing refers to it. It is not copied or pickled.
+    It is freed by `close`, or by the end of a `with`, or when nothing refers to it. It is copied by `copy` alone, and not pickled.
 
     Any thread may call, and may store into `storage`: calls are made one after another, and a store comes before or behind a call. What
     stores without the interpreter's lock, as `readinto` of a file does, is kept out by the program while it calls.
@@ -288,7 +288,15 @@ class Subsystem(Channels):
 
         BAD_CHANNELS; BAD_SIZE, where the bytes are no multiple of 2,048 from 4,096 to 16,777,216; NO_MEMORY.
         """
-        super().__init__(Handle(_refusable(storage_bytes, _U32, 0), channel_set(*channels)))
+        super().__init__(Handle.new(_refusable(storage_bytes, _U32, 0), channel_set(*channels)))
+
+    def copy(self) -> Subsystem:
+        """A second one that is as this one is between two calls, also in the middle of channel programs: what runs, what pends and what
+        arms do, the volumes, main storage and its keys. What is called of both from then on is answered alike, and no call of one changes
+        the other. It costs what copying all volumes does. NO_MEMORY, NOTHING_HELD."""
+        second = Subsystem.__new__(Subsystem)
+        Channels.__init__(second, self._handle.copy())
+        return second
 
 
 class LentSubsystem(Channels):
@@ -309,7 +317,17 @@ class LentSubsystem(Channels):
         BAD_SIZE, where the bytes are no multiple of 2,048 from 4,096 to 16,777,216; BAD_BLOCKS; BAD_CHANNELS; NO_MEMORY. A TypeError
         where the bytes can't be written, an item of the keys has more than a byte, or bytes or keys don't lie in a row.
         """
-        super().__init__(LentHandle(_lent(memory, keys), channel_set(*channels)))
+        super().__init__(LentHandle.new_over(_lent(memory, keys), channel_set(*channels)))
+
+    def copy(self, memory: WritableBytes, keys: BytesLike) -> LentSubsystem:
+        """A second one that is as this one is between two calls, also in the middle of channel programs, over other memory of the same size:
+        the program gives it a copy of its bytes and keys, and then both answer alike. No call of one changes the other. What `lend`
+        raises, and NO_MEMORY."""
+        handle, lent = self._handle, _lent(memory, keys)
+        assert isinstance(handle, LentHandle)
+        second = LentSubsystem.__new__(LentSubsystem)
+        Channels.__init__(second, handle.copy_over(lent))
+        return second
 
     def lend(self, memory: WritableBytes, keys: BytesLike) -> None:
         """Lends other memory of the same size from now on, also while programs run: what differs in it is what the processor stored.

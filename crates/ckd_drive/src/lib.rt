@@ -5,6 +5,7 @@
 mod answers;
 mod begin;
 mod close;
+mod copying;
 mod drive;
 mod job;
 mod laws;

@@ -18,11 +18,11 @@ const WRITTEN: usize = 60;
 /// the content. Each other call answers as the store within.
 #[derive(Drop)]
 pub struct FailingStore {
-    store: MemoryStore,
-    calls: u64,
-    fails_at: u64,
-    for_good: bool,
-    made_to_fail: Count,
+    pub(crate) store: MemoryStore,
+    pub(crate) calls: u64,
+    pub(crate) fails_at: u64,
+    pub(crate) for_good: bool,
+    pub(crate) made_to_fail: Count,
 }
 
 impl Model for FailingStore {

@@ -25,12 +25,12 @@ use std::marker::Model;
 /// written whole, and the files' lengths stay.
 #[derive(Drop)]
 pub struct Image<S: ImageStore> {
-    stores: Stores<S>,
-    geometry: Geometry,
+    pub(crate) stores: Stores<S>,
+    pub(crate) geometry: Geometry,
     /// How many tracks each file holds.
-    tracks: [u32; MOST_FILES],
-    loads: Count,
-    saves: Count,
+    pub(crate) tracks: [u32; MOST_FILES],
+    pub(crate) loads: Count,
+    pub(crate) saves: Count,
 }
 
 impl<S: ImageStore> Model for Image<S> {

@@ -1,6 +1,7 @@
 //! Disk images in the CKD_P370 layout, in one to eight files; the stores that hold them; their slots.
 #![tactic(auto)]
 
+mod copying;
 mod failing;
 mod fault;
 mod files;
@@ -12,6 +13,7 @@ mod new_volume;
 mod store;
 mod stores;
 
+pub use crate::copying::CopyStore;
 pub use crate::failing::FailingStore;
 pub use crate::fault::MountFault;
 pub use crate::images::Image;

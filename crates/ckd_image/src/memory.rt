@@ -12,9 +12,9 @@ use std::marker::Model;
 /// nothing; every other call succeeds.
 #[derive(Drop)]
 pub struct MemoryStore {
-    held: Vec<u8>,
-    origin: Trace,
-    refused: Count,
+    pub(crate) held: Vec<u8>,
+    pub(crate) origin: Trace,
+    pub(crate) refused: Count,
 }
 
 impl Model for MemoryStore {

@@ -1,12 +1,14 @@
 //! The stores that hold the files of an image.
 
-ghost use Rattle.std.specs.Prelude.{◌≡◌, ◌+◌, ◌<◌, ◌≤◌, [], length, None, IsSome, slice_get, slice_range, slice_set, ◌∷◌, option_map, OnOk, OnErr};
+ghost use Rattle.std.specs.Prelude.{◌≡◌, ◌+◌, ◌<◌, ◌≤◌, [], length, None, IsSome, slice_get, slice_range, slice_set, ◌∷◌, option_map, IfOk, OnOk, OnErr};
 ghost use Rattle.std.specs.List.{AllByRecursion};
 ghost use Rattle.ckd_image.specs.Store.{overwritten, Torn, Counts};
 ghost use Rattle.ckd_image.specs.Files.{held, file_at, each, listed, alone, HoldTracks, HoldsWhole};
 
+use crate::copying::CopyStore;
 use crate::layout::HEADER_LENGTH;
 use crate::store::{ImageStore, StoreFault};
+use std::alloc::{AllocError, Global};
 
 /// The most files of one image. Contracts and definitions have the number 8 for it, and are proved of the code that has
 /// this name.
@@ -250,4 +252,33 @@ pub(crate) fn array_of<S: ImageStore>(stores: Stores<S>) -> [Option<S>; MOST_FIL
         eighth,
     } = stores;
     [first, second, third, fourth, fifth, sixth, seventh, eighth]
+}
+
+// A copy of the file, if there is one.
+fn copy_file<S: CopyStore>(alloc: Global, file: &Option<S>) -> Result<Option<S>, AllocError>
+    ensures { IfOk result (λ copy. copy ≡ file.now) }
+{
+    match file {
+        Some(store) => Ok(Some(store.copy(alloc)?)),
+        None => Ok(None),
+    }
+}
+
+/// Copies of these stores.
+pub(crate) fn copy_stores<S: CopyStore>(
+    alloc: Global,
+    stores: &Stores<S>,
+) -> Result<Stores<S>, AllocError>
+    ensures { IfOk result (λ copies. copies ≡ stores.now) }
+{
+    Ok(Stores {
+        first: copy_file(alloc, &stores.first)?,
+        second: copy_file(alloc, &stores.second)?,
+        third: copy_file(alloc, &stores.third)?,
+        fourth: copy_file(alloc, &stores.fourth)?,
+        fifth: copy_file(alloc, &stores.fifth)?,
+        sixth: copy_file(alloc, &stores.sixth)?,
+        seventh: copy_file(alloc, &stores.seventh)?,
+        eighth: copy_file(alloc, &stores.eighth)?,
+    })
 }

@@ -28,15 +28,15 @@ use std::marker::Model;
 /// A slot, and where its records stand. It is seen as the slot's bytes.
 #[derive(Drop)]
 pub struct TrackBuffer {
-    slot: Vec<u8>,
+    pub(crate) slot: Vec<u8>,
     /// The offsets of the records' count areas, in order, where the slot reads whole.
-    offsets: Vec<u32>,
+    pub(crate) offsets: Vec<u32>,
     /// How many records it has, or `None` where it does not read whole.
-    records: Option<usize>,
+    pub(crate) records: Option<usize>,
     /// From here on all bytes of the slot are zero, so that nothing is left there to be cleared.
-    zeros_from: usize,
+    pub(crate) zeros_from: usize,
     /// What its first records leave of the capacity, as far as it was asked.
-    charged: Charged,
+    pub(crate) charged: Charged,
 }
 
 impl Model for TrackBuffer {

@@ -24,10 +24,10 @@ use std::mem;
 /// the one at hand, the number of its track, and whether it was written since it was last saved.
 #[derive(Drop)]
 pub struct TrackCache<S: ImageStore> {
-    image: Image<S>,
-    buffer: TrackBuffer,
-    held: Option<u32>,
-    changed: bool,
+    pub(crate) image: Image<S>,
+    pub(crate) buffer: TrackBuffer,
+    pub(crate) held: Option<u32>,
+    pub(crate) changed: bool,
 }
 
 impl<S: ImageStore> Model for TrackCache<S> {

@@ -5,6 +5,7 @@
 mod buffer;
 mod cache;
 mod charges;
+mod copying;
 mod windows;
 
 pub use crate::buffer::TrackBuffer;

@@ -3,3 +3,4 @@ pub mod Codes
 pub mod Shown
 pub mod Calls
 pub mod Attaching
+pub mod Copying

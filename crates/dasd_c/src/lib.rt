@@ -4,6 +4,7 @@
 #![tactic(auto)]
 
 mod attaching;
+mod copying;
 mod handle;
 mod instructions;
 mod lending;

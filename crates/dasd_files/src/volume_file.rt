@@ -11,7 +11,7 @@ use std::marker::Model;
 
 /// Which writes move the number of changes on.
 #[derive(Clone, Copy)]
-enum CountedWrites {
+pub(crate) enum CountedWrites {
     /// All of them, also those of bytes that stand there already. Nothing is compared.
     All,
     /// Those that change a byte.
@@ -22,11 +22,11 @@ enum CountedWrites {
 /// a write that would pass their end fails and changes nothing; every other call succeeds.
 #[derive(Drop)]
 pub struct VolumeFile {
-    held: Vec<u8>,
-    origin: Trace,
-    refused: Count,
-    changes: u64,
-    counted: CountedWrites,
+    pub(crate) held: Vec<u8>,
+    pub(crate) origin: Trace,
+    pub(crate) refused: Count,
+    pub(crate) changes: u64,
+    pub(crate) counted: CountedWrites,
 }
 
 impl Model for VolumeFile {

@@ -25,6 +25,19 @@ same_subsystem a cs f e = λ i. record {
   fits = is_prop→PathP (λ j. Fits a.storage (e j)) (λ j. hlevel props) f a.fits i;
 }
 
+-- a storage and channels that are those of a subsystem fit
+pub fits_copied : (a : Subsystem) (cs : SelectorsState) (s : Option Storage) → cs ≡ a.channels → s ≡ a.storage → Fits s cs
+fits_copied a cs s e h = subst (Fits s) (sym e) (subst (λ t. Fits t a.channels) (sym h) a.fits)
+
+-- and are that subsystem
+pub copied_subsystem : (a : Subsystem) (cs : SelectorsState) (s : Option Storage) (f : Fits s cs) → cs ≡ a.channels → s ≡ a.storage
+    → record { channels = cs; storage = s; fits = f } ≡ a
+copied_subsystem a cs s f e h = λ i. record {
+  channels = e i;
+  storage = h i;
+  fits = is_prop→PathP (λ j. Fits (h j) (e j)) (λ j. hlevel props) f a.fits i;
+}
+
 -- what is so where it is refused, of the same result
 pub err_at : {A E : Type 0} (P : Type 0) (r r' : Result A E) → r ≡ r' → OnErr r' P → OnErr r P
 err_at {A} {E} P r r' e h = subst (λ r. OnErr r P) (sym e) h

@@ -2,6 +2,7 @@
 #![tactic(auto)]
 
 mod attaching;
+mod copying;
 mod making;
 mod mounting;
 mod refusal;

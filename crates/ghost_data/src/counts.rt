@@ -38,4 +38,13 @@ impl Count {
             times: self.times.and(&[0]),
         }
     }
+
+    /// The same count once more, for what is copied.
+    pub fn again(&self) -> Count
+        ensures { result ≡ self.now }
+    {
+        Count {
+            times: self.times.again(),
+        }
+    }
 }

@@ -35,6 +35,13 @@ impl Trace {
         Trace {}
     }
 
+    /// The same bytes once more, for what is copied.
+    pub fn again(&self) -> Trace
+        ensures { result.bytes ≡ self.now.bytes }
+    {
+        self.and(&[])
+    }
+
     /// These bytes, as they are now.
     pub fn of(bytes: &[u8]) -> Trace
         ensures { result.bytes ≡ bytes.now }

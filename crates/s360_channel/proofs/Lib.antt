@@ -17,3 +17,4 @@ pub mod Images
 pub mod Fronts
 pub mod Slots
 pub mod Selecting
+pub mod Copies

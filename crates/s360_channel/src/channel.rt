@@ -15,7 +15,7 @@ use std::marker::Model;
 /// A selector channel with its storage and its drives: a `Selector`, and the storage that each of its calls is lent.
 ///
 /// It stands for a machine of the definitions: each call answers what the machine's event answers, and the channel stands
-/// for the next machine afterwards. No call but `attach` takes memory. Only `set_key` asks something of its caller: that the key
+/// for the next machine afterwards. No call but `attach` and `copy` takes memory. Only `set_key` asks something of its caller: that the key
 /// is below 16.
 #[derive(Drop)]
 pub struct Channel<S: ImageStore> {

@@ -85,16 +85,16 @@ impl<S: ImageStore> Drives<S> {
         Ok(())
     }
 
-    // One drive more.
-    fn push(&mut self, attached: AttachedDrive<S>)
+    /// One drive more.
+    pub(crate) fn push(&mut self, attached: AttachedDrive<S>)
         requires { length self.old < 8 }
         ensures { self.new ≡ self.old ++ attached ∷ [] }
     {
         self.list.push(Some(attached));
     }
 
-    // The one at a place.
-    fn at(&self, place: usize) -> &AttachedDrive<S>
+    /// The one at a place.
+    pub(crate) fn at(&self, place: usize) -> &AttachedDrive<S>
         requires { place < length self.now }
         ensures { Some result.now ≡ slice_get self.now place }
     {

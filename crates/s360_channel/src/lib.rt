@@ -7,6 +7,7 @@ mod attached_drive;
 mod attaching;
 mod changes;
 mod channel;
+mod copying;
 mod drives;
 mod driving;
 mod ending;

@@ -4,6 +4,7 @@
 mod adding;
 mod asking;
 mod channels;
+mod copying;
 mod drives;
 mod ending;
 mod faults;

@@ -2,6 +2,7 @@
 #![tactic(auto)]
 
 mod conditions;
+mod copying;
 mod endings;
 pub mod laws;
 pub mod lent;

@@ -27,7 +27,7 @@ use std::marker::Model;
 /// A channel program that was accepted and has not ended. Bytes, drive and storage are not kept in it.
 #[derive(Drop)]
 pub struct Running {
-    run: Run,
+    pub(crate) run: Run,
 }
 
 impl Model for Running {

@@ -10,7 +10,7 @@ use crate::flags::{ChannelStatus, UnitStatus};
 use crate::words::{CAW_ADDRESS, CSW_ADDRESS, Ccw, Csw};
 use bitflags::Flags;
 use byteorder::{BigEndian, ByteOrder};
-use std::alloc::Global;
+use std::alloc::{AllocError, Global};
 use std::marker::Model;
 use thiserror::Error;
 
@@ -70,6 +70,20 @@ impl Storage {
             return Err(StorageFault::OutOfMemory);
         };
         Ok(Storage { bytes, keys })
+    }
+
+    /// A second storage with the same bytes and the same keys. It takes as much memory again.
+    ///
+    /// # Errors
+    ///
+    /// There is no such memory. This storage stays in any case.
+    pub fn copy(&self, alloc: Global) -> Result<Storage, AllocError>
+        ensures { IfOk result (λ copy. copy ≡ self.now) }
+    {
+        Ok(Storage {
+            bytes: Vec::from_slice(alloc, &self.bytes)?,
+            keys: Vec::from_slice(alloc, &self.keys)?,
+        })
     }
 
     /// How many bytes there are. Their addresses begin at 0.

@@ -152,6 +152,8 @@ extern "C" {
     pub fn dasd_interface() -> u32;
     /// Makes main storage of so many zero bytes, and the channels of this set, the bits of a system mask, over it.
     pub fn dasd_new(d: *mut dasd, storage_bytes: u32, channels: u8) -> i32;
+    /// Makes a handle that holds nothing hold a second of all that this one holds, also in the middle of channel programs.
+    pub fn dasd_copy(d: *mut dasd, copy: *mut dasd) -> i32;
     /// Frees all that the handle holds, its volumes too, whether they were saved or not.
     pub fn dasd_free(d: *mut dasd) -> i32;
     /// Whether these files, one to eight in their order, are an image. It needs no handle.

@@ -120,6 +120,19 @@ impl<Storage> Subsystem<Storage> {
         Ok(Subsystem { handle, storage: PhantomData })
     }
 
+    /// A second one that is as this one is, also in the middle of channel programs: what runs, what pends and what arms do, the drives and
+    /// their volumes, and main storage with its keys, where it is its own. What is called of both from then on is answered alike, over
+    /// memory with the same bytes and keys where it is lent, and no call of one changes the other. It costs what copying all volumes does.
+    ///
+    /// # Errors
+    ///
+    /// `NoMemory`.
+    // not `&self`, as a `Clone` has it: while a call is made, nothing else may look at the handle
+    pub fn try_clone(&mut self) -> Result<Self, Fault> {
+        let from: *mut sys::dasd = &mut *self.handle;
+        Self::made(|handle| unsafe { sys::dasd_copy(from, handle) })
+    }
+
     /// Attaches a drive with the volume that these files, one to eight in their order, hold. They are copied. The arm is at rest at
     /// cylinder 0 and head 0, and the sense bytes are zero. Also while a program runs.
     ///

@@ -37,6 +37,22 @@ fn a_record_is_read() {
 }
 
 #[test]
+fn a_copy_goes_its_own_way() {
+    let mut disks = made();
+    assert_eq!((disks.sio(DRIVE), disks.step(1, 5)), (Condition::Zero, Ok(5)));
+    let mut second = disks.try_clone().unwrap();
+    assert_eq!(second.run_on(1, 1000).unwrap().subchannel, SubchannelView::Pending(0x90));
+    assert_eq!(disks.channel(1).unwrap().subchannel, SubchannelView::Working(0x90, false));
+    assert_ne!(disks.storage(), second.storage());
+    assert_eq!(disks.run_on(1, 1000).unwrap().subchannel, SubchannelView::Pending(0x90));
+    assert_eq!(disks.interrupt(ChannelSet::ALL), second.interrupt(ChannelSet::ALL));
+    assert_eq!(disks.storage(), second.storage());
+    assert_eq!(disks.file(DRIVE, 0).unwrap().bytes, second.file(DRIVE, 0).unwrap().bytes);
+    drop(disks);
+    assert_eq!((second.tio(DRIVE), second.storage()[0x207]), (Condition::Zero, 8));
+}
+
+#[test]
 fn a_volume_goes_from_one_to_another() {
     let mut disks = made();
     let image = disks.file(DRIVE, 0).unwrap().bytes.to_vec();

@@ -40,6 +40,18 @@ fn a_record_is_read_wherever_storage_is() {
 }
 
 #[test]
+fn a_copy_goes_its_own_way() {
+    let (mut disks, mut bytes, keys) = made();
+    assert_eq!((disks.sio(&mut bytes, &keys, DRIVE), disks.step(&mut bytes, &keys, 1, 5)), (Ok(Condition::Zero), Ok(5)));
+    let (mut second, mut others) = (disks.try_clone().unwrap(), bytes.clone());
+    assert_eq!(second.run_on(&mut others, &keys, 1, 1000).unwrap().subchannel, SubchannelView::Pending(0x90));
+    assert_ne!(bytes, others);
+    assert_eq!(disks.run_on(&mut bytes, &keys, 1, 1000).unwrap().subchannel, SubchannelView::Pending(0x90));
+    let (one, other) = (disks.interrupt(&mut bytes, &keys, ChannelSet::ALL), second.interrupt(&mut others, &keys, ChannelSet::ALL));
+    assert_eq!((one, bytes), (other, others));
+}
+
+#[test]
 fn keys_are_asked() {
     for (key, program, stores) in [(1, 1, true), (2, 1, false), (2, 0, true), (0x11, 1, false), (0xFF, 15, false), (0xFF, 0, true)] {
         let (mut disks, mut bytes, mut keys) = made();

@@ -1,0 +1,66 @@
+//! Several channels are copied in memory, also in the middle of their programs.
+
+ghost use Rattle.std.specs.Prelude.{◌≡◌, IfOk};
+
+use crate::channels::Channels;
+use crate::selectors::Selectors;
+use ckd_image::CopyStore;
+use s360_channel::Selector;
+use std::alloc::{AllocError, Global};
+
+impl<S: CopyStore> Selectors<S> {
+    /// Second channels that are as these are, each with copies of its drives and their volumes: see
+    /// [`Selector::copy`](s360_channel::Selector::copy).
+    ///
+    /// # Errors
+    ///
+    /// There is no memory for them. These channels stay in any case, and what was copied is let go.
+    pub fn copy(&self, alloc: Global) -> Result<Selectors<S>, AllocError>
+        ensures { IfOk result (λ copy. copy ≡ self.now) }
+    {
+        let [zero, one, two, three, four, five, six] = &self.list;
+        Ok(Selectors {
+            size: self.size,
+            list: [
+                copy_selector(alloc, zero)?,
+                copy_selector(alloc, one)?,
+                copy_selector(alloc, two)?,
+                copy_selector(alloc, three)?,
+                copy_selector(alloc, four)?,
+                copy_selector(alloc, five)?,
+                copy_selector(alloc, six)?,
+            ],
+            quiet: self.quiet,
+        })
+    }
+}
+
+impl<S: CopyStore> Channels<S> {
+    /// Second channels that are as these are, with their storage, and with copies of their drives and the volumes. Each stands for the
+    /// same machines as the one of its number here.
+    ///
+    /// # Errors
+    ///
+    /// There is no memory for them. These channels stay in any case, and what was copied is let go.
+    pub fn copy(&self, alloc: Global) -> Result<Channels<S>, AllocError>
+        ensures { IfOk result (λ copy. copy ≡ self.now) }
+    {
+        Ok(Channels {
+            selectors: self.selectors.copy(alloc)?,
+            storage: self.storage.copy(alloc)?,
+        })
+    }
+}
+
+// A copy of the channel, if there is one.
+fn copy_selector<S: CopyStore>(
+    alloc: Global,
+    selector: &Option<Selector<S>>,
+) -> Result<Option<Selector<S>>, AllocError>
+    ensures { IfOk result (λ copy. copy ≡ selector.now) }
+{
+    match selector {
+        Some(selector) => Ok(Some(selector.copy(alloc)?)),
+        None => Ok(None),
+    }
+}
