@@ -5,7 +5,7 @@ use arrayvec::ArrayVec;
 use s360_words::Csw;
 
 /// What a channel answers to an event, with what the answer's line prints.
-#[derive(Debug, Drop)]
+#[derive(Drop)]
 pub enum Answer {
     /// To Start I/O at an address.
     Sio(u16, Condition<Status>),

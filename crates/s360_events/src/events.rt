@@ -77,7 +77,7 @@ impl StorageKey {
 /// What may be asked of a channel: an input/output instruction, a step of the running program, an arm that arrives, an
 /// interruption, a reset, and what the processor does to storage meanwhile. An input/output address has the number of the
 /// channel in its high byte and the device's address in its low byte.
-#[derive(Debug, Drop)]
+#[derive(Drop)]
 pub enum Event {
     /// Start I/O at an input/output address.
     Sio(u16),

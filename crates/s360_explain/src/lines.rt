@@ -236,15 +236,6 @@ pub fn of_traced(ccw: Ccw, unit: UnitStatus) -> Lines
 impl fmt::Display for Line {
     fn fmt<W: fmt::Write>(&self, f: &mut fmt::Formatter<W>) -> fmt::Result {
         match *self {
-            Line::Key(key) => write!(f, "key {key:X}"),
-            Line::NextWord(next) => {
-                let last = next.wrapping_sub(8) & 0x00FF_FFFF;
-                write!(f, "address {next:06X}: the last word stands at {last:06X}")
-            }
-            Line::NoProgram => write!(
-                f,
-                "no program has left it: key, address and residual count are of none"
-            ),
             Line::Number(field, number) => Heading(field, number).fmt(f),
             Line::Bit(field, bit) => write!(
                 f,
@@ -252,34 +243,58 @@ impl fmt::Display for Line {
                 name_of(field, bit),
                 bit_text(field, bit)
             ),
-            Line::Residual(count) => write!(
-                f,
-                "residual count {count}: so many bytes of the last word's count did not pass"
-            ),
             Line::Cause(sense) => { write!(f, "cause: {}{}", cause_text(sense), hint_text(sense)) }
-            Line::NoCause => write!(
-                f,
-                "no single cause of these drives: two at once, as with a track that could not be saved, or those of other drives"
-            ),
-            Line::FirstByte => write!(f, "byte 1 is not given, and may say more"),
-            Line::Further => write!(
-                f,
-                "bytes 2 to 5 are not zeros, as those of these drives are"
-            ),
             Line::Command(code, kind) => CommandLine(code, kind).fmt(f),
-            Line::Target(address) if address % 8 != 0 => write!(
-                f,
-                "goes to {address:06X}, which is no multiple of 8: program check"
-            ),
-            Line::Target(address) => write!(
-                f,
-                "goes to {address:06X}, which must be a multiple of 8; flags and count do not count"
-            ),
-            Line::Address(address) => write!(f, "data address {address:06X}"),
-            Line::Reserved => write!(f, "  a bit that must be zero is on: program check"),
-            Line::Count(0) => write!(f, "count 0: program check"),
-            Line::Count(count) => write!(f, "count {count}"),
+            Line::NextWord(next) => write_next_word(f, next),
+            Line::Target(address) => write_target(f, address),
+            Line::Key(_) | Line::Residual(_) | Line::Address(_) | Line::Count(_) => {
+                write_number(f, *self)
+            }
+            line => f.write_str(remark(line)),
         }
+    }
+}
+
+// The command address of a channel status word.
+fn write_next_word<W: fmt::Write>(f: &mut fmt::Formatter<W>, next: u32) -> fmt::Result {
+    let last = next.wrapping_sub(8) & 0x00FF_FFFF;
+    write!(f, "address {next:06X}: the last word stands at {last:06X}")
+}
+
+// Where a transfer in channel goes.
+fn write_target<W: fmt::Write>(f: &mut fmt::Formatter<W>, address: u32) -> fmt::Result {
+    write!(f, "goes to {address:06X}, which ")?;
+    f.write_str(if address % 8 != 0 {
+        "is no multiple of 8: program check"
+    } else {
+        "must be a multiple of 8; flags and count do not count"
+    })
+}
+
+// A key, an address or a count.
+fn write_number<W: fmt::Write>(f: &mut fmt::Formatter<W>, line: Line) -> fmt::Result {
+    match line {
+        Line::Key(key) => write!(f, "key {key:X}"),
+        Line::Residual(count) => write!(
+            f,
+            "residual count {count}: so many bytes of the last word's count did not pass"
+        ),
+        Line::Address(address) => write!(f, "data address {address:06X}"),
+        Line::Count(0) => f.write_str("count 0: program check"),
+        Line::Count(count) => write!(f, "count {count}"),
+        _ => Ok(()),
+    }
+}
+
+// A line without a number.
+fn remark(line: Line) -> &'static str {
+    match line {
+        Line::NoProgram => "no program has left it: key, address and residual count are of none",
+        Line::NoCause =>
+            "no single cause of these drives: two at once, as with a track that could not be saved, or those of other drives",
+        Line::FirstByte => "byte 1 is not given, and may say more",
+        Line::Further => "bytes 2 to 5 are not zeros, as those of these drives are",
+        _ => "  a bit that must be zero is on: program check",
     }
 }
 
@@ -289,13 +304,13 @@ struct Heading(Field, u16);
 
 impl fmt::Display for Heading {
     fn fmt<W: fmt::Write>(&self, f: &mut fmt::Formatter<W>) -> fmt::Result {
-        let number = self.1;
-        match self.0 {
-            Field::UnitStatus => write!(f, "unit status {number:02X}"),
-            Field::ChannelStatus => write!(f, "channel status {number:02X}"),
-            Field::CcwFlags => write!(f, "flags {number:02X}"),
-            Field::SenseBytes => write!(f, "sense {number:04X}"),
-        }
+        let name = match self.0 {
+            Field::UnitStatus => "unit status",
+            Field::ChannelStatus => "channel status",
+            Field::CcwFlags => "flags",
+            Field::SenseBytes => return write!(f, "sense {:04X}", self.1),
+        };
+        write!(f, "{name} {:02X}", self.1)
     }
 }
 
@@ -305,30 +320,32 @@ struct CommandLine(u8, Code);
 
 impl fmt::Display for CommandLine {
     fn fmt<W: fmt::Write>(&self, f: &mut fmt::Formatter<W>) -> fmt::Result {
-        let code = self.0;
+        write!(f, "command {:02X}", self.0)?;
         match self.1 {
-            Code::Transfer => write!(
-                f,
-                "command {code:02X} Transfer In Channel: the next word is fetched elsewhere"
+            Code::Transfer => f.write_str(
+                " Transfer In Channel: the next word is fetched elsewhere",
             ),
-            Code::Invalid => write!(
-                f,
-                "command {code:02X}: no channel takes it, program check, but behind chain data"
+            Code::Invalid => f.write_str(
+                ": no channel takes it, program check, but behind chain data",
             ),
-            Code::Unknown => write!(f, "command {code:02X}: the drive has no such command"),
+            Code::Unknown => f.write_str(": the drive has no such command"),
             Code::Drive(
                 CommandCode {
                     command,
                     multi_track,
                 },
             ) => {
-                let name = command_name(command);
-                let text = command_text(command);
-                if multi_track {
-                    write!(f, "command {code:02X} {name}, on to the next head: {text}")
+                let on = if multi_track {
+                    ", on to the next head"
                 } else {
-                    write!(f, "command {code:02X} {name}: {text}")
-                }
+                    ""
+                };
+                write!(
+                    f,
+                    " {}{on}: {}",
+                    command_name(command),
+                    command_text(command)
+                )
             }
         }
     }
