@@ -28,6 +28,8 @@ use s360_words::{Ccw, Csw};
 
 impl Run {
     /// Does so many units, unless the program ends before.
+    // By itself: within its one caller, where there is one, it would be compiled to a tenth more instructions.
+    #[inline(never)]
     pub(crate) fn advance<S: ImageStore, M: MainStorage>(
         &mut self,
         units: u32,
