@@ -33,17 +33,17 @@ static void look_at_arms(machine *m) {
 
 int start_io(machine *m, uint16_t address) {
     if (address == CONSOLE) return console_start(m);
-    int code = dasd_sio(&m->d, address);
+    int code = lent_or_own_sio(m, address);
     if (code == 0) m->works = 1;
     if (code == 1) look_at_arms(m); /* a Recalibrate, say, that ended at once */
     return code;
 }
 
-int test_io(machine *m, uint16_t address) { return address == CONSOLE ? console_test(m) : dasd_tio(&m->d, address); }
+int test_io(machine *m, uint16_t address) { return address == CONSOLE ? console_test(m) : lent_or_own_tio(m, address); }
 
 int halt_io(machine *m, uint16_t address) {
     if (address == CONSOLE) return 0;
-    int code = dasd_hio(&m->d, address);
+    int code = lent_or_own_hio(m, address);
     if (code == 2) { /* the program was cut */
         m->works = 0;
         look_at_arms(m);
@@ -58,7 +58,7 @@ int test_channel(machine *m, uint16_t address) { return channel_of(address) == c
 /* Lets the program that runs on the channel go on. */
 static void run_channel(machine *m) {
     dasd_run ran;
-    if (!m->works || dasd_run_on(&m->d, CHANNEL, UNITS_A_TICK, &ran) != DASD_DONE) return;
+    if (!m->works || lent_or_own_run_on(m, UNITS_A_TICK, &ran) != DASD_DONE) return;
     if (ran.subchannel != DASD_WORKING) {
         m->works = 0;
         look_at_arms(m);
@@ -87,7 +87,7 @@ void take_interruption(machine *m) {
         m->console.pends = 0;
         memcpy(m->storage + CSW, m->console.csw, 8);
         address = CONSOLE;
-    } else if (dasd_interrupt(&m->d, m->mask, &address) != 1) {
+    } else if (lent_or_own_interrupt(m, &address) != 1) {
         return;
     }
     m->length = 0;
@@ -105,11 +105,11 @@ int load(machine *m, uint16_t address) {
     /* the word lies where its own bytes will come to: it has been fetched by then */
     memcpy(m->storage, read_ipl, 8);
     put_word(m->storage + CAW, 0);
-    if (dasd_sio(&m->d, address) != 0) return -1;
+    if (lent_or_own_sio(m, address) != 0) return -1;
     do {
-        if (dasd_run_on(&m->d, CHANNEL, 65536, &ran) != DASD_DONE) return -1;
+        if (lent_or_own_run_on(m, 65536, &ran) != DASD_DONE) return -1;
     } while (ran.subchannel == DASD_WORKING);
-    if (dasd_tio(&m->d, address) != 1 || m->storage[CSW + 4] != 0x0C || m->storage[CSW + 5] != 0) return -1;
+    if (lent_or_own_tio(m, address) != 1 || m->storage[CSW + 4] != 0x0C || m->storage[CSW + 5] != 0) return -1;
     look_at_arms(m);
     load_psw(m, 0);
     m->storage[2] = (uint8_t)(address >> 8);

@@ -169,7 +169,7 @@ static void link(machine *m, unsigned r) {
 
 static void storage_key(machine *m, unsigned r1, unsigned r2, int sets) {
     uint32_t at = m->r[r2] & 0xFFFFFF;
-    int32_t key = sets ? dasd_set_key(&m->d, at, m->r[r1] >> 4 & 15) : dasd_key(&m->d, at);
+    int32_t key = sets ? set_storage_key(m, at, m->r[r1] >> 4 & 15) : storage_key_of(m, at);
     if (key < 0) fault = ADDRESSING;
     else if (!sets) m->r[r1] = (m->r[r1] & ~0xFFu) | (uint32_t)key << 4;
 }

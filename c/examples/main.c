@@ -1,5 +1,6 @@
-/* s360 RESIDENT WORK - loads a program from the volume RESIDENT, at 190, and runs it with the volume WORK at 191, until the processor
- * waits and takes no more interruptions. What it types comes to standard output. Volumes that were changed are saved.
+/* s360 RESIDENT WORK [STORAGE] - loads a program from the volume RESIDENT, at 190, and runs it with the volume WORK at 191, until the
+ * processor waits and takes no more interruptions. What it types comes to standard output. Volumes that were changed are saved. Main
+ * storage is the library's; or the file STORAGE, which is mapped, and has afterwards what the program left.
  *
  * Status 0: the program ended at address 0. 1: it did not, or a volume could not be saved. 2: it was not loaded. */
 #include <errno.h>
@@ -9,7 +10,7 @@
 
 #include "s360.h"
 
-enum { RESIDENT = 0x190, WORK = 0x191, STORAGE = 65536 };
+enum { RESIDENT = 0x190, WORK = 0x191 };
 static const uint64_t MOST_TICKS = 100000000;
 
 /* A volume: its file, its drive, and the number of its changes as it was attached. */
@@ -64,14 +65,10 @@ static void stop_channel(machine *m) {
 
 int main(int argc, char **argv) {
     static machine m;
-    dasd_storage storage;
-    if (argc != 3) return fprintf(stderr, "usage: s360 RESIDENT WORK\n"), 2;
+    if (argc != 3 && argc != 4) return fprintf(stderr, "usage: s360 RESIDENT WORK [STORAGE]\n"), 2;
     volume volumes[2] = {{argv[1], RESIDENT, 0}, {argv[2], WORK, 0}};
     if (dasd_interface() != DASD_INTERFACE) return fprintf(stderr, "s360: the library has another interface\n"), 2;
-    if (dasd_new(&m.d, STORAGE, DASD_CHANNEL(CHANNEL)) != DASD_DONE) return fprintf(stderr, "s360: no memory\n"), 2;
-    dasd_show_storage(&m.d, &storage);
-    m.storage = storage.at;
-    m.size = (uint32_t)storage.len;
+    if (open_storage(&m, argv[3])) return fprintf(stderr, "s360: %s: %s\n", argc == 4 ? argv[3] : "main storage", strerror(errno)), 2;
     int status = 2;
     if (attach(&m, &volumes[0]) == 0 && attach(&m, &volumes[1]) == 0) {
         if (load(&m, RESIDENT)) fprintf(stderr, "s360: no program was loaded from %s\n", volumes[0].path);
@@ -83,6 +80,6 @@ int main(int argc, char **argv) {
             if (save(&m, &volumes[0]) || save(&m, &volumes[1])) status = 1;
         }
     }
-    dasd_free(&m.d);
+    if (close_storage(&m)) status = 1;
     return status;
 }

@@ -1,7 +1,8 @@
 /* s360.h - a small System/360: a processor, a console, and a selector channel with drives, which is the library's.
  *
  * What an author of an emulator looks for here:
- *   main storage is the library's, and the processor reads and writes it without a copy     main.c
+ *   main storage is the library's, or a file that is mapped and lent to each call; either
+ *   way the processor reads and writes it without a copy                                  storage.c
  *   instructions that address a channel, and interruptions that come from one               cpu.c, channels.c
  *   what the emulator's clock has to do: units of channel programs, and arms that arrive    channels.c
  *   another device beside the library's, on a channel of its own                            console.c
@@ -20,6 +21,8 @@ enum { EXTERNAL_OLD = 24, SVC_OLD = 32, PROGRAM_OLD = 40, IO_OLD = 56, CSW = 64,
 
 enum { CONSOLE = 0x009, CHANNEL = 1 };
 
+enum { STORAGE = 65536, BLOCK = 2048, BLOCKS = STORAGE / BLOCK };
+
 /* The console: a printer that types what a channel program of its own gives it. */
 typedef struct console {
     int is_busy; /* it types, until `ready` */
@@ -37,7 +40,10 @@ typedef struct arm {
 
 typedef struct machine {
     dasd d;
-    uint8_t *storage; /* the library's */
+    uint8_t *storage;   /* the library's, or the mapped file */
+    int lends;          /* it is the file, which each call that needs it is lent */
+    dasd_memory memory; /* so it is lent, with these keys */
+    uint8_t keys[BLOCKS];
     uint32_t size;
     uint32_t r[16];
     /* the program status word (PoO, 'Program Status Word') */
@@ -73,6 +79,18 @@ int test_channel(machine *m, uint16_t address);
 void tick(machine *m);
 void take_interruption(machine *m);
 int load(machine *m, uint16_t address);
+
+/* storage.c: main storage and the channel over it, in the library or, with a path, in this file, which has that many bytes or none yet;
+ * -1 where the system refused, as errno says; and all of it given back. The calls that need main storage, wherever it is. */
+int open_storage(machine *m, const char *path);
+int close_storage(machine *m);
+int32_t lent_or_own_sio(machine *m, uint16_t address);
+int32_t lent_or_own_tio(machine *m, uint16_t address);
+int32_t lent_or_own_hio(machine *m, uint16_t address);
+int32_t lent_or_own_run_on(machine *m, uint32_t units, dasd_run *ran);
+int32_t lent_or_own_interrupt(machine *m, uint16_t *address);
+int32_t storage_key_of(machine *m, uint32_t at);
+int32_t set_storage_key(machine *m, uint32_t at, uint8_t key);
 
 /* console.c: the same for the console. */
 int console_start(machine *m);

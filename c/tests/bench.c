@@ -4,7 +4,8 @@
  *                              or over one cylinder, 1,000 times a pass and without a look at what was stored: 0, a Read R0, and
  *                              1, a Read Data of 80 bytes behind a search that fails once
  *
- * Counted by callgrind, a pass is what `bench A 1` takes beyond `bench A 0`. It prints how many programs ended as they must. */
+ * Counted by callgrind, a pass is what `bench A 1` takes beyond `bench A 0`. It prints how many programs ended as they must.
+ * Compiled with LENT, main storage is this program's own, which each call is lent. */
 #include <inttypes.h>
 #include <stdint.h>
 #include <stdio.h>
@@ -13,7 +14,7 @@
 
 #include "../dasd.h"
 
-enum { ADDRESS = 0x190, CYLINDERS = 203, HEADS = 20, RECORDS = 7, DATA = 900, LONG_DATA = 7294, ONE_DATA = 80 };
+enum { SIZE = 65536, ADDRESS = 0x190, CYLINDERS = 203, HEADS = 20, RECORDS = 7, DATA = 900, LONG_DATA = 7294, ONE_DATA = 80 };
 enum { FIRST = 0x400, OPERANDS = 0x200, SEARCHED = 0x202, COUNTS = 0x300, BUFFER = 0x2000, CAW = 72, CSW = 64 };
 enum { CHAIN_DATA = 0x80, CHAIN = 0x40 };
 
@@ -21,6 +22,9 @@ enum { CHAIN_DATA = 0x80, CHAIN = 0x40 };
 typedef struct machine {
     dasd d;
     dasd_storage storage;
+#ifdef LENT
+    dasd_memory memory;
+#endif
     uint32_t next;
     unsigned long ended, otherwise;
 } machine;
@@ -64,23 +68,46 @@ static void operands(machine *m, unsigned cylinder, unsigned head, unsigned reco
     }
 }
 
+#ifdef LENT
+static int32_t sio(machine *m) { return dasd_lent_sio(&m->d, &m->memory, ADDRESS); }
+static int32_t tio(machine *m) { return dasd_lent_tio(&m->d, &m->memory, ADDRESS); }
+static int32_t run_on(machine *m, dasd_run *ran) {
+    ran->units = UINT32_MAX;
+    return dasd_lent_run_on(&m->d, &m->memory, 1, ran);
+}
+static int32_t make(machine *m) {
+    static uint8_t bytes[SIZE], keys[SIZE / 2048];
+    m->memory = (dasd_memory){bytes, sizeof bytes, keys, sizeof keys};
+    m->storage = (dasd_storage){bytes, sizeof bytes};
+    return dasd_new_lent(&m->d, SIZE, DASD_CHANNEL(1));
+}
+#else
+static int32_t sio(machine *m) { return dasd_sio(&m->d, ADDRESS); }
+static int32_t tio(machine *m) { return dasd_tio(&m->d, ADDRESS); }
+static int32_t run_on(machine *m, dasd_run *ran) { return dasd_run_on(&m->d, 1, UINT32_MAX, ran); }
+static int32_t make(machine *m) {
+    int32_t code = dasd_new(&m->d, SIZE, DASD_CHANNEL(1));
+    return code < 0 ? code : dasd_show_storage(&m->d, &m->storage);
+}
+#endif
+
 /* Start I/O, units to the end, Test I/O; whether all was done, and channel end and device end alone are told. */
 static void run(machine *m) {
     static const uint8_t caw[4] = {0, 0, FIRST >> 8, FIRST & 255};
     const uint8_t want[8] = {0, 0, (uint8_t)(m->next >> 8), (uint8_t)m->next, 0x0C, 0, 0, 0};
     dasd_run ran = {0, DASD_AVAILABLE, 0, 0, 0};
     store(m, CAW, caw, sizeof caw);
-    if (dasd_sio(&m->d, ADDRESS) == 0) do
-            if (dasd_run_on(&m->d, 1, UINT32_MAX, &ran) != DASD_DONE) abort();
+    if (sio(m) == 0) do
+            if (run_on(m, &ran) != DASD_DONE) abort();
         while (ran.subchannel == DASD_WORKING);
-    if (dasd_tio(&m->d, ADDRESS) == 1 && !memcmp(m->storage.at + CSW, want, sizeof want)) m->ended++;
+    if (tio(m) == 1 && !memcmp(m->storage.at + CSW, want, sizeof want)) m->ended++;
     else m->otherwise++;
 }
 
 /* The three calls alone. */
 static void run_alone(machine *m) {
     dasd_run ran;
-    if (dasd_sio(&m->d, ADDRESS) == 0 && dasd_run_on(&m->d, 1, UINT32_MAX, &ran) == DASD_DONE && dasd_tio(&m->d, ADDRESS) == 1) m->ended++;
+    if (sio(m) == 0 && run_on(m, &ran) == DASD_DONE && tio(m) == 1) m->ended++;
     else m->otherwise++;
 }
 
@@ -139,8 +166,7 @@ int main(int argc, char **argv) {
         return 2;
     }
     const unsigned cylinders = is_small(*argv[1]) ? 1 : CYLINDERS;
-    if (dasd_new(&m.d, 65536, DASD_CHANNEL(1)) < 0 || dasd_attach_new(&m.d, ADDRESS, 2314, (uint16_t)cylinders) < 0) return 1;
-    if (dasd_show_storage(&m.d, &m.storage) != DASD_DONE) return 1;
+    if (make(&m) < 0 || dasd_attach_new(&m.d, ADDRESS, 2314, (uint16_t)cylinders) < 0) return 1;
     prepare(&m, *argv[1], cylinders);
     operands(&m, 0, HEADS - 1, 1, 0, 0); /* where the last program left the arm: small works have no seek */
     build(&m, *argv[1]);

@@ -33,11 +33,11 @@ else
     flags="-I$work/usr/include -L$work/usr/lib -ldasd"
 fi
 # shellcheck disable=SC2086 # the flags are words
-$cc -std=c11 -O1 -o emulator cpu.c channels.c console.c files.c main.c $flags
+$cc -std=c11 -O1 -o emulator cpu.c channels.c console.c files.c main.c storage.c $flags
 status=0
 LD_LIBRARY_PATH=$work/usr/lib ./emulator 2>/dev/null || status=$?
 test "$status" -eq 2
-$cc -std=c11 -O1 -I"$work/usr/include" -o emulator cpu.c channels.c console.c files.c main.c "$work/usr/lib/libdasd.a"
+$cc -std=c11 -O1 -I"$work/usr/include" -o emulator cpu.c channels.c console.c files.c main.c storage.c "$work/usr/lib/libdasd.a"
 
 install_with uninstall PREFIX="$work/usr"
 test -z "$(find "$work/usr" -type f -o -type l)"

@@ -1,12 +1,12 @@
 """Counts what the works of the bench execute, and prints the tables of docs/TIMES.md: at a drive, by whole programs, at a channel and through the
-C library; then what cuts cost: the work A at a channel, so many units at a time.
+C library, whose channels own main storage or are lent it; then what cuts cost: the work A at a channel, so many units at a time.
 
-    tools/run measure/bench [--bench FILE] [--handle FILE] [WORK..]
+    tools/run measure/bench [--bench FILE] [--handle FILE] [--lent FILE] [WORK..]
 
-FILE is the built bench (crates/bench/out/bench, as `rt run` leaves it there; c/out/bench, as `make -C c bench` does); where the second is
-not there, its column is empty. A count is what callgrind counts for one pass over a full volume of a 2314 with 203 cylinders, less what it
-counts for none, in millions of instructions: the same on every machine. The C library's `rep stosb` is turned off, since callgrind counts
-that one instruction once for each byte that it clears. Wants Debian's `valgrind`; half a minute for a work.
+FILE is the built bench (crates/bench/out/bench, as `rt run` leaves it there; c/out/bench and c/out/bench_lent, as `make -C c bench` does);
+where one of the latter is not there, its column is empty. A count is what callgrind counts for one pass over a full volume of a 2314 with
+203 cylinders, less what it counts for none, in millions of instructions: the same on every machine. The C library's `rep stosb` is turned
+off, since callgrind counts that one instruction once for each byte that it clears. Wants Debian's `valgrind`; half a minute for a work.
 """
 
 import argparse
@@ -56,10 +56,10 @@ def millions(words: list[str]) -> str:
     return f"{of_a_pass(words):.2f}"
 
 
-def row(work: str, bench: Path, handle: Path) -> str:
+def row(work: str, bench: Path, handles: list[Path]) -> str:
     """The line of a work."""
     cells = [millions([str(bench), *way, work]) for way in WAYS]
-    cells.append(millions([str(handle), work]) if handle.exists() else "")
+    cells += [millions([str(it), work]) if it.exists() else "" for it in handles]
     return f"| {work}: {WORKS[work]} | " + " | ".join(cells) + " |"
 
 
@@ -75,6 +75,7 @@ def main() -> None:
     words = argparse.ArgumentParser(description=__doc__, formatter_class=argparse.RawDescriptionHelpFormatter)
     words.add_argument("--bench", type=Path, default=TOP / "crates" / "bench" / "out" / "bench")
     words.add_argument("--handle", type=Path, default=TOP / "c" / "out" / "bench")
+    words.add_argument("--lent", type=Path, default=TOP / "c" / "out" / "bench_lent")
     words.add_argument("works", nargs="*", metavar="WORK", default=list(WORKS))
     given = words.parse_args()
     unknown = [it for it in given.works if it not in WORKS]
@@ -82,9 +83,9 @@ def main() -> None:
         sys.exit(f"bench.py: no such work: {', '.join(unknown)} (there are {', '.join(WORKS)})")
     if not shutil.which("valgrind") or not given.bench.exists():
         sys.exit("bench.py: it wants valgrind, and the built bench")
-    print("| Work | Drive alone | Whole programs | At a channel | Through C |\n|---|---|---|---|---|")
+    print("| Work | Drive alone | Whole programs | At a channel | Through C | Through C, lent |\n|---|---|---|---|---|---|")
     with ThreadPoolExecutor(2) as pool:
-        for line in pool.map(lambda work: row(work, given.bench, given.handle), given.works):
+        for line in pool.map(lambda work: row(work, given.bench, [given.handle, given.lent]), given.works):
             print(line, flush=True)
     if "A" in given.works:
         print("\n| At a channel, so many units at a time | | Beside uncut |\n|---|---|---|")
