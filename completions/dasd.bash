@@ -15,7 +15,7 @@ _dasd() {
     local word=${COMP_WORDS[COMP_CWORD]} before=${COMP_WORDS[COMP_CWORD - 1]} command=${COMP_WORDS[1]}
     COMPREPLY=()
     if [ "$COMP_CWORD" -eq 1 ]; then
-        _dasd_words format list check dump compare hash vtoc extract explain run help --verbose -h --help -V --version
+        _dasd_words format list check dump compare hash vtoc extract explain assemble disassemble run help --verbose -h --help -V --version
         return
     fi
     case $command:$before in
@@ -61,7 +61,7 @@ _dasd() {
     esac
     case $command in
     help)
-        [ "$COMP_CWORD" -eq 2 ] && _dasd_words format list check dump compare hash vtoc extract explain run help
+        [ "$COMP_CWORD" -eq 2 ] && _dasd_words format list check dump compare hash vtoc extract explain assemble disassemble run help
         ;;
     format)
         if [[ $word == -* ]]; then _dasd_words --model --cylinders --no-replace --verbose -h --help; return; fi
@@ -98,6 +98,14 @@ _dasd() {
     explain)
         if [[ $word == -* ]]; then _dasd_words --verbose -h --help; return; fi
         [ "$COMP_CWORD" -eq 2 ] && _dasd_words csw sense ccw line
+        ;;
+    assemble)
+        if [[ $word == -* ]]; then _dasd_words --verbose -h --help; return; fi
+        _dasd_files
+        ;;
+    disassemble)
+        if [[ $word == -* ]]; then _dasd_words --verbose -h --help; return; fi
+        _dasd_files
         ;;
     run)
         if [[ $word == -* ]]; then _dasd_words --storage --channel --deck --trace --trace-to --trace-only --trace-last --trace-answers --trace-whole --verbose -h --help; return; fi

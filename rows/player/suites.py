@@ -6,7 +6,7 @@ from functools import partial
 from typing import Callable, Iterator, NamedTuple
 
 from . import (channels, cut_programs, dasd, drives, extracts, hashes, hostile_decks, hostile_slots, images, lines, lists, memory, programs, serial,
-               sweeps, traces)
+               sweeps, traces, words)
 from .stage import Stage
 from .text import Block, Case, Disk, disk_of, read_blocks
 
@@ -87,6 +87,7 @@ SUITES = {
     "dasd": Suite(dasd_cases=dasd.cases, wants_libraries=True),
     "extracts": Suite(dasd_cases=extracts.cases),
     "hashes": Suite(dasd_cases=hashes.cases),
+    "words": Suite(dasd_cases=words.cases, wants_libraries=True),
 }
 
 

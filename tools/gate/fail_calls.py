@@ -102,6 +102,8 @@ COMMANDS = [
     Command("extract to a file", ["extract", "pack.ckd", "SYS1.MACLIB(BETA)", "--to", "beta"]),
     Command("extract --all", ["extract", "--all", "out", "pack.ckd"]),
     Command("explain", ["explain", "csw", "00000428", "0E000320"]),
+    Command("assemble", ["assemble"], b" ORG X'48'\n DC A(START)\nSTART TIC START\n SIO 190\n"),
+    Command("disassemble", ["disassemble"], deck_for("190")),
 ]
 
 

@@ -32,7 +32,13 @@ SIO 190
 STEP 100
 INT
 """
-COMMANDS = ["format", "list", "check", "dump", "compare", "hash", "vtoc", "extract", "explain", "run", "help"]
+TEXT = """         ORG   X'48'
+         DC    A(START)
+START    SEEK  *+16,CC,6
+         TIC   START
+         SHOW  START 8
+"""
+COMMANDS = ["format", "list", "check", "dump", "compare", "hash", "vtoc", "extract", "explain", "assemble", "disassemble", "run", "help"]
 WRONG = "fomrat"
 TRACE = "trace"
 # The folder of a new file is noted, to be synced behind the last one: its name, and the list that it is put on. Without memory for one of
@@ -66,6 +72,8 @@ JOBS = {
     "check": Job(["check", "old.ckd"]),
     "a deck that writes a record": Job(["run", "90=old.ckd", "91=new:2314:1"], DECK),
     "a deck that is traced": Job(["run", "--trace-to", TRACE, "90=old.ckd"], DECK),
+    "a deck of a text in words": Job(["assemble"], TEXT),
+    "a deck in words": Job(["disassemble"], DECK),
     "a number in words": Job(["explain", "csw", "000004080C400014"]),
     "the hash of a volume": Job(["hash", "old.ckd"]),
     "the same in an object": Job(["hash", "--json", "old.ckd"]),

@@ -31,6 +31,7 @@ HELP = "--help"
 PAGES = [
     "README.md",
     "docs/DECKS.md",
+    "docs/ASSEMBLER.md",
     "docs/TRACING.md",
     "docs/ARCHIVES.md",
     "docs/CATALOGUE.md",

@@ -1,5 +1,5 @@
 -- What is done of each request.
-use Rattle.std.specs.Prelude.{◌≡◌, ◌⊎◌, ℕ, List, map, if◌then◌else◌, Result, Ok, Err, IfOk, OnOk}
+use Rattle.std.specs.Prelude.{◌≡◌, ◌⊎◌, ℕ, List, map, option_map, if◌then◌else◌, Result, Ok, Err, IfOk, OnOk}
 use Rattle.counted_io.specs.Streams.{Stream, IsFlushed}
 use Rattle.dasd_archive.specs.Dump.{dump_text, IsPartOf}
 use Rattle.dasd_volumes.specs.Volumes.{volume_text, check_text, NumberIn}
@@ -26,6 +26,7 @@ use Rattle.dasd_run.specs.Printed.{style_of, paths_of, asked_part, asked_list, H
 use Rattle.dasd_run.specs.Runs.{RunsOrStops}
 use Rattle.dasd_run.specs.Strict.{ChecksStrictly}
 use Rattle.dasd_run.specs.Unloads.{ExtractsSet, ExtractsVolume}
+use Rattle.dasd_run.specs.Words.{PrintsDeck, PrintsWords, WithText}
 
 -- how the program ends with a job over files: so, where the job is done; and else its fault is the program's
 abbrev pub ended : {A : Type 0} → (A → Ending) → Result A JobFault → Result Ending ProgramFault
@@ -107,6 +108,8 @@ Answers (request.Compare asked) result before now =
 Answers (request.Hash asked) result before now =
     HashesVolume result asked before.opened now.opened before.printed now.printed × Looks before now
 Answers (request.Explain noted) result before now = OnOk result (IsFlushed now.printed) × (now.opened ≡ before.opened) × Looks before now
+Answers (request.Assemble path) result before now = WithText PrintsDeck result (option_map (λ path. path.now) path) before now
+Answers (request.Disassemble path) result before now = WithText PrintsWords result (option_map (λ path. path.now) path) before now
 Answers (request.Run asked) result before now = RunsOrStops result asked before now
 Answers (request.ListContents asked) result before now =
     ListsContents result asked before.opened now.opened before.printed now.printed × Looks before now

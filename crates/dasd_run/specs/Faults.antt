@@ -37,7 +37,7 @@ keeps_of_job job.Write = false
 keeps_of_job f = true
 
 -- Words are wrong, there is nothing of the kind, a file can't be opened, read, locked or mounted, there is no memory, a channel is not
--- made, or its deck is not run.
+-- made, or its deck is not run; or a text is not assembled, or a deck not put into words.
 abbrev pub keeps_files : ProgramFault → Bool
 keeps_files (fault.Words _) = true
 keeps_files (fault.Help _) = true
@@ -55,6 +55,8 @@ keeps_files (fault.Job f) = keeps_of_job f
 keeps_files (fault.Save _) = false
 keeps_files fault.TraceWrite = false
 keeps_files (fault.Unload f) = keeps_unloaded f
+keeps_files (fault.Assembly source f) = true
+keeps_files (fault.Disassembly source f) = true
 
 -- 2 for words that are wrong or ask for help, 1 for every other fault
 abbrev pub status_of : ProgramFault → ℕ
@@ -74,6 +76,8 @@ status_of (fault.Unload _) = 1
 status_of (fault.Job _) = 1
 status_of (fault.Save _) = 1
 status_of (fault.Run _) = 1
+status_of (fault.Assembly source f) = 1
+status_of (fault.Disassembly source f) = 1
 
 -- what a fault of attaching is to the program
 abbrev pub attach_fault : AttachFault → ProgramFault

@@ -10,4 +10,5 @@ pub mod Held
 pub mod Unloads
 pub mod Compared
 pub mod Strict
+pub mod Words
 pub mod Answers

@@ -19,6 +19,7 @@ use crate::strict::check_strictly;
 use crate::traces::{Traces, begin_trace, end_trace};
 use crate::unload::{extract_set, extract_volume};
 use crate::vtoc::list_contents;
+use crate::words::{assemble_text, disassemble_deck};
 use counted_io::{Counted, WriteFault, write_flushed};
 use dasd_jobs::{ImageFiles, JobFault, NewVolume, Progress, check_files, format_file, list_files};
 use dasd_words::{DeckRun, NewImage, Request, Volume, WordFault, read_words};
@@ -57,7 +58,7 @@ pub fn obey<F: Traces, R: Read, W: Write, P: Progress>(
 {
     let asked = match read_words(alloc, words) {
         Ok(asked) => asked,
-        Err(WordFault::Version(text)) => return tell(writer, text.as_str()),
+        Err(WordFault::Version(text)) => return tell(writer, text.as_bytes()),
         Err(fault) => return Err(fault.into()),
     };
     if asked.is_verbose {
@@ -108,6 +109,8 @@ pub fn answer<F: Traces, R: Read, W: Write, P: Progress>(
         Request::Extract(asked) => extract_set(alloc, files, writer, &asked),
         Request::ExtractAll(asked) => extract_volume(alloc, files, writer, &asked),
         Request::Explain(noted) => explain(writer, noted),
+        Request::Assemble(path) => assemble_text(alloc, files, reader, writer, path),
+        Request::Disassemble(path) => disassemble_deck(alloc, files, reader, writer, path),
         Request::Run(asked) => run_volumes(alloc, files, reader, writer, asked),
     }
 }
@@ -218,11 +221,11 @@ pub(crate) fn ending_of(findings: u32) -> Ending
     }
 }
 
-// Prints a text, and leaves none of it held back.
-fn tell<W: Write>(writer: &mut Counted<W>, text: &str) -> Result<Ending, ProgramFault>
+/// Prints a text, and leaves none of it held back.
+pub(crate) fn tell<W: Write>(writer: &mut Counted<W>, text: &[u8]) -> Result<Ending, ProgramFault>
     ensures { Tells result text.now (seen_by W.contents writer.old) (seen_by W.contents writer.new) }
 {
-    match write_flushed(writer, text.as_bytes()) {
+    match write_flushed(writer, text) {
         Ok(()) => Ok(Ending::Done),
         Err(WriteFault) => Err(ProgramFault::Job(JobFault::Write)),
     }

@@ -7,8 +7,10 @@ use dasd_jobs::JobFault;
 use dasd_unload::UnloadFault;
 use dasd_volumes::VolumeFault;
 use dasd_words::WordFault;
+use s360_assembler::AssemblyFault;
 use s360_channel::AttachFault;
 use s360_deck::{DeckFault, RunFault};
+use s360_disassembler::DisassemblyFault;
 use std::alloc::AllocError;
 use thiserror::Error;
 
@@ -60,6 +62,12 @@ pub enum ProgramFault {
     /// The deck was run, and a volume that it changed can't be written back, or not all its files: those before it are replaced.
     #[error(transparent)]
     Save(JobFault),
+    /// A text in words, of this file or of standard input, is not assembled.
+    #[error("{0}: {1}")]
+    Assembly(String, AssemblyFault),
+    /// A deck, of this file or of standard input, is not put into words.
+    #[error("{0}: {1}")]
+    Disassembly(String, DisassemblyFault),
     /// The deck is faulty, or can't be read, or its answers can't be written.
     #[error(transparent)]
     Run(RunFault),

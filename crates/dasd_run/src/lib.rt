@@ -17,6 +17,7 @@ mod strict;
 mod traces;
 mod unload;
 mod vtoc;
+mod words;
 
 pub use crate::commands::{Ending, answer, obey};
 pub use crate::fault::ProgramFault;

@@ -2,15 +2,15 @@
 
 use crate::options::{CommandRow, VERBOSE, command, with_arg};
 use crate::requests::{Asked, Request, WordFault};
-use crate::{archive, explain, extract, format, hash, list, run, vtoc};
+use crate::{archive, assembler, explain, extract, format, hash, list, run, vtoc};
 use clap::error::ErrorKind;
 use clap::{ArgMatches, Command, Error};
 use std::alloc::{AllocError, Global};
 
 pub(crate) const NO_PATH: &str = "error: no path\n";
 
-/// The commands, in the order of the help.
-static COMMANDS: [CommandRow; 10] = [
+/// The commands over volumes, in the order of the help.
+static VOLUME_COMMANDS: [CommandRow; 8] = [
     format::COMMAND,
     list::COMMAND,
     archive::CHECK,
@@ -19,20 +19,37 @@ static COMMANDS: [CommandRow; 10] = [
     hash::COMMAND,
     vtoc::COMMAND,
     extract::COMMAND,
+];
+
+/// The commands over decks, in the order of the help.
+static DECK_COMMANDS: [CommandRow; 4] = [
     explain::COMMAND,
+    assembler::ASSEMBLE,
+    assembler::DISASSEMBLE,
     run::COMMAND,
 ];
 
 fn dasd_command<'a>(alloc: Global) -> Result<Command<'a>, AllocError> {
-    let mut dasd = Command::new(alloc, "dasd")
+    let dasd = Command::new(alloc, "dasd")
         .about("Formats, lists and checks CKD_P370 disk images, and runs decks over them")
         .version("1.1.0")
         .after_help("Example: dasd run 90=new:2311:1 < deck.txt")
         .subcommand_required(true);
-    for row in &COMMANDS {
+    let dasd = with_commands(alloc, dasd, &VOLUME_COMMANDS)?;
+    let dasd = with_commands(alloc, dasd, &DECK_COMMANDS)?;
+    with_arg(alloc, dasd, &VERBOSE)
+}
+
+// The program with the commands of these rows more.
+fn with_commands<'a>(
+    alloc: Global,
+    mut dasd: Command<'a>,
+    rows: &[CommandRow],
+) -> Result<Command<'a>, AllocError> {
+    for row in rows {
         dasd = with_command(alloc, dasd, row)?;
     }
-    with_arg(alloc, dasd, &VERBOSE)
+    Ok(dasd)
 }
 
 // The program with the command of one row more.
@@ -96,6 +113,8 @@ fn read_request<'a>(
         "vtoc" => vtoc::read(alloc, options),
         "extract" => extract::read(alloc, options),
         "explain" => explain::read(alloc, options),
+        "assemble" => Ok(assembler::read_assemble(options)),
+        "disassemble" => Ok(assembler::read_disassemble(options)),
         "run" => run::read(alloc, options),
         _ => Err(wrong(alloc, NO_COMMAND)),
     }

@@ -2,6 +2,7 @@
 #![tactic(auto)]
 
 mod archive;
+mod assembler;
 mod commands;
 mod decks;
 mod explain;

@@ -38,7 +38,7 @@ pub(crate) enum ArgKind {
     Flag,
     /// An option with a value behind it.
     Valued(Value),
-    /// Words that must be there: what each has to be, and how many there are at least and at most.
+    /// Words: what each has to be, and how many there are at least and at most.
     Words(ValueParser<'static>, usize, usize),
 }
 
@@ -65,6 +65,9 @@ pub(crate) const FILE: Value = Value {
 
 /// One word, which is any text.
 pub(crate) const WORD: ArgKind = ArgKind::Words(ValueParser::String, 1, 1);
+
+/// One word or none, which is any text.
+pub(crate) const OPTIONAL_WORD: ArgKind = ArgKind::Words(ValueParser::String, 0, 1);
 
 /// Words, one at least, each of which is any text.
 pub(crate) const WORDS: ArgKind = ArgKind::Words(ValueParser::String, 1, usize::MAX);
@@ -126,16 +129,16 @@ fn valued<'a>(arg: Arg<'a>, value: &Value) -> Result<Arg<'a>, AllocError> {
         .conflicts_with_all(value.conflicts)
 }
 
-// Words that must be there.
+// Words, which must be there but where none is enough.
 fn words<'a>(arg: Arg<'a>, parser: ValueParser<'a>, least: usize, most: usize) -> Arg<'a> {
     let action = if most == 1 {
         ArgAction::Set
     } else {
         ArgAction::Append
     };
-    arg.required(true)
+    arg.required(least > 0)
         .action(action)
-        .num_args(least..=most)
+        .num_args(least.max(1)..=most)
         .value_parser(parser)
 }
 

@@ -89,6 +89,10 @@ pub enum Request<'a> {
     ExtractAll(ExtractedVolume<'a>),
     /// Say in words what a number means.
     Explain(Noted),
+    /// Print the deck of a text in words, which is the file at this path, or standard input.
+    Assemble(Option<&'a str>),
+    /// Print a deck in words, which is the file at this path, or standard input.
+    Disassemble(Option<&'a str>),
     /// Run a deck.
     Run(DeckRun<'a>),
 }

@@ -1,0 +1,150 @@
+//! Channel programs in words.
+
+ghost use Rattle.std.specs.Prelude.{◌≡◌, option_map, IfSome};
+ghost use Rattle.counted_io.specs.Streams.{seen_by};
+ghost use Rattle.dasd_run.specs.Words.{source_name, IsAssemblyFault, IsDisassemblyFault, PrintsDeck, PrintsWords, WithText};
+
+use crate::commands::{Ending, tell};
+use crate::decks::read_deck;
+use crate::fault::ProgramFault;
+use counted_io::Counted;
+use dasd_jobs::ImageFiles;
+use s360_assembler::{AssemblyFault, assemble};
+use s360_deck::RunFault;
+use s360_disassembler::{DisassemblyFault, disassemble};
+use std::alloc::Global;
+use std::io::{Read, Write};
+
+/// The most bytes of a text or of a deck.
+const MOST_BYTES: usize = 1_048_576;
+
+// What a text is called whose lines are told of.
+fn source_name(alloc: Global, path: Option<&str>) -> Option<String>
+    ensures { IfSome result (λ name. name.bytes.items ≡ source_name (option_map (λ path. path.now) path.entry)) }
+{
+    path.unwrap_or("standard input").to_string(alloc).ok()
+}
+
+// The fault of a text.
+fn of_assembly(alloc: Global, path: Option<&str>, fault: AssemblyFault) -> ProgramFault
+    ensures { IsAssemblyFault result (option_map (λ path. path.now) path.entry) fault }
+{
+    match (fault, source_name(alloc, path)) {
+        (AssemblyFault::OutOfMemory, _) | (_, None) => ProgramFault::OutOfMemory,
+        (fault, Some(source)) => ProgramFault::Assembly(source, fault),
+    }
+}
+
+// The fault of a deck.
+fn of_disassembly(alloc: Global, path: Option<&str>, fault: DisassemblyFault) -> ProgramFault
+    ensures { IsDisassemblyFault result (option_map (λ path. path.now) path.entry) fault }
+{
+    match (fault, source_name(alloc, path)) {
+        (DisassemblyFault::OutOfMemory, _) | (_, None) => ProgramFault::OutOfMemory,
+        (fault, Some(source)) => ProgramFault::Disassembly(source, fault),
+    }
+}
+
+// Prints the deck of a text.
+fn print_deck<W: Write>(
+    alloc: Global,
+    writer: &mut Counted<W>,
+    path: Option<&str>,
+    text: &[u8],
+) -> Result<Ending, ProgramFault>
+    ensures { PrintsDeck result (option_map (λ path. path.now) path.entry) text.now
+        (seen_by W.contents writer.old) (seen_by W.contents writer.new) }
+{
+    if text.len() > MOST_BYTES {
+        return Err(ProgramFault::Run(RunFault::Read));
+    }
+    match assemble(alloc, text) {
+        Ok(deck) => tell(writer, deck.as_slice()),
+        Err(fault) => Err(of_assembly(alloc, path, fault)),
+    }
+}
+
+// Prints the words of a deck.
+fn print_words<W: Write>(
+    alloc: Global,
+    writer: &mut Counted<W>,
+    path: Option<&str>,
+    deck: &[u8],
+) -> Result<Ending, ProgramFault>
+    ensures { PrintsWords result (option_map (λ path. path.now) path.entry) deck.now
+        (seen_by W.contents writer.old) (seen_by W.contents writer.new) }
+{
+    if deck.len() > MOST_BYTES {
+        return Err(ProgramFault::Run(RunFault::Read));
+    }
+    match disassemble(alloc, deck) {
+        Ok(words) => tell(writer, words.as_slice()),
+        Err(fault) => Err(of_disassembly(alloc, path, fault)),
+    }
+}
+
+/// Prints the deck of a text in words, of the file at this path or of the reader.
+///
+/// # Errors
+///
+/// It can't be read, it is wrong, or there is no memory: nothing is printed. A write fault comes exactly where a write failed, or the
+/// flush.
+pub(crate) fn assemble_text<F: ImageFiles, R: Read, W: Write>(
+    alloc: Global,
+    files: &mut F,
+    reader: &mut Counted<R>,
+    writer: &mut Counted<W>,
+    path: Option<&str>,
+) -> Result<Ending, ProgramFault>
+    ensures { WithText PrintsDeck result (option_map (λ path. path.now) path.entry)
+        (record {
+          read = seen_by R.remaining reader.old;
+          printed = seen_by W.contents writer.old;
+          written = F.written files.old;
+          opened = F.opened files.old;
+        })
+        (record {
+          read = seen_by R.remaining reader.new;
+          printed = seen_by W.contents writer.new;
+          written = F.written files.new;
+          opened = F.opened files.new;
+        }) }
+{
+    match read_deck(alloc, files, reader, path) {
+        Ok(text) => print_deck(alloc, writer, path, text.as_slice()),
+        Err(fault) => Err(ProgramFault::Run(fault)),
+    }
+}
+
+/// Prints a deck in words, the one of the file at this path or of the reader.
+///
+/// # Errors
+///
+/// It can't be read, it is no deck, or there is no memory: nothing is printed. A write fault comes exactly where a write failed, or the
+/// flush.
+pub(crate) fn disassemble_deck<F: ImageFiles, R: Read, W: Write>(
+    alloc: Global,
+    files: &mut F,
+    reader: &mut Counted<R>,
+    writer: &mut Counted<W>,
+    path: Option<&str>,
+) -> Result<Ending, ProgramFault>
+    ensures { WithText PrintsWords result (option_map (λ path. path.now) path.entry)
+        (record {
+          read = seen_by R.remaining reader.old;
+          printed = seen_by W.contents writer.old;
+          written = F.written files.old;
+          opened = F.opened files.old;
+        })
+        (record {
+          read = seen_by R.remaining reader.new;
+          printed = seen_by W.contents writer.new;
+          written = F.written files.new;
+          opened = F.opened files.new;
+        }) }
+{
+    match read_deck(alloc, files, reader, path) {
+        Ok(deck) => print_words(alloc, writer, path, deck.as_slice()),
+        Err(fault) => Err(ProgramFault::Run(fault)),
+    }
+}

@@ -1,0 +1,4 @@
+mod Flags
+mod Passes
+mod Positions
+mod Rows

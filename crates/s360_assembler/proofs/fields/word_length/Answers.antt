@@ -1,0 +1,9 @@
+use Rattle.s360_deck.specs.Deck.{is_blank}
+use Rattle.s360_assembler.proofs.Positions.{at_some, at_none}
+use Rattle.s360_assembler.proofs.fields.word_length.Goals as goal
+
+pub returns-in-Some-clause-value : goal.returns-in-Some-clause-value
+returns-in-Some-clause-value c = at_some is_blank c.args.text.now _ c.in-Some.ensures
+
+pub returns-in-None-clause-value : goal.returns-in-None-clause-value
+returns-in-None-clause-value c = at_none is_blank c.args.text.now c.in-None.ensures

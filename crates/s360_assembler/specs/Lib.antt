@@ -1,0 +1,9 @@
+pub mod Mnemonics
+pub mod Numbers
+pub mod Fields
+pub mod Constants
+pub mod Statements
+pub mod Symbols
+pub mod Parts
+pub mod Assembled
+pub mod Laws

@@ -1,0 +1,19 @@
+//! Channel programs in words: a text of labels, mnemonics and constants, and the deck that it is.
+#![tactic(auto)]
+
+mod assembling;
+mod constants;
+mod deck;
+mod fault;
+mod fields;
+pub mod laws;
+mod mnemonics;
+mod numbers;
+mod parts;
+mod statements;
+mod symbols;
+
+pub use crate::assembling::assemble;
+pub use crate::fault::{AssemblyFault, Cause};
+pub use crate::mnemonics::{code_named, word_of};
+pub use crate::parts::word_bytes;
