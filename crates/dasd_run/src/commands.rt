@@ -17,7 +17,7 @@ use crate::list::list_part;
 use crate::runs::{Disks, build, finish};
 use crate::strict::check_strictly;
 use crate::traces::{Traces, begin_trace, end_trace};
-use crate::unload::{extract_set, extract_volume};
+use crate::unload::{extract_set, extract_tracks, extract_volume};
 use crate::vtoc::list_contents;
 use counted_io::{Counted, WriteFault, write_flushed};
 use dasd_jobs::{ImageFiles, JobFault, NewVolume, Progress, check_files, format_file, list_files};
@@ -106,6 +106,7 @@ pub fn answer<F: Traces, R: Read, W: Write, P: Progress>(
         Request::Hash(volume) => hash_volume(alloc, files, writer, &volume),
         Request::ListContents(volume) => list_contents(alloc, files, writer, &volume),
         Request::Extract(asked) => extract_set(alloc, files, writer, &asked),
+        Request::ExtractTracks(asked) => extract_tracks(alloc, files, writer, &asked),
         Request::ExtractAll(asked) => extract_volume(alloc, files, writer, &asked),
         Request::Explain(noted) => explain(writer, noted),
         Request::Run(asked) => run_volumes(alloc, files, reader, writer, asked),
