@@ -37,6 +37,15 @@ _dasd() {
         _dasd_files -d
         return
         ;;
+    extract:--record-format)
+        return
+        ;;
+    extract:--record-length)
+        return
+        ;;
+    extract:--block-length)
+        return
+        ;;
     run:--storage)
         return
         ;;
@@ -92,7 +101,7 @@ _dasd() {
         _dasd_files
         ;;
     extract)
-        if [[ $word == -* ]]; then _dasd_words --to --all --text --json --verbose -h --help; return; fi
+        if [[ $word == -* ]]; then _dasd_words --to --all --text --record-format --record-length --block-length --raw --json --verbose -h --help; return; fi
         _dasd_files
         ;;
     explain)

@@ -25,6 +25,8 @@ KINDS = {
     "A-B": NOTHING,
     "NUMBER": NOTHING,
     "DIGITS": NOTHING,
+    "FORMAT": NOTHING,
+    "BYTES": NOTHING,
 }
 
 

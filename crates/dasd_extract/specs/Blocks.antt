@@ -5,12 +5,14 @@ use Rattle.ckd_track.specs.Track.{Record}
 use Rattle.volume_labels.specs.Ebcdic.{character_of}
 use Rattle.data_sets.specs.declared.records.RecordForm.{RecordForm}
 use Rattle.data_sets.specs.declared.records.RecordFault.{RecordFault}
+use Rattle.record_formats.specs.declared.layouts.Layout.{Layout}
+use Rattle.record_formats.specs.Layouts.{is_longer}
 use Rattle.data_sets.specs.declared.records.Segment.{Segment}
 use Rattle.data_sets.specs.declared.records.Segment.TheVariants.{Whole, First, Last, Middle}
 use Rattle.data_sets.specs.declared.records.Piece.{Piece}
 use Rattle.data_sets.specs.Records.{next_record}
 use Rattle.data_sets.specs.Lines.{without_blanks}
-use Rattle.dasd_extract.specs.declared.stops.Cause.TheVariants.{EndOfFile, NotDirectory, NoRecord}
+use Rattle.dasd_extract.specs.declared.stops.Cause.TheVariants.{EndOfFile, NotDirectory, NoRecord, LongBlock}
 use Rattle.dasd_extract.specs.declared.blocks.Form.{Form}
 use Rattle.dasd_extract.specs.declared.blocks.Form.TheVariants.{Raw, Text, Directory}
 use Rattle.dasd_extract.specs.Written.{Written, nothing, these_bytes, stopped, behind}
@@ -55,6 +57,11 @@ lines_from (suc most) form track number block at =
 abbrev pub lines_written : RecordForm → (track number : ℕ) → (block : List ℕ) → Written
 lines_written form track number block = lines_from (length block) form track number block 0
 
+-- of a block that is longer than those of its data set no record is read
+abbrev pub records_written : Layout → (track number : ℕ) → (block : List ℕ) → Written
+records_written l track number block =
+    if is_longer l.longest (length block) then stopped track (LongBlock number) else lines_written l.form track number block
+
 -- a block of a directory has a key of 8 bytes and 256 bytes of data
 abbrev pub directory_written : (track number : ℕ) → (key block : List ℕ) → Written
 directory_written track number key block =
@@ -65,7 +72,7 @@ number_of r = slice_index r.id 4
 
 abbrev pub form_written : Form → (track : ℕ) → Record → Written
 form_written Raw track r = these_bytes r.data_area
-form_written (Text form) track r = lines_written form track (number_of r) r.data_area
+form_written (Text l) track r = records_written l track (number_of r) r.data_area
 form_written Directory track r = directory_written track (number_of r) r.key_area r.data_area
 
 -- a record without data is an end of file

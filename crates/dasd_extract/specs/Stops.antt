@@ -7,7 +7,7 @@ use Rattle.data_sets.specs.declared.records.RecordFault.TheVariants.{ShortRecord
 use Rattle.dasd_volumes.specs.Lines.{fault_text}
 use Rattle.dasd_extract.specs.declared.stops.Cause.{Cause}
 use Rattle.dasd_extract.specs.declared.stops.Cause.TheVariants.{EndOfFile, EndBehindAlternates, PastExtents, Outside, BadExtent, NoTrack, NoAlternate}
-use Rattle.dasd_extract.specs.declared.stops.Cause.TheVariants.{NotAlternate, Unreadable, NoBlock, NotDirectory, NoRecord, TooManyTracks}
+use Rattle.dasd_extract.specs.declared.stops.Cause.TheVariants.{NotAlternate, Unreadable, NoBlock, NotDirectory, NoRecord, LongBlock, TooManyTracks, EndOfExtents}
 use Rattle.dasd_extract.specs.declared.stops.Stop.{Stop}
 
 -- why bytes are no record
@@ -32,7 +32,9 @@ cause_text (Unreadable fault) = concat (codes "unreadable " ∷ fault_text fault
 cause_text (NoBlock number) = concat (codes "no block " ∷ decimal number ∷ [])
 cause_text (NotDirectory number) = concat (codes "block " ∷ decimal number ∷ codes " is none of a directory" ∷ [])
 cause_text (NoRecord number fault) = concat (codes "block " ∷ decimal number ∷ codes " " ∷ lie_text fault ∷ [])
+cause_text (LongBlock number) = concat (codes "block " ∷ decimal number ∷ codes " is longer than its block length" ∷ [])
 cause_text TooManyTracks = codes "more tracks than are read"
+cause_text EndOfExtents = codes "end of the extents"
 
 -- how many tracks were read from their alternates, where some were
 abbrev pub followed_text : ℕ → List ℕ

@@ -4,12 +4,13 @@ ghost use Rattle.std.specs.Prelude.{◌≡◌, ◌<◌, ◌≤◌, length, slice
 ghost use Rattle.std.specs.Io.KnownBytes.{Appends};
 ghost use Rattle.ckd_track.specs.Track.{record_in};
 ghost use Rattle.dasd_extract.specs.Written.{Writes, these_bytes};
-ghost use Rattle.dasd_extract.specs.Blocks.{line_of, piece_text, lines_written, directory_written, form_written, block_written, number_of};
+ghost use Rattle.dasd_extract.specs.Blocks.{line_of, piece_text, lines_written, records_written, directory_written, form_written, block_written, number_of};
 
 use crate::stops::{Cause, Stop, stop_at};
 use crate::texts::write_text;
 use ckd_track::TrackView;
 use data_sets::{DIRECTORY_BLOCK, Piece, RecordForm, Segment, next_record, without_blanks};
+use record_formats::{Layout, is_longer};
 use std::io;
 use std::io::Write;
 
@@ -23,7 +24,7 @@ pub enum Form {
     Raw,
     /// Their records as lines of UTF-8, from EBCDIC (code page 037), each without the blanks at its end. A character that controls
     /// a terminal or a file is written as U+FFFD, so that each record is one line.
-    Text(RecordForm),
+    Text(Layout),
     /// Their data as it stands, of blocks of a directory alone: those with a key of 8 bytes and 256 bytes of data.
     Directory,
 }
@@ -76,6 +77,23 @@ fn write_lines<W: Write>(
     Ok(None)
 }
 
+// Writes the records of a block as lines, where it is no longer than those of its data set are.
+fn write_records<W: Write>(
+    writer: &mut W,
+    layout: Layout,
+    track: u32,
+    number: u8,
+    block: &[u8],
+) -> io::Result<Option<Stop>>
+    ensures { IfOk result (Writes (records_written layout track number block.now) (W.contents writer.old) (W.contents writer.new)) }
+{
+    if is_longer(layout.longest, block.len()) {
+        let cause = Cause::LongBlock(number);
+        return Ok(Some(stop_at(track, cause)));
+    }
+    write_lines(writer, layout.form, track, number, block)
+}
+
 // Writes a block of a directory.
 fn write_directory<W: Write>(
     writer: &mut W,
@@ -125,7 +143,7 @@ fn write_in_form<W: Write>(
     let number = number_of(view, i);
     match form {
         Form::Raw => write_raw(writer, block),
-        Form::Text(records) => write_lines(writer, records, track, number, block),
+        Form::Text(layout) => write_records(writer, layout, track, number, block),
         Form::Directory => write_directory(writer, track, number, view.key_of(i), block),
     }
 }

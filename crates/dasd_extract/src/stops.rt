@@ -36,8 +36,12 @@ pub enum Cause {
     NotDirectory(u8),
     /// The block of this number has bytes that are no record.
     NoRecord(u8, RecordFault),
+    /// The block of this number is longer than blocks of its data set are.
+    LongBlock(u8),
     /// So many tracks were read as were allowed.
     TooManyTracks,
+    /// All tracks of the extents were copied.
+    EndOfExtents,
 }
 
 /// Where the blocks of a data set end, why, and how many tracks up to there were read from their alternates: the track is counted from
@@ -132,7 +136,9 @@ impl fmt::Display for Cause {
             Cause::NoBlock(number) => write!(f, "no block {number}"),
             Cause::NotDirectory(number) => write!(f, "block {number} is none of a directory"),
             Cause::NoRecord(number, fault) => write!(f, "block {number} {}", Lie(*fault)),
+            Cause::LongBlock(number) => write!(f, "block {number} is longer than its block length"),
             Cause::TooManyTracks => f.write_str("more tracks than are read"),
+            Cause::EndOfExtents => f.write_str("end of the extents"),
         }
     }
 }

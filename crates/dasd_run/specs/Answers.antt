@@ -25,7 +25,7 @@ use Rattle.dasd_run.specs.Paths.{joined_paths, quoted_paths}
 use Rattle.dasd_run.specs.Printed.{style_of, paths_of, asked_part, asked_list, HasCylinders, ending_of, IsUnopened, HashesWhole, PrintsPart, TakesMemoryFirst}
 use Rattle.dasd_run.specs.Runs.{RunsOrStops}
 use Rattle.dasd_run.specs.Strict.{ChecksStrictly}
-use Rattle.dasd_run.specs.Unloads.{ExtractsSet, ExtractsVolume}
+use Rattle.dasd_run.specs.Unloads.{ExtractsSet, ExtractsTracks, ExtractsVolume}
 use Rattle.dasd_run.specs.Words.{PrintsDeck, PrintsWords, WithText}
 
 -- how the program ends with a job over files: so, where the job is done; and else its fault is the program's
@@ -115,5 +115,7 @@ Answers (request.ListContents asked) result before now =
     ListsContents result asked before.opened now.opened before.printed now.printed × Looks before now
 Answers (request.Extract asked) result before now =
     ExtractsSet result asked before.opened now.opened (left_of before) (left_of now) × (now.read ≡ before.read)
+Answers (request.ExtractTracks asked) result before now =
+    ExtractsTracks result asked before.opened now.opened (left_of before) (left_of now) × (now.read ≡ before.read)
 Answers (request.ExtractAll asked) result before now =
     ExtractsVolume result asked before.opened now.opened (left_of before) (left_of now) × (now.read ≡ before.read)

@@ -26,7 +26,7 @@ abbrev pub keeps_unloaded : UnloadFault → Bool
 keeps_unloaded unload.NoDataSet = true
 keeps_unloaded unload.NoMember = true
 keeps_unloaded unload.NoMemberNamed = true
-keeps_unloaded unload.NoRecordFormat = true
+keeps_unloaded (unload.Attributes _) = true
 keeps_unloaded (unload.NotWhole _) = false
 keeps_unloaded (unload.Job _) = false
 

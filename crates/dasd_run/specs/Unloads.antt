@@ -3,12 +3,14 @@ use Rattle.std.specs.Prelude.{◌≡◌, ◌⊎◌, ℕ, List, map, Result, Ok, 
 use Rattle.std.specs.Option.{option_copied}
 use Rattle.counted_io.specs.Streams.{IsFlushed}
 use Rattle.dasd_words.specs.declared.requests.ExtractedSet.{ExtractedSet}
+use Rattle.dasd_words.specs.declared.requests.ExtractedTracks.{ExtractedTracks}
 use Rattle.dasd_words.specs.declared.requests.ExtractedVolume.{ExtractedVolume}
 use Rattle.dasd_jobs.specs.Sources.{SourceFile, OfVolume}
 use Rattle.dasd_unload.specs.declared.fault.UnloadFault.{UnloadFault}
 use Rattle.dasd_unload.specs.Unloads.{Outcome}
 use Rattle.dasd_unload.specs.Asked.{AskedSet, asked, CountsSet}
 use Rattle.dasd_unload.specs.Causes.{UnloadsOrTells}
+use Rattle.dasd_unload.specs.Tracks.{AskedTracks, asked_tracks, TracksOrTell}
 use Rattle.dasd_unload.specs.Volumes.{Plan, plan_of, CountsReport, UnloadsVolume}
 use Rattle.dasd_run.specs.declared.commands.Ending.{Ending}
 use Rattle.dasd_run.specs.declared.commands.Ending.TheVariants.{Done}
@@ -29,7 +31,7 @@ NothingCame (Err f) paths opened_before opened before now = WhyUnopened f paths 
 
 -- the data set that is asked for, or the member of one
 abbrev pub asked_set : ExtractedSet → AskedSet
-asked_set e = asked e.name.data_set.now (option_copied e.name.member) e.is_text (option_copied e.target)
+asked_set e = asked e.name.data_set.now (option_copied e.name.member) e.is_text e.given (option_copied e.target)
 
 -- It was unloaded from the volume in the files that were named, and no other file was opened; or its fault says why it was not, or not to
 -- its end.
@@ -42,6 +44,22 @@ pub record TakesSet (result : Result Ending ProgramFault) (e : ExtractedSet) (op
 abbrev pub ExtractsSet : Result Ending ProgramFault → ExtractedSet → (opened_before opened : List SourceFile) → (before now : Outcome) → Type 0
 ExtractsSet result e opened_before opened before now =
     NothingCame result (map (λ path. path.now) e.paths.items) opened_before opened before now ⊎ TakesSet result e opened_before opened before now
+
+-- the data set whose tracks are asked for
+abbrev pub tracks_asked : ExtractedTracks → AskedTracks
+tracks_asked e = asked_tracks e.name.now (option_copied e.target)
+
+-- Its tracks were unloaded from the volume in the files that were named, and no other file was opened; or its fault says why they were
+-- not, or not all.
+pub record TakesTracks (result : Result Ending ProgramFault) (e : ExtractedTracks) (opened_before opened : List SourceFile) (before now : Outcome) : Type 0 where
+  pub unloading : Result (Unit {0}) UnloadFault
+  pub told : result ≡ unload_ending (λ done. Done) unloading
+  pub unloaded : OfVolume (map (λ path. path.now) e.paths.items) opened_before opened (λ v. TracksOrTell unloading (tracks_asked e) v before now)
+  pub writes : CountsSet unloading (option_copied e.target) before.printed now.printed
+
+abbrev pub ExtractsTracks : Result Ending ProgramFault → ExtractedTracks → (opened_before opened : List SourceFile) → (before now : Outcome) → Type 0
+ExtractsTracks result e opened_before opened before now =
+    NothingCame result (map (λ path. path.now) e.paths.items) opened_before opened before now ⊎ TakesTracks result e opened_before opened before now
 
 -- where all data sets go, and how what is told of them is printed
 abbrev pub asked_plan : ExtractedVolume → Plan

@@ -17,7 +17,7 @@ use crate::list::list_part;
 use crate::runs::{Disks, build, finish};
 use crate::strict::check_strictly;
 use crate::traces::{Traces, begin_trace, end_trace};
-use crate::unload::{extract_set, extract_volume};
+use crate::unload::{extract_set, extract_tracks, extract_volume};
 use crate::vtoc::list_contents;
 use crate::words::{assemble_text, disassemble_deck};
 use counted_io::{Counted, WriteFault, write_flushed};
@@ -107,6 +107,7 @@ pub fn answer<F: Traces, R: Read, W: Write, P: Progress>(
         Request::Hash(volume) => hash_volume(alloc, files, writer, &volume),
         Request::ListContents(volume) => list_contents(alloc, files, writer, &volume),
         Request::Extract(asked) => extract_set(alloc, files, writer, &asked),
+        Request::ExtractTracks(asked) => extract_tracks(alloc, files, writer, &asked),
         Request::ExtractAll(asked) => extract_volume(alloc, files, writer, &asked),
         Request::Explain(noted) => explain(writer, noted),
         Request::Assemble(path) => assemble_text(alloc, files, reader, writer, path),

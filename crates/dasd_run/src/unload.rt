@@ -5,15 +5,17 @@ ghost use Rattle.counted_io.specs.Streams.{seen_by};
 ghost use Rattle.dasd_unload.specs.Unloads.{outcome};
 ghost use Rattle.dasd_run.specs.Faults.{keeps_files};
 ghost use Rattle.dasd_run.specs.Printed.{ending_of};
-ghost use Rattle.dasd_run.specs.Unloads.{ExtractsSet, ExtractsVolume, unload_ending};
+ghost use Rattle.dasd_run.specs.Unloads.{ExtractsSet, ExtractsTracks, ExtractsVolume, unload_ending};
 
 use crate::commands::Ending;
 use crate::fault::ProgramFault;
 use crate::printed_paths::quoted;
 use counted_io::Counted;
 use dasd_jobs::{ImageFiles, open_volume};
-use dasd_unload::{UnloadFault, WantedSet, WantedVolume, unload_set, unload_volume};
-use dasd_words::{ExtractedSet, ExtractedVolume};
+use dasd_unload::{
+    UnloadFault, WantedSet, WantedTracks, WantedVolume, unload_set, unload_tracks, unload_volume,
+};
+use dasd_words::{ExtractedSet, ExtractedTracks, ExtractedVolume};
 use std::alloc::Global;
 use std::io::Write;
 
@@ -33,12 +35,38 @@ pub(crate) fn extract_set<F: ImageFiles, W: Write>(
         member: asked.name.member,
         target: asked.target,
         is_text: asked.is_text,
+        given: asked.given,
     };
     let mut volume = match open_volume(alloc, files, asked.paths.as_slice()) {
         Ok(volume) => volume,
         Err(fault) => return Err(ProgramFault::Job(fault)),
     };
     match unload_set(alloc, files, &mut volume, writer, set) {
+        Ok(()) => Ok(Ending::Done),
+        Err(fault) => Err(ProgramFault::Unload(fault)),
+    }
+}
+
+/// Takes the tracks of a data set out of the volume of its files, as they stand.
+pub(crate) fn extract_tracks<F: ImageFiles, W: Write>(
+    alloc: Global,
+    files: &mut F,
+    writer: &mut Counted<W>,
+    asked: &ExtractedTracks,
+) -> Result<Ending, ProgramFault>
+    ensures keeps { IfErr result (λ e. keeps_files e ≡ true → F.written files.new ≡ F.written files.old) }
+    ensures extracts { ExtractsTracks result asked.now (F.opened files.old) (F.opened files.new)
+        (outcome (F.written files.old) (seen_by W.contents writer.old)) (outcome (F.written files.new) (seen_by W.contents writer.new)) }
+{
+    let set = WantedTracks {
+        name: asked.name,
+        target: asked.target,
+    };
+    let mut volume = match open_volume(alloc, files, asked.paths.as_slice()) {
+        Ok(volume) => volume,
+        Err(fault) => return Err(ProgramFault::Job(fault)),
+    };
+    match unload_tracks(alloc, files, &mut volume, writer, set) {
         Ok(()) => Ok(Ending::Done),
         Err(fault) => Err(ProgramFault::Unload(fault)),
     }

@@ -38,5 +38,5 @@ why_no_start fault.NoMember a v d named why = record { set = d; named = named; i
 why_no_start fault.NoMemberNamed a v d named why = record { set = d; named = named; is_so = why }
 why_no_start (fault.Job _) a v d named why = tt
 why_no_start fault.NoDataSet a v d named why = absurd why
-why_no_start fault.NoRecordFormat a v d named why = absurd why
+why_no_start (fault.Attributes _) a v d named why = absurd why
 why_no_start (fault.NotWhole _) a v d named why = absurd why

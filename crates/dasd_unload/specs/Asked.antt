@@ -1,11 +1,16 @@
 -- The data set or the member that is asked for, and what of it is written.
-use Rattle.std.specs.Prelude.{◌≡◌, ◌⊎◌, ℕ, ◌==◌, Bool, true, false, not, List, [], bit_and, bytes_eq, find, Option, Some, None, option_map, Result, Ok}
+use Rattle.std.specs.Prelude.{◌≡◌, ◌⊎◌, ℕ, ◌==◌, Bool, true, false, not, List, [], bit_and, bytes_eq, find, Option, Some, None, option_map, Result, Ok, Err}
 use Rattle.std.specs.Option.{option_copied}
 use Rattle.counted_io.specs.Streams.{Stream, TakesFront, IsFlushed}
 use Rattle.volume_labels.specs.declared.fields.Extent.{Extent}
 use Rattle.volume_labels.specs.declared.fields.RelativeAddress.{RelativeAddress}
 use Rattle.volume_labels.specs.declared.blocks.DataSetBlock.{DataSetBlock}
 use Rattle.data_sets.specs.declared.directories.DirectoryEntry.{DirectoryEntry}
+use Rattle.record_formats.specs.declared.layouts.RecordAttributes.{RecordAttributes}
+use Rattle.record_formats.specs.declared.layouts.Layout.{Layout}
+use Rattle.record_formats.specs.declared.layouts.AttributeFault.{AttributeFault}
+use Rattle.record_formats.specs.declared.layouts.AttributeFault.TheVariants.{NoFormat}
+use Rattle.record_formats.specs.Layouts.{layout, layout_given}
 use Rattle.data_sets.specs.Records as records
 use Rattle.dasd_volumes.specs.Reading.{KnownVolume}
 use Rattle.dasd_contents.specs.Contents.{contents_of}
@@ -26,24 +31,44 @@ use Rattle.dasd_unload.specs.Unloads.{Outcome, CountsPrinted, is_of_job}
 -- blocks are written as they stand, or as lines, if the format of the data set is of some records
 abbrev pub form_of : DataSetBlock → (is_text : Bool) → Option Form
 form_of d false = Some Raw
-form_of d true = option_map Text (records.form_of d.format d.record_length)
+form_of d true = option_map (λ form. Text (layout form 0)) (records.form_of d.format d.record_length)
+
+-- what a label says of its data set's records
+abbrev pub attributes_of : DataSetBlock → RecordAttributes
+attributes_of d = record { format = d.format; record_length = d.record_length; block_length = d.block_length }
+
+abbrev pub or_no_format : Option Form → Result Form AttributeFault
+or_no_format (Some form) = Ok form
+or_no_format None = Err NoFormat
+
+abbrev pub as_lines : Result Layout AttributeFault → Result Form AttributeFault
+as_lines (Ok l) = Ok (Text l)
+as_lines (Err f) = Err f
+
+-- lines are of the label's format; or of the one that is given, if it contradicts nothing
+abbrev pub form_asked : DataSetBlock → (is_text : Bool) → (given : Option RecordAttributes) → Result Form AttributeFault
+form_asked d is_text None = or_no_format (form_of d is_text)
+form_asked d true (Some given) = as_lines (layout_given (attributes_of d) given)
+form_asked d false (Some given) = Ok Raw
 
 -- a data set has members
 abbrev pub is_partitioned : DataSetBlock → Bool
 is_partitioned d = not (bit_and d.organisation 0x0200 == 0)
 
--- a data set that is asked for: its name, a member of it, whether as lines, and the path of the new file for it
+-- a data set that is asked for: its name, a member of it, whether as lines, what is given of its records, and the path of the new file for it
 pub record AskedSet : Type 0 where
   pub name : List ℕ
   pub member : Option (List ℕ)
   pub is_text : Bool
+  pub given : Option RecordAttributes
   pub target : Option (List ℕ)
 
-abbrev pub asked : (name : List ℕ) → (member : Option (List ℕ)) → (is_text : Bool) → (target : Option (List ℕ)) → AskedSet
-asked name member is_text target = record { name = name; member = member; is_text = is_text; target = target }
+abbrev pub asked : (name : List ℕ) → (member : Option (List ℕ)) → (is_text : Bool) → (given : Option RecordAttributes)
+    → (target : Option (List ℕ)) → AskedSet
+asked name member is_text given target = record { name = name; member = member; is_text = is_text; given = given; target = target }
 
 abbrev pub asked_by : WantedSet → AskedSet
-asked_by w = asked w.name.now (option_copied w.member) w.is_text (option_copied w.target)
+asked_by w = asked w.name.now (option_copied w.member) w.is_text w.given (option_copied w.target)
 
 -- a volume's first data set of a name, if it has one
 pub record NamesSet (text : List ℕ) (v : KnownVolume) (found : Option DataSet) : Type 0 where
@@ -88,7 +113,7 @@ StartsAt v d (Some member) start = (is_partitioned d.block ≡ true) × IsMember
 pub record Asks (a : AskedSet) (v : KnownVolume) (s : Wanted) : Type 0 where
   pub set : DataSet
   pub named : SetOf a.name v (Some set)
-  pub form : form_of set.block a.is_text ≡ Some s.form
+  pub form : form_asked set.block a.is_text a.given ≡ Ok s.form
   pub extents : s.extents ≡ set.extents.items
   pub start : StartsAt v set a.member s.start
   pub tracks : s.tracks ≡ 65535

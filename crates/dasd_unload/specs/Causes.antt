@@ -7,7 +7,7 @@ use Rattle.dasd_extract.specs.declared.stops.Stop.{Stop}
 use Rattle.dasd_unload.specs.declared.fault.UnloadFault.{UnloadFault}
 use Rattle.dasd_unload.specs.declared.fault.UnloadFault.TheVariants as fault
 use Rattle.dasd_unload.specs.Unloads.{Outcome}
-use Rattle.dasd_unload.specs.Asked.{AskedSet, SetOf, MemberOf, UnloadsSet, StopsPrinting, form_of, is_partitioned}
+use Rattle.dasd_unload.specs.Asked.{AskedSet, SetOf, MemberOf, UnloadsSet, StopsPrinting, form_asked, is_partitioned}
 
 -- a data set has no member of a name: it has no members, or none of them has the name
 abbrev pub HasNoMember : KnownVolume → DataSet → (member : Option (List ℕ)) → Type 0
@@ -20,7 +20,7 @@ WhyNoStart fault.NoMember v d member = HasNoMember v d member
 WhyNoStart fault.NoMemberNamed v d member = (is_partitioned d.block ≡ true) × (member ≡ None)
 WhyNoStart (fault.Job _) v d member = Unit {0}
 WhyNoStart fault.NoDataSet v d member = ⊥
-WhyNoStart fault.NoRecordFormat v d member = ⊥
+WhyNoStart (fault.Attributes _) v d member = ⊥
 WhyNoStart (fault.NotWhole _) v d member = ⊥
 
 -- there is a data set of a name, of which this holds
@@ -29,11 +29,12 @@ pub record HasSet (text : List ℕ) (v : KnownVolume) (this : DataSet → Type 0
   pub named : SetOf text v (Some set)
   pub is_so : this set
 
--- Why nothing is unloaded: the volume has no data set of the name; its format is of no records that could be lines; it has no such
+-- Why nothing is unloaded: the volume has no data set of the name; its format is of no records that could be lines, and none is given, or
+-- what is given contradicts the label or lacks a length; it has no such
 -- member, or has members and none is named. A fault of the files or of the volume has none of these causes.
 abbrev pub WhyNot : UnloadFault → AskedSet → KnownVolume → Type 0
 WhyNot fault.NoDataSet a v = SetOf a.name v None
-WhyNot fault.NoRecordFormat a v = HasSet a.name v (λ d. form_of d.block a.is_text ≡ None)
+WhyNot (fault.Attributes f) a v = HasSet a.name v (λ d. form_asked d.block a.is_text a.given ≡ Err f)
 WhyNot fault.NoMember a v = HasSet a.name v (λ d. HasNoMember v d a.member)
 WhyNot fault.NoMemberNamed a v = HasSet a.name v (λ d. (is_partitioned d.block ≡ true) × (a.member ≡ None))
 WhyNot (fault.Job _) a v = Unit {0}

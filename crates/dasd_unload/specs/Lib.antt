@@ -2,4 +2,5 @@ pub mod Unloads
 pub mod Asked
 pub mod Causes
 pub mod Told
+pub mod Tracks
 pub mod Volumes

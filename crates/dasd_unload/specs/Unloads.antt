@@ -43,7 +43,7 @@ leaves_a_file (fault.NotWhole _) = true
 leaves_a_file fault.NoDataSet = false
 leaves_a_file fault.NoMember = false
 leaves_a_file fault.NoMemberNamed = false
-leaves_a_file fault.NoRecordFormat = false
+leaves_a_file (fault.Attributes _) = false
 leaves_a_file (fault.Job _) = false
 
 -- a fault of the files or of the volume
@@ -53,7 +53,7 @@ is_of_job (fault.NotWhole _) = false
 is_of_job fault.NoDataSet = false
 is_of_job fault.NoMember = false
 is_of_job fault.NoMemberNamed = false
-is_of_job fault.NoRecordFormat = false
+is_of_job (fault.Attributes _) = false
 
 -- the blocks of a source were put into a file at a path, and are so many bytes
 pub record Unloads (path : List ℕ) (s : Wanted) (v : KnownVolume) (before now : List Replaced) (u : Unloaded) : Type 0 where

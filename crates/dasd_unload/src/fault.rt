@@ -6,6 +6,7 @@ ghost use Rattle.dasd_unload.specs.Unloads.{unload_fault, reading_fault};
 use dasd_extract::Stop;
 use dasd_jobs::JobFault;
 use dasd_volumes::VolumeFault;
+use record_formats::AttributeFault;
 use thiserror::Error;
 
 /// Why a data set was not unloaded, or not as a whole.
@@ -20,9 +21,10 @@ pub enum UnloadFault {
     /// The data set is partitioned, and none of its members is named.
     #[error("no member named")]
     NoMemberNamed,
-    /// The format of the data set is of no records, which could be lines.
-    #[error("no record format")]
-    NoRecordFormat,
+    /// The format of the data set is of no records, which could be lines, and none is given; or what is given contradicts the label, or
+    /// lacks a length.
+    #[error("{0}")]
+    Attributes(AttributeFault),
     /// What was unloaded ends so, before its end of file.
     #[error("{0}")]
     NotWhole(Stop),

@@ -5,8 +5,10 @@
 mod fault;
 mod report;
 mod sets;
+mod tracks;
 mod volumes;
 
 pub use crate::fault::UnloadFault;
 pub use crate::sets::{WantedSet, unload_set};
+pub use crate::tracks::{WantedTracks, unload_tracks};
 pub use crate::volumes::{WantedVolume, unload_volume};

@@ -5,7 +5,7 @@ ghost use Rattle.std.specs.Option.{option_copied};
 ghost use Rattle.counted_io.specs.Streams.{seen_by, IsFlushed};
 ghost use Rattle.dasd_extract.specs.Walk.{PrintsSource, wanted};
 ghost use Rattle.dasd_unload.specs.Unloads.{UnloadsTo, CountsPrinted, outcome, is_of_job, leaves_a_file};
-ghost use Rattle.dasd_unload.specs.Asked.{asked_by, beginning, form_of, is_partitioned, SetOf, MemberOf, StartsAt, Asks, PutsBlocks, PrintsFirst};
+ghost use Rattle.dasd_unload.specs.Asked.{asked_by, attributes_of, beginning, form_of, form_asked, is_partitioned, SetOf, MemberOf, StartsAt, Asks, PutsBlocks, PrintsFirst};
 ghost use Rattle.dasd_unload.specs.Asked.{StopsPrinting, CountsSet, UnloadsSet};
 ghost use Rattle.dasd_unload.specs.Causes.{WhyNoStart, WhyNot, UnloadsOrTells};
 
@@ -17,6 +17,7 @@ use dasd_extract::{
 };
 use dasd_jobs::{ImageFiles, JobFault, SlotReader, begin_file, put_file};
 use data_sets::{DirectoryEntry, record_form};
+use record_formats::{AttributeFault, Layout, RecordAttributes, layout_given};
 use std::alloc::Global;
 use std::io::Write;
 use volume_labels::{DataSetBlock, Extent, RelativeAddress};
@@ -42,6 +43,8 @@ pub struct WantedSet<'a> {
     pub target: Option<&'a str>,
     /// Whether records are written as lines of text; if not, blocks are as they stand.
     pub is_text: bool,
+    /// The record format and lengths that are given for lines of text.
+    pub given: Option<RecordAttributes>,
 }
 
 /// What is asked for on a volume: its data set, how its blocks are written, and where they begin.
@@ -64,8 +67,8 @@ pub(crate) struct Unloaded {
 ///
 /// # Errors
 ///
-/// There is no such data set or member, or its format has no records to be lines; a file is at the path; or a fault stopped it: then
-/// no file is there that was not. Or it was unloaded, and is not whole.
+/// There is no such data set or member, its format has no records to be lines, or what is given of them contradicts its label; a file is
+/// at the path; or a fault stopped it: then no file is there that was not. Or it was unloaded, and is not whole.
 pub fn unload_set<F: ImageFiles, V: SlotReader, W: Write>(
     alloc: Global,
     files: &mut F,
@@ -138,8 +141,9 @@ fn find_blocks<V: SlotReader>(
     let Some(set) = find_set(alloc, volume, asked_for.name)? else {
         return Err(UnloadFault::NoDataSet);
     };
-    let Some(form) = form_of(&set.block, asked_for.is_text) else {
-        return Err(UnloadFault::NoRecordFormat);
+    let form = match form_asked(&set.block, asked_for.is_text, asked_for.given) {
+        Ok(form) => form,
+        Err(fault) => return Err(UnloadFault::Attributes(fault)),
     };
     match find_start(alloc, volume, &set, asked_for.member) {
         Ok(start) => Ok(FoundBlocks { set, form, start }),
@@ -147,8 +151,8 @@ fn find_blocks<V: SlotReader>(
     }
 }
 
-// The data set of a name, if there is one.
-fn find_set<V: SlotReader>(
+/// The data set of a name, if there is one.
+pub(crate) fn find_set<V: SlotReader>(
     alloc: Global,
     volume: &mut V,
     name: &str,
@@ -178,7 +182,40 @@ pub(crate) fn form_of(block: &DataSetBlock, is_text: bool) -> Option<Form>
     if !is_text {
         return Some(Form::Raw);
     }
-    record_form(block.format, block.record_length).map(Form::Text)
+    let form = record_form(block.format, block.record_length)?;
+    let layout = Layout { form, longest: 0 };
+    Some(Form::Text(layout))
+}
+
+// What a label says of its data set's records.
+fn attributes_of(block: &DataSetBlock) -> RecordAttributes
+    ensures { result ≡ attributes_of block.now }
+{
+    RecordAttributes {
+        format: block.format,
+        record_length: block.record_length,
+        block_length: block.block_length,
+    }
+}
+
+// How the blocks of a data set are written, where a format may be given for lines.
+fn form_asked(
+    block: &DataSetBlock,
+    is_text: bool,
+    given: Option<RecordAttributes>,
+) -> Result<Form, AttributeFault>
+    ensures { result ≡ form_asked block.now is_text given }
+{
+    let Some(given) = given else {
+        return form_of(block, is_text).ok_or(AttributeFault::NoFormat);
+    };
+    if !is_text {
+        return Ok(Form::Raw);
+    }
+    match layout_given(attributes_of(block), given) {
+        Ok(layout) => Ok(Form::Text(layout)),
+        Err(fault) => Err(fault),
+    }
 }
 
 /// Whether a data set has members.

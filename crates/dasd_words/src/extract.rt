@@ -3,7 +3,10 @@
 use crate::commands::{NO_PATH, wrong};
 use crate::listings::read_paths;
 use crate::options::{ArgKind, ArgRow, CommandRow, FILE, JSON, Value, WORDS};
-use crate::requests::{ExtractedSet, ExtractedVolume, Request, SetName, WordFault};
+use crate::record_words::{BLOCK_LENGTH, FORMAT, RECORD_LENGTH, read_given};
+use crate::requests::{
+    ExtractedSet, ExtractedTracks, ExtractedVolume, Request, SetName, WordFault,
+};
 use clap::ArgMatches;
 use std::alloc::Global;
 
@@ -12,6 +15,10 @@ const PATHS_AND_NAME: &str = "WORD";
 
 const NO_NAME: &str =
     "error: no name of a data set behind the paths, as SYS1.MACLIB(OPEN) or PAYROLL\n";
+
+const RAW_MEMBER: &str = "error: --raw takes the tracks of a data set, and of no member\n";
+
+const RAW_TEXT: &str = "error: --raw goes with neither --text nor --all\n";
 
 const ALL_JSON: &str = "error: --json goes with --all\n";
 
@@ -50,6 +57,14 @@ pub(crate) const COMMAND: CommandRow = CommandRow {
             help: "writes records as lines of text, from EBCDIC; without it, blocks as they stand",
             kind: ArgKind::Flag,
         },
+        FORMAT,
+        RECORD_LENGTH,
+        BLOCK_LENGTH,
+        ArgRow {
+            id: "raw",
+            help: "writes the tracks of a data set as they stand in the image: all bytes of each, in order",
+            kind: ArgKind::Flag,
+        },
         JSON,
     ],
 };
@@ -61,6 +76,11 @@ pub(crate) fn read<'a>(alloc: Global, options: &ArgMatches<'a>) -> Result<Reques
     };
     let is_text = options.get_flag("text");
     let json = options.get_flag("json");
+    let is_raw = options.get_flag("raw");
+    if is_raw && (is_text || options.get_str("all").is_some()) {
+        return Err(wrong(alloc, RAW_TEXT));
+    }
+    let given = read_given(alloc, options)?;
     if let Some(folder) = options.get_str("all") {
         return Ok(Request::ExtractAll(ExtractedVolume {
             paths: read_paths(alloc, words)?,
@@ -75,11 +95,34 @@ pub(crate) fn read<'a>(alloc: Global, options: &ArgMatches<'a>) -> Result<Reques
     let Some((paths, name)) = split_words(words) else {
         return Err(wrong(alloc, NO_NAME));
     };
+    let paths = read_paths(alloc, paths)?;
+    let target = options.get_str("to");
+    if is_raw {
+        return read_raw(alloc, paths, name, target);
+    }
     Ok(Request::Extract(ExtractedSet {
-        paths: read_paths(alloc, paths)?,
+        paths,
         name,
-        target: options.get_str("to"),
+        target,
         is_text,
+        given,
+    }))
+}
+
+// The tracks of a data set, which is no member.
+fn read_raw<'a>(
+    alloc: Global,
+    paths: Vec<&'a str>,
+    name: SetName<'a>,
+    target: Option<&'a str>,
+) -> Result<Request<'a>, WordFault> {
+    if name.member.is_some() {
+        return Err(wrong(alloc, RAW_MEMBER));
+    }
+    Ok(Request::ExtractTracks(ExtractedTracks {
+        paths,
+        name: name.data_set,
+        target,
     }))
 }
 

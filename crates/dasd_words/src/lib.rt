@@ -12,6 +12,7 @@ mod hash;
 mod list;
 mod listings;
 mod options;
+mod record_words;
 mod refused;
 mod requests;
 mod run;
@@ -24,7 +25,8 @@ pub use crate::refused::{
     VOLUME_RULE, first_bad_volume, is_comparison, object_path, taken_address,
 };
 pub use crate::requests::{
-    Asked, AskedTrace, ComparedVolumes, DeckRun, DumpedPart, ExtractedSet, ExtractedVolume,
-    ListedPart, NewImage, Noted, Numbers, PrintedVolume, Request, SetName, TraceTarget, WordFault,
+    Asked, AskedTrace, ComparedVolumes, DeckRun, DumpedPart, ExtractedSet, ExtractedTracks,
+    ExtractedVolume, ListedPart, NewImage, Noted, Numbers, PrintedVolume, Request, SetName,
+    TraceTarget, WordFault,
 };
 pub use crate::volumes::{Volume, VolumeSource};

@@ -3,6 +3,7 @@
 use crate::volumes::Volume;
 use arrayvec::ArrayVec;
 use ckd_track::DriveModel;
+use record_formats::RecordAttributes;
 use s360_explain::Pasted;
 use std::alloc::AllocError;
 use thiserror::Error;
@@ -85,6 +86,8 @@ pub enum Request<'a> {
     ListContents(PrintedVolume<'a>),
     /// Take a data set, or a member of one, out of a volume.
     Extract(ExtractedSet<'a>),
+    /// Take the tracks of a data set out of a volume, as they stand.
+    ExtractTracks(ExtractedTracks<'a>),
     /// Take all data sets out of a volume.
     ExtractAll(ExtractedVolume<'a>),
     /// Say in words what a number means.
@@ -143,6 +146,19 @@ pub struct ExtractedSet<'a> {
     pub target: Option<&'a str>,
     /// Whether records are written as lines of text; if not, blocks are as they stand.
     pub is_text: bool,
+    /// The record format and lengths that are given for lines of text.
+    pub given: Option<RecordAttributes>,
+}
+
+/// A data set whose tracks are taken out of a volume as they stand.
+#[derive(Drop)]
+pub struct ExtractedTracks<'a> {
+    /// The files of the image.
+    pub paths: Vec<&'a str>,
+    /// The name of the data set.
+    pub name: &'a str,
+    /// The new file for them; none is standard output.
+    pub target: Option<&'a str>,
 }
 
 /// A volume all of whose data sets are taken out, with all members, each to a new file.

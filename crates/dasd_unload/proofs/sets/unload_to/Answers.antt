@@ -1,5 +1,5 @@
 use Rattle.std.proofs.Common.{◌∙◌, ap}
-use Rattle.dasd_extract.specs.Walk.{wanted}
+use Rattle.dasd_extract.specs.Walk.{wanted, source_written}
 use Rattle.dasd_jobs.specs.Written.{with_file}
 use Rattle.dasd_unload.proofs.Through.{extracted, through}
 use Rattle.dasd_unload.proofs.sets.unload_to.Goals as goal
@@ -7,14 +7,15 @@ use Rattle.dasd_unload.proofs.sets.unload_to.Goals as goal
 pub returns-in-Ok-put_file-clause-file : goal.returns-in-Ok-put_file-clause-file
 returns-in-Ok-put_file-clause-file g c =
     let bytes = g.F.Draft.ImageStore.content c.into_inner-written.result.draft in
+    let s = source_written (wanted c.args.source.form c.args.source.extents.now c.args.source.start c.args.source.tracks) in
+    let v = g.V.SlotReader.volume c.args.volume.now in
     record {
       bytes = bytes;
       put = c.in-Ok-put_file.ensures.file ∙ ap (λ l. with_file l c.args.path.now bytes) c.begin_file.ensures.kept;
       blocks =
-          through (wanted c.args.source.form c.args.source.extents.now c.args.source.start c.args.source.tracks)
-          (g.V.SlotReader.volume c.args.volume.now) _ _ _ bytes
+          through s v _ _ _ bytes
           (ap (λ n. g.F.Draft.ImageStore.content n.draft) c.new-writer.ensures.inner ∙ c.in-Ok.ensures.empty)
           (ap (λ n. g.F.Draft.ImageStore.content n.draft) c.into_inner-written.ensures)
-          (extracted _ (g.V.SlotReader.volume c.args.volume.now) _ _ _ c.in-Ok-extract.ensures.written);
+          (extracted s v _ _ _ c.in-Ok-extract.ensures.written);
       count = c.len-bytes.ensures;
     }

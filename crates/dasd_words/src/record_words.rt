@@ -1,0 +1,129 @@
+//! The words that give a record format and lengths.
+
+use crate::commands::wrong;
+use crate::options::{ArgKind, ArgRow, FILE, Value, not_taken};
+use crate::requests::WordFault;
+use clap::ArgMatches;
+use record_formats::{AttributeFault, RecordAttributes, layout_given};
+use std::alloc::Global;
+
+/// The option for a record format.
+pub(crate) const FORMAT: ArgRow = ArgRow {
+    id: "record-format",
+    help: "with --text, the record format of a data set whose label has none: F, FB, FS, FBS, V, VB, VS, VBS or U",
+    kind: ArgKind::Valued(Value {
+        name: "FORMAT",
+        conflicts: &["all", "raw"],
+        ..FILE
+    }),
+};
+
+/// The option for the length of records.
+pub(crate) const RECORD_LENGTH: ArgRow = ArgRow {
+    id: "record-length",
+    help: "with --record-format, the length of records in bytes; FB and FBS need it where the label has none",
+    kind: ArgKind::Valued(Value {
+        name: "BYTES",
+        conflicts: &["all", "raw"],
+        ..FILE
+    }),
+};
+
+/// The option for the length of blocks.
+pub(crate) const BLOCK_LENGTH: ArgRow = ArgRow {
+    id: "block-length",
+    help: "with --record-format, the length of the longest block in bytes; one that is longer ends the data set, and is told",
+    kind: ArgKind::Valued(Value {
+        name: "BYTES",
+        conflicts: &["all", "raw"],
+        ..FILE
+    }),
+};
+
+const FORMAT_RULE: &str = "F, FB, FS, FBS, V, VB, VS, VBS or U";
+
+const LENGTH_RULE: &str = "a number of bytes from 1 to 65535";
+
+const NEEDS_TEXT: &str = "error: --record-format goes with --text\n";
+
+const NEEDS_FORMAT: &str = "error: --record-length and --block-length go with --record-format\n";
+
+const UNDEFINED_LENGTH: &str = "error: records of format U have no --record-length\n";
+
+const BAD_LENGTHS: &str = "\
+error: --record-length and --block-length contradict each other
+A block of F or FS is one record; one of FB or FBS has whole records; one of V or VB has 4 bytes before its records.
+";
+
+/// A label that says nothing of its records.
+const SILENT: RecordAttributes = RecordAttributes {
+    format: 0,
+    record_length: 0,
+    block_length: 0,
+};
+
+/// What words give of a data set's records, if they do: nothing that contradicts itself.
+pub(crate) fn read_given(
+    alloc: Global,
+    options: &ArgMatches,
+) -> Result<Option<RecordAttributes>, WordFault> {
+    let record_length = read_length(alloc, options, "record-length")?;
+    let block_length = read_length(alloc, options, "block-length")?;
+    let Some(word) = options.get_str("record-format") else {
+        if record_length != 0 || block_length != 0 {
+            return Err(wrong(alloc, NEEDS_FORMAT));
+        }
+        return Ok(None);
+    };
+    let Some(format) = format_of(word) else {
+        return Err(not_taken(alloc, "record-format", FORMAT_RULE, word));
+    };
+    if !options.get_flag("text") {
+        return Err(wrong(alloc, NEEDS_TEXT));
+    }
+    let given = RecordAttributes {
+        format,
+        record_length,
+        block_length,
+    };
+    match layout_given(SILENT, given) {
+        Err(AttributeFault::UndefinedLength) => Err(wrong(alloc, UNDEFINED_LENGTH)),
+        Err(AttributeFault::Lengths) => Err(wrong(alloc, BAD_LENGTHS)),
+        _ => Ok(Some(given)),
+    }
+}
+
+// The bits of a label that a record format is written as (System Control Blocks, DS1RECFM).
+fn format_of(word: &str) -> Option<u8> {
+    match word {
+        "F" => Some(0x80),
+        "FB" => Some(0x90),
+        "FS" => Some(0x88),
+        "FBS" => Some(0x98),
+        "V" => Some(0x40),
+        "VB" => Some(0x50),
+        "VS" => Some(0x48),
+        "VBS" => Some(0x58),
+        "U" => Some(0xC0),
+        _ => None,
+    }
+}
+
+// A length behind an option; 0 where the option is not there.
+fn read_length(alloc: Global, options: &ArgMatches, id: &str) -> Result<u16, WordFault> {
+    let Some(word) = options.get_str(id) else {
+        return Ok(0);
+    };
+    match length_of(word) {
+        Some(length) => Ok(length),
+        None => Err(not_taken(alloc, id, LENGTH_RULE, word)),
+    }
+}
+
+// 1 to 65535 in decimal digits alone.
+fn length_of(digits: &str) -> Option<u16> {
+    if !digits.bytes().all(|byte| byte.is_ascii_digit()) {
+        return None;
+    }
+    digits.parse::<u16>().ok().filter(|length| *length > 0)
+}
