@@ -12,31 +12,14 @@ use Rattle.dasd_archive.specs.declared.reports.Tally.{Tally}
 use Rattle.dasd_archive.specs.Reports.{finding_lines}
 use Rattle.dasd_archive.specs.Strict.{findings_in_header, strict_text, Adds}
 use Rattle.dasd_words.specs.declared.requests.PrintedVolume.{PrintedVolume}
-use Rattle.dasd_jobs.specs.Sources.{Content, SourceFile, StandsIn, OpensPaths, OfVolume, with_source}
-use Rattle.dasd_jobs.specs.Unopened.{OpensSome}
-use Rattle.dasd_jobs.specs.declared.faults.JobFault.TheVariants.{Read}
+use Rattle.dasd_jobs.specs.Sources.{Content, SourceFile, IsHeader, OpensPaths, Mounts, OfVolume, volume_in}
+use Rattle.dasd_jobs.specs.declared.faults.JobFault.TheVariants.{Read, OutOfMemory}
 use Rattle.dasd_run.specs.declared.commands.Ending.{Ending}
 use Rattle.dasd_run.specs.declared.commands.Ending.TheVariants.{Done, Findings}
 use Rattle.dasd_run.specs.declared.fault.ProgramFault.{ProgramFault}
 use Rattle.dasd_run.specs.declared.fault.ProgramFault.TheVariants as fault
 use Rattle.dasd_run.specs.Paths.{quoted_paths}
 use Rattle.dasd_run.specs.Printed.{style_of, paths_of, IsUnopened, printed_ending, PrintsWhole}
-
--- a file's header is its first 512 bytes
-abbrev pub IsHead : Content → (head : List ℕ) → Type 0
-IsHead content head = (length head ≡ 512) × StandsIn content 0 head
-
--- a file was opened by this path, and this is its header
-pub record OpensHead (path : List ℕ) (before now : List SourceFile) (head : List ℕ) : Type 0 where
-  pub content : Content
-  pub opened : now ≡ with_source before path content
-  pub is_head : IsHead content head
-
--- the files at these paths were opened, in their order, and no other; and these are their headers
-pub record ReadsHeads (paths heads : List (List ℕ)) (before now : List SourceFile) : Type 0 where
-  pub contents : List Content
-  pub opens : OpensPaths paths contents before now
-  pub are_heads : AllZip IsHead contents heads
 
 -- what is found of the headers of files, the first of which is number 1; numbers go up to 255
 abbrev pub found_in : (heads : List (List ℕ)) → List Finding
@@ -56,23 +39,21 @@ ChecksWhole result style path heads v before now =
     (checking : Result Tally VolumeFault) × (result ≡ printed_ending checked_ending checking) × IfOk checking (Adds (found_in heads) v)
     × PrintsWhole checking (checked_text style path heads) v before now
 
--- The files at these paths were opened to read the volume, and once more to read their headers; no other file was; and this is said of
--- the volume and the headers.
+-- The files at these paths were opened, once each, and no other; and this is said of the volume that they hold and of their headers.
 pub record OfHeads (paths : List (List ℕ)) (before now : List SourceFile) (P : KnownVolume → List (List ℕ) → Type 0) : Type 0 where
-  pub between : List SourceFile
+  pub geometry : Geometry
+  pub contents : List Content
+  pub opens : OpensPaths paths contents before now
+  pub mounts : Mounts contents geometry
   pub heads : List (List ℕ)
-  pub reads : ReadsHeads paths heads between now
-  pub so : OfVolume paths before between (λ v. P v heads)
+  pub are_heads : AllZip IsHeader contents heads
+  pub so : P (volume_in geometry contents) heads
 
--- Why there are no headers of the files at these paths: one can't be read, or there is no memory. The files up to there were opened.
-abbrev pub AreUnread : ProgramFault → (paths : List (List ℕ)) → (before now : List SourceFile) → Type 0
-AreUnread f paths before now = ((f ≡ fault.Job Read) ⊎ (f ≡ fault.OutOfMemory)) × OpensSome paths before now
-
--- the volume was opened, and has no headers, and nothing is printed
+-- The volume was opened, and a header of its files can't be read, or there is no memory for them; nothing is printed.
 abbrev pub HasNoHeads : Result Ending ProgramFault → (paths : List (List ℕ)) → (opened_before opened : List SourceFile) → (before now : Stream) → Type 0
 HasNoHeads (Ok ending) paths opened_before opened before now = ⊥
 HasNoHeads (Err f) paths opened_before opened before now =
-    ((between : List SourceFile) × OfVolume paths opened_before between (λ v. Unit {0}) × AreUnread f paths between opened) × (now ≡ before)
+    ((f ≡ fault.Job Read) ⊎ (f ≡ fault.Job OutOfMemory)) × OfVolume paths opened_before opened (λ v. Unit {0}) × (now ≡ before)
 
 -- the volume in the files that are named is checked; or they are not opened, and nothing is printed
 abbrev pub ChecksStrictly : Result Ending ProgramFault → PrintedVolume → (opened_before opened : List SourceFile) → (before now : Stream) → Type 0

@@ -1,11 +1,10 @@
 //! A strict check of the volume of files.
 
-ghost use Rattle.std.specs.Prelude.{◌≡◌, map, IfOk, IfErr, OnErr};
+ghost use Rattle.std.specs.Prelude.{◌≡◌};
 ghost use Rattle.counted_io.specs.Streams.{seen_by};
 ghost use Rattle.dasd_volumes.specs.Printing.{CountsWrites};
 ghost use Rattle.dasd_archive.specs.Reports.{PrintsFindings};
-ghost use Rattle.dasd_jobs.specs.Sources.{OpensMaybe};
-ghost use Rattle.dasd_run.specs.Strict.{OpensHead, ReadsHeads, AreUnread, found_in, checked_ending, ChecksWhole, ChecksStrictly};
+ghost use Rattle.dasd_run.specs.Strict.{found_in, checked_ending, ChecksWhole, ChecksStrictly};
 
 use crate::archive::style;
 use crate::commands::Ending;
@@ -13,7 +12,7 @@ use crate::fault::{ProgramFault, of_printing};
 use crate::printed_paths::quoted;
 use counted_io::Counted;
 use dasd_archive::{FileHeader, Form, Tally, check_headers, check_strict};
-use dasd_jobs::{ImageFiles, JobFault, OpenedFile, SlotReader, open_volume};
+use dasd_jobs::{ImageFiles, SlotReader, open_volume};
 use dasd_volumes::VolumeFault;
 use dasd_words::PrintedVolume;
 use std::alloc::Global;
@@ -51,53 +50,9 @@ pub(crate) fn check_strictly<F: ImageFiles, W: Write>(
         Ok(volume) => volume,
         Err(fault) => return Err(ProgramFault::Job(fault)),
     };
-    match read_headers(alloc, files, paths) {
+    match volume.read_headers(alloc) {
         Ok(heads) => check_opened(alloc, &mut volume, writer, form, heads.as_slice()),
-        Err(fault) => Err(fault),
-    }
-}
-
-// Reads the headers of these files.
-fn read_headers<F: ImageFiles>(
-    alloc: Global,
-    files: &mut F,
-    paths: &[&str],
-) -> Result<Vec<[u8; HEADER]>, ProgramFault>
-    ensures kept { F.written files.new ≡ F.written files.old }
-    ensures heads { IfOk result (λ heads. ReadsHeads (map (λ path. path.now) paths.now) heads.items (F.opened files.old) (F.opened files.new)) }
-    ensures not_read { IfErr result (λ e. AreUnread e (map (λ path. path.now) paths.now) (F.opened files.old) (F.opened files.new)) }
-{
-    let mut heads = Vec::new(alloc);
-    for path in paths {
-        let header = match read_header(alloc, files, path) {
-            Ok(header) => header,
-            Err(fault) => return Err(fault),
-        };
-        if heads.push(header).is_err() {
-            return Err(ProgramFault::OutOfMemory);
-        }
-    }
-    Ok(heads)
-}
-
-// Reads the header of a file.
-fn read_header<F: ImageFiles>(
-    alloc: Global,
-    files: &mut F,
-    path: &str,
-) -> Result<[u8; HEADER], ProgramFault>
-    ensures kept { F.written files.new ≡ F.written files.old }
-    ensures head { IfOk result (OpensHead path.now (F.opened files.old) (F.opened files.new)) }
-    ensures fault { IfErr result (λ e. e ≡ ProgramFault.Job JobFault.Read) }
-    ensures not_read { OnErr result (OpensMaybe path.now (F.opened files.old) (F.opened files.new)) }
-{
-    let Ok(mut file) = files.open(alloc, path) else {
-        return Err(ProgramFault::Job(JobFault::Read));
-    };
-    let mut header = [0u8; HEADER];
-    match file.read_at(0, &mut header) {
-        Ok(()) => Ok(header),
-        Err(_) => Err(ProgramFault::Job(JobFault::Read)),
+        Err(fault) => Err(ProgramFault::Job(fault)),
     }
 }
 
