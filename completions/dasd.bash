@@ -100,7 +100,7 @@ _dasd() {
         [ "$COMP_CWORD" -eq 2 ] && _dasd_words csw sense ccw line
         ;;
     run)
-        if [[ $word == -* ]]; then _dasd_words --storage --channel --deck --trace --trace-to --trace-only --trace-last --trace-answers --trace-whole --verbose -h --help; return; fi
+        if [[ $word == -* ]]; then _dasd_words --storage --channel --deck --no-save --trace --trace-to --trace-only --trace-last --trace-answers --trace-whole --verbose -h --help; return; fi
         if [ "$word" = = ]; then word='' before='='; fi
         [ "$before" = = ] && _dasd_files
         ;;

@@ -1,10 +1,13 @@
-"""Rows of tools/gate/real_files.py: strict checks of pipes, and how often they open a file."""
+"""Rows of tools/gate/real_files.py: strict checks of pipes, how often they open a file, and runs that save nothing."""
 # pylint: disable=missing-function-docstring  # the name of a row says what it is
 
+import os
 import shutil
 import subprocess
 
-from tools.gate.scratch_files import Scratch, Skipped, header, row, same, volume
+from tools.gate.scratch_files import WRITE, How, Scratch, Skipped, fault, header, is_held, row, same, volume, waiting_run, wrote
+
+NO_SAVE = "--no-save"
 
 
 
@@ -31,3 +34,63 @@ def strict_check_opens_each_file_once(s: Scratch) -> None:
     same((ran.returncode, ran.stdout), (0, "0 errors, 0 warnings, 0 notes\n"))
     calls = s.path("calls").read_text().splitlines()
     same([sum(f'"{name}"' in call for call in calls) for name in ("a.ckd", "b.ckd")], [1, 1], "how often each is opened")
+
+
+# Runs that save nothing.
+
+
+@row
+def run_that_saves_nothing_leaves_its_files_as_they_are(s: Scratch) -> None:
+    for mode in (0o444, 0o644):
+        s.put("vol.ckd", volume()).chmod(mode)
+        before = s.path("vol.ckd").stat()
+        same(s.write(NO_SAVE, "--verbose", "90=vol.ckd"), wrote(), oct(mode))
+        is_held(s.path("vol.ckd"), volume())
+        after = s.path("vol.ckd").stat()
+        same((after.st_ino, after.st_mtime_ns, s.names()), (before.st_ino, before.st_mtime_ns, ["vol.ckd"]))
+        s.path("vol.ckd").unlink()
+
+
+@row
+def run_that_saves_nothing_needs_no_rights_to_write(s: Scratch) -> None:
+    if os.geteuid() != 0:
+        raise Skipped("no other user without root")
+    s.folder.chmod(0o755)
+    s.put("vol.ckd", volume()).chmod(0o444)
+    same(s.write(NO_SAVE, "--verbose", "90=vol.ckd", how=How(is_nobodys=True)), wrote())
+    is_held(s.path("vol.ckd"), volume())
+
+
+@row
+def run_that_saves_nothing_sees_what_its_deck_wrote(s: Scratch) -> None:
+    s.put("vol.ckd", volume())
+    write = WRITE.format(data="D5D6D7D8", unit="190")
+    # Searches record 1, whose data are read to 700.
+    read = "STORE 480 3100051040000005 0800048000000000 0600070000000004\nSTORE 510 0000000001\nSTORE 48 00000480\nSIO 190\nSTEP 100\nINT\nSHOW 700 4\n"
+    status, out, told = s.dasd("run", NO_SAVE, "90=vol.ckd", deck=write + read)
+    same((status, out.splitlines()[-1], told), (0, "SHOW 000700 D5D6D7D8", ""))
+    is_held(s.path("vol.ckd"), volume())
+
+
+@row
+def runs_that_save_nothing_share_a_volume_with_none_that_saves(s: Scratch) -> None:
+    s.put("vol.ckd", volume())
+    with waiting_run(s, NO_SAVE, "90=vol.ckd") as (run, deck):
+        same(s.write(NO_SAVE, "90=vol.ckd"), wrote())
+        same(s.write("90=vol.ckd"), fault("image in use"))
+        deck.close()
+        same(run.communicate(timeout=60)[1], b"")
+    with waiting_run(s, "90=vol.ckd") as (run, deck):
+        same(s.write(NO_SAVE, "90=vol.ckd"), fault("image in use"))
+        deck.close()
+        run.communicate(timeout=60)
+    is_held(s.path("vol.ckd"), volume())
+
+
+@row
+def cut_program_of_a_run_that_saves_nothing_is_told(s: Scratch) -> None:
+    s.put("vol.ckd", volume())
+    deck = WRITE.format(data="D5D6D7D8", unit="190").replace("STEP 100\nINT\n", "STEP 17\n")
+    ended = s.dasd("run", NO_SAVE, "--verbose", "90=vol.ckd", deck=deck)
+    same((ended[0], ended[2]), (0, "  90: its program still ran at the end of the deck, and was cut\n"))
+    is_held(s.path("vol.ckd"), volume())

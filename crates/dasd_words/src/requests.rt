@@ -172,6 +172,8 @@ pub struct DeckRun<'a> {
     pub channel: u8,
     /// The file of the deck; none is standard input.
     pub deck: Option<&'a str>,
+    /// Whether the files are written back that the deck changed.
+    pub saves: bool,
     /// Its trace, if one is written.
     pub trace: Option<AskedTrace<'a>>,
     /// The volumes, in the order of the words.
