@@ -1,10 +1,12 @@
-"""Rows of tools/gate/real_files.py: strict checks of pipes, how often they open a file, and runs that save nothing."""
+"""Rows of tools/gate/real_files.py: strict checks of pipes, how often they open a file, dumps of records that are not there, and runs that save nothing."""
 # pylint: disable=missing-function-docstring  # the name of a row says what it is
 
+import json
 import os
 import shutil
 import subprocess
 
+from tools.common.images import slot_at
 from tools.gate.scratch_files import WRITE, How, Scratch, Skipped, fault, header, is_held, row, same, volume, waiting_run, wrote
 
 NO_SAVE = "--no-save"
@@ -34,6 +36,46 @@ def strict_check_opens_each_file_once(s: Scratch) -> None:
     same((ran.returncode, ran.stdout), (0, "0 errors, 0 warnings, 0 notes\n"))
     calls = s.path("calls").read_text().splitlines()
     same([sum(f'"{name}"' in call for call in calls) for name in ("a.ckd", "b.ckd")], [1, 1], "how often each is opened")
+
+
+# Dumps of records that are not there.
+
+
+@row
+def record_that_no_track_has_is_refused(s: Scratch) -> None:
+    s.put("vol.ckd", volume(data="01020304"))
+    for part in (("0", "0", "9"), ("0", "1-9", "1-254"), ("0", "0-9", "2-9"), ("0", "0", "255")):
+        same(s.dasd("dump", "vol.ckd", *part), fault("no such record"), " ".join(part))
+    same(s.dasd("dump", "--verbose", "vol.ckd", "0", "0", "9"), fault("no such record\n  dasd list says which records each track has"))
+    same(s.dasd("dump", "vol.ckd", "0", "1", "1-255"), (0, "0000 0001 HA 0000000001\n", ""))
+    status, out, told = s.dasd("dump", "--json", "vol.ckd", "0", "0", "9")
+    same((status, json.loads(out)["fault"], told), (1, "no such record", "dasd: no such record\n"))
+
+
+@row
+def record_that_one_of_several_tracks_has_is_dumped(s: Scratch) -> None:
+    s.put("vol.ckd", volume(data="01020304"))
+    shown = "0000 0000 HA 0000000000\n  0000000001 KL 0 DL 4\n    D 000000  01 02 03 04" + " " * 38 + "....\n0000 0001 HA 0000000001\n"
+    same(s.dasd("dump", "vol.ckd", "0", "0-1", "1"), (0, shown, ""))
+
+
+@row
+def record_of_a_track_that_can_not_be_read_may_be_there(s: Scratch) -> None:
+    held = bytearray(volume())
+    begin = slot_at("2311", 1) + 21
+    held[begin : begin + 8] = bytes.fromhex("0000000101000FFF")
+    s.put("vol.ckd", bytes(held))
+    same(s.dasd("dump", "vol.ckd", "0", "1", "9"), (0, "0000 0001 unreadable record past end at 21\n", ""))
+
+
+@row
+def track_without_records_is_dumped_where_none_is_named(s: Scratch) -> None:
+    held = bytearray(volume())
+    begin = slot_at("2311", 1) + 5
+    held[begin : begin + 8] = b"\xff" * 8
+    s.put("vol.ckd", bytes(held))
+    same(s.dasd("dump", "vol.ckd", "0", "1"), (0, "0000 0001 HA 0000000001\n", ""))
+    same(s.dasd("dump", "vol.ckd", "0", "1", "0"), fault("no such record"))
 
 
 # Runs that save nothing.
