@@ -72,7 +72,7 @@ _dasd() {
         _dasd_files
         ;;
     check)
-        if [[ $word == -* ]]; then _dasd_words --strict --json --verbose -h --help; return; fi
+        if [[ $word == -* ]]; then _dasd_words --strict --warnings --json --verbose -h --help; return; fi
         _dasd_files
         ;;
     dump)

@@ -28,6 +28,7 @@ complete -c dasd -n '__fish_seen_subcommand_from list' -l verbose -d 'tells more
 complete -c dasd -n '__fish_seen_subcommand_from list' -s h -l help -d 'Print help'
 complete -c dasd -n '__fish_seen_subcommand_from list' -F
 complete -c dasd -n '__fish_seen_subcommand_from check' -l strict -d 'prints all that a reader of the drive would trip over, with severities'
+complete -c dasd -n '__fish_seen_subcommand_from check' -l warnings -d 'prints errors and warnings alone; notes are counted'
 complete -c dasd -n '__fish_seen_subcommand_from check' -l json -d 'prints one object of JSON a line'
 complete -c dasd -n '__fish_seen_subcommand_from check' -l verbose -d 'tells more of a fault, also where standard error is no terminal'
 complete -c dasd -n '__fish_seen_subcommand_from check' -s h -l help -d 'Print help'

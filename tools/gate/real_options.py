@@ -1,4 +1,4 @@
-"""Rows of tools/gate/real_files.py: strict checks of pipes, how often they open a file, dumps of records that are not there, and runs that save nothing."""
+"""Rows of tools/gate/real_files.py: strict checks of pipes and without notes, dumps of records that are not there, and runs that save nothing."""
 # pylint: disable=missing-function-docstring  # the name of a row says what it is
 
 import json
@@ -10,7 +10,6 @@ from tools.common.images import slot_at
 from tools.gate.scratch_files import WRITE, How, Scratch, Skipped, fault, header, is_held, row, same, volume, waiting_run, wrote
 
 NO_SAVE = "--no-save"
-
 
 
 # Strict checks.
@@ -36,6 +35,12 @@ def strict_check_opens_each_file_once(s: Scratch) -> None:
     same((ran.returncode, ran.stdout), (0, "0 errors, 0 warnings, 0 notes\n"))
     calls = s.path("calls").read_text().splitlines()
     same([sum(f'"{name}"' in call for call in calls) for name in ("a.ckd", "b.ckd")], [1, 1], "how often each is opened")
+
+
+@row
+def warnings_alone_go_with_a_strict_check(s: Scratch) -> None:
+    s.put("vol.ckd", volume())
+    same(s.dasd("check", "--warnings", "vol.ckd"), (2, "", "error: --warnings goes with --strict\n"))
 
 
 # Dumps of records that are not there.

@@ -22,5 +22,5 @@ pub use crate::dumps::{Part, Range, dump};
 pub use crate::findings::{Finding, Place, Problem, Severity};
 pub use crate::lists::{Listing, list_part};
 pub use crate::numbered::has_records;
-pub use crate::reports::{Form, Style, Tally};
+pub use crate::reports::{FindingForm, FindingStyle, Form, Style, Tally};
 pub use crate::strict::{FileHeader, check_headers, check_strict};

@@ -7,11 +7,11 @@ use Rattle.dasd_volumes.specs.declared.fault.VolumeFault.{VolumeFault}
 use Rattle.dasd_volumes.specs.Reading.{KnownVolume}
 use Rattle.dasd_volumes.specs.Volumes.{of_each}
 use Rattle.dasd_archive.specs.declared.findings.Finding.{Finding}
-use Rattle.dasd_archive.specs.declared.reports.Style.{Style}
+use Rattle.dasd_archive.specs.declared.reports.FindingStyle.{FindingStyle}
 use Rattle.dasd_archive.specs.declared.reports.Tally.{Tally}
 use Rattle.dasd_archive.specs.Reports.{finding_lines}
 use Rattle.dasd_archive.specs.Strict.{findings_in_header, strict_text, Adds}
-use Rattle.dasd_words.specs.declared.requests.PrintedVolume.{PrintedVolume}
+use Rattle.dasd_words.specs.declared.requests.StrictCheck.{StrictCheck}
 use Rattle.dasd_jobs.specs.Sources.{Content, SourceFile, IsHeader, OpensPaths, Mounts, OfVolume, volume_in}
 use Rattle.dasd_jobs.specs.declared.faults.JobFault.TheVariants.{Read, OutOfMemory}
 use Rattle.dasd_run.specs.declared.commands.Ending.{Ending}
@@ -26,7 +26,7 @@ abbrev pub found_in : (heads : List (List ℕ)) → List Finding
 found_in heads = of_each (λ i. findings_in_header (min (i + 1) 255) (slice_index_or heads i [])) (length heads)
 
 -- what is found of the headers and of the volume, and how many there are of each severity
-abbrev pub checked_text : Style → (path : List ℕ) → (heads : List (List ℕ)) → Geometry → (slots : List (List ℕ)) → List ℕ
+abbrev pub checked_text : FindingStyle → (path : List ℕ) → (heads : List (List ℕ)) → Geometry → (slots : List (List ℕ)) → List ℕ
 checked_text style path heads g slots = finding_lines style path (found_in heads) ++ strict_text style path (found_in heads) g slots
 
 -- a strict check has findings where there is an error
@@ -34,7 +34,7 @@ abbrev pub checked_ending : Tally → Ending
 checked_ending tally = if tally.errors == 0 then Done else Findings
 
 -- all that is found of headers and of a volume is printed and counted
-abbrev pub ChecksWhole : Result Ending ProgramFault → Style → (path : List ℕ) → (heads : List (List ℕ)) → KnownVolume → (before now : Stream) → Type 0
+abbrev pub ChecksWhole : Result Ending ProgramFault → FindingStyle → (path : List ℕ) → (heads : List (List ℕ)) → KnownVolume → (before now : Stream) → Type 0
 ChecksWhole result style path heads v before now =
     (checking : Result Tally VolumeFault) × (result ≡ printed_ending checked_ending checking) × IfOk checking (Adds (found_in heads) v)
     × PrintsWhole checking (checked_text style path heads) v before now
@@ -55,10 +55,14 @@ HasNoHeads (Ok ending) paths opened_before opened before now = ⊥
 HasNoHeads (Err f) paths opened_before opened before now =
     ((f ≡ fault.Job Read) ⊎ (f ≡ fault.Job OutOfMemory)) × OfVolume paths opened_before opened (λ v. Unit {0}) × (now ≡ before)
 
+-- for whom what is found is printed, and whether notes are
+abbrev pub checked_style : StrictCheck → FindingStyle
+checked_style asked = record { style = style_of asked.volume.json; with_notes = asked.with_notes }
+
 -- the volume in the files that are named is checked; or they are not opened, and nothing is printed
-abbrev pub ChecksStrictly : Result Ending ProgramFault → PrintedVolume → (opened_before opened : List SourceFile) → (before now : Stream) → Type 0
+abbrev pub ChecksStrictly : Result Ending ProgramFault → StrictCheck → (opened_before opened : List SourceFile) → (before now : Stream) → Type 0
 ChecksStrictly result asked opened_before opened before now =
-    IsUnopened result (paths_of asked) opened_before opened before now
-    ⊎ HasNoHeads result (paths_of asked) opened_before opened before now
-    ⊎ OfHeads (paths_of asked) opened_before opened
-    (λ v heads. ChecksWhole result (style_of asked.json) (quoted_paths (paths_of asked)) heads v before now)
+    IsUnopened result (paths_of asked.volume) opened_before opened before now
+    ⊎ HasNoHeads result (paths_of asked.volume) opened_before opened before now
+    ⊎ OfHeads (paths_of asked.volume) opened_before opened
+    (λ v heads. ChecksWhole result (checked_style asked) (quoted_paths (paths_of asked.volume)) heads v before now)

@@ -102,7 +102,7 @@ pub fn answer<F: Traces, R: Read, W: Write, P: Progress>(
         Request::List(paths) => list_volume(alloc, files, writer, paths.as_slice()),
         Request::ListPart(volume, part) => list_part(alloc, files, writer, &volume, part),
         Request::Check(paths) => check_volume(alloc, files, writer, progress, paths.as_slice()),
-        Request::CheckStrictly(volume) => check_strictly(alloc, files, writer, &volume),
+        Request::CheckStrictly(asked) => check_strictly(alloc, files, writer, &asked),
         Request::Dump(volume, part) => dump_part(alloc, files, writer, &volume, part),
         Request::Compare(volumes) => compare_both(alloc, files, writer, &volumes),
         Request::Hash(volume) => hash_volume(alloc, files, writer, &volume),

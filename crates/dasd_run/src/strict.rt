@@ -4,17 +4,17 @@ ghost use Rattle.std.specs.Prelude.{◌≡◌};
 ghost use Rattle.counted_io.specs.Streams.{seen_by};
 ghost use Rattle.dasd_volumes.specs.Printing.{CountsWrites};
 ghost use Rattle.dasd_archive.specs.Reports.{PrintsFindings};
-ghost use Rattle.dasd_run.specs.Strict.{found_in, checked_ending, ChecksWhole, ChecksStrictly};
+ghost use Rattle.dasd_run.specs.Strict.{found_in, checked_ending, checked_style, ChecksWhole, ChecksStrictly};
 
 use crate::archive::style;
 use crate::commands::Ending;
 use crate::fault::{ProgramFault, of_printing};
 use crate::printed_paths::quoted;
 use counted_io::Counted;
-use dasd_archive::{FileHeader, Form, Tally, check_headers, check_strict};
+use dasd_archive::{FileHeader, FindingForm, FindingStyle, Tally, check_headers, check_strict};
 use dasd_jobs::{ImageFiles, SlotReader, open_volume};
 use dasd_volumes::VolumeFault;
-use dasd_words::PrintedVolume;
+use dasd_words::StrictCheck;
 use std::alloc::Global;
 use std::io::Write;
 
@@ -31,19 +31,19 @@ pub(crate) fn check_strictly<F: ImageFiles, W: Write>(
     alloc: Global,
     files: &mut F,
     writer: &mut Counted<W>,
-    asked: &PrintedVolume,
+    asked: &StrictCheck,
 ) -> Result<Ending, ProgramFault>
     ensures kept { F.written files.new ≡ F.written files.old }
     ensures checks { ChecksStrictly result asked.now (F.opened files.old) (F.opened files.new)
         (seen_by W.contents writer.old) (seen_by W.contents writer.new) }
 {
-    let paths = asked.paths.as_slice();
+    let paths = asked.volume.paths.as_slice();
     let path = match quoted(alloc, paths) {
         Ok(path) => path,
         Err(fault) => return Err(fault),
     };
-    let form = Form {
-        style: style(asked.json),
+    let form = FindingForm {
+        style: style_of(asked),
         path: path.as_str(),
     };
     let mut volume = match open_volume(alloc, files, paths) {
@@ -56,12 +56,22 @@ pub(crate) fn check_strictly<F: ImageFiles, W: Write>(
     }
 }
 
+// For whom what is found is printed, and whether notes are.
+fn style_of(asked: &StrictCheck) -> FindingStyle
+    ensures { result ≡ checked_style asked.now }
+{
+    FindingStyle {
+        style: style(asked.volume.json),
+        with_notes: asked.with_notes,
+    }
+}
+
 // Prints what is found of these headers and of a volume, and says whether there is an error.
 fn check_opened<V: SlotReader, W: Write>(
     alloc: Global,
     volume: &mut V,
     writer: &mut Counted<W>,
-    form: Form,
+    form: FindingForm,
     heads: &[[u8; HEADER]],
 ) -> Result<Ending, ProgramFault>
     ensures { ChecksWhole result form.entry.style form.entry.path.now heads.now (V.volume volume.old)
@@ -92,7 +102,7 @@ fn check_heads<W: Write>(
     alloc: Global,
     writer: &mut Counted<W>,
     tally: &mut Tally,
-    form: Form,
+    form: FindingForm,
     heads: &[[u8; HEADER]],
 ) -> Result<(), VolumeFault>
     ensures found { PrintsFindings result form.entry.style form.entry.path.now (found_in heads.now)

@@ -24,6 +24,7 @@ pub use crate::refused::{
 };
 pub use crate::requests::{
     Asked, AskedTrace, ComparedVolumes, DeckRun, DumpedPart, ExtractedSet, ExtractedVolume,
-    ListedPart, NewImage, Noted, Numbers, PrintedVolume, Request, SetName, TraceTarget, WordFault,
+    ListedPart, NewImage, Noted, Numbers, PrintedVolume, Request, SetName, StrictCheck,
+    TraceTarget, WordFault,
 };
 pub use crate::volumes::{Volume, VolumeSource};

@@ -74,7 +74,7 @@ pub enum Request<'a> {
     /// Print the tracks that can't be read of the image that these files hold.
     Check(Vec<&'a str>),
     /// Print all that is found on a volume.
-    CheckStrictly(PrintedVolume<'a>),
+    CheckStrictly(StrictCheck<'a>),
     /// Print the bytes of a part of a volume.
     Dump(PrintedVolume<'a>, DumpedPart),
     /// Print what differs of the volumes of two images.
@@ -113,6 +113,15 @@ pub struct PrintedVolume<'a> {
     pub paths: Vec<&'a str>,
     /// Whether each line is an object of JSON.
     pub json: bool,
+}
+
+/// A strict check of the volume of an image.
+#[derive(Drop)]
+pub struct StrictCheck<'a> {
+    /// The volume, and how what is found is printed.
+    pub volume: PrintedVolume<'a>,
+    /// Whether notes have lines too.
+    pub with_notes: bool,
 }
 
 /// The volumes of two images that are compared.
