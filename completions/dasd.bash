@@ -81,7 +81,7 @@ _dasd() {
         _dasd_files
         ;;
     check)
-        if [[ $word == -* ]]; then _dasd_words --strict --json --verbose -h --help; return; fi
+        if [[ $word == -* ]]; then _dasd_words --strict --warnings --json --verbose -h --help; return; fi
         _dasd_files
         ;;
     dump)
@@ -117,7 +117,7 @@ _dasd() {
         _dasd_files
         ;;
     run)
-        if [[ $word == -* ]]; then _dasd_words --storage --channel --deck --trace --trace-to --trace-only --trace-last --trace-answers --trace-whole --verbose -h --help; return; fi
+        if [[ $word == -* ]]; then _dasd_words --storage --channel --deck --no-save --trace --trace-to --trace-only --trace-last --trace-answers --trace-whole --verbose -h --help; return; fi
         if [ "$word" = = ]; then word='' before='='; fi
         [ "$before" = = ] && _dasd_files
         ;;

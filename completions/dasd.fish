@@ -30,6 +30,7 @@ complete -c dasd -n '__fish_seen_subcommand_from list' -l verbose -d 'tells more
 complete -c dasd -n '__fish_seen_subcommand_from list' -s h -l help -d 'Print help'
 complete -c dasd -n '__fish_seen_subcommand_from list' -F
 complete -c dasd -n '__fish_seen_subcommand_from check' -l strict -d 'prints all that a reader of the drive would trip over, with severities'
+complete -c dasd -n '__fish_seen_subcommand_from check' -l warnings -d 'prints errors and warnings alone; notes are counted'
 complete -c dasd -n '__fish_seen_subcommand_from check' -l json -d 'prints one object of JSON a line'
 complete -c dasd -n '__fish_seen_subcommand_from check' -l verbose -d 'tells more of a fault, also where standard error is no terminal'
 complete -c dasd -n '__fish_seen_subcommand_from check' -s h -l help -d 'Print help'
@@ -75,6 +76,7 @@ complete -c dasd -n '__fish_seen_subcommand_from disassemble' -F
 complete -c dasd -n '__fish_seen_subcommand_from run' -l storage -x -d 'the size of main storage in bytes: 4096 to 16777216, a multiple of 2048'
 complete -c dasd -n '__fish_seen_subcommand_from run' -l channel -x -d 'the number of the channel, 0 to 6'
 complete -c dasd -n '__fish_seen_subcommand_from run' -l deck -r -F -d 'the deck; standard input where there is none'
+complete -c dasd -n '__fish_seen_subcommand_from run' -l no-save -d 'leaves all files as they are: what the deck changes is not saved'
 complete -c dasd -n '__fish_seen_subcommand_from run' -l trace -d 'tells on standard error what each channel command word does'
 complete -c dasd -n '__fish_seen_subcommand_from run' -l trace-to -r -F -d 'as --trace, into a file, whose bytes are replaced'
 complete -c dasd -n '__fish_seen_subcommand_from run' -l trace-only -x -a 'failing' -d 'traces those starts alone whose programs fail'

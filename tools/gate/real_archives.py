@@ -12,7 +12,7 @@ from tools.common.images import slot_at
 from tools.gate.scratch_files import ROWS, Play, Scratch, same, volume
 
 # What the words of a row behind its command are for `dasd`.
-STYLES: dict[str, list[str]] = {"text": [], "json": ["--json"], "lists": [], "counts": ["--tracks"]}
+STYLES: dict[str, list[str]] = {"text": [], "json": ["--json"], "lists": [], "counts": ["--tracks"], "warnings": ["--warnings"]}
 HERE = Path(__file__).resolve().parent / "rows"
 
 
@@ -42,7 +42,7 @@ def command(line: str) -> tuple[list[str], int] | None:
         return None
     style = STYLES[rest[0]]
     if word == "check":
-        words = ["check", "--strict", *style, "a.ckd"]
+        words = ["check", "--strict", *(option for it in rest for option in STYLES[it]), "a.ckd"]
     elif word == "dump":
         words = ["dump", *style, "a.ckd", *rest[1:]]
     else:

@@ -7,14 +7,13 @@ use Rattle.std.specs.Io.KnownBytes.{Appends}
 use Rattle.dasd_volumes.specs.Volumes.{of_each}
 use Rattle.dasd_volumes.proofs.Appended.{of_none, of_one_more}
 use Rattle.dasd_archive.specs.declared.findings.Finding.{Finding}
-use Rattle.dasd_archive.specs.declared.reports.Style.{Style}
+use Rattle.dasd_archive.specs.declared.reports.FindingStyle.{FindingStyle}
 use Rattle.dasd_archive.specs.declared.reports.Tally.{Tally}
-use Rattle.dasd_archive.specs.Findings.{finding_line}
 use Rattle.counted_io.specs.Streams.{Stream, Takes}
 use Rattle.dasd_volumes.proofs.Fronts.{no_lines, more_lines}
-use Rattle.dasd_archive.specs.Reports.{Reports, CountsUp, finding_lines, tally_of}
+use Rattle.dasd_archive.specs.Reports.{Reports, CountsUp, shown_line, finding_lines, tally_of}
 
-module _ (style : Style) (path : List ℕ) where
+module _ (style : FindingStyle) (path : List ℕ) where
   pub nothing : (a : Option (List ℕ)) (t : Tally) → Reports style path a a t t []
   nothing a t = record {
     lines = Appends-nil a;
@@ -24,7 +23,7 @@ module _ (style : Style) (path : List ℕ) where
   pub more : (a b c : Option (List ℕ)) (t u v : Tally) (xs ys : List Finding)
       → Reports style path a b t u xs → Reports style path b c u v ys → Reports style path a c t v (xs ++ ys)
   more a b c t u v xs ys first next = record {
-    lines = subst (Appends a c) (sym (flat_map-append (finding_line style path) xs ys)) (Appends-trans a b c _ _ first.lines next.lines);
+    lines = subst (Appends a c) (sym (flat_map-append (shown_line style path) xs ys)) (Appends-trans a b c _ _ first.lines next.lines);
     counts = λ earlier is. next.counts (earlier ++ xs) (first.counts earlier is) ∙ ap tally_of (append_assoc earlier xs ys);
   }
 
@@ -46,7 +45,7 @@ module _ (style : Style) (path : List ℕ) where
   pub none_found : (of : ℕ → List Finding) (a : Stream) (t : Tally) → Takes a a (finding_lines style path (of_each of 0))
       × CountsUp t t (of_each of 0)
   none_found of a t = (
-    no_lines (finding_line style path) of a,
+    no_lines (shown_line style path) of a,
     λ earlier is. is ∙ ap tally_of (sym (append-nil earlier)
         ∙ ap (λ l. earlier ++ l) (sym (of_none of))),
   )
@@ -56,7 +55,7 @@ module _ (style : Style) (path : List ℕ) where
       × CountsUp u v (of n)
       → Takes a c (finding_lines style path (of_each of (n + 1))) × CountsUp t v (of_each of (n + 1))
   one_more_found of n a b c t u v first next = (
-    more_lines (finding_line style path) of a b c n first.0 next.0,
+    more_lines (shown_line style path) of a b c n first.0 next.0,
     λ earlier is.
         next.1 (earlier ++ of_each of n) (first.1 earlier is)
         ∙ ap tally_of (append_assoc earlier (of_each of n) (of n) ∙ ap (λ l. earlier ++ l) (sym (of_one_more of n))),

@@ -1,5 +1,6 @@
 -- What findings print together, and how many there are of each severity.
-use Rattle.std.specs.Prelude.{◌≡◌, ℕ, ◌+◌, ◌-◌, ◌^◌, min, Bool, true, false, List, [], ◌∷◌, ◌++◌, flat_map, count_by, codes, Option, Result, Ok, Err}
+use Rattle.std.specs.Prelude.{◌≡◌, ℕ, ◌+◌, ◌-◌, ◌^◌, min, Bool, true, false, not, ◌&&◌, if◌then◌else◌, List, [], ◌∷◌, ◌++◌, flat_map}
+use Rattle.std.specs.Prelude.{count_by, codes, Option, Result, Ok, Err}
 use Rattle.std.specs.List.{concat}
 use Rattle.std.specs.Fmt.{decimal}
 use Rattle.std.specs.Io.KnownBytes.{Appends}
@@ -10,6 +11,7 @@ use Rattle.dasd_archive.specs.declared.findings.Severity.TheVariants.{Error, War
 use Rattle.dasd_archive.specs.declared.findings.Finding.{Finding}
 use Rattle.dasd_archive.specs.declared.reports.Style.{Style}
 use Rattle.dasd_archive.specs.declared.reports.Style.TheVariants.{Text, Json}
+use Rattle.dasd_archive.specs.declared.reports.FindingStyle.{FindingStyle}
 use Rattle.dasd_archive.specs.declared.reports.Tally.{Tally}
 use Rattle.dasd_volumes.specs.Lines.{line_feed}
 use Rattle.dasd_archive.specs.Findings.{severity_of, finding_line}
@@ -46,8 +48,12 @@ one_more Error t = record t { errors = counted (t.errors + 1) }
 one_more Warning t = record t { warnings = counted (t.warnings + 1) }
 one_more Note t = record t { notes = counted (t.notes + 1) }
 
-abbrev pub finding_lines : Style → (path : List ℕ) → List Finding → List ℕ
-finding_lines style path findings = flat_map (finding_line style path) findings
+-- a note has no line where notes are left out; each other finding has one
+abbrev pub shown_line : FindingStyle → (path : List ℕ) → Finding → List ℕ
+shown_line s path f = if is_note (severity_of f.problem) && not s.with_notes then [] else finding_line s.style path f
+
+abbrev pub finding_lines : FindingStyle → (path : List ℕ) → List Finding → List ℕ
+finding_lines style path findings = flat_map (shown_line style path) findings
 
 abbrev pub tally_line : Style → (path : List ℕ) → Tally → List ℕ
 tally_line Text path t =
@@ -61,13 +67,13 @@ abbrev pub CountsUp : (tally tally_now : Tally) → List Finding → Type 0
 CountsUp tally tally_now findings = (earlier : List Finding) → tally ≡ tally_of earlier → tally_now ≡ tally_of (earlier ++ findings)
 
 -- from before to now the lines of these findings were appended, and they were counted
-pub record Reports (style : Style) (path : List ℕ) (before now : Option (List ℕ)) (tally tally_now : Tally) (findings : List Finding) : Type 0 where
+pub record Reports (style : FindingStyle) (path : List ℕ) (before now : Option (List ℕ)) (tally tally_now : Tally) (findings : List Finding) : Type 0 where
   pub lines : Appends before now (finding_lines style path findings)
   pub counts : CountsUp tally tally_now findings
 
 -- these findings were printed and counted; with a fault only the first bytes of their lines were printed
-abbrev pub PrintsFindings : {A : Type 0} → Result A VolumeFault → Style → (path : List ℕ) → List Finding → (before after : Stream) → (tally tally_now : Tally)
-    → Type 0
+abbrev pub PrintsFindings : {A : Type 0} → Result A VolumeFault → FindingStyle → (path : List ℕ) → List Finding → (before after : Stream)
+    → (tally tally_now : Tally) → Type 0
 PrintsFindings (Ok _) style path findings before after tally tally_now = Takes before after (finding_lines style path findings)
     × CountsUp tally tally_now findings
 PrintsFindings (Err _) style path findings before after tally tally_now = TakesFront before after (finding_lines style path findings)

@@ -19,7 +19,7 @@ use Rattle.dasd_archive.specs.declared.findings.Place.TheVariants as place
 use Rattle.dasd_archive.specs.declared.findings.Finding.{Finding}
 use Rattle.counted_io.specs.Streams.{Stream}
 use Rattle.dasd_volumes.specs.declared.fault.VolumeFault.{VolumeFault}
-use Rattle.dasd_archive.specs.declared.reports.Style.{Style}
+use Rattle.dasd_archive.specs.declared.reports.FindingStyle.{FindingStyle}
 use Rattle.dasd_archive.specs.declared.reports.Tally.{Tally}
 use Rattle.dasd_archive.specs.Reports.{finding_lines, tally_line, tally_of, PrintsFindings}
 use Rattle.dasd_volumes.specs.Reading.{KnownVolume}
@@ -94,13 +94,14 @@ findings_on cylinder g slots =
 abbrev pub strict_findings : Geometry → (slots : List (List ℕ)) → List Finding
 strict_findings g slots = of_each (λ cylinder. findings_on cylinder g slots) g.cylinders
 
--- what a strict check prints of a volume, behind what was found before: its findings, and how many there are of each severity in all
-abbrev pub strict_text : Style → (path : List ℕ) → (earlier : List Finding) → Geometry → (slots : List (List ℕ)) → List ℕ
+-- what a strict check prints of a volume, behind what was found before: its findings, but for notes that are left out, and how many there
+-- are of each severity in all
+abbrev pub strict_text : FindingStyle → (path : List ℕ) → (earlier : List Finding) → Geometry → (slots : List (List ℕ)) → List ℕ
 strict_text style path earlier g slots =
-    finding_lines style path (strict_findings g slots) ++ tally_line style path (tally_of (earlier ++ strict_findings g slots))
+    finding_lines style path (strict_findings g slots) ++ tally_line style.style path (tally_of (earlier ++ strict_findings g slots))
 
 -- these findings of a volume were printed and counted; with a fault only the first bytes of their lines, if its slots are known
-abbrev pub PrintsFindingsOf : {A : Type 0} → Result A VolumeFault → (Geometry → List (List ℕ) → List Finding) → KnownVolume → Style → (path : List ℕ)
+abbrev pub PrintsFindingsOf : {A : Type 0} → Result A VolumeFault → (Geometry → List (List ℕ) → List Finding) → KnownVolume → FindingStyle → (path : List ℕ)
     → (before after : Stream) → (tally tally_now : Tally) → Type 0
 PrintsFindingsOf result found v style path before after tally tally_now =
     (slots : List (List ℕ)) → v.slots ≡ Some slots → PrintsFindings result style path (found v.geometry slots) before after tally tally_now

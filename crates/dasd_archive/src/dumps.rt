@@ -285,8 +285,8 @@ fn dump_home_address<W: Write>(
     }
 }
 
-// The number of a record.
-fn number_of(track: &TrackView, i: usize) -> u8
+/// The number of a record.
+pub(crate) fn number_of(track: &TrackView, i: usize) -> u8
     requires { i < length track.now.records }
     ensures { result ≡ slice_index (record_in track.now i).id 4 }
 {

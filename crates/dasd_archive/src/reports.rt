@@ -3,7 +3,7 @@
 ghost use Rattle.std.specs.Prelude.{◌≡◌, [], ◌∷◌, OnOk};
 ghost use Rattle.std.specs.Io.KnownBytes.{Appends};
 ghost use Rattle.dasd_archive.specs.Findings.{finding_line, severity_of};
-ghost use Rattle.dasd_archive.specs.Reports.{one_more, tally_line, tally_of, Reports};
+ghost use Rattle.dasd_archive.specs.Reports.{one_more, shown_line, tally_line, tally_of, Reports};
 
 use crate::findings::{Finding, Members, Severity};
 use std::io;
@@ -23,6 +23,24 @@ pub enum Style {
 pub struct Form<'a> {
     /// The style.
     pub style: Style,
+    /// The path, in quotes.
+    pub path: &'a str,
+}
+
+/// For whom the lines of findings are written, and which findings have one.
+#[derive(Clone, Copy)]
+pub struct FindingStyle {
+    /// For whom.
+    pub style: Style,
+    /// Whether notes have lines too.
+    pub with_notes: bool,
+}
+
+/// How the lines of findings are written, and which, with the volume's path as a string of JSON with its quotes, which objects have.
+#[derive(Clone, Copy)]
+pub struct FindingForm<'a> {
+    /// The style.
+    pub style: FindingStyle,
     /// The path, in quotes.
     pub path: &'a str,
 }
@@ -62,18 +80,35 @@ impl Tally {
     }
 }
 
-/// Writes the line of a finding, and counts it.
+/// Writes the line of a finding, if it has one, and counts it.
 pub(crate) fn report<W: Write>(
     writer: &mut W,
     tally: &mut Tally,
-    form: Form,
+    form: FindingForm,
     finding: Finding,
 ) -> io::Result<()>
     ensures { OnOk result (Reports form.entry.style form.entry.path.now (W.contents writer.old) (W.contents writer.new)
         tally.old tally.new (finding ∷ [])) }
 {
     tally.count(finding.problem.severity());
-    write_finding(writer, form, finding)
+    write_shown(writer, form, finding)
+}
+
+// The line of a finding; none of a note, where notes have none.
+fn write_shown<W: Write>(writer: &mut W, form: FindingForm, finding: Finding) -> io::Result<()>
+    ensures { OnOk result (Appends (W.contents writer.old) (W.contents writer.new)
+        (shown_line form.entry.style form.entry.path.now finding)) }
+{
+    match finding.problem.severity() {
+        Severity::Note if !form.style.with_notes => Ok(()),
+        _ => {
+            let form = Form {
+                style: form.style.style,
+                path: form.path,
+            };
+            write_finding(writer, form, finding)
+        }
+    }
 }
 
 // The line of a finding.
@@ -97,9 +132,13 @@ fn write_finding<W: Write>(writer: &mut W, form: Form, finding: Finding) -> io::
 }
 
 /// Writes how many findings there are of each severity.
-pub(crate) fn write_tally<W: Write>(writer: &mut W, form: Form, tally: Tally) -> io::Result<()>
+pub(crate) fn write_tally<W: Write>(
+    writer: &mut W,
+    form: FindingForm,
+    tally: Tally,
+) -> io::Result<()>
     ensures { OnOk result (Appends (W.contents writer.old) (W.contents writer.new)
-        (tally_line form.entry.style form.entry.path.now tally)) }
+        (tally_line form.entry.style.style form.entry.path.now tally)) }
 {
     let path = form.path;
     let Tally {
@@ -107,7 +146,7 @@ pub(crate) fn write_tally<W: Write>(writer: &mut W, form: Form, tally: Tally) ->
         warnings,
         notes,
     } = tally;
-    match form.style {
+    match form.style.style {
         Style::Text => writeln!(
             writer,
             "{errors} errors, {warnings} warnings, {notes} notes"

@@ -12,7 +12,7 @@ ghost use Rattle.dasd_archive.specs.Reports.{tally_line, tally_of, PrintsFinding
 ghost use Rattle.dasd_archive.specs.Strict.{findings_on, findings_in_slot, strict_findings, strict_text, findings_in_header, PrintsFindingsOf, Adds};
 
 use crate::printed::{print_flushed, print_lines};
-use crate::reports::{Form, Tally, write_tally};
+use crate::reports::{FindingForm, Tally, write_tally};
 use crate::tracks::{CheckedTrack, TrackPlace, check_header, check_track};
 use ckd_image::StoreFault;
 use counted_io::Counted;
@@ -32,7 +32,7 @@ pub struct FileHeader<'a> {
 // How what is found of a cylinder is written, and which it is.
 #[derive(Clone, Copy)]
 struct CylinderForm<'a> {
-    form: Form<'a>,
+    form: FindingForm<'a>,
     cylinder: u16,
 }
 
@@ -54,7 +54,7 @@ pub fn check_headers<W: Write>(
     alloc: Global,
     writer: &mut Counted<W>,
     tally: &mut Tally,
-    form: Form,
+    form: FindingForm,
     header: FileHeader,
 ) -> Result<(), VolumeFault>
     ensures found { PrintsFindings result form.entry.style form.entry.path.now (findings_in_header header.entry.file header.entry.bytes.now)
@@ -71,8 +71,8 @@ pub fn check_headers<W: Write>(
 }
 
 /// Prints what a reader of the drive would trip over on a volume, and what is unusual or worth to know: each finding with its
-/// severity and its place, and then how many there are of each severity, with those that were found before, which it answers. What is
-/// found of a track is made lines in memory, and written from there.
+/// severity and its place, but for notes where they are left out; and then how many there are of each severity, with those that were
+/// found before, which it answers. What is found of a track is made lines in memory, and written from there.
 ///
 /// # Errors
 ///
@@ -82,7 +82,7 @@ pub fn check_strict<V: SlotReader, W: Write>(
     alloc: Global,
     volume: &mut V,
     writer: &mut Counted<W>,
-    form: Form,
+    form: FindingForm,
     tally: Tally,
 ) -> Result<Tally, VolumeFault>
     ensures counts { (earlier : List Finding) → tally ≡ tally_of earlier
@@ -113,11 +113,11 @@ pub fn check_strict<V: SlotReader, W: Write>(
 // Prints the last line, and leaves nothing held back.
 fn print_tally<W: Write>(
     writer: &mut Counted<W>,
-    form: Form,
+    form: FindingForm,
     tally: Tally,
     lines: &mut Vec<u8>,
 ) -> Result<(), VolumeFault>
-    ensures lines { PrintsBytes result (tally_line form.entry.style form.entry.path.now tally)
+    ensures lines { PrintsBytes result (tally_line form.entry.style.style form.entry.path.now tally)
         (seen_by W.contents writer.old) (seen_by W.contents writer.new) }
     ensures writes { CountsWrites result (seen_by W.contents writer.old) (seen_by W.contents writer.new) }
     ensures fault { IfErr result (λ e. e ≢ VolumeFault.Store) }
@@ -135,7 +135,7 @@ fn check_cylinders<V: SlotReader, W: Write>(
     volume: &mut V,
     writer: &mut Counted<W>,
     tally: &mut Tally,
-    form: Form,
+    form: FindingForm,
     room: &mut Room,
 ) -> Result<(), VolumeFault>
     requires size { length room.old.slot.items ≡ (V.volume volume.old).geometry.track_size }

@@ -11,7 +11,7 @@ ghost use Rattle.dasd_archive.specs.Strict.{where_so, is_own, home_address_findi
 ghost use Rattle.dasd_archive.specs.Strict.{rest_findings, findings_of, findings_in_slot, findings_in_header};
 
 use crate::findings::{Finding, Place, Problem};
-use crate::reports::{Form, Tally, report};
+use crate::reports::{FindingForm, Tally, report};
 use ckd_track::{Geometry, TrackView, end_offset_of, index_slot, used, view_at};
 use std::io;
 use std::io::Write;
@@ -30,7 +30,7 @@ pub(crate) struct TrackPlace {
 /// A track that is checked, and how what is found of it is written.
 #[derive(Clone, Copy)]
 pub(crate) struct CheckedTrack<'a> {
-    pub(crate) form: Form<'a>,
+    pub(crate) form: FindingForm<'a>,
     pub(crate) place: TrackPlace,
 }
 
@@ -79,7 +79,7 @@ fn found(track: TrackPlace, problem: Problem) -> Finding
 fn report_where<W: Write>(
     writer: &mut W,
     tally: &mut Tally,
-    form: Form,
+    form: FindingForm,
     is_so: bool,
     finding: Finding,
 ) -> io::Result<()>
@@ -305,7 +305,7 @@ pub(crate) fn bytes_from(bytes: &[u8], from: usize) -> &[u8]
 pub(crate) fn check_header<W: Write>(
     writer: &mut W,
     tally: &mut Tally,
-    form: Form,
+    form: FindingForm,
     file: u8,
     header: &[u8],
 ) -> io::Result<()>

@@ -107,6 +107,7 @@ fn rule_of(fault: &ProgramFault) -> Option<&'static str> {
         }
         ProgramFault::TooManyDrives => Some("a channel has at most eight drives"),
         ProgramFault::NoTrack => Some("dasd list says how many cylinders and heads a volume has"),
+        ProgramFault::NoRecord => Some("dasd list says which records each track has"),
         ProgramFault::Job(JobFault::Mount(fault)) => rule_of_image(*fault),
         _ => None,
     }

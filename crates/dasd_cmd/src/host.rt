@@ -34,6 +34,8 @@ pub(crate) struct HostFiles<'a> {
     unsettled: Vec<String>,
     remarks: &'a Remarks<'a>,
     is_verbose: bool,
+    /// Whether files that are locked are to be replaced.
+    replaces: bool,
 }
 
 impl<'a> HostFiles<'a> {
@@ -51,6 +53,7 @@ impl<'a> HostFiles<'a> {
             unsettled: Vec::new(host.alloc()),
             remarks,
             is_verbose: false,
+            replaces: true,
         }
     }
 
@@ -84,7 +87,7 @@ impl<'a> HostFiles<'a> {
 
     // Says before a deck is run why what it changes of a file could not be saved, if somebody is to hear it.
     fn forewarn(&self, path: &str) -> Result<(), FileFault> {
-        if !self.tells() {
+        if !self.replaces || !self.tells() {
             return Ok(());
         }
         match try_to_replace(self.host, self.remarks, path) {
@@ -175,8 +178,13 @@ impl<'a> ImageFiles for HostFiles<'a> {
         }
     }
 
+    fn plan_replacing(&mut self, replaces: bool) {
+        self.replaces = replaces;
+    }
+
     fn lock(&mut self, alloc: Global, path: &str) -> Result<HostFile<'a>, FileFault> {
-        let (file, known) = match open_locked(self.host, self.locked.as_slice(), path) {
+        let locked = self.locked.as_slice();
+        let (file, known) = match open_locked(self.host, locked, path, self.replaces) {
             Ok(found) => found,
             Err(fault) => return Err(self.remarks.refuse(path, &fault)),
         };

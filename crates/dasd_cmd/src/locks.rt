@@ -73,13 +73,13 @@ fn node_at(host: &HostRuntime, path: &str) -> Option<Node> {
     Some((known.dev(), known.ino()))
 }
 
-// Opens a regular file, for writing too where that is allowed.
-fn open_regular(host: &HostRuntime, path: &str) -> io::Result<File> {
+// Opens a regular file; one that is to be replaced for writing too, where that is allowed.
+fn open_regular(host: &HostRuntime, path: &str, replaces: bool) -> io::Result<File> {
     let known = fs::metadata(host, path)?;
     if !known.is_file() {
         return Err(wrong("not a regular file"));
     }
-    if !known.permissions().readonly() {
+    if replaces && !known.permissions().readonly() {
         if let Ok(file) = OpenOptions::new().read(true).write(true).open(host, path) {
             return Ok(file);
         }
@@ -87,7 +87,7 @@ fn open_regular(host: &HostRuntime, path: &str) -> io::Result<File> {
     File::open(host, path)
 }
 
-// Locks a file that was opened; a file that may not be written may be read by several users.
+// Locks a file that was opened; a file that is not written may be read by several users.
 fn lock_file(file: &File, may_write: bool) -> io::Result<()> {
     let locked = if may_write {
         file.try_lock()
@@ -101,19 +101,21 @@ fn lock_file(file: &File, may_write: bool) -> io::Result<()> {
     }
 }
 
-/// Opens a regular file and locks it. One that was replaced before it was locked is opened again.
+/// Opens a regular file and locks it: for one user, where it is to be replaced and may be written. One that was replaced before it was
+/// locked is opened again.
 pub(crate) fn open_locked(
     host: &HostRuntime,
     held: &[Locked],
     path: &str,
+    replaces: bool,
 ) -> io::Result<(File, Metadata)> {
     for _ in 0..TRIES {
-        let file = open_regular(host, path)?;
+        let file = open_regular(host, path, replaces)?;
         let known = file.metadata()?;
         if is_locked(held, &known) {
             return Ok((file, known));
         }
-        lock_file(&file, !known.permissions().readonly())?;
+        lock_file(&file, replaces && !known.permissions().readonly())?;
         let there = fs::metadata(host, path)?;
         if there.dev() == known.dev() && there.ino() == known.ino() {
             return Ok((file, known));
@@ -163,7 +165,7 @@ pub(crate) fn find_old(
         ));
     }
     let target = fs::canonicalize(host, path)?;
-    let (file, known) = open_locked(host, held, target.as_str())?;
+    let (file, known) = open_locked(host, held, target.as_str(), true)?;
     if known.permissions().readonly() {
         return Err(wrong("it may not be written"));
     }

@@ -21,8 +21,8 @@ use Rattle.ckd_image.proofs.Writes.{range_is}
 use Rattle.ckd_image.proofs.ImageLemmas.{tracks_held, slot_is, slots_of}
 use Rattle.dasd_volumes.specs.Reading.{IsSlotOf}
 use Rattle.dasd_jobs.specs.declared.reasons.Head.{Head}
-use Rattle.dasd_jobs.specs.Sources.{Content, SourceFile, IsLength, StandsIn, IsWhole, OpensPaths, Mounts, NotMounted, sources, known}
-use Rattle.dasd_jobs.specs.Sources.{volume_in}
+use Rattle.dasd_jobs.specs.Sources.{Content, SourceFile, IsLength, StandsIn, IsHeader, IsWhole, OpensPaths, Mounts, NotMounted, sources}
+use Rattle.dasd_jobs.specs.Sources.{known, volume_in}
 use Rattle.dasd_jobs.specs.Opening.{IsHeadOf, AreTracks, AddsFile, Lies, alone}
 
 -- Lists.
@@ -192,6 +192,14 @@ pub short_head : (content : Content) (header : List ℕ) (len : ℕ) → IsLengt
     → IsHeadOf content (record { header = header; len = len })
 short_head content header len is short bytes e =
     (is bytes e, λ enough. absurd (let same = is bytes e in omega (arith, same, short, enough)))
+
+-- one more header of several files was read
+pub next_header : (contents : List Content) (i : ℕ) (headers : List (List ℕ)) (header : List ℕ) → i < length contents
+    → AllZip IsHeader (take i contents) headers → IsHeader (get_or contents i None) header
+    → AllZip IsHeader (take (i + 1) contents) (headers ++ header ∷ [])
+next_header contents i headers header inside so_far one =
+    subst (λ (l : List Content). AllZip IsHeader l (headers ++ header ∷ [])) (sym (take_more contents i None inside))
+    (and_both IsHeader (take i contents) headers (get_or contents i None) header so_far one)
 
 -- one more header with zeros behind it
 pub next_alone : (heads : List Head) (i : ℕ) (d : Head) (before now : List (List ℕ)) (one : List ℕ) → i < length heads

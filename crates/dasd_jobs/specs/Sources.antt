@@ -22,6 +22,10 @@ IsLength content n = (bytes : List ℕ) → content ≡ Some bytes → n ≡ len
 abbrev pub StandsIn : Content → (at : ℕ) → (read : List ℕ) → Type 0
 StandsIn content at read = (bytes : List ℕ) → content ≡ Some bytes → read ≡ slice_range bytes at (at + length read)
 
+-- a file's header is its first 512 bytes
+abbrev pub IsHeader : Content → (header : List ℕ) → Type 0
+IsHeader content header = (length header ≡ 512) × StandsIn content 0 header
+
 -- these are all the bytes of a file
 abbrev pub IsWhole : Content → (read : List ℕ) → Type 0
 IsWhole content read = (bytes : List ℕ) → content ≡ Some bytes → read ≡ bytes

@@ -68,6 +68,12 @@ pub trait ImageFiles {
         ensures kept { written self.new ≡ written self.old }
         ensures opens { OpensFile result Self.Opened.content path.now (opened self.old) (opened self.new) };
 
+    /// Says whether files that are locked from here on are to be replaced; where nothing is said, they are. One that is not is shared
+    /// with others that only read it, and is not looked at for what would hinder its replacement.
+    fn plan_replacing(&mut self, replaces: bool)
+        ensures kept { written self.new ≡ written self.old }
+        ensures same { opened self.new ≡ opened self.old };
+
     /// Opens a file that may be replaced later, and keeps it locked as long as these files are there.
     ///
     /// # Errors

@@ -7,7 +7,7 @@ ghost use Rattle.arrayvec.specs.ArrayVec.{array_vec_len};
 ghost use Rattle.ckd_track.specs.Geometry.{IsGeometry};
 ghost use Rattle.ckd_image.specs.Header.{mount_of};
 ghost use Rattle.ckd_image.specs.Files.{each, place_in};
-ghost use Rattle.dasd_jobs.specs.Sources.{StandsIn, OpensPaths, Mounts};
+ghost use Rattle.dasd_jobs.specs.Sources.{StandsIn, IsHeader, OpensPaths, Mounts};
 ghost use Rattle.dasd_jobs.specs.Unopened.{NotOpened};
 ghost use Rattle.dasd_jobs.specs.Opening.{IsHeadOf, AreTracks, AddsFile, AddsHead, NotAdded, IsBroken, alone};
 
@@ -300,4 +300,55 @@ fn tracks_in(head: &Head, size: u32) -> u32
         return u32::MAX;
     }
     tracks as u32
+}
+
+impl<O: OpenedFile> OpenedVolume<O> {
+    /// The headers of its files, in their order, read of the files that were opened for it.
+    ///
+    /// # Errors
+    ///
+    /// A header can't be read, or there is no memory.
+    pub fn read_headers(&mut self, alloc: Global) -> Result<Vec<[u8; HEADER]>, JobFault>
+        ensures headers { IfOk result (λ headers. AllZip IsHeader self.old.contents headers.items) }
+        ensures kept { self.new ≡ self.old }
+        ensures fault { IfErr result (λ e. (e ≡ JobFault.Read) ⊎ (e ≡ JobFault.OutOfMemory)) }
+    {
+        headers_of(alloc, &mut self.files)
+    }
+}
+
+// The headers of these files, in their order.
+fn headers_of<O: OpenedFile>(
+    alloc: Global,
+    files: &mut Vec<O>,
+) -> Result<Vec<[u8; HEADER]>, JobFault>
+    ensures headers { IfOk result (λ headers. AllZip IsHeader (map O.content files.old.items) headers.items) }
+    ensures kept { map O.content files.new.items ≡ map O.content files.old.items }
+    ensures fault { IfErr result (λ e. (e ≡ JobFault.Read) ⊎ (e ≡ JobFault.OutOfMemory)) }
+{
+    let mut headers = Vec::new(alloc);
+    for i in 0..files.len() {
+        let header = match header_of(files, i) {
+            Ok(header) => header,
+            Err(fault) => return Err(fault),
+        };
+        if headers.push(header).is_err() {
+            return Err(JobFault::OutOfMemory);
+        }
+    }
+    Ok(headers)
+}
+
+// The header of the file at this place.
+fn header_of<O: OpenedFile>(files: &mut Vec<O>, place: usize) -> Result<[u8; HEADER], JobFault>
+    requires { place < vec_len files.old }
+    ensures header { IfOk result (IsHeader (slice_index_or (map O.content files.old.items) place None)) }
+    ensures kept { map O.content files.new.items ≡ map O.content files.old.items }
+    ensures fault { IfErr result (λ e. e ≡ JobFault.Read) }
+{
+    let mut header = [0; HEADER];
+    match read_from(files, place, 0, &mut header) {
+        Ok(()) => Ok(header),
+        Err(_) => Err(JobFault::Read),
+    }
 }

@@ -1,6 +1,5 @@
 mod Built
 mod Held
-pub mod Heads
 pub mod Paths
 pub mod Saving
 mod Told

@@ -1,5 +1,5 @@
 -- How often writes failed, in several steps; and what want of memory is told of.
-use Rattle.std.proofs.Common.{◌≡◌, ◌∙◌, ℕ, ◌+◌, Err, refl, ap}
+use Rattle.std.proofs.Common.{◌≡◌, ◌≢◌, ◌∙◌, ℕ, ◌+◌, Err, refl, ap}
 use Rattle.counted_io.specs.Streams.{Stream, NoneFailed}
 use Rattle.dasd_volumes.specs.declared.fault.VolumeFault.{VolumeFault}
 use Rattle.dasd_volumes.specs.declared.fault.VolumeFault.TheVariants.{OutOfMemory, Store, Write}
@@ -26,3 +26,9 @@ pub memory_told : (f : VolumeFault) → printing_fault f ≡ fault.Job job.OutOf
 memory_told OutOfMemory e = refl
 memory_told Store e = cc
 memory_told Write e = cc
+
+-- no call failed, where the fault is not that of one
+pub none_written : (A : Type 0) (f : VolumeFault) (a : Stream) → f ≢ Write → CountsWrites {A = A} (Err f) a a
+none_written A OutOfMemory a other = refl
+none_written A Store a other = refl
+none_written A Write a other = absurd (other refl)

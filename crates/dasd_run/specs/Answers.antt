@@ -1,7 +1,10 @@
 -- What is done of each request.
-use Rattle.std.specs.Prelude.{◌≡◌, ◌⊎◌, ℕ, List, map, option_map, if◌then◌else◌, Result, Ok, Err, IfOk, OnOk}
+use Rattle.std.specs.Prelude.{◌≡◌, ◌⊎◌, ◌==◌, ◌||◌, ℕ, nat_lt, Bool, true, false, List, map, option_map, if◌then◌else◌, Result, Ok, Err, IfOk, OnOk}
 use Rattle.counted_io.specs.Streams.{Stream, IsFlushed}
+use Rattle.ckd_track.specs.declared.geometries.Geometry.{Geometry}
 use Rattle.dasd_archive.specs.Dump.{dump_text, IsPartOf}
+use Rattle.dasd_archive.specs.Numbered.{LacksRecords, TellsOf}
+use Rattle.dasd_volumes.specs.Reading.{KnownVolume}
 use Rattle.dasd_volumes.specs.Volumes.{volume_text, check_text, NumberIn}
 use Rattle.dasd_words.specs.declared.requests.NewImage.{NewImage}
 use Rattle.dasd_words.specs.declared.requests.PrintedVolume.{PrintedVolume}
@@ -56,12 +59,24 @@ ChecksVolume result paths opened_before opened printed_before printed =
     × PrintsFiles job check_text paths opened_before opened printed_before printed × CountsLines job printed_before printed
     × OnOk job (IsFlushed printed)
 
+-- words name records, unless they ask for all from one on
+abbrev pub names_records : DumpedPart → Bool
+names_records part = nat_lt part.records.last 255 || part.records.first == part.records.last
+
+-- A part of a volume is dumped, and has one of the records, if words name some, or a track that can't be read; or it lacks them, there is
+-- no such record, and nothing is printed.
+abbrev pub DumpsRecords : Result Ending ProgramFault → DumpedPart → (text : Geometry → List (List ℕ) → List ℕ) → KnownVolume → (before now : Stream) → Type 0
+DumpsRecords result part text v before now =
+    (PrintsPart result (IsPartOf (asked_part part)) text v before now
+    × OnOk result (names_records part ≡ true → TellsOf true (LacksRecords (asked_part part)) v))
+    ⊎ ((result ≡ Err fault.NoRecord) × (names_records part ≡ true) × TellsOf false (LacksRecords (asked_part part)) v × (now ≡ before))
+
 -- this part of the volume in the files that are named is dumped
 abbrev pub DumpsPart : Result Ending ProgramFault → PrintedVolume → DumpedPart → (opened_before opened : List SourceFile) → (before now : Stream) → Type 0
 DumpsPart result asked part opened_before opened before now =
     IsUnopened result (paths_of asked) opened_before opened before now
     ⊎ OfVolume (paths_of asked) opened_before opened
-    (λ v. PrintsPart result (IsPartOf (asked_part part)) (dump_text (style_of asked.json) (quoted_paths (paths_of asked)) (asked_part part)) v before now)
+    (λ v. DumpsRecords result part (dump_text (style_of asked.json) (quoted_paths (paths_of asked)) (asked_part part)) v before now)
 
 -- some of its cylinders are listed
 abbrev pub ListsPart : Result Ending ProgramFault → PrintedVolume → ListedPart → (opened_before opened : List SourceFile) → (before now : Stream) → Type 0

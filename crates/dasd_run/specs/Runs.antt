@@ -16,7 +16,7 @@ use Rattle.dasd_run.specs.declared.fault.ProgramFault.TheVariants as fault
 use Rattle.dasd_run.specs.Built.{IsNewChannel, OpensVolumes, AreOpened, NotBuilt}
 use Rattle.dasd_run.specs.Decks.{deck_path, ReadsDeck, IsUnread, NoTrace}
 use Rattle.dasd_run.specs.Outside.{Outside}
-use Rattle.dasd_run.specs.Saves.{Concludes}
+use Rattle.dasd_run.specs.Saves.{Ends}
 
 -- A text is printed, and none of it held back; or there is a write fault, a write failed or the flush, and the first bytes may be printed.
 abbrev pub Tells : Result Ending ProgramFault → (text : List ℕ) → (printed_before printed : Stream) → Type 0
@@ -26,7 +26,7 @@ Tells (Err f) text printed_before printed = (f ≡ fault.Job Write) × TakesFron
 
 -- A deck was read, and run or refused at a new channel of the number and the storage that the words ask for, with a drive for each
 -- volume, in their order; no file was opened but those of the volumes, and then that of the deck, where it is one. The trace was ended, and
--- the files of the volumes were written back. Their fault is told before that of the trace.
+-- the files of the volumes were written back, unless nothing is to be saved. Their fault is told before that of the trace.
 pub record RunsVolumes (result : Result Ending ProgramFault) (asked : DeckRun) (before now : Outside) : Type 0 where
   pub built : ChannelState
   pub is_new : IsNewChannel asked.storage asked.channel built
@@ -40,7 +40,7 @@ pub record RunsVolumes (result : Result Ending ProgramFault) (asked : DeckRun) (
   pub flushed : OnOk run (IsFlushed now.printed)
   pub unless_run : StaysUnlessRun run before.printed now.printed
   pub concluded : Result (Unit {0}) ProgramFault
-  pub concludes : Concludes run concluded asked.volumes.items last before.written now.written
+  pub concludes : Ends asked.saves run concluded asked.volumes.items last before.written now.written
   pub traced : Result (Unit {0}) ProgramFault
   pub no_other : IfErr traced (λ e. e ≡ fault.TraceWrite)
   pub told : result ≡ result_and concluded (result_and traced (Ok Done))

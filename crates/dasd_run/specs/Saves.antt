@@ -1,5 +1,5 @@
 -- What a run writes back at its end.
-use Rattle.std.specs.Prelude.{◌≡◌, ◌⊎◌, ℕ, List, [], ◌∷◌, map, zip, Option, Some, None, Result, Ok, Err, IsOk}
+use Rattle.std.specs.Prelude.{◌≡◌, ◌⊎◌, ℕ, Bool, true, false, List, [], ◌∷◌, map, zip, Option, Some, None, Result, Ok, Err, IsOk}
 use Rattle.std.specs.Result.{result_and}
 use Rattle.ckd_image.specs.Image.{ImageState}
 use Rattle.s360_words.specs.Storage.{Storage}
@@ -51,3 +51,14 @@ Concludes (Ok done) result volumes channel before now = SavesRun result volumes 
 Concludes (Err run.Write) result volumes channel before now =
     (saved : Result (Unit {0}) ProgramFault) × SavesRun saved volumes channel before now × (result ≡ result_and saved (Err (fault.Run run.Write)))
 Concludes (Err f) result volumes channel before now = (result ≡ Err (fault.Run f)) × (now ≡ before)
+
+-- how a run ends of which nothing is saved: as its deck
+abbrev pub unsaved_ending : Result (Unit {0}) RunFault → Result (Unit {0}) ProgramFault
+unsaved_ending (Ok done) = Ok done
+unsaved_ending (Err f) = Err (fault.Run f)
+
+-- the files are saved, where that is asked; and else none is written
+abbrev pub Ends : (saves : Bool) → (run : Result (Unit {0}) RunFault) → (result : Result (Unit {0}) ProgramFault) → List Volume → ChannelState
+    → (before now : List Replaced) → Type 0
+Ends true run result volumes channel before now = Concludes run result volumes channel before now
+Ends false run result volumes channel before now = (result ≡ unsaved_ending run) × (now ≡ before)

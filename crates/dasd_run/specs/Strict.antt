@@ -7,14 +7,13 @@ use Rattle.dasd_volumes.specs.declared.fault.VolumeFault.{VolumeFault}
 use Rattle.dasd_volumes.specs.Reading.{KnownVolume}
 use Rattle.dasd_volumes.specs.Volumes.{of_each}
 use Rattle.dasd_archive.specs.declared.findings.Finding.{Finding}
-use Rattle.dasd_archive.specs.declared.reports.Style.{Style}
+use Rattle.dasd_archive.specs.declared.reports.FindingStyle.{FindingStyle}
 use Rattle.dasd_archive.specs.declared.reports.Tally.{Tally}
 use Rattle.dasd_archive.specs.Reports.{finding_lines}
 use Rattle.dasd_archive.specs.Strict.{findings_in_header, strict_text, Adds}
-use Rattle.dasd_words.specs.declared.requests.PrintedVolume.{PrintedVolume}
-use Rattle.dasd_jobs.specs.Sources.{Content, SourceFile, StandsIn, OpensPaths, OfVolume, with_source}
-use Rattle.dasd_jobs.specs.Unopened.{OpensSome}
-use Rattle.dasd_jobs.specs.declared.faults.JobFault.TheVariants.{Read}
+use Rattle.dasd_words.specs.declared.requests.StrictCheck.{StrictCheck}
+use Rattle.dasd_jobs.specs.Sources.{Content, SourceFile, IsHeader, OpensPaths, Mounts, OfVolume, volume_in}
+use Rattle.dasd_jobs.specs.declared.faults.JobFault.TheVariants.{Read, OutOfMemory}
 use Rattle.dasd_run.specs.declared.commands.Ending.{Ending}
 use Rattle.dasd_run.specs.declared.commands.Ending.TheVariants.{Done, Findings}
 use Rattle.dasd_run.specs.declared.fault.ProgramFault.{ProgramFault}
@@ -22,28 +21,12 @@ use Rattle.dasd_run.specs.declared.fault.ProgramFault.TheVariants as fault
 use Rattle.dasd_run.specs.Paths.{quoted_paths}
 use Rattle.dasd_run.specs.Printed.{style_of, paths_of, IsUnopened, printed_ending, PrintsWhole}
 
--- a file's header is its first 512 bytes
-abbrev pub IsHead : Content → (head : List ℕ) → Type 0
-IsHead content head = (length head ≡ 512) × StandsIn content 0 head
-
--- a file was opened by this path, and this is its header
-pub record OpensHead (path : List ℕ) (before now : List SourceFile) (head : List ℕ) : Type 0 where
-  pub content : Content
-  pub opened : now ≡ with_source before path content
-  pub is_head : IsHead content head
-
--- the files at these paths were opened, in their order, and no other; and these are their headers
-pub record ReadsHeads (paths heads : List (List ℕ)) (before now : List SourceFile) : Type 0 where
-  pub contents : List Content
-  pub opens : OpensPaths paths contents before now
-  pub are_heads : AllZip IsHead contents heads
-
 -- what is found of the headers of files, the first of which is number 1; numbers go up to 255
 abbrev pub found_in : (heads : List (List ℕ)) → List Finding
 found_in heads = of_each (λ i. findings_in_header (min (i + 1) 255) (slice_index_or heads i [])) (length heads)
 
 -- what is found of the headers and of the volume, and how many there are of each severity
-abbrev pub checked_text : Style → (path : List ℕ) → (heads : List (List ℕ)) → Geometry → (slots : List (List ℕ)) → List ℕ
+abbrev pub checked_text : FindingStyle → (path : List ℕ) → (heads : List (List ℕ)) → Geometry → (slots : List (List ℕ)) → List ℕ
 checked_text style path heads g slots = finding_lines style path (found_in heads) ++ strict_text style path (found_in heads) g slots
 
 -- a strict check has findings where there is an error
@@ -51,33 +34,35 @@ abbrev pub checked_ending : Tally → Ending
 checked_ending tally = if tally.errors == 0 then Done else Findings
 
 -- all that is found of headers and of a volume is printed and counted
-abbrev pub ChecksWhole : Result Ending ProgramFault → Style → (path : List ℕ) → (heads : List (List ℕ)) → KnownVolume → (before now : Stream) → Type 0
+abbrev pub ChecksWhole : Result Ending ProgramFault → FindingStyle → (path : List ℕ) → (heads : List (List ℕ)) → KnownVolume → (before now : Stream) → Type 0
 ChecksWhole result style path heads v before now =
     (checking : Result Tally VolumeFault) × (result ≡ printed_ending checked_ending checking) × IfOk checking (Adds (found_in heads) v)
     × PrintsWhole checking (checked_text style path heads) v before now
 
--- The files at these paths were opened to read the volume, and once more to read their headers; no other file was; and this is said of
--- the volume and the headers.
+-- The files at these paths were opened, once each, and no other; and this is said of the volume that they hold and of their headers.
 pub record OfHeads (paths : List (List ℕ)) (before now : List SourceFile) (P : KnownVolume → List (List ℕ) → Type 0) : Type 0 where
-  pub between : List SourceFile
+  pub geometry : Geometry
+  pub contents : List Content
+  pub opens : OpensPaths paths contents before now
+  pub mounts : Mounts contents geometry
   pub heads : List (List ℕ)
-  pub reads : ReadsHeads paths heads between now
-  pub so : OfVolume paths before between (λ v. P v heads)
+  pub are_heads : AllZip IsHeader contents heads
+  pub so : P (volume_in geometry contents) heads
 
--- Why there are no headers of the files at these paths: one can't be read, or there is no memory. The files up to there were opened.
-abbrev pub AreUnread : ProgramFault → (paths : List (List ℕ)) → (before now : List SourceFile) → Type 0
-AreUnread f paths before now = ((f ≡ fault.Job Read) ⊎ (f ≡ fault.OutOfMemory)) × OpensSome paths before now
-
--- the volume was opened, and has no headers, and nothing is printed
+-- The volume was opened, and a header of its files can't be read, or there is no memory for them; nothing is printed.
 abbrev pub HasNoHeads : Result Ending ProgramFault → (paths : List (List ℕ)) → (opened_before opened : List SourceFile) → (before now : Stream) → Type 0
 HasNoHeads (Ok ending) paths opened_before opened before now = ⊥
 HasNoHeads (Err f) paths opened_before opened before now =
-    ((between : List SourceFile) × OfVolume paths opened_before between (λ v. Unit {0}) × AreUnread f paths between opened) × (now ≡ before)
+    ((f ≡ fault.Job Read) ⊎ (f ≡ fault.Job OutOfMemory)) × OfVolume paths opened_before opened (λ v. Unit {0}) × (now ≡ before)
+
+-- for whom what is found is printed, and whether notes are
+abbrev pub checked_style : StrictCheck → FindingStyle
+checked_style asked = record { style = style_of asked.volume.json; with_notes = asked.with_notes }
 
 -- the volume in the files that are named is checked; or they are not opened, and nothing is printed
-abbrev pub ChecksStrictly : Result Ending ProgramFault → PrintedVolume → (opened_before opened : List SourceFile) → (before now : Stream) → Type 0
+abbrev pub ChecksStrictly : Result Ending ProgramFault → StrictCheck → (opened_before opened : List SourceFile) → (before now : Stream) → Type 0
 ChecksStrictly result asked opened_before opened before now =
-    IsUnopened result (paths_of asked) opened_before opened before now
-    ⊎ HasNoHeads result (paths_of asked) opened_before opened before now
-    ⊎ OfHeads (paths_of asked) opened_before opened
-    (λ v heads. ChecksWhole result (style_of asked.json) (quoted_paths (paths_of asked)) heads v before now)
+    IsUnopened result (paths_of asked.volume) opened_before opened before now
+    ⊎ HasNoHeads result (paths_of asked.volume) opened_before opened before now
+    ⊎ OfHeads (paths_of asked.volume) opened_before opened
+    (λ v heads. ChecksWhole result (checked_style asked) (quoted_paths (paths_of asked.volume)) heads v before now)

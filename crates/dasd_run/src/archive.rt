@@ -7,16 +7,16 @@ ghost use Rattle.dasd_volumes.specs.Lines.{model_number_of};
 ghost use Rattle.dasd_volumes.specs.Printing.{CountsWrites};
 ghost use Rattle.dasd_archive.specs.Dump.{dump_text, IsPartOf};
 ghost use Rattle.dasd_archive.specs.Printed.{PrintsBytes};
-ghost use Rattle.dasd_run.specs.Answers.{DumpsPart};
+ghost use Rattle.dasd_run.specs.Answers.{DumpsPart, DumpsRecords, names_records};
 ghost use Rattle.dasd_run.specs.Compared.{shape_text, geometries_line, ComparesVolumes, ComparesFiles};
-ghost use Rattle.dasd_run.specs.Printed.{style_of, range_of, asked_part, PrintsPart};
+ghost use Rattle.dasd_run.specs.Printed.{style_of, range_of, asked_part};
 
 use crate::commands::{Ending, ending_of};
 use crate::fault::{ProgramFault, of_printing};
 use crate::printed_paths::quoted;
 use ckd_track::{DriveModel, Geometry};
 use counted_io::{Counted, WriteFault, write_flushed};
-use dasd_archive::{Comparison, Form, Part, Range, Style, compare, dump};
+use dasd_archive::{Comparison, Form, Part, Range, Style, compare, dump, has_records};
 use dasd_jobs::{ImageFiles, SlotReader, open_volume};
 use dasd_volumes::VolumeFault;
 use dasd_words::{ComparedVolumes, DumpedPart, Numbers, PrintedVolume};
@@ -35,8 +35,8 @@ pub(crate) fn style(json: bool) -> Style
 ///
 /// # Errors
 ///
-/// There is no memory, or the files hold no volume, or it has no such part, before a line is printed; or what stopped the dump, behind
-/// the lines that are printed. A write fault comes exactly where a write failed, or the last flush.
+/// There is no memory, or the files hold no volume, or it has no such part or, where records are named, none of them, before a line is
+/// printed; or what stopped the dump, behind the lines that are printed. A write fault comes exactly where a write failed, or the last flush.
 pub(crate) fn dump_part<F: ImageFiles, W: Write>(
     alloc: Global,
     files: &mut F,
@@ -71,16 +71,31 @@ fn dump_opened<V: SlotReader, W: Write>(
     form: Form,
     part: DumpedPart,
 ) -> Result<Ending, ProgramFault>
-    ensures { PrintsPart result (IsPartOf (asked_part part)) (dump_text form.entry.style form.entry.path.now (asked_part part))
+    ensures { DumpsRecords result part (dump_text form.entry.style form.entry.path.now (asked_part part))
         (V.volume volume.old) (seen_by W.contents writer.old) (seen_by W.contents writer.new) }
 {
+    let names = names_records(part);
     let Some(part) = part_of(volume.geometry(), part) else {
         return Err(ProgramFault::NoTrack);
     };
+    if names {
+        match has_records(alloc, volume, part) {
+            Ok(true) => {}
+            Ok(false) => return Err(ProgramFault::NoRecord),
+            Err(fault) => return Err(of_printing(fault)),
+        }
+    }
     match dump(alloc, volume, writer, form, part) {
         Ok(()) => Ok(Ending::Done),
         Err(fault) => Err(of_printing(fault)),
     }
+}
+
+// Whether words name records, and do not ask for all from one on.
+fn names_records(part: DumpedPart) -> bool
+    ensures { result ≡ names_records part }
+{
+    part.records.last < 255 || part.records.first == part.records.last
 }
 
 /// Numbers as a range.

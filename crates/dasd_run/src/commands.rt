@@ -2,11 +2,12 @@
 
 ghost use Rattle.std.specs.Prelude.{◌≡◌, true, map, IfErr};
 ghost use Rattle.counted_io.specs.Streams.{seen_by};
+ghost use Rattle.dasd_run.specs.Decks.{NoTrace};
 ghost use Rattle.dasd_run.specs.Answers.{FormatsVolume, ListsVolume, ChecksVolume, Answers};
 ghost use Rattle.dasd_run.specs.Faults.{keeps_files};
 ghost use Rattle.dasd_run.specs.Printed.{ending_of};
 ghost use Rattle.dasd_run.specs.Runs.{RunsOrStops, Tells};
-ghost use Rattle.dasd_run.specs.Saves.{Concludes};
+ghost use Rattle.dasd_run.specs.Saves.{Concludes, Ends, unsaved_ending};
 
 use crate::archive::{compare_both, dump_part};
 use crate::decks::{read_deck, run_deck, tell_fault};
@@ -14,7 +15,7 @@ use crate::explain::explain;
 use crate::fault::ProgramFault;
 use crate::hash::hash_volume;
 use crate::list::list_part;
-use crate::runs::{Disks, build, finish};
+use crate::runs::{Disks, build, finish, tell_running};
 use crate::strict::check_strictly;
 use crate::traces::{Traces, begin_trace, end_trace};
 use crate::unload::{extract_set, extract_tracks, extract_volume};
@@ -26,6 +27,7 @@ use dasd_words::{DeckRun, NewImage, Request, Volume, WordFault, read_words};
 use s360_deck::RunFault;
 use std::alloc::Global;
 use std::io::{Read, Write};
+use trace_lines::Tracer;
 
 /// How a command ended that did what it was asked.
 #[derive(Clone, Copy)]
@@ -101,7 +103,7 @@ pub fn answer<F: Traces, R: Read, W: Write, P: Progress>(
         Request::List(paths) => list_volume(alloc, files, writer, paths.as_slice()),
         Request::ListPart(volume, part) => list_part(alloc, files, writer, &volume, part),
         Request::Check(paths) => check_volume(alloc, files, writer, progress, paths.as_slice()),
-        Request::CheckStrictly(volume) => check_strictly(alloc, files, writer, &volume),
+        Request::CheckStrictly(asked) => check_strictly(alloc, files, writer, &asked),
         Request::Dump(volume, part) => dump_part(alloc, files, writer, &volume, part),
         Request::Compare(volumes) => compare_both(alloc, files, writer, &volumes),
         Request::Hash(volume) => hash_volume(alloc, files, writer, &volume),
@@ -181,7 +183,7 @@ fn run_volumes<F: Traces, R: Read, W: Write>(
         }) }
 {
     let volumes = asked.volumes.as_slice();
-    let mut tracer = begin_trace(alloc, files, &asked)?;
+    let mut tracer = begin_run(alloc, files, &asked)?;
     let mut channel = build(alloc, files, asked.storage, asked.channel, volumes)?;
     let text = match read_deck(alloc, files, reader, asked.deck) {
         Ok(text) => text,
@@ -190,8 +192,22 @@ fn run_volumes<F: Traces, R: Read, W: Write>(
     let run = run_deck(alloc, writer, text.as_slice(), &mut channel, &mut tracer);
     tell_fault(files, text.as_slice(), run);
     let traced = end_trace(tracer, run);
-    let concluded = conclude(alloc, files, volumes, channel, run);
+    let concluded = end_run(alloc, files, &asked, channel, run);
     concluded.and(traced.and(Ok(Ending::Done)))
+}
+
+// Says whether files are to be replaced, and opens the trace.
+fn begin_run<F: Traces>(
+    alloc: Global,
+    files: &mut F,
+    asked: &DeckRun,
+) -> Result<Option<Tracer<F::Sink>>, ProgramFault>
+    ensures kept { F.written files.new ≡ F.written files.old }
+    ensures same { F.opened files.new ≡ F.opened files.old }
+    ensures no_trace { IfErr result (λ e. NoTrace e asked.now) }
+{
+    files.plan_replacing(asked.saves);
+    begin_trace(alloc, files, asked)
 }
 
 // Checks the volume of these files, and says whether it has tracks that can't be read.
@@ -229,6 +245,42 @@ pub(crate) fn tell<W: Write>(writer: &mut Counted<W>, text: &[u8]) -> Result<End
     match write_flushed(writer, text) {
         Ok(()) => Ok(Ending::Done),
         Err(WriteFault) => Err(ProgramFault::Job(JobFault::Write)),
+    }
+}
+
+// Ends a run: the changed files are written, where that is asked.
+fn end_run<F: ImageFiles>(
+    alloc: Global,
+    files: &mut F,
+    asked: &DeckRun,
+    channel: Disks,
+    run: Result<(), RunFault>,
+) -> Result<(), ProgramFault>
+    ensures keeps { IfErr result (λ e. keeps_files e ≡ true → F.written files.new ≡ F.written files.old) }
+    ensures ends { Ends asked.now.saves run result asked.now.volumes.items channel (F.written files.old) (F.written files.new) }
+    ensures same { F.opened files.new ≡ F.opened files.old }
+{
+    if asked.saves {
+        conclude(alloc, files, asked.volumes.as_slice(), channel, run)
+    } else {
+        end_unsaved(files, channel, run)
+    }
+}
+
+// Ends a run of which nothing is saved.
+fn end_unsaved<F: ImageFiles>(
+    files: &mut F,
+    channel: Disks,
+    run: Result<(), RunFault>,
+) -> Result<(), ProgramFault>
+    ensures kept { F.written files.new ≡ F.written files.old }
+    ensures same { F.opened files.new ≡ F.opened files.old }
+    ensures ending { result ≡ unsaved_ending run }
+{
+    tell_running(files, &channel);
+    match run {
+        Ok(()) => Ok(()),
+        Err(fault) => Err(ProgramFault::Run(fault)),
     }
 }
 

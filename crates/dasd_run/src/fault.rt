@@ -44,6 +44,9 @@ pub enum ProgramFault {
     /// The volume has no such track.
     #[error("no such track")]
     NoTrack,
+    /// The tracks of the volume have no such record.
+    #[error("no such record")]
+    NoRecord,
     /// The file of a trace can't be opened.
     #[error("trace file not opened")]
     TraceNotOpened,

@@ -134,9 +134,7 @@ pub fn finish<F: ImageFiles>(
     ensures same { F.opened files.new ≡ F.opened files.old }
     ensures fault { IfErr result (λ e. keeps_files e ≡ false) }
 {
-    if let SubchannelView::Working(device, _) = channel.state().subchannel {
-        files.remark(&Remark::StillRan(device));
-    }
+    tell_running(files, &channel);
     let Finished {
         storage: _,
         mut images,
@@ -146,4 +144,14 @@ pub fn finish<F: ImageFiles>(
         files.remark(&Remark::Unsaved(address, cylinder, head));
     }
     save_all(alloc, files, volumes, &mut images)
+}
+
+/// Says of a channel whose deck is done that a program still runs, if one does.
+pub(crate) fn tell_running<F: ImageFiles>(files: &mut F, channel: &Disks)
+    ensures kept { F.written files.new ≡ F.written files.old }
+    ensures same { F.opened files.new ≡ F.opened files.old }
+{
+    if let SubchannelView::Working(device, _) = channel.state().subchannel {
+        files.remark(&Remark::StillRan(device));
+    }
 }

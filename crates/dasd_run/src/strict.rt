@@ -1,21 +1,20 @@
 //! A strict check of the volume of files.
 
-ghost use Rattle.std.specs.Prelude.{◌≡◌, map, IfOk, IfErr, OnErr};
+ghost use Rattle.std.specs.Prelude.{◌≡◌};
 ghost use Rattle.counted_io.specs.Streams.{seen_by};
 ghost use Rattle.dasd_volumes.specs.Printing.{CountsWrites};
 ghost use Rattle.dasd_archive.specs.Reports.{PrintsFindings};
-ghost use Rattle.dasd_jobs.specs.Sources.{OpensMaybe};
-ghost use Rattle.dasd_run.specs.Strict.{OpensHead, ReadsHeads, AreUnread, found_in, checked_ending, ChecksWhole, ChecksStrictly};
+ghost use Rattle.dasd_run.specs.Strict.{found_in, checked_ending, checked_style, ChecksWhole, ChecksStrictly};
 
 use crate::archive::style;
 use crate::commands::Ending;
 use crate::fault::{ProgramFault, of_printing};
 use crate::printed_paths::quoted;
 use counted_io::Counted;
-use dasd_archive::{FileHeader, Form, Tally, check_headers, check_strict};
-use dasd_jobs::{ImageFiles, JobFault, OpenedFile, SlotReader, open_volume};
+use dasd_archive::{FileHeader, FindingForm, FindingStyle, Tally, check_headers, check_strict};
+use dasd_jobs::{ImageFiles, SlotReader, open_volume};
 use dasd_volumes::VolumeFault;
-use dasd_words::PrintedVolume;
+use dasd_words::StrictCheck;
 use std::alloc::Global;
 use std::io::Write;
 
@@ -32,72 +31,38 @@ pub(crate) fn check_strictly<F: ImageFiles, W: Write>(
     alloc: Global,
     files: &mut F,
     writer: &mut Counted<W>,
-    asked: &PrintedVolume,
+    asked: &StrictCheck,
 ) -> Result<Ending, ProgramFault>
     ensures kept { F.written files.new ≡ F.written files.old }
     ensures checks { ChecksStrictly result asked.now (F.opened files.old) (F.opened files.new)
         (seen_by W.contents writer.old) (seen_by W.contents writer.new) }
 {
-    let paths = asked.paths.as_slice();
+    let paths = asked.volume.paths.as_slice();
     let path = match quoted(alloc, paths) {
         Ok(path) => path,
         Err(fault) => return Err(fault),
     };
-    let form = Form {
-        style: style(asked.json),
+    let form = FindingForm {
+        style: style_of(asked),
         path: path.as_str(),
     };
     let mut volume = match open_volume(alloc, files, paths) {
         Ok(volume) => volume,
         Err(fault) => return Err(ProgramFault::Job(fault)),
     };
-    match read_headers(alloc, files, paths) {
+    match volume.read_headers(alloc) {
         Ok(heads) => check_opened(alloc, &mut volume, writer, form, heads.as_slice()),
-        Err(fault) => Err(fault),
+        Err(fault) => Err(ProgramFault::Job(fault)),
     }
 }
 
-// Reads the headers of these files.
-fn read_headers<F: ImageFiles>(
-    alloc: Global,
-    files: &mut F,
-    paths: &[&str],
-) -> Result<Vec<[u8; HEADER]>, ProgramFault>
-    ensures kept { F.written files.new ≡ F.written files.old }
-    ensures heads { IfOk result (λ heads. ReadsHeads (map (λ path. path.now) paths.now) heads.items (F.opened files.old) (F.opened files.new)) }
-    ensures not_read { IfErr result (λ e. AreUnread e (map (λ path. path.now) paths.now) (F.opened files.old) (F.opened files.new)) }
+// For whom what is found is printed, and whether notes are.
+fn style_of(asked: &StrictCheck) -> FindingStyle
+    ensures { result ≡ checked_style asked.now }
 {
-    let mut heads = Vec::new(alloc);
-    for path in paths {
-        let header = match read_header(alloc, files, path) {
-            Ok(header) => header,
-            Err(fault) => return Err(fault),
-        };
-        if heads.push(header).is_err() {
-            return Err(ProgramFault::OutOfMemory);
-        }
-    }
-    Ok(heads)
-}
-
-// Reads the header of a file.
-fn read_header<F: ImageFiles>(
-    alloc: Global,
-    files: &mut F,
-    path: &str,
-) -> Result<[u8; HEADER], ProgramFault>
-    ensures kept { F.written files.new ≡ F.written files.old }
-    ensures head { IfOk result (OpensHead path.now (F.opened files.old) (F.opened files.new)) }
-    ensures fault { IfErr result (λ e. e ≡ ProgramFault.Job JobFault.Read) }
-    ensures not_read { OnErr result (OpensMaybe path.now (F.opened files.old) (F.opened files.new)) }
-{
-    let Ok(mut file) = files.open(alloc, path) else {
-        return Err(ProgramFault::Job(JobFault::Read));
-    };
-    let mut header = [0u8; HEADER];
-    match file.read_at(0, &mut header) {
-        Ok(()) => Ok(header),
-        Err(_) => Err(ProgramFault::Job(JobFault::Read)),
+    FindingStyle {
+        style: style(asked.volume.json),
+        with_notes: asked.with_notes,
     }
 }
 
@@ -106,7 +71,7 @@ fn check_opened<V: SlotReader, W: Write>(
     alloc: Global,
     volume: &mut V,
     writer: &mut Counted<W>,
-    form: Form,
+    form: FindingForm,
     heads: &[[u8; HEADER]],
 ) -> Result<Ending, ProgramFault>
     ensures { ChecksWhole result form.entry.style form.entry.path.now heads.now (V.volume volume.old)
@@ -137,7 +102,7 @@ fn check_heads<W: Write>(
     alloc: Global,
     writer: &mut Counted<W>,
     tally: &mut Tally,
-    form: Form,
+    form: FindingForm,
     heads: &[[u8; HEADER]],
 ) -> Result<(), VolumeFault>
     ensures found { PrintsFindings result form.entry.style form.entry.path.now (found_in heads.now)

@@ -3,7 +3,9 @@
 use crate::commands::{NO_PATH, wrong};
 use crate::listings::{self, PATHS, read_joined, read_paths};
 use crate::options::{ArgKind, ArgRow, CommandRow, JSON, WORD, WORDS};
-use crate::requests::{ComparedVolumes, DumpedPart, Numbers, PrintedVolume, Request, WordFault};
+use crate::requests::{
+    ComparedVolumes, DumpedPart, Numbers, PrintedVolume, Request, StrictCheck, WordFault,
+};
 use clap::ArgMatches;
 use std::alloc::Global;
 
@@ -13,6 +15,8 @@ Numbers are decimal, or hexadecimal behind 0x, as places are printed; records ha
 ";
 
 const STRICT_JSON: &str = "error: --json goes with --strict\n";
+
+const STRICT_WARNINGS: &str = "error: --warnings goes with --strict\n";
 
 /// The name of the words of a dump.
 const DUMP_WORDS: &str = "WORD";
@@ -35,6 +39,11 @@ pub(crate) const CHECK: CommandRow = CommandRow {
             help: "prints all that a reader of the drive would trip over, with severities",
             kind: ArgKind::Flag,
         },
+        ArgRow {
+            id: "warnings",
+            help: "prints errors and warnings alone; notes are counted",
+            kind: ArgKind::Flag,
+        },
         JSON,
     ],
 };
@@ -45,11 +54,15 @@ pub(crate) fn read_check<'a>(
     options: &ArgMatches<'a>,
 ) -> Result<Request<'a>, WordFault> {
     let volume = listings::read_printed(alloc, options)?;
+    let with_notes = !options.get_flag("warnings");
     if options.get_flag("strict") {
-        return Ok(Request::CheckStrictly(volume));
+        return Ok(Request::CheckStrictly(StrictCheck { volume, with_notes }));
     }
     if volume.json {
         return Err(wrong(alloc, STRICT_JSON));
+    }
+    if !with_notes {
+        return Err(wrong(alloc, STRICT_WARNINGS));
     }
     Ok(Request::Check(volume.paths))
 }

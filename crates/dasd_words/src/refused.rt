@@ -46,8 +46,11 @@ pub fn object_path(alloc: Global, words: &[&str]) -> Option<String> {
         Request::ListPart(volume, _) | Request::Dump(volume, _) => {
             joined(alloc, volume.json, volume.paths.as_slice())
         }
-        Request::CheckStrictly(volume) | Request::Hash(volume) | Request::ListContents(volume) => {
+        Request::Hash(volume) | Request::ListContents(volume) => {
             joined(alloc, volume.json, volume.paths.as_slice())
+        }
+        Request::CheckStrictly(check) => {
+            joined(alloc, check.volume.json, check.volume.paths.as_slice())
         }
         Request::Compare(volumes) => joined(alloc, volumes.json, volumes.one.as_slice()),
         Request::ExtractAll(volume) => joined(alloc, volume.json, volume.paths.as_slice()),

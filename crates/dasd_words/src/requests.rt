@@ -75,7 +75,7 @@ pub enum Request<'a> {
     /// Print the tracks that can't be read of the image that these files hold.
     Check(Vec<&'a str>),
     /// Print all that is found on a volume.
-    CheckStrictly(PrintedVolume<'a>),
+    CheckStrictly(StrictCheck<'a>),
     /// Print the bytes of a part of a volume.
     Dump(PrintedVolume<'a>, DumpedPart),
     /// Print what differs of the volumes of two images.
@@ -120,6 +120,15 @@ pub struct PrintedVolume<'a> {
     pub paths: Vec<&'a str>,
     /// Whether each line is an object of JSON.
     pub json: bool,
+}
+
+/// A strict check of the volume of an image.
+#[derive(Drop)]
+pub struct StrictCheck<'a> {
+    /// The volume, and how what is found is printed.
+    pub volume: PrintedVolume<'a>,
+    /// Whether notes have lines too.
+    pub with_notes: bool,
 }
 
 /// The volumes of two images that are compared.
@@ -192,6 +201,8 @@ pub struct DeckRun<'a> {
     pub channel: u8,
     /// The file of the deck; none is standard input.
     pub deck: Option<&'a str>,
+    /// Whether the files are written back that the deck changed.
+    pub saves: bool,
     /// Its trace, if one is written.
     pub trace: Option<AskedTrace<'a>>,
     /// The volumes, in the order of the words.

@@ -53,6 +53,11 @@ pub(crate) const COMMAND: CommandRow = CommandRow {
             kind: ArgKind::Valued(FILE),
         },
         ArgRow {
+            id: "no-save",
+            help: "leaves all files as they are: what the deck changes is not saved",
+            kind: ArgKind::Flag,
+        },
+        ArgRow {
             id: "trace",
             help: "tells on standard error what each channel command word does",
             kind: ArgKind::Flag,
@@ -106,6 +111,7 @@ pub(crate) fn read<'a>(alloc: Global, options: &ArgMatches<'a>) -> Result<Reques
         storage: read_storage(alloc, options)?,
         channel: read_channel(alloc, options)?,
         deck: options.get_str("deck"),
+        saves: !options.get_flag("no-save"),
         trace: read_trace(alloc, options)?,
         volumes: read_volumes(alloc, words)?,
     }))

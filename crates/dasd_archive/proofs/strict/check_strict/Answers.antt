@@ -21,5 +21,5 @@ returns-clause-lines g c = λ earlier is slots known.
     × CountsUp c.args.tally c.check_cylinders.new.tally found =
     let are = c.check_cylinders.ensures.found slots known in search (rules, tests, are) in
     subst (λ t. TakesFront before (seen_by g.W.Write.contents c.print_tally.new.writer)
-    (finding_lines c.args.form.style c.args.form.path.now found ++ tally_line c.args.form.style c.args.form.path.now t))
+    (finding_lines c.args.form.style c.args.form.path.now found ++ tally_line c.args.form.style.style c.args.form.path.now t))
     (both.1 earlier is) (front_behind before between _ _ _ both.0 c.in-Err-print_tally.ensures.lines)

@@ -1,10 +1,11 @@
 use Rattle.std.proofs.Common.{◌≡◌, ◌∙◌, ℕ, List, map, inr, ap, subst}
 use Rattle.counted_io.specs.Streams.{seen_by}
-use Rattle.dasd_archive.specs.Dump.{dump_text, IsPartOf}
+use Rattle.dasd_archive.specs.Dump.{dump_text}
 use Rattle.dasd_archive.specs.declared.reports.Style.{Style}
 use Rattle.dasd_jobs.specs.Sources.{SourceFile, OpenedState, OpensPaths, volume_in}
 use Rattle.dasd_run.specs.Paths.{quoted_paths}
-use Rattle.dasd_run.specs.Printed.{style_of, paths_of, asked_part, PrintsPart}
+use Rattle.dasd_run.specs.Printed.{style_of, paths_of, asked_part}
+use Rattle.dasd_run.specs.Answers.{DumpsRecords}
 use Rattle.dasd_run.proofs.archive.dump_part.Goals as goal
 
 pub returns-in-Ok-open_volume-clause-dumps : goal.returns-in-Ok-open_volume-clause-dumps
@@ -28,7 +29,7 @@ returns-in-Ok-open_volume-clause-dumps g c = inr (record {
 
     Dumps : Style → (path : List ℕ) → Type 0
     Dumps style path =
-        PrintsPart c.dump_opened.result (IsPartOf (asked_part c.args.part)) (dump_text style path (asked_part c.args.part))
+        DumpsRecords c.dump_opened.result c.args.part (dump_text style path (asked_part c.args.part))
         (volume_in v.geometry v.contents)
         (seen_by g.W.Write.contents c.args.writer.now) (seen_by g.W.Write.contents c.dump_opened.new.writer)
 

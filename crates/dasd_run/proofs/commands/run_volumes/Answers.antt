@@ -9,7 +9,7 @@ use Rattle.dasd_run.specs.declared.commands.Ending.TheVariants.{Done}
 use Rattle.dasd_run.specs.Built.{OpensVolumes, NotBuilt}
 use Rattle.dasd_run.specs.Faults.{keeps_files}
 use Rattle.dasd_run.specs.Decks.{deck_path, ReadsDeck}
-use Rattle.dasd_run.specs.Saves.{Concludes}
+use Rattle.dasd_run.specs.Saves.{Ends}
 use Rattle.dasd_run.proofs.Told.{stays_seen, kept_if_told}
 use Rattle.dasd_run.proofs.commands.run_volumes.Goals as goal
 
@@ -17,7 +17,7 @@ use Rattle.dasd_run.proofs.commands.run_volumes.Goals as goal
 pub returns-in_err-tracer-clause-runs : goal.returns-in_err-tracer-clause-runs
 returns-in_err-tracer-clause-runs g c =
     let p = err_from_is_err_and c.from_residual.result c.from_residual.ensures.1 in
-    rw (p.1, p.2) (inr (inl (c.in_err-tracer.ensures.no_trace, c.begin_trace.ensures.same, refl), c.begin_trace.ensures.kept, refl))
+    rw (p.1, p.2) (inr (inl (c.in_err-tracer.ensures.no_trace, c.begin_run.ensures.same, refl), c.begin_run.ensures.kept, refl))
 
 pub returns-in_err-channel-clause-runs : goal.returns-in_err-channel-clause-runs
 returns-in_err-channel-clause-runs g c =
@@ -29,9 +29,9 @@ returns-in_err-channel-clause-runs g c =
     let number = c.args.asked.channel in
     let not_built =
     subst (λ (vs : List Volume). NotBuilt f size number vs (opened c.args.files.now) now) c.as_slice-volumes.ensures.value
-    (subst (λ (l : List SourceFile). NotBuilt f size number c.as_slice-volumes.result.now l now) c.begin_trace.ensures.same
+    (subst (λ (l : List SourceFile). NotBuilt f size number c.as_slice-volumes.result.now l now) c.begin_run.ensures.same
     c.in_err-channel.ensures.not_built) in
-    rw (p.1, p.2) (inr (inr (inl (not_built, refl)), c.build.ensures.kept ∙ c.begin_trace.ensures.kept, refl))
+    rw (p.1, p.2) (inr (inr (inl (not_built, refl)), c.build.ensures.kept ∙ c.begin_run.ensures.kept, refl))
 
 pub returns-in-Err-clause-runs : goal.returns-in-Err-clause-runs
 returns-in-Err-clause-runs g c =
@@ -40,10 +40,10 @@ returns-in-Err-clause-runs g c =
     let now = opened c.read_deck.new.files in
     let opens =
     subst (λ (vs : List Volume). OpensVolumes vs built.drives (opened c.args.files.now) now) c.as_slice-volumes.ensures.value
-    (subst (λ (l : List SourceFile). OpensVolumes c.as_slice-volumes.result.now built.drives l now) c.begin_trace.ensures.same
-    (subst (λ (l : List SourceFile). OpensVolumes c.as_slice-volumes.result.now built.drives (opened c.begin_trace.new.files) l)
+    (subst (λ (l : List SourceFile). OpensVolumes c.as_slice-volumes.result.now built.drives l now) c.begin_run.ensures.same
+    (subst (λ (l : List SourceFile). OpensVolumes c.as_slice-volumes.result.now built.drives (opened c.begin_run.new.files) l)
     (sym c.in-Err.ensures.none) c.in_ok-channel.ensures.drives)) in
-    let kept = c.read_deck.ensures.kept ∙ c.build.ensures.kept ∙ c.begin_trace.ensures.kept in
+    let kept = c.read_deck.ensures.kept ∙ c.build.ensures.kept ∙ c.begin_run.ensures.kept in
     inr (inr (inr ((built.drives, opens), c.in-Err.ensures.not_read)), kept, refl)
 
 -- a fault of the files is told first, and that of the trace last
@@ -57,16 +57,16 @@ returns-clause-runs g c =
     let built = c.in_ok-channel.channel in
     let text = c.in-Ok.text.items in
     let same_files : written c.tell_fault.new.files ≡ written c.args.files.now =
-    c.tell_fault.ensures.kept ∙ c.read_deck.ensures.kept ∙ c.build.ensures.kept ∙ c.begin_trace.ensures.kept in
-    let none_behind : opened c.conclude-concluded.new.files ≡ opened c.read_deck.new.files =
-    c.conclude-concluded.ensures.same ∙ c.tell_fault.ensures.same in
+    c.tell_fault.ensures.kept ∙ c.read_deck.ensures.kept ∙ c.build.ensures.kept ∙ c.begin_run.ensures.kept in
+    let none_behind : opened c.end_run-concluded.new.files ≡ opened c.read_deck.new.files =
+    c.end_run-concluded.ensures.same ∙ c.tell_fault.ensures.same in
     inl (record {
       built = built;
       is_new = c.in_ok-channel.ensures.is_new;
       opened = between;
       drives =
           subst (λ (vs : List Volume). OpensVolumes vs built.drives before between) c.as_slice-volumes.ensures.value
-          (subst (λ (l : List SourceFile). OpensVolumes c.as_slice-volumes.result.now built.drives l between) c.begin_trace.ensures.same
+          (subst (λ (l : List SourceFile). OpensVolumes c.as_slice-volumes.result.now built.drives l between) c.begin_run.ensures.same
           c.in_ok-channel.ensures.drives);
       text = text;
       reads =
@@ -84,13 +84,10 @@ returns-clause-runs g c =
       flushed = c.run_deck-run.ensures.flushed;
       unless_run = stays_seen (seen_by g.W.Write.contents) r c.args.writer.now c.run_deck-run.new.writer
           c.run_deck-run.ensures.nothing_written;
-      concluded = c.conclude-concluded.result;
+      concluded = c.end_run-concluded.result;
       concludes =
-          subst (λ (vs : List Volume). Concludes r c.conclude-concluded.result vs c.run_deck-run.new.channel (written c.args.files.now)
-          (written c.conclude-concluded.new.files)) c.as_slice-volumes.ensures.value
-          (subst (λ (before : List Replaced). Concludes r c.conclude-concluded.result c.as_slice-volumes.result.now
-          c.run_deck-run.new.channel before (written c.conclude-concluded.new.files)) same_files
-          c.conclude-concluded.ensures.concludes);
+          subst (λ (before : List Replaced). Ends c.args.asked.saves r c.end_run-concluded.result c.args.asked.volumes.items
+          c.run_deck-run.new.channel before (written c.end_run-concluded.new.files)) same_files c.end_run-concluded.ensures.ends;
       traced = c.end_trace-traced.result;
       no_other = c.end_trace-traced.ensures.fault;
       told = search (rules, tests);
@@ -101,10 +98,10 @@ pub returns-clause-keeps : goal.returns-clause-keeps
 returns-clause-keeps g c =
     let written = g.F.ImageFiles.written in
     let same_files : written c.tell_fault.new.files ≡ written c.args.files.now =
-    c.tell_fault.ensures.kept ∙ c.read_deck.ensures.kept ∙ c.build.ensures.kept ∙ c.begin_trace.ensures.kept in
-    let kept = kept_if_told (written c.args.files.now) (written c.conclude-concluded.new.files) c.conclude-concluded.result
+    c.tell_fault.ensures.kept ∙ c.read_deck.ensures.kept ∙ c.build.ensures.kept ∙ c.begin_run.ensures.kept in
+    let kept = kept_if_told (written c.args.files.now) (written c.end_run-concluded.new.files) c.end_run-concluded.result
     c.end_trace-traced.result Done
-    (subst (λ (before : List Replaced). IfErr c.conclude-concluded.result (λ e. keeps_files e ≡ true
-    → written c.conclude-concluded.new.files ≡ before)) same_files c.conclude-concluded.ensures.keeps)
+    (subst (λ (before : List Replaced). IfErr c.end_run-concluded.result (λ e. keeps_files e ≡ true
+    → written c.end_run-concluded.new.files ≡ before)) same_files c.end_run-concluded.ensures.keeps)
     c.end_trace-traced.ensures.kept in
     search (rules, tests, kept)

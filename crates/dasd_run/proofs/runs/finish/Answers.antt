@@ -3,7 +3,7 @@ use Rattle.std.specs.List.{zip}
 use Rattle.dasd_jobs.specs.Written.{Replaced}
 use Rattle.dasd_run.specs.Saves.{SavesAll}
 use Rattle.dasd_run.proofs.Saving.{fault_of_files}
-use Rattle.dasd_run.proofs.runs.finish.Goals.{in-Working, in_default, in-Some, in_default-unsaved}
+use Rattle.dasd_run.proofs.runs.finish.Goals.{in-Some, in_default}
 use Rattle.dasd_run.proofs.runs.finish.Goals as goal
 
 -- the channel is finished; what is told beside writes no file
@@ -11,13 +11,10 @@ pub returns-clause-saves : goal.returns-clause-saves
 returns-clause-saves g c =
     let written = g.F.ImageFiles.written in
     let images = c.finish-images.result.images in
-    let told : written c.match-state.files ≡ written c.args.files.now = elim c.match-state.branch [
-      | in-Working w ↦ ap written w.files-is ∙ w.remark.ensures.kept
+    let told : written c.tell_running.new.files ≡ written c.args.files.now = c.tell_running.ensures.kept in
+    let told_too : written c.match-reset.files ≡ written c.tell_running.new.files = elim c.match-reset.branch [
+      | in-Some w ↦ ap written w.files-is ∙ w.remark.ensures.kept
       | in_default w ↦ ap written w.files-is
-    ] in
-    let told_too : written c.match-reset.files ≡ written c.match-state.files = elim c.match-reset.branch [
-      | in-Some w ↦ ap written w.files-is ∙ w.remark-in-Some.ensures.kept
-      | in_default-unsaved w ↦ ap written w.files-is
     ] in
     record {
       storage = c.finish-images.result.storage;
@@ -34,13 +31,10 @@ returns-clause-saves g c =
 pub returns-clause-same : goal.returns-clause-same
 returns-clause-same g c =
     let opened = g.F.ImageFiles.opened in
-    let told : opened c.match-state.files ≡ opened c.args.files.now = elim c.match-state.branch [
-      | in-Working w ↦ ap opened w.files-is ∙ w.remark.ensures.same
+    let told : opened c.tell_running.new.files ≡ opened c.args.files.now = c.tell_running.ensures.same in
+    let told_too : opened c.match-reset.files ≡ opened c.tell_running.new.files = elim c.match-reset.branch [
+      | in-Some w ↦ ap opened w.files-is ∙ w.remark.ensures.same
       | in_default w ↦ ap opened w.files-is
-    ] in
-    let told_too : opened c.match-reset.files ≡ opened c.match-state.files = elim c.match-reset.branch [
-      | in-Some w ↦ ap opened w.files-is ∙ w.remark-in-Some.ensures.same
-      | in_default-unsaved w ↦ ap opened w.files-is
     ] in
     c.save_all.ensures.same ∙ told_too ∙ told
 
