@@ -4,9 +4,9 @@
 #![tactic(auto)]
 
 mod attaching;
+mod calling;
 mod handle;
 mod instructions;
-mod lending;
 mod parts;
 mod showing;
 mod slot;
