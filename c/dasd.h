@@ -309,10 +309,11 @@ int32_t dasd_new_lent(dasd *d, uint32_t storage_bytes, uint8_t channels);
 
 /* The calls above of these names, over this memory. DASD_BAD_SIZE, no main storage has so many bytes; DASD_BAD_BLOCKS; DASD_OTHER_SIZE;
  * in this order, behind DASD_NOTHING_HELD and before all others. `ran->units` says before dasd_lent_run_on how many units are done at
- * most, and behind it how many were. */
+ * most, and behind it how many were; and so does `*units` of dasd_lent_step. Of a call that is refused it stays. */
 int32_t dasd_lent_sio(dasd *d, dasd_memory *memory, uint16_t address);
 int32_t dasd_lent_tio(dasd *d, dasd_memory *memory, uint16_t address);
 int32_t dasd_lent_hio(dasd *d, dasd_memory *memory, uint16_t address);
+int32_t dasd_lent_step(dasd *d, dasd_memory *memory, uint8_t channel, uint32_t *units);
 int32_t dasd_lent_run_on(dasd *d, dasd_memory *memory, uint8_t channel, dasd_run *ran);
 int32_t dasd_lent_interrupt(dasd *d, dasd_memory *memory, uint8_t channels, uint16_t *address);
 

@@ -480,7 +480,10 @@ class LentSubsystem : public Channels {
     int hio(const Memory &memory, std::uint16_t address) { return detail::done(dasd_lent_hio(held(), detail::Lent(memory).get(), address)); }
 
     /* DASD_NO_CHANNEL. */
-    std::uint32_t step(const Memory &memory, std::uint8_t channel, std::uint32_t units) { return run_on(memory, channel, units).units; }
+    std::uint32_t step(const Memory &memory, std::uint8_t channel, std::uint32_t units) {
+        detail::done(dasd_lent_step(held(), detail::Lent(memory).get(), channel, &units));
+        return units;
+    }
     dasd_run run_on(const Memory &memory, std::uint8_t channel, std::uint32_t units) {
         dasd_run ran{units, 0, 0, 0, 0};
         detail::done(dasd_lent_run_on(held(), detail::Lent(memory).get(), channel, &ran));

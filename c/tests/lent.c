@@ -95,9 +95,13 @@ static void is_shared(void) {
     dasd d = DASD_NOTHING;
     dasd_memory m = over(bytes, keys);
     dasd_run ran = {1, 0, 0, 0, 0};
+    uint32_t units = 1;
     made(&d, &m, keys);
+    CHECK(dasd_lent_step(&d, &m, 1, &units) == DASD_DONE && units == 0);
+    units = 1;
+    CHECK(dasd_lent_step(&d, &m, 2, &units) == DASD_NO_CHANNEL && units == 1);
     store(&m, 0x100, "16000300 40000010 03000000 20000001");
-    CHECK(dasd_lent_sio(&d, &m, 0x190) == 0 && dasd_lent_run_on(&d, &m, 1, &ran) == DASD_DONE && ran.subchannel == DASD_WORKING);
+    CHECK(dasd_lent_sio(&d, &m, 0x190) == 0 && dasd_lent_step(&d, &m, 1, &units) == DASD_DONE && units == 1 && dasd_tch(&d, 0x190) == 2);
     store(&m, 0x108, "16000400 20000010");
     ran.units = 1000000;
     CHECK(dasd_lent_run_on(&d, &m, 1, &ran) == DASD_DONE && ran.subchannel == DASD_ENDED && shows(&m, 0x400, record_0));
@@ -128,12 +132,14 @@ static void keys_are_asked(void) {
 static int32_t calls(dasd *d, dasd_memory *m, int which) {
     dasd_run ran = {7, 7, 7, 7, 7};
     uint16_t from = 7;
+    uint32_t units = 7;
     int32_t code = which == 0   ? dasd_lent_sio(d, m, 0x190)
                    : which == 1 ? dasd_lent_tio(d, m, 0x190)
                    : which == 2 ? dasd_lent_hio(d, m, 0x190)
                    : which == 3 ? dasd_lent_run_on(d, m, 1, &ran)
+                   : which == 4 ? dasd_lent_step(d, m, 1, &units)
                                 : dasd_lent_interrupt(d, m, 0xFE, &from);
-    CHECK(ran.units == 7 && ran.subchannel == 7 && ran.device == 7 && ran.asked == 7 && ran.reserved == 7 && from == 7);
+    CHECK(ran.units == 7 && ran.subchannel == 7 && ran.device == 7 && ran.asked == 7 && ran.reserved == 7 && from == 7 && units == 7);
     return code;
 }
 
@@ -156,11 +162,11 @@ static void is_refused(void) {
     uint8_t *keys = malloc(MOST), *bytes = malloc(MOST + 2048), *before = malloc(SIZE);
     dasd d = DASD_NOTHING;
     dasd_memory m = over(bytes, keys);
-    for (int which = 0; which < 5; which++) CHECK(calls(&d, &m, which) == DASD_NOTHING_HELD);
+    for (int which = 0; which < 6; which++) CHECK(calls(&d, &m, which) == DASD_NOTHING_HELD);
     made(&d, &m, keys);
     memcpy(before, bytes, SIZE);
     for (size_t i = 0; i < sizeof each / sizeof *each; i++)
-        for (int which = 0; which < 5; which++) {
+        for (int which = 0; which < 6; which++) {
             dasd_memory bad = {bytes, each[i].size, keys, each[i].blocks};
             CHECK(calls(&d, &bad, which) == each[i].code && !memcmp(bytes, before, SIZE) && dasd_tch(&d, 0x190) == 0);
             CHECK(bad.bytes == bytes && bad.size == each[i].size && bad.keys == keys && bad.blocks == each[i].blocks);

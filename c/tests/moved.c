@@ -91,9 +91,8 @@ int32_t moved_run_on(dasd *d, uint8_t channel, uint32_t units, dasd_run *ran) {
 }
 
 int32_t moved_step(dasd *d, uint8_t channel, uint32_t units, uint32_t *done) {
-    dasd_run ran;
-    int32_t code = moved_run_on(d, channel, units, &ran);
-    if (code == DASD_DONE) *done = ran.units;
+    int32_t code = dasd_lent_step(d, moved(d), channel, &units);
+    if (code == DASD_DONE) *done = units;
     return code;
 }
 

@@ -178,7 +178,9 @@ class LentHandle(Handle):
         return self.call("lent_" + name, lent.now(), *arguments)
 
     def step(self, channel: int, units: int) -> int:
-        return self.run_on(channel, units, _library.Ran())
+        did = ctypes.c_uint32(units)
+        self.over("step", channel, ctypes.byref(did))
+        return did.value
 
     def run_on(self, channel: int, units: int, ran: _library.Ran) -> int:
         ran.units = units

@@ -125,6 +125,7 @@ _CALLS: Dict[str, List[Any]] = {
     "lent_sio": [_to(Memory), _U16],
     "lent_tio": [_to(Memory), _U16],
     "lent_hio": [_to(Memory), _U16],
+    "lent_step": [_to(Memory), _U8, ctypes.POINTER(_U32)],
     "lent_run_on": [_to(Memory), _U8, _to(Ran)],
     "lent_interrupt": [_to(Memory), _U8, ctypes.POINTER(_U16)],
 }

@@ -1,18 +1,18 @@
 //! The processor's input/output instructions. Each answers its condition code, 0 to 3: that of the channel of the address, and 3 where
 //! there is none, or no drive of that address at it.
 
-ghost use Rattle.std.specs.Prelude.{◌≡◌, ◌/◌, length};
+ghost use Rattle.std.specs.Prelude.{◌≡◌, ◌/◌, ◌<◌, ◌^◌, pos, length};
 ghost use Rattle.s360_words.specs.Storage.{Storage as StorageState};
-ghost use Rattle.s360_program.specs.Advances.{KeepsStorage};
+ghost use Rattle.s360_program.specs.Lent.{lent};
 ghost use Rattle.s360_laws.specs.Events as machine;
 ghost use Rattle.s360_laws.specs.declared.condition.ConditionCode.TheVariants.{Three};
 ghost use Rattle.s360_channels.specs.Selectors.{across};
-ghost use Rattle.dasd_c.specs.Calls.{Calls, CallsAny, Own, Tells, TellsMissing, TellsOf, TellsTest};
+ghost use Rattle.dasd_c.specs.Calls.{Calls, CallsAny, CallsLent, Tells, TellsMissing, TellsOf, TellsTest};
 
+use crate::calling::{Call, Memory, with_lent, with_own};
 use crate::handle::{Handle, put, take};
-use crate::tell::{NO_STORAGE, NOTHING_HELD, of_csw, of_status, of_test};
+use crate::tell::{NOTHING_HELD, of_csw, of_status, of_test};
 use dasd_files::VolumeFile;
-use dasd_subsystem::Subsystem;
 use s360_channels::Selectors;
 use s360_program::main_storage::MainStorage;
 use std::alloc::Global;
@@ -23,38 +23,50 @@ pub extern "C" fn dasd_sio(handle: &mut Handle, alloc: Global, address: u16) -> 
     ensures { Calls handle.old.slot.held handle.new.slot.held result (λ old new. Tells (address / 256) (machine.Sio address)
         (machine.WithCode Three) result old new × TellsMissing address result old) }
 {
-    let Some(mut subsystem) = take(handle, alloc) else {
-        return NOTHING_HELD;
-    };
-    let code = sio_own(&mut subsystem, address);
-    put(handle, subsystem);
-    code
+    with_own(handle, alloc, &mut Sio { address })
 }
 
-fn sio_own(subsystem: &mut Subsystem, address: u16) -> i32
-    ensures { Own result (λ old new. Tells (address / 256) (machine.Sio address) (machine.WithCode Three) result old new
-        × TellsMissing address result old) subsystem.old subsystem.new }
-{
-    let Some(storage) = &mut subsystem.storage else {
-        return NO_STORAGE;
-    };
-    sio(&mut subsystem.channels, storage, address)
-}
-
-/// Start I/O over main storage, owned or lent.
-pub(crate) fn sio<M: MainStorage>(
-    channels: &mut Selectors<VolumeFile>,
-    storage: &mut M,
+/// Start I/O over this memory.
+#[unsafe(no_mangle)]
+pub extern "C" fn dasd_lent_sio(
+    handle: &mut Handle,
+    alloc: Global,
+    memory: &mut Memory<'_, '_>,
     address: u16,
 ) -> i32
-    requires size { length (M.holds storage.old).bytes ≡ channels.old.size }
-    ensures tells { Tells (address / 256) (machine.Sio address) (machine.WithCode Three) result (across channels.old (M.holds storage.old))
-        (across channels.new (M.holds storage.new)) × TellsMissing address result (across channels.old (M.holds storage.old)) }
-    ensures same { channels.new.size ≡ channels.old.size }
-    ensures keeps { KeepsStorage (M.holds storage.old) (M.holds storage.new) }
-    ensures place { M.place storage.new ≡ M.place storage.old }
+    ensures does { CallsLent handle.old.slot.held handle.new.slot.held result
+        (λ old new. Tells (address / 256) (machine.Sio address) (machine.WithCode Three) result old new × TellsMissing address result old)
+        (lent memory.old.bytes.now memory.old.keys.now) (lent memory.new.bytes.now memory.new.keys.now) }
+    ensures same { memory.new.bytes.ghost_name ≡ memory.old.bytes.ghost_name }
 {
-    of_status(channels.sio(storage, address))
+    with_lent(handle, alloc, memory, &mut Sio { address })
+}
+
+#[derive(Drop)]
+struct Sio {
+    address: u16,
+}
+
+impl Call for Sio {
+    ghost does = { λ call code after old new. Tells (call.address / 256) (machine.Sio call.address) (machine.WithCode Three) code old new
+        × TellsMissing call.address code old };
+
+    ghost tells = { pos 0 };
+
+    ghost Told = { Unit {0} };
+
+    ghost told = { λ _. tt };
+
+    ghost out = { λ _. 0 };
+
+    #[inline(always)]
+    fn over<M: MainStorage>(
+        &mut self,
+        channels: &mut Selectors<VolumeFile>,
+        storage: &mut M,
+    ) -> i32 {
+        of_status(channels.sio(storage, self.address))
+    }
 }
 
 /// Test I/O.
@@ -63,38 +75,50 @@ pub extern "C" fn dasd_tio(handle: &mut Handle, alloc: Global, address: u16) -> 
     ensures { Calls handle.old.slot.held handle.new.slot.held result (λ old new. Tells (address / 256) (machine.Tio address)
         (machine.WithCode Three) result old new × TellsMissing address result old) }
 {
-    let Some(mut subsystem) = take(handle, alloc) else {
-        return NOTHING_HELD;
-    };
-    let code = tio_own(&mut subsystem, address);
-    put(handle, subsystem);
-    code
+    with_own(handle, alloc, &mut Tio { address })
 }
 
-fn tio_own(subsystem: &mut Subsystem, address: u16) -> i32
-    ensures { Own result (λ old new. Tells (address / 256) (machine.Tio address) (machine.WithCode Three) result old new
-        × TellsMissing address result old) subsystem.old subsystem.new }
-{
-    let Some(storage) = &mut subsystem.storage else {
-        return NO_STORAGE;
-    };
-    tio(&mut subsystem.channels, storage, address)
-}
-
-/// Test I/O over main storage, owned or lent.
-pub(crate) fn tio<M: MainStorage>(
-    channels: &mut Selectors<VolumeFile>,
-    storage: &mut M,
+/// Test I/O over this memory.
+#[unsafe(no_mangle)]
+pub extern "C" fn dasd_lent_tio(
+    handle: &mut Handle,
+    alloc: Global,
+    memory: &mut Memory<'_, '_>,
     address: u16,
 ) -> i32
-    requires size { length (M.holds storage.old).bytes ≡ channels.old.size }
-    ensures tells { Tells (address / 256) (machine.Tio address) (machine.WithCode Three) result (across channels.old (M.holds storage.old))
-        (across channels.new (M.holds storage.new)) × TellsMissing address result (across channels.old (M.holds storage.old)) }
-    ensures same { channels.new.size ≡ channels.old.size }
-    ensures keeps { KeepsStorage (M.holds storage.old) (M.holds storage.new) }
-    ensures place { M.place storage.new ≡ M.place storage.old }
+    ensures does { CallsLent handle.old.slot.held handle.new.slot.held result
+        (λ old new. Tells (address / 256) (machine.Tio address) (machine.WithCode Three) result old new × TellsMissing address result old)
+        (lent memory.old.bytes.now memory.old.keys.now) (lent memory.new.bytes.now memory.new.keys.now) }
+    ensures same { memory.new.bytes.ghost_name ≡ memory.old.bytes.ghost_name }
 {
-    of_csw(channels.tio(storage, address))
+    with_lent(handle, alloc, memory, &mut Tio { address })
+}
+
+#[derive(Drop)]
+struct Tio {
+    address: u16,
+}
+
+impl Call for Tio {
+    ghost does = { λ call code after old new. Tells (call.address / 256) (machine.Tio call.address) (machine.WithCode Three) code old new
+        × TellsMissing call.address code old };
+
+    ghost tells = { pos 0 };
+
+    ghost Told = { Unit {0} };
+
+    ghost told = { λ _. tt };
+
+    ghost out = { λ _. 0 };
+
+    #[inline(always)]
+    fn over<M: MainStorage>(
+        &mut self,
+        channels: &mut Selectors<VolumeFile>,
+        storage: &mut M,
+    ) -> i32 {
+        of_csw(channels.tio(storage, self.address))
+    }
 }
 
 /// Halt I/O.
@@ -103,38 +127,50 @@ pub extern "C" fn dasd_hio(handle: &mut Handle, alloc: Global, address: u16) -> 
     ensures { Calls handle.old.slot.held handle.new.slot.held result (λ old new. TellsOf (address / 256) (machine.Hio address)
         (machine.WithCode Three) result old new × TellsMissing address result old) }
 {
-    let Some(mut subsystem) = take(handle, alloc) else {
-        return NOTHING_HELD;
-    };
-    let code = hio_own(&mut subsystem, address);
-    put(handle, subsystem);
-    code
+    with_own(handle, alloc, &mut Hio { address })
 }
 
-fn hio_own(subsystem: &mut Subsystem, address: u16) -> i32
-    ensures { Own result (λ old new. TellsOf (address / 256) (machine.Hio address) (machine.WithCode Three) result old new
-        × TellsMissing address result old) subsystem.old subsystem.new }
-{
-    let Some(storage) = &mut subsystem.storage else {
-        return NO_STORAGE;
-    };
-    hio(&mut subsystem.channels, storage, address)
-}
-
-/// Halt I/O over main storage, owned or lent.
-pub(crate) fn hio<M: MainStorage>(
-    channels: &mut Selectors<VolumeFile>,
-    storage: &mut M,
+/// Halt I/O over this memory.
+#[unsafe(no_mangle)]
+pub extern "C" fn dasd_lent_hio(
+    handle: &mut Handle,
+    alloc: Global,
+    memory: &mut Memory<'_, '_>,
     address: u16,
 ) -> i32
-    requires size { length (M.holds storage.old).bytes ≡ channels.old.size }
-    ensures tells { TellsOf (address / 256) (machine.Hio address) (machine.WithCode Three) result (across channels.old (M.holds storage.old))
-        (across channels.new (M.holds storage.new)) × TellsMissing address result (across channels.old (M.holds storage.old)) }
-    ensures same { channels.new.size ≡ channels.old.size }
-    ensures keeps { KeepsStorage (M.holds storage.old) (M.holds storage.new) }
-    ensures place { M.place storage.new ≡ M.place storage.old }
+    ensures does { CallsLent handle.old.slot.held handle.new.slot.held result
+        (λ old new. TellsOf (address / 256) (machine.Hio address) (machine.WithCode Three) result old new × TellsMissing address result old)
+        (lent memory.old.bytes.now memory.old.keys.now) (lent memory.new.bytes.now memory.new.keys.now) }
+    ensures same { memory.new.bytes.ghost_name ≡ memory.old.bytes.ghost_name }
 {
-    of_status(channels.hio(storage, address))
+    with_lent(handle, alloc, memory, &mut Hio { address })
+}
+
+#[derive(Drop)]
+struct Hio {
+    address: u16,
+}
+
+impl Call for Hio {
+    ghost does = { λ call code after old new. TellsOf (call.address / 256) (machine.Hio call.address) (machine.WithCode Three) code old new
+        × TellsMissing call.address code old };
+
+    ghost tells = { pos 0 };
+
+    ghost Told = { Unit {0} };
+
+    ghost told = { λ _. tt };
+
+    ghost out = { λ _. 0 };
+
+    #[inline(always)]
+    fn over<M: MainStorage>(
+        &mut self,
+        channels: &mut Selectors<VolumeFile>,
+        storage: &mut M,
+    ) -> i32 {
+        of_status(channels.hio(storage, self.address))
+    }
 }
 
 /// Test Channel, of the channel of an address.

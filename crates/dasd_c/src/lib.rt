@@ -4,10 +4,10 @@
 #![tactic(auto)]
 
 mod attaching;
+mod calling;
 mod copying;
 mod handle;
 mod instructions;
-mod lending;
 mod parts;
 mod showing;
 mod slot;

@@ -1,79 +1,26 @@
 //! What happens beside the processor's instructions.
 
-ghost use Rattle.std.specs.Prelude.{◌≡◌, ◌/◌, false, length, pos};
+ghost use Rattle.std.specs.Prelude.{◌≡◌, ◌/◌, ℕ, false, length, pos};
 ghost use Rattle.s360_words.specs.Storage.{Storage as StorageState};
 ghost use Rattle.s360_program.specs.Advances.{KeepsStorage};
+ghost use Rattle.s360_program.specs.Lent.{lent};
 ghost use Rattle.s360_laws.specs.Events as machine;
 ghost use Rattle.s360_channels.specs.Channels.{OnChannel};
 ghost use Rattle.s360_channels.specs.Selectors.{across};
+ghost use Rattle.dasd_c.specs.declared.turns.Ran.{Ran};
 ghost use Rattle.dasd_c.specs.Codes.{code_of, no_channel};
-ghost use Rattle.dasd_c.specs.Calls.{Calls, CallsAny, Own, ResetsFor, RunsFor, StepsFor, Tells, TellsFirst, TellsPending, TellsTaken};
+ghost use Rattle.dasd_c.specs.Calls.{Calls, CallsAny, CallsLent, ResetsFor, RunsFor, StepsFor, Tells, TellsFirst, TellsPending, TellsTaken};
 ghost use Rattle.dasd_c.specs.Shown.{ran_shown, track_shown};
 
+use crate::calling::{Call, Memory, with_lent, with_own};
 use crate::handle::{Handle, put, take};
 use crate::showing::seen;
-use crate::tell::{
-    DONE, NO_CHANNEL, NO_STORAGE, NOTHING_HELD, of_answer, of_arrival, of_interruption,
-};
+use crate::tell::{DONE, NO_CHANNEL, NOTHING_HELD, of_answer, of_arrival, of_interruption};
 use dasd_files::VolumeFile;
-use dasd_subsystem::Subsystem;
 use s360_channel::RunOn;
 use s360_channels::Selectors;
 use s360_program::main_storage::MainStorage;
 use std::alloc::Global;
-
-/// Lets the program that runs on a channel do units until it ends, but so many at most, and says how many it did.
-#[unsafe(no_mangle)]
-pub extern "C" fn dasd_step(
-    handle: &mut Handle,
-    alloc: Global,
-    channel: u8,
-    units: u32,
-    done: &mut u32,
-) -> i32
-    ensures { Calls handle.old.slot.held handle.new.slot.held result (λ old new. OnChannel channel (StepsFor units result done.new)
-        ((result ≡ no_channel) × (done.new ≡ done.old)) old new) }
-{
-    let Some(mut subsystem) = take(handle, alloc) else {
-        return NOTHING_HELD;
-    };
-    let code = step_own(&mut subsystem, channel, units, done);
-    put(handle, subsystem);
-    code
-}
-
-fn step_own(subsystem: &mut Subsystem, channel: u8, units: u32, done: &mut u32) -> i32
-    ensures { Own result (λ old new. OnChannel channel (StepsFor units result done.new)
-        ((result ≡ no_channel) × (done.new ≡ done.old)) old new) subsystem.old subsystem.new }
-{
-    let Some(storage) = &mut subsystem.storage else {
-        return NO_STORAGE;
-    };
-    step(&mut subsystem.channels, storage, channel, units, done)
-}
-
-fn step<M: MainStorage>(
-    channels: &mut Selectors<VolumeFile>,
-    storage: &mut M,
-    channel: u8,
-    units: u32,
-    done: &mut u32,
-) -> i32
-    requires size { length (M.holds storage.old).bytes ≡ channels.old.size }
-    ensures does { OnChannel channel (StepsFor units result done.new) ((result ≡ no_channel) × (done.new ≡ done.old))
-        (across channels.old (M.holds storage.old)) (across channels.new (M.holds storage.new)) }
-    ensures same { channels.new.size ≡ channels.old.size }
-    ensures keeps { KeepsStorage (M.holds storage.old) (M.holds storage.new) }
-    ensures place { M.place storage.new ≡ M.place storage.old }
-{
-    match channels.run_on(storage, channel, units) {
-        Some(ran) => {
-            *done = ran.units;
-            DONE
-        }
-        None => NO_CHANNEL,
-    }
-}
 
 /// What came of a run: how many units were done, and the subchannel behind them.
 #[repr(C)]
@@ -86,7 +33,8 @@ pub struct Ran {
     pub reserved: u8,
 }
 
-/// The same, with what the channel does behind it.
+/// Lets the program that runs on a channel do units until it ends, but so many at most, and says how many it did and what the channel
+/// does behind them.
 #[unsafe(no_mangle)]
 pub extern "C" fn dasd_run_on(
     handle: &mut Handle,
@@ -95,54 +43,138 @@ pub extern "C" fn dasd_run_on(
     units: u32,
     ran: &mut Ran,
 ) -> i32
-    ensures { Calls handle.old.slot.held handle.new.slot.held result (λ old new. OnChannel channel (RunsFor units result ran.new)
+    ensures does { Calls handle.old.slot.held handle.new.slot.held result (λ old new. OnChannel channel (RunsFor units result ran.new)
         ((result ≡ no_channel) × (ran.new ≡ ran.old)) old new) }
+    ensures untold { (result ≡ pos 0 → ⊥) → ran.new ≡ ran.old }
 {
-    let Some(mut subsystem) = take(handle, alloc) else {
-        return NOTHING_HELD;
-    };
-    let code = run_on_own(&mut subsystem, channel, units, ran);
-    put(handle, subsystem);
-    code
+    with_own(
+        handle,
+        alloc,
+        &mut Units {
+            channel,
+            units,
+            ran,
+        },
+    )
 }
 
-fn run_on_own(subsystem: &mut Subsystem, channel: u8, units: u32, ran: &mut Ran) -> i32
-    ensures { Own result (λ old new. OnChannel channel (RunsFor units result ran.new)
-        ((result ≡ no_channel) × (ran.new ≡ ran.old)) old new) subsystem.old subsystem.new }
-{
-    let Some(storage) = &mut subsystem.storage else {
-        return NO_STORAGE;
-    };
-    run_on(&mut subsystem.channels, storage, channel, units, ran)
-}
-
-/// The same over main storage, owned or lent.
-pub(crate) fn run_on<M: MainStorage>(
-    channels: &mut Selectors<VolumeFile>,
-    storage: &mut M,
+/// The same over this memory. `ran` says before how many units are done at most.
+#[unsafe(no_mangle)]
+pub extern "C" fn dasd_lent_run_on(
+    handle: &mut Handle,
+    alloc: Global,
+    memory: &mut Memory<'_, '_>,
     channel: u8,
-    units: u32,
     ran: &mut Ran,
 ) -> i32
-    requires size { length (M.holds storage.old).bytes ≡ channels.old.size }
-    ensures does { OnChannel channel (RunsFor units result ran.new) ((result ≡ no_channel) × (ran.new ≡ ran.old))
-        (across channels.old (M.holds storage.old)) (across channels.new (M.holds storage.new)) }
+    ensures does { CallsLent handle.old.slot.held handle.new.slot.held result
+        (λ old new. OnChannel channel (RunsFor ran.old.units result ran.new) ((result ≡ no_channel) × (ran.new ≡ ran.old)) old new)
+        (lent memory.old.bytes.now memory.old.keys.now) (lent memory.new.bytes.now memory.new.keys.now) }
     ensures untold { (result ≡ pos 0 → ⊥) → ran.new ≡ ran.old }
-    ensures same { channels.new.size ≡ channels.old.size }
-    ensures keeps { KeepsStorage (M.holds storage.old) (M.holds storage.new) }
-    ensures place { M.place storage.new ≡ M.place storage.old }
+    ensures same { memory.new.bytes.ghost_name ≡ memory.old.bytes.ghost_name }
 {
-    if channels.is_available(channel) {
-        *ran = Ran {
-            units: 0,
-            subchannel: 0,
-            device: 0,
-            asked: 0,
-            reserved: 0,
-        };
-        return DONE;
+    let units = ran.units;
+    with_lent(
+        handle,
+        alloc,
+        memory,
+        &mut Units {
+            channel,
+            units,
+            ran,
+        },
+    )
+}
+
+/// Lets the program that runs on a channel do units until it ends, but so many at most, and says how many it did.
+#[unsafe(no_mangle)]
+pub extern "C" fn dasd_step(
+    handle: &mut Handle,
+    alloc: Global,
+    channel: u8,
+    units: u32,
+    done: &mut u32,
+) -> i32
+    ensures does { Calls handle.old.slot.held handle.new.slot.held result (λ old new. OnChannel channel (StepsFor units result done.new)
+        ((result ≡ no_channel) × (done.new ≡ done.old)) old new) }
+    ensures untold { (result ≡ pos 0 → ⊥) → done.new ≡ done.old }
+{
+    with_own(
+        handle,
+        alloc,
+        &mut Step {
+            channel,
+            units,
+            done,
+        },
+    )
+}
+
+/// The same over this memory. `units` says before how many are done at most, and behind it how many were.
+#[unsafe(no_mangle)]
+pub extern "C" fn dasd_lent_step(
+    handle: &mut Handle,
+    alloc: Global,
+    memory: &mut Memory<'_, '_>,
+    channel: u8,
+    units: &mut u32,
+) -> i32
+    ensures does { CallsLent handle.old.slot.held handle.new.slot.held result
+        (λ old new. OnChannel channel (StepsFor units.old result units.new) ((result ≡ no_channel) × (units.new ≡ units.old)) old new)
+        (lent memory.old.bytes.now memory.old.keys.now) (lent memory.new.bytes.now memory.new.keys.now) }
+    ensures untold { (result ≡ pos 0 → ⊥) → units.new ≡ units.old }
+    ensures same { memory.new.bytes.ghost_name ≡ memory.old.bytes.ghost_name }
+{
+    let most = *units;
+    with_lent(
+        handle,
+        alloc,
+        memory,
+        &mut Step {
+            channel,
+            units: most,
+            done: units,
+        },
+    )
+}
+
+#[derive(Drop)]
+struct Units<'a> {
+    channel: u8,
+    units: u32,
+    ran: &'a mut Ran,
+}
+
+impl<'a> Call for Units<'a> {
+    ghost does = { λ call code after old new. OnChannel call.channel (RunsFor call.units code after.ran.now)
+        ((code ≡ no_channel) × (after.ran.now ≡ call.ran.now)) old new };
+
+    ghost tells = { pos 0 };
+
+    ghost Told = { Ran };
+
+    ghost told = { λ call. call.ran.now };
+
+    ghost out = { λ call. call.ran.ghost_name };
+
+    #[inline(always)]
+    fn over<M: MainStorage>(
+        &mut self,
+        channels: &mut Selectors<VolumeFile>,
+        storage: &mut M,
+    ) -> i32 {
+        if channels.is_available(self.channel) {
+            *self.ran = Ran {
+                units: 0,
+                subchannel: 0,
+                device: 0,
+                asked: 0,
+                reserved: 0,
+            };
+            return DONE;
+        }
+        units_done(channels, storage, self.channel, self.units, self.ran)
     }
-    units_done(channels, storage, channel, units, ran)
 }
 
 // The same, where the channel may be at work. It stands apart, so that a channel that is available takes no registers for it.
@@ -168,6 +200,44 @@ fn units_done<M: MainStorage>(
             DONE
         }
         None => NO_CHANNEL,
+    }
+}
+
+// Units alone.
+#[derive(Drop)]
+struct Step<'a> {
+    channel: u8,
+    units: u32,
+    done: &'a mut u32,
+}
+
+impl<'a> Call for Step<'a> {
+    ghost does = { λ call code after old new. OnChannel call.channel (StepsFor call.units code after.done.now)
+        ((code ≡ no_channel) × (after.done.now ≡ call.done.now)) old new };
+
+    ghost tells = { pos 0 };
+
+    ghost Told = { ℕ };
+
+    ghost told = { λ call. call.done.now };
+
+    ghost out = { λ call. call.done.ghost_name };
+
+    fn over<M: MainStorage>(
+        &mut self,
+        channels: &mut Selectors<VolumeFile>,
+        storage: &mut M,
+    ) -> i32 {
+        let mut ran = Ran {
+            units: *self.done,
+            subchannel: 0,
+            device: 0,
+            asked: 0,
+            reserved: 0,
+        };
+        let code = units_done(channels, storage, self.channel, self.units, &mut ran);
+        *self.done = ran.units;
+        code
     }
 }
 
@@ -236,44 +306,58 @@ pub extern "C" fn dasd_interrupt(
     channels: u8,
     address: &mut u16,
 ) -> i32
-    ensures { Calls handle.old.slot.held handle.new.slot.held result (λ old new. TellsFirst channels result address.old address.new old new) }
+    ensures does { Calls handle.old.slot.held handle.new.slot.held result (λ old new. TellsFirst channels result address.old address.new old new) }
+    ensures untold { (result ≡ pos 1 → ⊥) → address.new ≡ address.old }
 {
-    let Some(mut subsystem) = take(handle, alloc) else {
-        return NOTHING_HELD;
-    };
-    let code = interrupt_own(&mut subsystem, channels, address);
-    put(handle, subsystem);
-    code
+    with_own(handle, alloc, &mut Interrupt { channels, address })
 }
 
-fn interrupt_own(subsystem: &mut Subsystem, channels: u8, address: &mut u16) -> i32
-    ensures { Own result (λ old new. TellsFirst channels result address.old address.new old new) subsystem.old subsystem.new }
-{
-    let Some(storage) = &mut subsystem.storage else {
-        return NO_STORAGE;
-    };
-    interrupt(&mut subsystem.channels, storage, channels, address)
-}
-
-/// The same over main storage, owned or lent.
-pub(crate) fn interrupt<M: MainStorage>(
-    held: &mut Selectors<VolumeFile>,
-    storage: &mut M,
+/// The same over this memory.
+#[unsafe(no_mangle)]
+pub extern "C" fn dasd_lent_interrupt(
+    handle: &mut Handle,
+    alloc: Global,
+    memory: &mut Memory<'_, '_>,
     channels: u8,
     address: &mut u16,
 ) -> i32
-    requires size { length (M.holds storage.old).bytes ≡ held.old.size }
-    ensures does { TellsFirst channels result address.old address.new (across held.old (M.holds storage.old)) (across held.new (M.holds storage.new)) }
+    ensures does { CallsLent handle.old.slot.held handle.new.slot.held result (λ old new. TellsFirst channels result address.old address.new old new)
+        (lent memory.old.bytes.now memory.old.keys.now) (lent memory.new.bytes.now memory.new.keys.now) }
     ensures untold { (result ≡ pos 1 → ⊥) → address.new ≡ address.old }
-    ensures same { held.new.size ≡ held.old.size }
-    ensures keeps { KeepsStorage (M.holds storage.old) (M.holds storage.new) }
-    ensures place { M.place storage.new ≡ M.place storage.old }
+    ensures same { memory.new.bytes.ghost_name ≡ memory.old.bytes.ghost_name }
 {
-    // a poll with nothing pending ends here
-    let Some(number) = held.poll(channels) else {
-        return 0;
-    };
-    taken_at(held, storage, number, address)
+    with_lent(handle, alloc, memory, &mut Interrupt { channels, address })
+}
+
+#[derive(Drop)]
+struct Interrupt<'a> {
+    channels: u8,
+    address: &'a mut u16,
+}
+
+impl<'a> Call for Interrupt<'a> {
+    ghost does = { λ call code after old new. TellsFirst call.channels code call.address.now after.address.now old new };
+
+    ghost tells = { pos 1 };
+
+    ghost Told = { ℕ };
+
+    ghost told = { λ call. call.address.now };
+
+    ghost out = { λ call. call.address.ghost_name };
+
+    #[inline(always)]
+    fn over<M: MainStorage>(
+        &mut self,
+        channels: &mut Selectors<VolumeFile>,
+        storage: &mut M,
+    ) -> i32 {
+        // a poll with nothing pending ends here
+        let Some(number) = channels.poll(self.channels) else {
+            return 0;
+        };
+        taken_at(channels, storage, number, self.address)
+    }
 }
 
 // An interruption of the channel with this number is taken. It stands apart, so that a poll takes no registers for it.

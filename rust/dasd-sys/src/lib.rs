@@ -209,6 +209,8 @@ extern "C" {
     pub fn dasd_lent_tio(d: *mut dasd, memory: *mut dasd_memory, address: u16) -> i32;
     /// Halt I/O, over main storage that is lent.
     pub fn dasd_lent_hio(d: *mut dasd, memory: *mut dasd_memory, address: u16) -> i32;
+    /// As [`dasd_step`], over main storage that is lent: `units` is how many units are done at most, and then how many were.
+    pub fn dasd_lent_step(d: *mut dasd, memory: *mut dasd_memory, channel: u8, units: *mut u32) -> i32;
     /// As [`dasd_run_on`], over main storage that is lent: `units` of `ran` is how many units are done at most, and then how many were.
     pub fn dasd_lent_run_on(d: *mut dasd, memory: *mut dasd_memory, channel: u8, ran: *mut dasd_run) -> i32;
     /// As [`dasd_interrupt`], over main storage that is lent.

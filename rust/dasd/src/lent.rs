@@ -85,7 +85,9 @@ impl LentSubsystem {
     ///
     /// Those of each; `NoChannel`.
     pub fn step(&mut self, bytes: &mut [u8], keys: &[u8], channel: u8, units: u32) -> Result<u32, Fault> {
-        self.run_on(bytes, keys, channel, units).map(|ran| ran.units)
+        let mut done_units = units;
+        done(unsafe { sys::dasd_lent_step(&mut *self.handle, &mut memory(bytes, keys), channel, &mut done_units) })?;
+        Ok(done_units)
     }
 
     /// The same, with the subchannel behind them.

@@ -2,7 +2,7 @@ use Rattle.std.proofs.Common.{rules, ◌≡◌, ◌∙◌, ap, refl, subst, ℕ,
 use Rattle.std.proofs.lemmas.Int.{to_z-of_z}
 use Rattle.s360_channels.specs.Interrupting.{FirstPending, TakesOf}
 use Rattle.s360_channels.specs.Selectors.{across}
-use Rattle.dasd_c.proofs.turns.interrupt.Goals as goal
+use Rattle.dasd_c.proofs.turns.InterruptCall.over.Goals as goal
 
 -- none is taken, and C is told so
 pub returns-in_default-clause-does : goal.returns-in_default-clause-does
@@ -13,7 +13,7 @@ returns-in_default-clause-does g c =
       from = refl;
       takes = record {
         first = None;
-        is_first = subst (λ (first : Option ℕ). FirstPending c.args.channels (across c.args.held.now s) first) c.in_default.is
+        is_first = subst (λ (first : Option ℕ). FirstPending c.args.self.now.channels (across c.args.channels.now s) first) c.in_default.is
             (c.poll.ensures.first s);
         takes = (refl, ap (λ v. across v s) c.poll.ensures.stays);
       };
@@ -30,7 +30,7 @@ returns-clause-does g c =
       from = t.from;
       takes = record {
         first = Some c.in-Some.number;
-        is_first = subst (λ (first : Option ℕ). FirstPending c.args.channels (across c.args.held.now s) first) c.in-Some.is
+        is_first = subst (λ (first : Option ℕ). FirstPending c.args.self.now.channels (across c.args.channels.now s) first) c.in-Some.is
             (c.poll.ensures.first s);
         takes = subst (λ v. TakesOf (Some c.in-Some.number) t.taken (across v s)
             (across c.taken_at.new.held (holds c.taken_at.new.storage))) c.poll.ensures.stays t.takes;

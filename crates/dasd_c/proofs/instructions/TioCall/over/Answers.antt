@@ -7,19 +7,19 @@ use Rattle.s360_laws.specs.declared.condition.ConditionCode.TheVariants.{Three}
 use Rattle.s360_channels.specs.Channels.{Quietly}
 use Rattle.s360_channels.specs.Selectors.{across}
 use Rattle.dasd_c.proofs.Told.{is_three, told}
-use Rattle.dasd_c.proofs.instructions.tio.Goals as goal
+use Rattle.dasd_c.proofs.instructions.TioCall.over.Goals as goal
 
 -- C is told the number of the channel's answer
-pub returns-clause-tells : goal.returns-clause-tells
-returns-clause-tells g c =
+pub returns-clause-does : goal.returns-clause-does
+returns-clause-does g c =
     let holds = g.M.MainStorage.holds in
     let a = condition_seen csw_seen c.tio.result in
-    let how = Quietly (Tio c.args.address) a in
+    let how = Quietly (Tio c.args.self.now.address) a in
     let code = to_z-of_z w32 c.of_csw.result (search rules) ∙ c.of_csw.ensures in (
       record {
         answer = a;
         told = code;
-        does = told how how (c.tio.result ≡ condition.Three) (a ≡ WithCode Three) (c.args.address / 256)
+        does = told how how (c.tio.result ≡ condition.Three) (a ≡ WithCode Three) (c.args.self.now.address / 256)
             (across c.args.channels.now (holds c.args.storage.now))
             (across c.tio.new.self (holds c.tio.new.storage))
             (λ b d h. h) (λ e. ap (condition_seen csw_seen) e) c.tio.ensures.does;

@@ -8,7 +8,7 @@ use Rattle.dasd_c.specs.Calls.{RunsFor}
 use Rattle.dasd_c.specs.Codes.{no_channel}
 use Rattle.dasd_c.specs.Shown.{ran_shown}
 use Rattle.dasd_c.proofs.Told.{told}
-use Rattle.dasd_c.proofs.turns.run_on.Goals as goal
+use Rattle.dasd_c.proofs.turns.UnitsCall.over.Goals as goal
 
 abbrev Lacking : (code : ℤ) → (before shown : Ran) → Type 0
 Lacking code before shown = (code ≡ no_channel) × (shown ≡ before)
@@ -20,6 +20,6 @@ returns-then-is_available-clause-does g c =
     let v = across c.args.channels.now s in
     let ran : RunOn = record { units = 0; subchannel = Idle } in
     let shown = ran_shown ran in
-    told (RunsTo c.args.units (Some ran)) (RunsFor c.args.units (pos 0) shown) ⊥ (Lacking (pos 0) c.args.ran.now shown) c.args.channel v v
+    told (RunsTo c.args.self.now.units (Some ran)) (RunsFor c.args.self.now.units (pos 0) shown) ⊥ (Lacking (pos 0) c.args.self.now.ran.now shown) c.args.self.now.channel v v
     (λ b d h. record { ran = ran; told = refl; shows = refl; runs = h }) (λ e. absurd e)
-    (c.is_available.ensures c.if-is_available.true s c.args.units)
+    (c.is_available.ensures c.if-is_available.true s c.args.self.now.units)
