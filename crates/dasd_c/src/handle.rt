@@ -1,15 +1,16 @@
 //! The handle, and how a subsystem is taken out of it and put back.
 
-ghost use Rattle.std.specs.Prelude.{◌≡◌, ◌==◌, ◌↔◌, Option, Some, None, IsSome, IfSome, IfOk, IfErr, is_some, option_map, pos, true, false, if◌then◌else◌};
+ghost use Rattle.std.specs.Prelude.{◌≡◌, ◌==◌, Option, Some, None, IsSome, IfSome, is_some, option_map, pos, true, false, if◌then◌else◌};
 ghost use Rattle.dasd_subsystem.specs.Making.{MadeLent, MadeOwn, NotMade};
+ghost use Rattle.dasd_subsystem.specs.declared.refusal.Refusal.TheVariants as refusal;
 ghost use Rattle.dasd_c.specs.Attaching.{TellsWhy};
 ghost use Rattle.dasd_c.specs.Codes.{nothing_held, in_use, refusal_code};
 ghost use Rattle.dasd_c.specs.declared.handle.TheConstants.{HELD};
 
 use crate::parts::Parts;
 use crate::slot::Slot;
-use crate::tell::{DONE, IN_USE, NOTHING_HELD, of_refusal};
-use dasd_subsystem::{Refusal, Subsystem};
+use crate::tell::{DONE, IN_USE, NO_MEMORY, NOTHING_HELD, of_refusal};
+use dasd_subsystem::Subsystem;
 use std::alloc::Global;
 use std::marker::Send;
 use std::mem;
@@ -85,24 +86,9 @@ pub extern "C" fn dasd_new(
     if handle.stamp == HELD {
         return IN_USE;
     }
-    match owning(alloc, storage_bytes, channels) {
-        Ok(made) => {
-            put(handle, made);
-            DONE
-        }
+    match Subsystem::new(alloc, channels, storage_bytes) {
+        Ok(made) => hold(handle, alloc, made),
         Err(refusal) => of_refusal(refusal),
-    }
-}
-
-// A subsystem on the heap, or why there is none.
-fn owning(alloc: Global, storage_bytes: u32, channels: u8) -> Result<Box<Subsystem>, Refusal>
-    ensures made { IfOk result (λ s. MadeOwn channels storage_bytes s.value) }
-    ensures refused { IfErr result (λ e. NotMade channels storage_bytes e) }
-{
-    let subsystem = Subsystem::new(alloc, channels, storage_bytes)?;
-    match Box::new(alloc, subsystem) {
-        Ok(boxed) => Ok(boxed),
-        Err(_) => Err(Refusal::OutOfMemory),
     }
 }
 
@@ -123,24 +109,24 @@ pub extern "C" fn dasd_new_lent(
     if handle.stamp == HELD {
         return IN_USE;
     }
-    match lending(alloc, storage_bytes, channels) {
-        Ok(made) => {
-            put(handle, made);
-            DONE
-        }
+    match Subsystem::lent(channels, storage_bytes) {
+        Ok(made) => hold(handle, alloc, made),
         Err(refusal) => of_refusal(refusal),
     }
 }
 
-// The same, which is lent its storage by each call.
-fn lending(alloc: Global, storage_bytes: u32, channels: u8) -> Result<Box<Subsystem>, Refusal>
-    ensures made { IfOk result (λ s. MadeLent channels storage_bytes s.value) }
-    ensures refused { IfErr result (λ e. NotMade channels storage_bytes e) }
+/// Puts a subsystem on the heap, and into the handle; where there is no memory, the handle stays as it was.
+pub(crate) fn hold(handle: &mut Handle, alloc: Global, subsystem: Subsystem) -> i32
+    ensures held { result ≡ pos 0 → handle.new.slot.held ≡ Some subsystem }
+    ensures stays { (result ≡ pos 0 → ⊥) → handle.new.slot.held ≡ handle.old.slot.held }
+    ensures no_memory { (result ≡ pos 0 → ⊥) → result ≡ refusal_code refusal.OutOfMemory }
 {
-    let subsystem = Subsystem::lent(channels, storage_bytes)?;
     match Box::new(alloc, subsystem) {
-        Ok(boxed) => Ok(boxed),
-        Err(_) => Err(Refusal::OutOfMemory),
+        Ok(boxed) => {
+            put(handle, boxed);
+            DONE
+        }
+        Err(_) => NO_MEMORY,
     }
 }
 

@@ -3,9 +3,8 @@
 ghost use Rattle.std.specs.Prelude.{◌≡◌, pos, if◌then◌else◌};
 ghost use Rattle.s360_laws.specs.Events as machine;
 ghost use Rattle.s360_laws.specs.declared.condition.ConditionCode.TheVariants as code;
-ghost use Rattle.s360_channels.specs.declared.faults.DetachFault.TheVariants as refused;
 ghost use Rattle.s360_events.specs.Seen.{condition_seen, status_seen, csw_seen};
-ghost use Rattle.dasd_c.specs.Codes.{code_of, address_from, detach_code, mount_code, refusal_code};
+ghost use Rattle.dasd_c.specs.Codes.{code_of, address_from, detach_code, refusal_code};
 
 use ckd_image::MountFault;
 use dasd_subsystem::Refusal;
@@ -94,25 +93,17 @@ pub(crate) fn of_refusal(refusal: Refusal) -> i32
         Refusal::NoCylinders => NO_CYLINDERS,
         Refusal::NoFiles => NO_FILES,
         Refusal::TooManyFiles => TOO_MANY_FILES,
-        Refusal::Mount(fault) => of_mount(fault),
+        Refusal::Mount(MountFault::NotCkdP370) => -32,
+        Refusal::Mount(MountFault::Compressed) => -33,
+        Refusal::Mount(MountFault::DeviceType) => -34,
+        Refusal::Mount(MountFault::Heads) => -35,
+        Refusal::Mount(MountFault::TrackSize) => -36,
+        Refusal::Mount(MountFault::Split) => -37,
+        Refusal::Mount(MountFault::Length) => -38,
+        Refusal::Mount(MountFault::StoreFault) => -39,
         Refusal::AddressTaken => ADDRESS_TAKEN,
         Refusal::Full => FULL,
         Refusal::OutOfMemory => NO_MEMORY,
-    }
-}
-
-fn of_mount(fault: MountFault) -> i32
-    ensures { result ≡ mount_code fault }
-{
-    match fault {
-        MountFault::NotCkdP370 => -32,
-        MountFault::Compressed => -33,
-        MountFault::DeviceType => -34,
-        MountFault::Heads => -35,
-        MountFault::TrackSize => -36,
-        MountFault::Split => -37,
-        MountFault::Length => -38,
-        MountFault::StoreFault => -39,
     }
 }
 
@@ -122,18 +113,10 @@ pub(crate) fn of_detach(fault: DetachFault) -> i32
 {
     match fault {
         DetachFault::NoChannel => NO_CHANNEL,
-        DetachFault::Refused(why) => of_why(why),
-    }
-}
-
-fn of_why(why: WhyStays) -> i32
-    ensures { result ≡ detach_code (refused.Refused why) }
-{
-    match why {
-        WhyStays::NoDrive => NO_DRIVE,
-        WhyStays::ProgramRuns => PROGRAM_RUNS,
-        WhyStays::EndingPends => ENDING_PENDS,
-        WhyStays::DeviceEndOwed => DEVICE_END_OWED,
+        DetachFault::Refused(WhyStays::NoDrive) => NO_DRIVE,
+        DetachFault::Refused(WhyStays::ProgramRuns) => PROGRAM_RUNS,
+        DetachFault::Refused(WhyStays::EndingPends) => ENDING_PENDS,
+        DetachFault::Refused(WhyStays::DeviceEndOwed) => DEVICE_END_OWED,
     }
 }
 
