@@ -19,7 +19,8 @@ returns-clause-does g c =
     let after = did.new.ran in
     let old = across c.args.channels.now (g.M.MainStorage.holds c.args.storage.now) in
     let new = across did.new.channels (g.M.MainStorage.holds did.new.storage) in
-    subst (λ (code : ℤ). OnChannel call.channel (StepsFor call.units code after.units) ((code ≡ no_channel) × (after.units ≡ call.done.now)) old new)
+    subst (λ (code : ℤ).
+        OnChannel call.channel (StepsFor call.units code after.units) ((code ≡ no_channel) × (after.units ≡ call.done.now)) old new)
     (sym (to_z-of_z w32 code (search rules)))
     (told (RunsFor call.units code after) (StepsFor call.units code after.units) ((code ≡ no_channel) × (after ≡ before))
     ((code ≡ no_channel) × (after.units ≡ call.done.now)) call.channel old new
