@@ -1,12 +1,11 @@
 //! A subsystem is copied.
 
-ghost use Rattle.std.specs.Prelude.{◌≡◌, Some, IfOk, IfErr, pos};
-ghost use Rattle.dasd_subsystem.specs.declared.refusal.Refusal.TheVariants as refusal;
+ghost use Rattle.std.specs.Prelude.{◌≡◌, Some, pos};
 ghost use Rattle.dasd_c.specs.Copying.{TellsCopy};
 
-use crate::handle::{HELD, Handle, put, take};
-use crate::tell::{DONE, IN_USE, NOTHING_HELD, of_refusal};
-use dasd_subsystem::{Refusal, Subsystem};
+use crate::handle::{HELD, Handle, hold, put, take};
+use crate::tell::{IN_USE, NOTHING_HELD, of_refusal};
+use dasd_subsystem::Subsystem;
 use std::alloc::Global;
 
 /// Makes a handle that holds nothing hold a copy of what this one holds, also in the middle of channel programs: channels and drives
@@ -35,23 +34,8 @@ fn copy_into(subsystem: &Subsystem, alloc: Global, copy: &mut Handle) -> i32
     if copy.stamp == HELD {
         return IN_USE;
     }
-    match copied(subsystem, alloc) {
-        Ok(made) => {
-            put(copy, made);
-            DONE
-        }
+    match subsystem.copy(alloc) {
+        Ok(made) => hold(copy, alloc, made),
         Err(refusal) => of_refusal(refusal),
-    }
-}
-
-// A copy on the heap.
-fn copied(subsystem: &Subsystem, alloc: Global) -> Result<Box<Subsystem>, Refusal>
-    ensures copy { IfOk result (λ copy. copy.value ≡ subsystem.now) }
-    ensures refused { IfErr result (λ e. e ≡ refusal.OutOfMemory) }
-{
-    let copy = subsystem.copy(alloc)?;
-    match Box::new(alloc, copy) {
-        Ok(boxed) => Ok(boxed),
-        Err(_) => Err(Refusal::OutOfMemory),
     }
 }
