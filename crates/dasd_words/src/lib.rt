@@ -27,7 +27,6 @@ pub use crate::refused::{
 pub use crate::requests::{
     Asked, AskedTrace, ComparedVolumes, DeckRun, DumpedPart, ExtractedSet, ExtractedTracks,
     ExtractedVolume, ListedPart, NewImage, Noted, Numbers, PrintedVolume, Request, SetName,
-    StrictCheck,
-    TraceTarget, WordFault,
+    StrictCheck, TraceTarget, WordFault,
 };
 pub use crate::volumes::{Volume, VolumeSource};

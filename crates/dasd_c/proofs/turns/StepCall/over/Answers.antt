@@ -20,7 +20,7 @@ returns-clause-does g c =
     let old = across c.args.channels.now (g.M.MainStorage.holds c.args.storage.now) in
     let new = across did.new.channels (g.M.MainStorage.holds did.new.storage) in
     subst (λ (code : ℤ).
-        OnChannel call.channel (StepsFor call.units code after.units) ((code ≡ no_channel) × (after.units ≡ call.done.now)) old new)
+    OnChannel call.channel (StepsFor call.units code after.units) ((code ≡ no_channel) × (after.units ≡ call.done.now)) old new)
     (sym (to_z-of_z w32 code (search rules)))
     (told (RunsFor call.units code after) (StepsFor call.units code after.units) ((code ≡ no_channel) × (after ≡ before))
     ((code ≡ no_channel) × (after.units ≡ call.done.now)) call.channel old new

@@ -21,6 +21,6 @@ returns-then-is_available-clause-does g c =
     let ran : RunOn = record { units = 0; subchannel = Idle } in
     let shown = ran_shown ran in
     told (RunsTo c.args.self.now.units (Some ran)) (RunsFor c.args.self.now.units (pos 0) shown) ⊥
-        (Lacking (pos 0) c.args.self.now.ran.now shown) c.args.self.now.channel v v
+    (Lacking (pos 0) c.args.self.now.ran.now shown) c.args.self.now.channel v v
     (λ b d h. record { ran = ran; told = refl; shows = refl; runs = h }) (λ e. absurd e)
     (c.is_available.ensures c.if-is_available.true s c.args.self.now.units)
