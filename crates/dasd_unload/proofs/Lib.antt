@@ -3,4 +3,5 @@ mod Found
 pub mod Steps
 mod Through
 mod Told
+mod TracksUnloaded
 mod Unloaded
