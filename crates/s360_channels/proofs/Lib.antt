@@ -5,3 +5,4 @@ pub mod Missing
 pub mod Several
 pub mod Faces
 pub mod Available
+pub mod Copies

@@ -18,18 +18,9 @@ impl<S: CopyStore> Selectors<S> {
     pub fn copy(&self, alloc: Global) -> Result<Selectors<S>, AllocError>
         ensures { IfOk result (λ copy. copy ≡ self.now) }
     {
-        let [zero, one, two, three, four, five, six] = &self.list;
         Ok(Selectors {
             size: self.size,
-            list: [
-                copy_selector(alloc, zero)?,
-                copy_selector(alloc, one)?,
-                copy_selector(alloc, two)?,
-                copy_selector(alloc, three)?,
-                copy_selector(alloc, four)?,
-                copy_selector(alloc, five)?,
-                copy_selector(alloc, six)?,
-            ],
+            list: copy_list(alloc, &self.list)?,
             quiet: self.quiet,
         })
     }
@@ -50,6 +41,25 @@ impl<S: CopyStore> Channels<S> {
             storage: self.storage.copy(alloc)?,
         })
     }
+}
+
+// A copy of each channel, at its place.
+fn copy_list<S: CopyStore>(
+    alloc: Global,
+    list: &[Option<Selector<S>>; 7],
+) -> Result<[Option<Selector<S>>; 7], AllocError>
+    ensures { IfOk result (λ copies. copies ≡ list.now) }
+{
+    let [zero, one, two, three, four, five, six] = list;
+    Ok([
+        copy_selector(alloc, zero)?,
+        copy_selector(alloc, one)?,
+        copy_selector(alloc, two)?,
+        copy_selector(alloc, three)?,
+        copy_selector(alloc, four)?,
+        copy_selector(alloc, five)?,
+        copy_selector(alloc, six)?,
+    ])
 }
 
 // A copy of the channel, if there is one.
