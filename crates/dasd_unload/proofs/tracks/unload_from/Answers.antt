@@ -14,7 +14,8 @@ returns-in-Some-clause-done g c =
     let printed = seen_by g.W.Write.contents c.args.writer.now in
     let before = outcome (g.F.ImageFiles.written c.args.files.now) printed in
     let now = outcome (g.F.ImageFiles.written c.put.new.files) printed in
-    IfOk-weaker c.put.result _ _ (to_file a v before now c.in-Ok.found c.in-Ok.ensures.found c.in-Some.path.now (ap option_copied c.in-Some.is) refl)
+    IfOk-weaker c.put.result _ _
+    (to_file a v before now c.in-Ok.found c.in-Ok.ensures.found c.in-Some.path.now (ap option_copied c.in-Some.is) refl)
     (rw c.find_named.ensures.kept at (rw c.as_slice-extents.ensures.value at c.put.ensures.file))
 
 pub returns-clause-done : goal.returns-clause-done
