@@ -95,21 +95,27 @@ fn conclude(
         Err(fault) => fault.status(),
     };
     files.clear_line();
-    match ended {
-        Ok(_) => {}
-        Err(ProgramFault::Help(text)) => print_help(rt, text.as_str()),
-        Err(ProgramFault::Words(text)) => {
-            let text = Shown(text.as_str());
-            let _ = eprint!(rt; "{text}");
-        }
-        Err(fault) => {
-            let _ = eprintln!(rt; "dasd: {fault}");
-        }
+    if let Err(fault) = &ended {
+        tell_fault(rt, fault);
     }
     if files.tells() {
         files.print_remarks();
     }
     ExitCode::from(status)
+}
+
+// Says on standard error why what was asked for was not done; help goes to standard output.
+fn tell_fault(rt: &HostRuntime, fault: &ProgramFault) {
+    match fault {
+        ProgramFault::Help(text) => print_help(rt, text.as_str()),
+        ProgramFault::Words(text) => {
+            let text = Shown(text.as_str());
+            let _ = eprint!(rt; "{text}");
+        }
+        fault => {
+            let _ = eprintln!(rt; "dasd: {fault}");
+        }
+    }
 }
 
 // Prints help, and says where that can't be.
