@@ -146,6 +146,16 @@ def storage_type(size: int) -> Any:
     return ctypes.c_uint8 * size
 
 
+def _declare(library: ctypes.PyDLL, at: str, name: str, arguments: List[Any], result: Any) -> Any:
+    """A call of the library, by its name behind `dasd_`, with its types declared; an ImportError where the library has none."""
+    try:
+        call = getattr(library, "dasd_" + name)
+    except AttributeError:
+        raise ImportError(f"{at} has no dasd_{name}: it is older than this module") from None
+    call.argtypes, call.restype = arguments, result
+    return call
+
+
 def load() -> ctypes.PyDLL:
     """The library, with its calls declared. An ImportError says where it was looked for, or that it has another interface or too few calls.
 
@@ -156,16 +166,10 @@ def load() -> ctypes.PyDLL:
     except OSError as why:
         raise ImportError(f"libdasd is not to be had ({why}): DASD_LIBRARY names its file, or the system's loader has to know it") from why
     for name, arguments in _CALLS.items():
-        try:
-            call = getattr(library, "dasd_" + name)
-        except AttributeError:
-            raise ImportError(f"{at} has no dasd_{name}: it is older than this module") from None
-        call.argtypes, call.restype = [_to(Handle), *arguments], ctypes.c_int32
-    library.dasd_check.argtypes, library.dasd_check.restype = [_to(Bytes), _SIZE], ctypes.c_int32
-    for name in ("version", "interface"):
-        call = getattr(library, "dasd_" + name)
-        call.argtypes, call.restype = [], _U32
-    found = library.dasd_interface()
+        _declare(library, at, name, [_to(Handle), *arguments], ctypes.c_int32)
+    _declare(library, at, "check", [_to(Bytes), _SIZE], ctypes.c_int32)
+    _declare(library, at, "version", [], _U32)
+    found = _declare(library, at, "interface", [], _U32)()
     if found != INTERFACE:
         raise ImportError(f"{at} has interface {found}, and this module is for {INTERFACE}")
     return library

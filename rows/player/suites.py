@@ -39,10 +39,10 @@ def channel_rows() -> Iterator[Case]:
                 yield Case("%s: %s" % (block.name, line), play(again, disks, block, int(line.split()[1], 16)))
 
 
-def play(function: Callable[..., object], *words: object) -> Callable[[Stage], None]:
+def play(function: Callable[..., object], *given: object) -> Callable[[Stage], None]:
     """What plays a case by a function that takes the stage and these."""
     def plays(stage: Stage) -> None:
-        function(stage, *words)
+        function(stage, *given)
     return plays
 
 
