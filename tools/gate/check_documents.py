@@ -2,7 +2,7 @@
 
 - Each crate of crates.txt has a README.md, and a row in docs/MAP.md; README.md at the top has at most 7,168 bytes.
 - Each link of a document leads to a file that is there.
-- tools/edits/README.md names the must-fail edits of the gate, each of them.
+- tools/edits/README.md names the must-fail edits of the gate, each of tools/edits/gate.txt.
 - Each file of Rattle or antt that a document names is there: `crates/NAME/src/x.rt`, `NAME/specs/X.antt`; a name without a folder, as `Geometry.antt`,
   is looked for in the folder that was named last in its paragraph.
 - Each name that the last column of a table in a crate's README has in code, as `Drive::new` or `Follows`, stands in the crate's own files.
@@ -71,7 +71,8 @@ def check_edits(findings: Findings) -> None:
         return
     rows = [line.split("|")[2] for line in page.read_text(encoding="utf-8").splitlines() if line.startswith("| ")]
     named = {code for row in rows for code in CODE.findall(row)}
-    here = {f"{it.parent.parent.name}/{it.stem}" for it in TOP.glob("crates/*/must-fail/*.edit")}
+    lines = (TOP / "tools/edits/gate.txt").read_text(encoding="utf-8").splitlines()
+    here = {line.split()[0] for line in lines if line and not line.startswith("#")}
     for name in sorted(named | here):
         findings.expect(name in here, f"tools/edits/README.md: no must-fail edit {name}")
         findings.expect(name in named, f"tools/edits/README.md: no row of {name}")

@@ -1,4 +1,4 @@
-"""Tests of check_documents.py, check_version.py and sharpness.py, over a small repository that is made for each: `tools/gate/test_checks.py`."""
+"""Tests of check_documents.py, check_version.py, refuse_edits.py and sharpness.py, over small repositories and texts: `tools/gate/test_checks.py`."""
 
 import contextlib
 import io
@@ -9,7 +9,7 @@ from pathlib import Path
 from types import ModuleType
 from unittest import mock
 
-from tools.gate import check_documents, check_version
+from tools.gate import check_documents, check_version, refuse_edits
 from tools.make import rules
 from tools.measure import sharpness
 
@@ -154,7 +154,7 @@ class Checks(unittest.TestCase):
         )
 
     def test_must_fail_edits(self) -> None:
-        edit = {"crates/low/must-fail/always_the_first.edit": "file: src/lib.rt\n"}
+        edit = {"tools/edits/gate.txt": "# edits\nlow/always_the_first read\n"}
         self.finds(check_documents, {**edit, "tools/edits/README.md": "| it answers the first | `low/always_the_first` |\n"})
         self.finds(
             check_documents,
@@ -278,6 +278,41 @@ class RuleIndex(unittest.TestCase):
 
     def test_headings_that_are_one(self) -> None:
         self.finds_in("tools/make/rule_places.txt", "subject Seeks", "subject Words", "docs/RULES.md: several headings at #words")
+
+
+class RefusedEdits(unittest.TestCase):
+    """What is made of what a check of a spoilt function says."""
+
+    SPOILT = "low::read"
+
+    def test_list(self) -> None:
+        self.assertEqual(refuse_edits.wrong_bodies("# wrong\nlow/always_the_first a::read\n"), [refuse_edits.WrongBody("low", "always_the_first", "a::read")])
+
+    def test_edit(self) -> None:
+        self.assertEqual(refuse_edits.edited("one < other", "file: src/lib.rt\nold: <\nnew: >\n"), "one > other")
+        with self.assertRaises(refuse_edits.NotTried):
+            refuse_edits.edited("one < one < other", "old: <\nnew: >\n")
+
+    def test_refusals(self) -> None:
+        for said in (
+            "src/lib.rt:1:4: error: the goals differ\nfn low::read: not proved\nonly=1 proved=0\n",
+            "fn low::read: no proof: expected answers in ./proofs/read/Answers.antt; `search` did not prove `returns`\nonly=1 proved=0\n",
+        ):
+            self.assertTrue(refuse_edits.is_refused(said, self.SPOILT))
+
+    def test_body_that_is_let_through(self) -> None:
+        self.assertFalse(refuse_edits.is_refused("fn low::read: proved\nonly=1 proved=1\n", self.SPOILT))
+
+    def test_no_result(self) -> None:
+        for said in (
+            "src/lib.rt:1:4: error[unknown-name]: no such name\n",
+            "src/lib.rt:1:4: error: `other` is not in scope\nfn low::read: not proved\nonly=1 proved=0\n",
+            "fn low::read: not proved\nonly=1 proved=0\n",
+            "src/lib.rt:1:4: error: antt ran out of the steps\nfn low::read: could not tell\nonly=1 proved=0\n",
+            "src/lib.rt:1:4: error: the goals differ\nfn low::write: not proved\nonly=1 proved=0\n",
+        ):
+            with self.assertRaises(refuse_edits.NotTried):
+                refuse_edits.is_refused(said, self.SPOILT)
 
 
 class WrongBodies(unittest.TestCase):

@@ -1,14 +1,14 @@
-"""Tries the must-fail edits that the gate leaves out: the prover must refuse each.
+"""Tries all must-fail edits, over their whole crates: the prover must refuse each.
 
     tools/run gate/try_edits [CRATE..]
     tools/run gate/try_edits --texts
 
-They stand in tools/edits/CRATE, in the form of those in crates/CRATE/must-fail, which the gate tries each time. Without a name all of them are tried: before
+They stand in tools/edits/CRATE, in the kit's form; the gate tries some of them each time (refuse_edits.py). Without a name all of them are tried: before
 a version is tagged. With names, those of these crates: by whoever changes one of them. What the crates stand on is proved first, as far as it is
 not kept on this machine; a crate with edits is checked from nothing once more, so all of them take about an hour and a half of processor time.
 
 All is done in a copy, and the repository stays as it is. Status 1 where an edit was let through, can't be applied or was not
-tried. With --texts nothing is tried: it is only looked whether each edit, the gate's too, still fits its file, in which each of its old texts stands once.
+tried. With --texts nothing is tried: it is only looked whether each edit still fits its file, in which each of its old texts stands once.
 """
 
 import re
@@ -42,7 +42,6 @@ def unfit(edit: Path, crate: Path) -> str | None:
 def look_at_texts() -> int:
     """Prints each edit that does not fit; how many."""
     edits = [(it, TOP / "crates" / it.parent.name) for it in sorted(EDITS.glob("*/*.edit"))]
-    edits += [(it, it.parent.parent) for it in sorted((TOP / "crates").glob("*/must-fail/*.edit"))]
     wrong = [(edit, why) for edit, crate in edits if (why := unfit(edit, crate))]
     for edit, why in wrong:
         print(f"{edit.relative_to(TOP)}: {why}")
