@@ -1,7 +1,8 @@
 //! How a call of C is made: what the handle holds is taken out, the call is made over main storage, the subsystem's own or the caller's,
 //! and what was held is put back.
 
-ghost use Rattle.std.specs.Prelude.{◌≡◌, ℕ, ℤ, IfSome, None, length};
+ghost use Rattle.std.specs.Prelude.{◌≡◌, ◌/◌, ℕ, ℤ, IfSome, None, length, true};
+ghost use Rattle.s360_words.specs.Storage.{is_size};
 ghost use Rattle.s360_program.specs.Advances.{KeepsStorage};
 ghost use Rattle.s360_program.specs.Lent.{IsStorage, lent};
 ghost use Rattle.s360_channels.specs.Channels.{ChannelsState};
@@ -15,6 +16,7 @@ use dasd_subsystem::Subsystem;
 use s360_channels::Selectors;
 use s360_program::lent::{Lent, LentFault};
 use s360_program::main_storage::MainStorage;
+use s360_words::BLOCK_SIZE;
 use std::alloc::Global;
 
 /// A call that wants main storage: what C gives it, and what it tells C beside its number.
@@ -116,19 +118,29 @@ fn over_lent<C: Call>(subsystem: &mut Subsystem, bytes: &mut [u8], keys: &[u8], 
     call.over(&mut subsystem.channels, &mut storage)
 }
 
-// Why bytes and keys are not taken as main storage of channels that are for this size.
+// Why bytes and keys are not taken as main storage of channels that are for this size, which some storage has.
+#[inline(always)]
 fn refused(size: u32, bytes: &[u8], keys: &[u8]) -> Option<i32>
+    requires { is_size size ≡ true }
     ensures taken { result ≡ None → IsStorage (lent bytes.now keys.now) }
     ensures as_large { result ≡ None → length bytes.now ≡ size }
     ensures refused { IfSome result (λ code. RefusesMemory size (lent bytes.now keys.now) code) }
 {
+    if bytes.len() == size as usize && keys.len() == (size / BLOCK_SIZE) as usize {
+        return None;
+    }
+    Some(why_refused(size, bytes, keys))
+}
+
+// It stands apart, so that a memory that fits takes no registers for it.
+#[inline(never)]
+fn why_refused(size: u32, bytes: &[u8], keys: &[u8]) -> i32
+    requires unfit { length bytes.now ≡ size → length keys.now ≡ size / 2048 → ⊥ }
+    ensures { RefusesMemory size (lent bytes.now keys.now) result }
+{
     match Lent::check(bytes, keys) {
-        Err(LentFault::BadSize) => return Some(BAD_SIZE),
-        Err(LentFault::BadKeys) => return Some(BAD_BLOCKS),
-        Ok(()) => {}
+        Err(LentFault::BadSize) => BAD_SIZE,
+        Err(LentFault::BadKeys) => BAD_BLOCKS,
+        Ok(()) => OTHER_SIZE,
     }
-    if bytes.len() != size as usize {
-        return Some(OTHER_SIZE);
-    }
-    None
 }

@@ -1,5 +1,7 @@
 //! Channels with their drives.
 
+ghost use Rattle.std.specs.Prelude.{◌≡◌, true};
+ghost use Rattle.s360_words.specs.Storage.{is_size};
 ghost use Rattle.dasd_subsystem.specs.Fitting.{Fits};
 
 use dasd_files::VolumeFile;
@@ -14,4 +16,5 @@ pub struct Subsystem {
     /// The main storage that they own; none where each call that needs one is lent it.
     pub storage: Option<Storage>,
     ghost fits: { Fits storage channels },
+    ghost allowed: { is_size channels.size ≡ true },
 }

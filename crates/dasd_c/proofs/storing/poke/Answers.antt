@@ -11,4 +11,5 @@ invariant_of-subsystem-2 c =
     record {
       fits = kept_size c.put.result (Bytes c.args.at c.args.bytes.now) s c.put.new.self c.put.ensures.change
           ∙ own_size own.storage s own.channels c.in-Some.is own.fits;
+      allowed = own.allowed;
     }
