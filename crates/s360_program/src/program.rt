@@ -13,9 +13,10 @@ ghost use Rattle.s360_program.specs.Seen.{seen_in};
 ghost use Rattle.s360_program.specs.Starting.{IsFirst, StartsQuietly};
 
 use crate::conditions::csw_at;
+use crate::endings::told;
 use crate::main_storage::MainStorage;
 use crate::place::{Fetched, Place};
-use crate::run::Run;
+use crate::run::{OVER, Run, Step};
 use crate::starting::{First, first_command};
 use crate::view::ProgramView;
 use ckd_command::DriveEnding;
@@ -162,12 +163,20 @@ impl Running {
                 ending: None,
             };
         }
-        let mut run = self.run;
-        let ran = run.advance(units, storage, drive);
-        if ran.ending.is_none() {
-            self.run = run;
+        match self.run.advance(units, storage, drive) {
+            Step::Units(n) => Ran {
+                done: n,
+                ending: None,
+            },
+            Step::Over(n) => {
+                let ending = told(&self.run);
+                self.run = OVER;
+                Ran {
+                    done: n,
+                    ending: Some(ending),
+                }
+            }
         }
-        ran
     }
 
     /// Cuts the program, as Halt I/O and a reset do: the open command is closed by the bytes that have passed, where any

@@ -6,7 +6,7 @@ ghost use Rattle.s360_program.specs.Seen.{work_at};
 
 use crate::place::Place;
 use crate::view::AtWork;
-use s360_words::{Ccw, ChannelStatus, UnitStatus};
+use s360_words::{Ccw, CcwFlags, ChannelStatus, UnitStatus};
 
 /// What comes next.
 #[derive(Clone, Copy)]
@@ -61,6 +61,22 @@ pub(crate) const NOT_ENDED: Ended = Ended {
     unit: UnitStatus(0),
     channel: ChannelStatus(0),
     motion: false,
+};
+
+/// A program that is over.
+pub(crate) const OVER: Run = Run {
+    key: 0,
+    comes: Comes::NextCommand,
+    place: Place {
+        next: 0,
+        may_transfer: false,
+        last: 0,
+        residual: 0,
+        interruption: false,
+    },
+    ccw: Ccw { code: 0, address: 0, flags: CcwFlags(0), count: 0 },
+    address: 0,
+    ended: NOT_ENDED,
 };
 
 impl Run {

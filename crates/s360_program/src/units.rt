@@ -33,7 +33,7 @@ impl Run {
         units: u32,
         storage: &mut M,
         drive: &mut Drive<S>,
-    ) -> Ran
+    ) -> Step
         requires { Fits self.old drive.old }
         ensures advances { RunsOn self.old.key (phase_in (run_of self.old) (M.holds storage.old) drive.old) units result
             (run_of self.new) (M.holds storage.new) drive.old drive.new }
@@ -50,18 +50,10 @@ impl Run {
         while left > 0 {
             match self.step(left, storage, drive) {
                 Step::Units(n) => left -= n,
-                Step::Over(n) => {
-                    return Ran {
-                        done: units - left + n,
-                        ending: Some(told(self)),
-                    };
-                }
+                Step::Over(n) => return Step::Over(units - left + n),
             }
         }
-        Ran {
-            done: units - left,
-            ending: None,
-        }
+        Step::Units(units)
     }
 
     /// Cuts the program: the open command is closed by the bytes that have passed, where any have.
