@@ -1,6 +1,6 @@
 //! Bytes of EBCDIC are written as text.
 
-ghost use Rattle.std.specs.Prelude.{◌≡◌, ◌+◌, ◌*◌, ◌≤◌, ◌++◌, length, encode_utf8, OnOk};
+ghost use Rattle.std.specs.Prelude.{◌≡◌, ◌+◌, ◌*◌, ◌≤◌, ◌++◌, ◌&&◌, true, nat_le, nat_lt, length, take, encode_utf8, OnOk};
 ghost use Rattle.std.specs.Io.KnownBytes.{Appends};
 ghost use Rattle.arrayvec.specs.ArrayVec.{array_vec_len};
 ghost use Rattle.dasd_extract.specs.Blocks.{is_control, text_character, text_of};
@@ -11,10 +11,10 @@ use std::io::Write;
 use volume_labels::character;
 
 /// How many characters are made before they are written.
-const CHUNK: usize = 32;
+const CHUNK: usize = 128;
 
 /// The bytes that they have room for: each is at most three in UTF-8.
-const ROOM: usize = 96;
+const ROOM: usize = 384;
 
 /// Writes bytes of EBCDIC as text.
 pub(crate) fn write_text<W: Write>(writer: &mut W, bytes: &[u8]) -> io::Result<()>
@@ -29,9 +29,43 @@ pub(crate) fn write_text<W: Write>(writer: &mut W, bytes: &[u8]) -> io::Result<(
     Ok(())
 }
 
-// Writes a few bytes as text.
+// Writes a few bytes as text. Most texts are printing characters of ASCII alone, which are bytes of UTF-8 as they are.
 fn write_chunk<W: Write>(writer: &mut W, bytes: &[u8]) -> io::Result<()>
-    requires { length bytes.now ≤ 32 }
+    requires { length bytes.now ≤ 128 }
+    ensures { OnOk result (Appends (W.contents writer.old) (W.contents writer.new) (text_of bytes.now)) }
+{
+    let mut characters = [0; CHUNK];
+    if translate(&mut characters, bytes) {
+        writer.write_all(&characters[..bytes.len()])
+    } else {
+        write_each(writer, bytes)
+    }
+}
+
+// Puts the character of each byte into the room, from its front on; whether all are printing ones of ASCII, and so are the text.
+fn translate(characters: &mut [u8; CHUNK], bytes: &[u8]) -> bool
+    requires { length bytes.now ≤ 128 }
+    ensures { result ≡ true → take (length bytes.now) characters.new ≡ text_of bytes.now }
+{
+    let mut are_ascii = true;
+    for i in 0..bytes.len() {
+        let character = character(bytes[i]);
+        are_ascii &= is_printing(character);
+        characters[i] = character;
+    }
+    are_ascii
+}
+
+// Whether a character is a printing one of ASCII.
+fn is_printing(character: u8) -> bool
+    ensures { result ≡ (nat_le 32 character && nat_lt character 127) }
+{
+    character >= 32 && character < 127
+}
+
+// Writes a few bytes as text, a character after another.
+fn write_each<W: Write>(writer: &mut W, bytes: &[u8]) -> io::Result<()>
+    requires { length bytes.now ≤ 128 }
     ensures { OnOk result (Appends (W.contents writer.old) (W.contents writer.new) (text_of bytes.now)) }
 {
     let mut text: ArrayVec<u8, ROOM> = ArrayVec::new();
@@ -43,7 +77,7 @@ fn write_chunk<W: Write>(writer: &mut W, bytes: &[u8]) -> io::Result<()>
 
 // A byte as a character of text.
 fn put_character(text: &mut ArrayVec<u8, ROOM>, byte: u8)
-    requires { array_vec_len text.old + 3 ≤ 96 }
+    requires { array_vec_len text.old + 3 ≤ 384 }
     ensures text { text.new.items ≡ text.old.items ++ encode_utf8 (text_character byte) }
     ensures size { array_vec_len text.new ≤ array_vec_len text.old + 3 }
 {
@@ -64,7 +98,7 @@ fn is_control(character: u8) -> bool
 
 // What stands for a character that is no text.
 fn put_replacement(text: &mut ArrayVec<u8, ROOM>)
-    requires { array_vec_len text.old + 3 ≤ 96 }
+    requires { array_vec_len text.old + 3 ≤ 384 }
     ensures text { text.new.items ≡ text.old.items ++ encode_utf8 0xFFFD }
     ensures size { array_vec_len text.new ≤ array_vec_len text.old + 3 }
 {
@@ -75,7 +109,7 @@ fn put_replacement(text: &mut ArrayVec<u8, ROOM>)
 
 // A character of the first 256.
 fn put_latin(text: &mut ArrayVec<u8, ROOM>, character: u8)
-    requires { array_vec_len text.old + 3 ≤ 96 }
+    requires { array_vec_len text.old + 3 ≤ 384 }
     ensures text { text.new.items ≡ text.old.items ++ encode_utf8 character }
     ensures size { array_vec_len text.new ≤ array_vec_len text.old + 3 }
 {

@@ -1,6 +1,6 @@
 use Rattle.std.proofs.Common.{◌≡◌, ◌*◌, ◌≤◌, length, take}
 use Rattle.dasd_extract.specs.Blocks.{text_of}
-use Rattle.dasd_extract.proofs.texts.write_chunk.Given as goal
+use Rattle.dasd_extract.proofs.texts.write_each.Given as goal
 
 -- the characters so far are made
 abbrev pub invariant-loop-byte : goal.invariant-loop-byte
