@@ -1,7 +1,7 @@
 //! What a C program is shown of a channel program that runs, and of what its drive remembers beside its volume.
 
 ghost use Rattle.std.specs.Prelude.{◌≡◌, ◌≤◌};
-ghost use Rattle.dasd_subsystem.specs.Watched.{credit_of, credited, has_second, mask_byte, passed, phase_of, place_of, program_shown, registers_shown};
+ghost use Rattle.dasd_subsystem.specs.Watched.{credit_of, has_second, mask_byte, passed, phase_of, place_of, program_shown, registers_shown};
 ghost use Rattle.dasd_subsystem.specs.Watched.{seeks_byte, word_of, writes_byte};
 
 use ckd_command::{Credit, Lap, Registers};
