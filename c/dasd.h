@@ -91,6 +91,7 @@ enum dasd_fault {
     DASD_NO_STORAGE = -20,      /* the handle owns no main storage: each call is lent it */
     DASD_BAD_BLOCKS = -21,      /* main storage has one key for each block of 2,048 bytes */
     DASD_OTHER_SIZE = -22,      /* the channels are for main storage of another size */
+    DASD_NO_PROGRAM = -23,      /* no channel program runs on this channel */
     /* Why files are no image, in the order in which they are looked at: */
     DASD_NOT_CKD_P370 = -32, /* not a CKD_P370 image */
     DASD_COMPRESSED = -33,   /* a compressed image, or a shadow file */
@@ -251,6 +252,71 @@ typedef struct dasd_state {
 
 /* DASD_NO_CHANNEL. */
 int32_t dasd_show_channel(dasd *d, uint8_t channel, dasd_state *shown);
+
+/* What the next unit of a channel program does. */
+enum dasd_phase {
+    DASD_FETCHES = 0, /* it fetches a word that begins a command */
+    DASD_LOOKS = 1,   /* it looks for the area of the command at work */
+    DASD_MOVES = 2    /* it moves bytes */
+};
+
+/* A channel program that runs, as it is between two units. The word at work is the channel command word whose command has begun and has
+ * not ended, or that its data are chained to; where a word is to be fetched that begins a command, its four fields are 0. */
+typedef struct dasd_program {
+    uint32_t last;    /* where the last word was whose fetch was tried */
+    uint32_t next;    /* where the next word is */
+    uint32_t address; /* the data address of the word at work */
+    uint32_t place;   /* where its next byte goes or comes from; before the first that is its data address */
+    uint16_t count;   /* its count */
+    uint16_t left;    /* the count left in the last good word: the residual count of a channel status word */
+    uint8_t device;   /* the low byte of the drive's address */
+    uint8_t key;      /* the protection key of its stores, 0 to 15 */
+    uint8_t phase;    /* enum dasd_phase */
+    uint8_t asked;    /* 1: a word asked for an interruption that is not yet taken */
+    uint8_t code;     /* the command code of the word at work */
+    uint8_t flags;    /* its flags, the high five bits */
+    uint8_t reserved[2];
+} dasd_program;
+
+/* Shows the program that runs on a channel. DASD_NO_CHANNEL; DASD_NO_PROGRAM, none runs, and `shown` stays. */
+int32_t dasd_show_program(dasd *d, uint8_t channel, dasd_program *shown);
+
+/* An area of a track. */
+enum dasd_area {
+    DASD_INDEX = 0, /* none: none has passed since the index */
+    DASD_HOME_ADDRESS = 1,
+    DASD_COUNT = 2,
+    DASD_KEY = 3,
+    DASD_DATA = 4
+};
+
+/* What a command leaves for the very next one, between which Transfer In Channel may stand. */
+enum dasd_credit {
+    DASD_NO_CREDIT = 0,
+    DASD_EQUAL_HOME_ADDRESS = 1, /* a search found the whole of it equal */
+    DASD_EQUAL_ID = 2,
+    DASD_EQUAL_KEY = 3,
+    DASD_WROTE_HOME_ADDRESS = 4, /* it was written */
+    DASD_WROTE_RECORD = 5
+};
+
+/* What a drive remembers in a program, beside its volume. A record is named by its place on the track, where record 0 is 0. */
+typedef struct dasd_registers {
+    size_t passed;     /* the record whose area passed last */
+    size_t credited;   /* the record that the credit is for */
+    uint16_t cylinder; /* where its arm is */
+    uint16_t head;     /* the head that is selected */
+    uint8_t sense[6];  /* the sense bytes, of this program so far */
+    uint8_t area;      /* enum dasd_area: what passed last on this turn of the track */
+    uint8_t lap;       /* 1: the index has passed once since the commands began to look on this track */
+    uint8_t mask;      /* the file mask, in the bits C0 and 18 of the byte that Set File Mask takes */
+    uint8_t mask_set;  /* 1: a Set File Mask of this program has set it */
+    uint8_t credit;    /* enum dasd_credit */
+    uint8_t reserved[3];
+} dasd_registers;
+
+/* Shows what the drive of the program remembers that runs on a channel. DASD_NO_CHANNEL; DASD_NO_PROGRAM, none runs, and `shown` stays. */
+int32_t dasd_show_registers(dasd *d, uint8_t channel, dasd_registers *shown);
 
 /* --- Main storage --- */
 

@@ -122,6 +122,7 @@ inline constexpr Told faults[] = {
     {DASD_NO_STORAGE, "DASD_NO_STORAGE", "the handle owns no main storage: each call is lent it"},
     {DASD_BAD_BLOCKS, "DASD_BAD_BLOCKS", "main storage has one key for each block of 2,048 bytes"},
     {DASD_OTHER_SIZE, "DASD_OTHER_SIZE", "the channels are for main storage of another size"},
+    {DASD_NO_PROGRAM, "DASD_NO_PROGRAM", "no channel program runs on this channel"},
     {DASD_NOT_CKD_P370, "DASD_NOT_CKD_P370", "not a CKD_P370 image"},
     {DASD_COMPRESSED, "DASD_COMPRESSED", "a compressed image, or a shadow file"},
     {DASD_DEVICE_TYPE, "DASD_DEVICE_TYPE", "neither a 2311 nor a 2314"},
@@ -313,6 +314,20 @@ class Channels {
         dasd_state shown{};
         detail::done(dasd_show_channel(held(), number, &shown));
         return shown;
+    }
+
+    /* The program that runs on a channel, as it is between two units; none where none runs. DASD_NO_CHANNEL. */
+    std::optional<dasd_program> program(std::uint8_t number) {
+        dasd_program shown{};
+        const auto code = dasd_show_program(held(), number, &shown);
+        return code == DASD_NO_PROGRAM ? std::nullopt : (detail::done(code), std::optional(shown));
+    }
+
+    /* What its drive remembers beside its volume; none where none runs. DASD_NO_CHANNEL. */
+    std::optional<dasd_registers> registers(std::uint8_t number) {
+        dasd_registers shown{};
+        const auto code = dasd_show_registers(held(), number, &shown);
+        return code == DASD_NO_PROGRAM ? std::nullopt : (detail::done(code), std::optional(shown));
     }
 
   protected:

@@ -61,6 +61,22 @@ class Calls(unittest.TestCase):
             self.assertEqual((disks.step(1, 10), disks.hio(0x190), disks.sio(0x390)), (0, 1, 3))
             self.assertIsNone(disks.reset(1))
 
+    def test_a_program_is_shown_while_it_runs(self) -> None:
+        with self.made() as disks:
+            disks.storage[0x100:0x108] = READ_R0
+            self.assertEqual((disks.program(1), disks.registers(1), disks.sio(0x190)), (None, None, 0))
+            self.assertEqual(disks.step(1, 3), 3)  # the word, and two of its bytes
+            word = {"code": 0x16, "flags": 0x20, "address": 0x200, "count": 16, "place": 0x202, "left": 14}
+            shown = dasd.Program(device=0x90, phase=dasd.Phase.MOVES, last=0x100, next=0x108, key=0, asked=False, **word)
+            self.assertEqual(disks.program(1), shown)
+            turn = {"area": dasd.Area.COUNT, "passed": 0, "lap": 0}
+            left = {"credit": dasd.Credit.NONE, "credited": 0, "sense": bytes(6)}
+            self.assertEqual(disks.registers(1), dasd.Registers(cylinder=0, head=0, mask=0, mask_set=False, **turn, **left))
+            self.refused("NO_CHANNEL", disks.program, 2)
+            self.refused("NO_CHANNEL", disks.registers, 2)
+            disks.run_on(1, 1000)
+            self.assertEqual((disks.program(1), disks.registers(1)), (None, None))
+
     def test_a_volume_goes_from_one_to_another(self) -> None:
         with self.made() as disks, self.maker(4096, 0) as others:
             image, changes = disks.file(0x190)

@@ -73,6 +73,18 @@ void a_record_is_read() {
     CHECK(disks.hio(drive) == 1 && disks.sio(0x390) == 3 && disks.step(1, 9) == 0 && !disks.reset(1));
 }
 
+void a_program_is_shown_while_it_runs() {
+    Subsystem disks = made(read_r0);
+    CHECK(!disks.program(1) && !disks.registers(1) && disks.sio(drive) == 0 && disks.step(1, 3) == 3); // the word, and two of its bytes
+    const auto program = disks.program(1);
+    CHECK(program && program->phase == DASD_MOVES && program->last == 0x100 && program->place == 0x202 && program->left == 14);
+    const auto registers = disks.registers(1);
+    CHECK(registers && registers->area == DASD_COUNT && registers->passed == 0 && registers->credit == DASD_NO_CREDIT);
+    CHECK(refused([&] { (void)disks.program(2); }) == DASD_NO_CHANNEL && refused([&] { (void)disks.registers(2); }) == DASD_NO_CHANNEL);
+    (void)disks.run_on(1, 1000);
+    CHECK(!disks.program(1) && !disks.registers(1));
+}
+
 void a_volume_goes_from_one_to_another() {
     Subsystem disks = made(read_r0), others(4096, DASD_CHANNEL(0));
     Octets image = image_of(disks);
@@ -380,6 +392,7 @@ std::int32_t __wrap_dasd_poke(dasd *d, std::uint32_t at, const std::uint8_t *byt
 int main(int count, char **words) { // NOLINT(bugprone-exception-escape)
     if (count == 2 && !std::strcmp(words[1], "texts")) return texts();
     a_record_is_read();
+    a_program_is_shown_while_it_runs();
     a_volume_goes_from_one_to_another();
     a_volume_in_several_files();
     an_arm_moves();

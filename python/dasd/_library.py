@@ -76,6 +76,44 @@ class Drive(ctypes.Structure):
     ]
 
 
+class Program(ctypes.Structure):
+    """A channel program that runs, as it is between two units."""
+
+    _fields_ = [
+        ("last", ctypes.c_uint32),
+        ("next", ctypes.c_uint32),
+        ("address", ctypes.c_uint32),
+        ("place", ctypes.c_uint32),
+        ("count", ctypes.c_uint16),
+        ("left", ctypes.c_uint16),
+        ("device", ctypes.c_uint8),
+        ("key", ctypes.c_uint8),
+        ("phase", ctypes.c_uint8),
+        ("asked", ctypes.c_uint8),
+        ("code", ctypes.c_uint8),
+        ("flags", ctypes.c_uint8),
+        ("reserved", ctypes.c_uint8 * 2),
+    ]
+
+
+class Registers(ctypes.Structure):
+    """What a drive remembers in a program, beside its volume."""
+
+    _fields_ = [
+        ("passed", ctypes.c_size_t),
+        ("credited", ctypes.c_size_t),
+        ("cylinder", ctypes.c_uint16),
+        ("head", ctypes.c_uint16),
+        ("sense", ctypes.c_uint8 * 6),
+        ("area", ctypes.c_uint8),
+        ("lap", ctypes.c_uint8),
+        ("mask", ctypes.c_uint8),
+        ("mask_set", ctypes.c_uint8),
+        ("credit", ctypes.c_uint8),
+        ("reserved", ctypes.c_uint8 * 3),
+    ]
+
+
 class State(ctypes.Structure):
     """A channel, as it is shown."""
 
@@ -116,6 +154,8 @@ _CALLS: Dict[str, List[Any]] = {
     "interrupt": [_U8, ctypes.POINTER(_U16)],
     "reset": [_U8, _to(Track)],
     "show_channel": [_U8, _to(State)],
+    "show_program": [_U8, _to(Program)],
+    "show_registers": [_U8, _to(Registers)],
     "show_storage": [_to(Storage)],
     "peek": [_U32, ctypes.c_char_p, _SIZE],
     "poke": [_U32, ctypes.c_char_p, _SIZE],

@@ -10,7 +10,24 @@ from typing import NoReturn, Optional, Sequence, Tuple, Type, TypeVar, Union
 
 from . import _library
 from ._handle import Handle, Lent, LentHandle, calls, done
-from ._words import Arm, AttachedDrive, ChannelState, DriveState, Fault, FaultCode, Run, Subchannel, Track, Version, VolumeFile
+from ._words import (
+    Area,
+    Arm,
+    AttachedDrive,
+    ChannelState,
+    Credit,
+    DriveState,
+    Fault,
+    FaultCode,
+    Phase,
+    Program,
+    Registers,
+    Run,
+    Subchannel,
+    Track,
+    Version,
+    VolumeFile,
+)
 
 #: What a call takes as bytes: all of the object's, whatever its items are. Of other objects with bytes take a memoryview.
 BytesLike = Union[bytes, bytearray, memoryview, mmap.mmap]
@@ -260,6 +277,32 @@ class Channels:
         self._call("show_channel", _refusable(number, _U8, _U8), ctypes.byref(s))
         drives = tuple(AttachedDrive(int(s.units[i]), Arm(s.arms[i])) for i in range(s.drives))
         return ChannelState(Subchannel(s.subchannel), s.device, s.asked == 1, drives)
+
+    def program(self, channel: int) -> Optional[Program]:
+        """The program that runs on a channel, as it is between two units. None where none runs. NO_CHANNEL."""
+        p = _library.Program()
+        if not self._is_shown("show_program", channel, p):
+            return None
+        word = (p.code, p.flags, p.address, p.count, p.place)
+        return Program(p.device, Phase(p.phase), p.last, p.next, *word, p.left, p.key, p.asked == 1)
+
+    def registers(self, channel: int) -> Optional[Registers]:
+        """What the drive of that program remembers beside its volume. None where none runs. NO_CHANNEL."""
+        r = _library.Registers()
+        if not self._is_shown("show_registers", channel, r):
+            return None
+        seen = (Area(r.area), r.passed, r.lap, r.mask, r.mask_set == 1)
+        return Registers(r.cylinder, r.head, *seen, Credit(r.credit), r.credited, bytes(r.sense))
+
+    def _is_shown(self, name: str, channel: int, shown: ctypes.Structure) -> bool:
+        """Whether a program runs on a channel, of which this call has shown something."""
+        try:
+            self._call(name, _refusable(channel, _U8, _U8), ctypes.byref(shown))
+        except Fault as fault:
+            if fault.code == FaultCode.NO_PROGRAM:
+                return False
+            raise
+        return True
 
     # Main storage, with the bounds looked at
 

@@ -31,6 +31,7 @@ class FaultCode(enum.IntEnum):
     NO_STORAGE = -20
     BAD_BLOCKS = -21
     OTHER_SIZE = -22
+    NO_PROGRAM = -23
     NOT_CKD_P370 = -32
     COMPRESSED = -33
     DEVICE_TYPE = -34
@@ -64,6 +65,7 @@ _TEXTS = {
     FaultCode.NO_STORAGE: "the handle owns no main storage: each call is lent it",
     FaultCode.BAD_BLOCKS: "main storage has one key for each block of 2,048 bytes",
     FaultCode.OTHER_SIZE: "the channels are for main storage of another size",
+    FaultCode.NO_PROGRAM: "no channel program runs on this channel",
     FaultCode.NOT_CKD_P370: "not a CKD_P370 image",
     FaultCode.COMPRESSED: "a compressed image, or a shadow file",
     FaultCode.DEVICE_TYPE: "neither a 2311 nor a 2314",
@@ -187,6 +189,95 @@ class ChannelState(NamedTuple):
     asked: bool
     #: its drives, none to eight, in the order of attachment
     drives: Tuple[AttachedDrive, ...]
+
+
+class Phase(IntEnum):
+    """What the next unit of a channel program does."""
+
+    #: it fetches a word that begins a command
+    FETCHES = 0
+    #: it looks for the area of the command at work
+    LOOKS = 1
+    #: it moves bytes
+    MOVES = 2
+
+
+class Program(NamedTuple):
+    """A channel program that runs, as it is between two units. The word at work is the one whose command has begun and has not ended, or
+    that its data are chained to; where a word is to be fetched that begins a command, `code`, `flags`, `address`, `count` and `place` are 0."""
+
+    #: the low byte of its drive's address
+    device: int
+    #: what its next unit does
+    phase: Phase
+    #: where the last word was whose fetch was tried
+    last: int
+    #: where the next word is
+    next: int
+    #: the command code of the word at work
+    code: int
+    #: its flags, the high five bits
+    flags: int
+    #: its data address
+    address: int
+    #: its count
+    count: int
+    #: where its next byte goes or comes from
+    place: int
+    #: the count left in the last good word
+    left: int
+    #: the protection key of its stores
+    key: int
+    #: whether a word of it asked for an interruption (PCI) that is not yet taken
+    asked: bool
+
+
+class Area(IntEnum):
+    """An area of a track."""
+
+    #: none has passed since the index
+    INDEX = 0
+    HOME_ADDRESS = 1
+    COUNT = 2
+    KEY = 3
+    DATA = 4
+
+
+class Credit(IntEnum):
+    """What a command leaves for the very next one, between which Transfer In Channel may stand: that a search found the whole of
+    something equal, or that it was written."""
+
+    NONE = 0
+    EQUAL_HOME_ADDRESS = 1
+    EQUAL_ID = 2
+    EQUAL_KEY = 3
+    WROTE_HOME_ADDRESS = 4
+    WROTE_RECORD = 5
+
+
+class Registers(NamedTuple):
+    """What a drive remembers in a program, beside its volume. A record is named by its place on the track, where record 0 is 0."""
+
+    #: where its arm is
+    cylinder: int
+    #: the head that is selected
+    head: int
+    #: what passed last on this turn of the track
+    area: Area
+    #: its record
+    passed: int
+    #: how often the index has passed since the commands began to look on this track, 0 or 1
+    lap: int
+    #: the file mask, in the bits C0 and 18 of the byte that Set File Mask takes
+    mask: int
+    #: whether a Set File Mask of this program has set it
+    mask_set: bool
+    #: what the command just before left
+    credit: Credit
+    #: the record that it is for
+    credited: int
+    #: the six sense bytes, of this program so far
+    sense: bytes
 
 
 class Track(NamedTuple):

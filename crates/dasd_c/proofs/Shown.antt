@@ -1,8 +1,5 @@
--- Test Channel says whether a program runs; and what is shown of each drive.
-use Rattle.std.proofs.Common.{◌≡◌, ◌<◌, ◌∙◌, ap, refl, subst, sym, Bool, true, false, ℕ, List, length, map, Option, Some, None}
-use Rattle.std.proofs.lemmas.Grind.{same_number_lists}
-use Rattle.std.proofs.lemmas.List.{get_or-map, length-map}
-use Rattle.std.specs.Prelude.{slice_index_or}
+-- Test Channel says whether a program runs.
+use Rattle.std.proofs.Common.{◌≡◌, ◌∙◌, ap, refl, Bool, true, false, Option, Some, None}
 use Rattle.s360_words.specs.Storage.{Storage}
 use Rattle.s360_events.specs.Seen.{answer_seen}
 use Rattle.s360_events.specs.declared.answers.Answer.TheVariants as answer
@@ -35,10 +32,3 @@ pub runs_at : (s : Storage) (o : Option ChannelState) (t : Condition (Unit {0}))
     → RunsAt (is_two t) s o
 runs_at s None t h = told_two t ∙ ap has_two h
 runs_at s (Some c) t h = λ m stands. told_two t ∙ ap has_two (h m stands).answers ∙ works_two m.subchannel
-
--- numbers that are what a function gives of each element, one after another
-pub mapped : {A : Type 0} (f : Option A → ℕ) (xs : List (Option A)) (ys : List ℕ) (n : ℕ) → length xs ≡ n → length ys ≡ n
-    → ((k : ℕ) → k < n → slice_index_or ys k 0 ≡ f (slice_index_or xs k None)) → ys ≡ map f xs
-mapped f xs ys n long same each =
-    same_number_lists ys (map f xs) (same ∙ sym (length-map xs f ∙ long))
-    (λ k h. each k (subst (λ m. k < m) same h) ∙ sym (get_or-map f xs k None 0 (subst (λ m. k < m) (same ∙ sym long) h)))

@@ -12,7 +12,7 @@ use Rattle.dasd_subsystem.specs.declared.refusal.Refusal.{Refusal}
 use Rattle.dasd_subsystem.specs.declared.refusal.Refusal.TheVariants as refusal
 
 -- DASD_NOTHING_HELD, DASD_IN_USE, DASD_OUTSIDE_STORAGE, DASD_BAD_SIZE, DASD_BAD_KEY, DASD_BAD_MODEL, DASD_NO_CHANNEL, DASD_NO_DRIVE,
--- DASD_NO_FILE, DASD_PROGRAM_RUNS, DASD_NO_STORAGE, DASD_BAD_BLOCKS, DASD_OTHER_SIZE
+-- DASD_NO_FILE, DASD_PROGRAM_RUNS, DASD_NO_STORAGE, DASD_BAD_BLOCKS, DASD_OTHER_SIZE, DASD_NO_PROGRAM
 abbrev pub nothing_held : ℤ
 nothing_held = neg_ℤ (pos 1)
 
@@ -51,6 +51,9 @@ bad_blocks = neg_ℤ (pos 21)
 
 abbrev pub other_size : ℤ
 other_size = neg_ℤ (pos 22)
+
+abbrev pub no_program : ℤ
+no_program = neg_ℤ (pos 23)
 
 -- a condition code
 abbrev pub number_of : ConditionCode → ℤ

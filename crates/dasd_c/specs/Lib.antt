@@ -4,3 +4,4 @@ pub mod Shown
 pub mod Calls
 pub mod Attaching
 pub mod Copying
+pub mod Watching

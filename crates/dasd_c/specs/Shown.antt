@@ -19,18 +19,13 @@ use Rattle.s360_channel.specs.declared.view.SubchannelView.{SubchannelView}
 use Rattle.s360_channel.specs.declared.view.SubchannelView.TheVariants.{Idle, Working, Pending}
 use Rattle.s360_events.specs.declared.conditions.Condition.{Condition}
 use Rattle.s360_events.specs.declared.conditions.Condition.TheVariants.{Two}
-use Rattle.dasd_c.specs.declared.showing.Drive.{Drive}
+use Rattle.dasd_subsystem.specs.declared.shown.ShownDrive.{ShownDrive}
+use Rattle.dasd_subsystem.specs.declared.shown.ShownChannel.{ShownChannel}
+use Rattle.dasd_subsystem.specs.Shown.{ShowsState, drive_shown, numbers_of}
 use Rattle.dasd_c.specs.declared.showing.File.{File}
-use Rattle.dasd_c.specs.declared.showing.State.{State}
 use Rattle.dasd_c.specs.declared.turns.Ran.{Ran}
 use Rattle.dasd_c.specs.declared.turns.Track.{Track}
 use Rattle.dasd_c.specs.Codes.{no_channel, no_drive, no_file, program_runs}
-
--- a subchannel: its number, the device whose program runs or ended, and 1 where a word of that program asked for an interruption
-abbrev pub numbers_of : SubchannelView → ℕ × ℕ × ℕ
-numbers_of Idle = (0, 0, 0)
-numbers_of (Working device asked) = (1, device, if asked then 1 else 0)
-numbers_of (Pending device csw) = (2, device, 0)
 
 -- what came of a run
 abbrev pub ran_shown : RunOn → Ran
@@ -41,59 +36,18 @@ abbrev pub track_shown : Option (ℕ × ℕ × ℕ) → Track → Track
 track_shown (Some t) before = record { address = t.0; cylinder = t.1; head = t.2 }
 track_shown None before = before
 
-abbrev pub number_of_model : DriveModel → ℕ
-number_of_model D2311 = 2311
-number_of_model D2314 = 2314
-
-abbrev pub number_of_arm : Arm → ℕ
-number_of_arm AtRest = 0
-number_of_arm InMotion = 1
-number_of_arm Arrived = 2
-
-abbrev pub drive_shown : DriveView → Drive
-drive_shown d = record {
-  model = number_of_model d.model;
-  cylinders = d.cylinders;
-  cylinder = d.cylinder;
-  head = d.head;
-  arm = number_of_arm d.arm;
-  sense = d.sense;
-  reserved = 0;
-}
-
 -- The drive under an address is shown; or there is no such channel, or no such drive, and nothing is.
-abbrev pub ShowsSeen : Option DriveView → (code : ℤ) → (before shown : Drive) → Type 0
+abbrev pub ShowsSeen : Option DriveView → (code : ℤ) → (before shown : ShownDrive) → Type 0
 ShowsSeen (Some seen) code before shown = (code ≡ pos 0) × (shown ≡ drive_shown seen)
 ShowsSeen None code before shown = (code ≡ no_drive) × (shown ≡ before)
 
-abbrev pub ShowsDriveOf : Option ChannelState → (device : ℕ) → (code : ℤ) → (before shown : Drive) → Type 0
+abbrev pub ShowsDriveOf : Option ChannelState → (device : ℕ) → (code : ℤ) → (before shown : ShownDrive) → Type 0
 ShowsDriveOf (Some c) device code before shown = ShowsSeen (drive_at device (Some c)) code before shown
 ShowsDriveOf None device code before shown = (code ≡ no_channel) × (shown ≡ before)
 
--- what a subchannel does is shown
-abbrev pub ShowsSubchannel : State → SubchannelView → Type 0
-ShowsSubchannel s seen = let n = numbers_of seen in (s.subchannel ≡ n.0) × (s.device ≡ n.1) × (s.asked ≡ n.2)
-
--- The drives of a channel are shown in the order of attachment, each with the low byte of its address and the number of its arm, and how
--- many they are; behind them stand zeros.
-abbrev pub unit_shown : Option (ℕ × Arm) → ℕ
-unit_shown (Some d) = d.0
-unit_shown None = 0
-
-abbrev pub arm_shown : Option (ℕ × Arm) → ℕ
-arm_shown (Some d) = number_of_arm d.1
-arm_shown None = 0
-
-abbrev pub drives_shown : List (Option (ℕ × Arm)) → ℕ
-drives_shown drives = length (filter is_some drives)
-
-abbrev pub ShowsState : State → View → Type 0
-ShowsState s view =
-    ShowsSubchannel s view.subchannel × (s.drives ≡ drives_shown view.drives) × (s.units ≡ map unit_shown view.drives) × (s.arms ≡ map arm_shown view.drives)
-
 -- A channel is shown, as every machine shows itself that it stands for over this storage; or there is none with this number, and nothing
 -- is.
-abbrev pub ShowsStateOf : Option ChannelState → Storage → (code : ℤ) → (before shown : State) → Type 0
+abbrev pub ShowsStateOf : Option ChannelState → Storage → (code : ℤ) → (before shown : ShownChannel) → Type 0
 ShowsStateOf (Some c) s code before shown = (code ≡ pos 0) × ((m : Machine) → StandsFor (with_storage c s) m → ShowsState shown (view_of m))
 ShowsStateOf None s code before shown = (code ≡ no_channel) × (shown ≡ before)
 

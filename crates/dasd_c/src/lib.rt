@@ -14,3 +14,4 @@ mod slot;
 mod storing;
 mod tell;
 mod turns;
+mod watching;

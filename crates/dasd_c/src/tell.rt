@@ -82,6 +82,9 @@ pub(crate) const BAD_BLOCKS: i32 = -21;
 /// The channels are for main storage of another size.
 pub(crate) const OTHER_SIZE: i32 = -22;
 
+/// No channel program runs on this channel.
+pub(crate) const NO_PROGRAM: i32 = -23;
+
 /// Why something was not made, attached, or is no image.
 pub(crate) fn of_refusal(refusal: Refusal) -> i32
     ensures { result ≡ refusal_code refusal }

@@ -14,9 +14,9 @@ ghost use Rattle.dasd_c.specs.Shown.{ran_shown, track_shown};
 
 use crate::calling::{Call, Memory, with_lent, with_own};
 use crate::handle::{Handle, put, take};
-use crate::showing::seen;
 use crate::tell::{DONE, NO_CHANNEL, NOTHING_HELD, of_answer, of_arrival, of_interruption};
 use dasd_files::VolumeFile;
+use dasd_subsystem::seen;
 use s360_channel::RunOn;
 use s360_channels::Selectors;
 use s360_program::main_storage::MainStorage;

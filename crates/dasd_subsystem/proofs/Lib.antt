@@ -1,3 +1,4 @@
+pub mod Drives
 mod Copies
 mod Refusing
 pub mod Fitting

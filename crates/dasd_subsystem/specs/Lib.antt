@@ -1,3 +1,5 @@
 pub mod Fitting
 pub mod Making
 pub mod Attaching
+pub mod Shown
+pub mod Watched

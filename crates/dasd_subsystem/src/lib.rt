@@ -1,4 +1,5 @@
-//! Channels over one main storage, with drives whose volumes are in memory, as one value, for a program that can't hold them itself.
+//! Channels over one main storage, with drives whose volumes are in memory, as one value, for a program that can't hold them itself; and
+//! what such a program is shown of them.
 #![tactic(auto)]
 
 mod attaching;
@@ -6,8 +7,12 @@ mod copying;
 mod making;
 mod mounting;
 mod refusal;
+mod shown;
 mod subsystem;
+mod watched;
 
 pub use crate::mounting::check;
 pub use crate::refusal::Refusal;
+pub use crate::shown::{ShownChannel, ShownDrive, seen};
 pub use crate::subsystem::Subsystem;
+pub use crate::watched::{ShownProgram, ShownRegisters};

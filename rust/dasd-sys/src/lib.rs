@@ -145,6 +145,68 @@ pub struct dasd_state {
     pub arms: [u8; 8],
 }
 
+/// A channel program that runs, as it is between two units. The word at work is the one whose command has begun and has not ended, or
+/// that its data are chained to; where a word is to be fetched that begins a command, its four fields are 0.
+#[repr(C)]
+#[derive(Clone, Copy, Debug, Default)]
+pub struct dasd_program {
+    /// Where the last word was whose fetch was tried.
+    pub last: u32,
+    /// Where the next word is.
+    pub next: u32,
+    /// The data address of the word at work.
+    pub address: u32,
+    /// Where its next byte goes or comes from; before the first that is its data address.
+    pub place: u32,
+    /// Its count.
+    pub count: u16,
+    /// The count left in the last good word: the residual count.
+    pub left: u16,
+    /// The low byte of its drive's address.
+    pub device: u8,
+    /// The protection key of its stores, 0 to 15.
+    pub key: u8,
+    /// What the next unit does: 0, it fetches a word that begins a command; 1, it looks for an area; 2, it moves bytes.
+    pub phase: u8,
+    /// 1: a word asked for an interruption that is not yet taken.
+    pub asked: u8,
+    /// The command code of the word at work.
+    pub code: u8,
+    /// Its flags, the high five bits.
+    pub flags: u8,
+    /// 0.
+    pub reserved: [u8; 2],
+}
+
+/// What a drive remembers in a program, beside its volume. A record is named by its place on the track, where record 0 is 0.
+#[repr(C)]
+#[derive(Clone, Copy, Debug, Default)]
+pub struct dasd_registers {
+    /// The record whose area passed last.
+    pub passed: usize,
+    /// The record that the credit is for.
+    pub credited: usize,
+    /// Where its arm is.
+    pub cylinder: u16,
+    /// The head that is selected.
+    pub head: u16,
+    /// The sense bytes, of this program so far.
+    pub sense: [u8; 6],
+    /// What passed last on this turn of the track: 0, nothing; 1, the home address; 2, a count; 3, a key; 4, a data area.
+    pub area: u8,
+    /// 1: the index has passed once since the commands began to look on this track.
+    pub lap: u8,
+    /// The file mask, in the bits C0 and 18 of the byte that Set File Mask takes.
+    pub mask: u8,
+    /// 1: a Set File Mask of this program has set it.
+    pub mask_set: u8,
+    /// What the command just before left: 0, nothing; equal was 1, the home address, 2, an identifier, 3, a key; written was 4, the home
+    /// address, 5, a record.
+    pub credit: u8,
+    /// 0.
+    pub reserved: [u8; 3],
+}
+
 extern "C" {
     /// The version of the library: major, minor and patch, in 16 bits, 8 and 8.
     pub fn dasd_version() -> u32;
@@ -191,6 +253,10 @@ extern "C" {
     pub fn dasd_reset(d: *mut dasd, channel: u8, unsaved: *mut dasd_track) -> i32;
     /// Shows a channel.
     pub fn dasd_show_channel(d: *mut dasd, channel: u8, shown: *mut dasd_state) -> i32;
+    /// Shows the program that runs on a channel, where one runs.
+    pub fn dasd_show_program(d: *mut dasd, channel: u8, shown: *mut dasd_program) -> i32;
+    /// Shows what the drive of that program remembers beside its volume.
+    pub fn dasd_show_registers(d: *mut dasd, channel: u8, shown: *mut dasd_registers) -> i32;
     /// Shows where main storage lies. Between two calls its bytes are the caller's; they stay where they are until [`dasd_free`].
     pub fn dasd_show_storage(d: *mut dasd, shown: *mut dasd_storage) -> i32;
     /// Copies bytes of storage from an address on.

@@ -87,6 +87,8 @@ faults! {
     BadBlocks = -21,
     /// the channels are for main storage of another size
     OtherSize = -22,
+    /// no channel program runs on this channel
+    NoProgram = -23,
     /// not a CKD_P370 image
     NotCkdP370 = -32,
     /// a compressed image, or a shadow file

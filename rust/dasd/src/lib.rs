@@ -27,10 +27,12 @@ mod events;
 mod lent;
 mod subsystem;
 mod fault;
+mod watching;
 mod words;
 
 pub use crate::calls::Calls;
 pub use crate::subsystem::{check, version, DriveView, File, Lent, LentSubsystem, Owned, RunOn, Subsystem, View};
 pub use crate::events::{Answer, Event};
 pub use crate::fault::Fault;
+pub use crate::watching::{Area, Credit, Phase, Program, Registers};
 pub use crate::words::{Address, Arm, ChannelSet, Condition, Csw, DriveModel, Status, SubchannelView};

@@ -1,7 +1,7 @@
 use Rattle.std.proofs.Common.{rules, ap, ℕ, None}
-use Rattle.dasd_c.specs.Shown.{arm_shown, unit_shown}
-use Rattle.dasd_c.proofs.Shown.{mapped}
-use Rattle.dasd_c.proofs.showing.as_state.Goals as goal
+use Rattle.dasd_subsystem.specs.Shown.{arm_shown, unit_shown}
+use Rattle.dasd_subsystem.proofs.Drives.{mapped}
+use Rattle.dasd_subsystem.proofs.shown.ShownChannel.of.Goals as goal
 
 pub returns : goal.returns
 returns c = (

@@ -1,0 +1,83 @@
+//! What is shown of a channel program while it runs, between two units.
+
+ghost use Rattle.std.specs.Prelude.{◌≡◌, option_map};
+ghost use Rattle.s360_words.specs.Storage.{Storage as StorageState};
+ghost use Rattle.s360_channels.specs.Channels.{channel_at};
+ghost use Rattle.s360_channels.specs.Selectors.{across};
+ghost use Rattle.dasd_c.specs.Calls.{CallsAny};
+ghost use Rattle.dasd_c.specs.Watching.{ShowsProgramOf, ShowsRegistersOf};
+
+use crate::handle::{Handle, put, take};
+use crate::tell::{DONE, NO_CHANNEL, NO_PROGRAM, NOTHING_HELD};
+use dasd_files::VolumeFile;
+use dasd_subsystem::{ShownProgram, ShownRegisters};
+use s360_channels::Selectors;
+use std::alloc::Global;
+
+/// Shows the program that runs on a channel.
+#[unsafe(no_mangle)]
+pub extern "C" fn dasd_show_program(
+    handle: &mut Handle,
+    alloc: Global,
+    channel: u8,
+    shown: &mut ShownProgram,
+) -> i32
+    ensures { CallsAny handle.old.slot.held handle.new.slot.held result
+        (λ old new. (new ≡ old) × ShowsProgramOf (channel_at channel old) old.storage result shown.old shown.new) }
+{
+    let Some(subsystem) = take(handle, alloc) else {
+        return NOTHING_HELD;
+    };
+    let code = show_program(&subsystem.channels, channel, shown);
+    put(handle, subsystem);
+    code
+}
+
+fn show_program(channels: &Selectors<VolumeFile>, number: u8, shown: &mut ShownProgram) -> i32
+    ensures { (s : StorageState) → ShowsProgramOf (channel_at number (across channels.now s)) s result shown.old shown.new }
+{
+    if !channels.has(number) {
+        return NO_CHANNEL;
+    }
+    match channels.program(number) {
+        Some(program) => {
+            *shown = ShownProgram::of(program);
+            DONE
+        }
+        None => NO_PROGRAM,
+    }
+}
+
+/// Shows what the drive of the program that runs on a channel remembers beside its volume.
+#[unsafe(no_mangle)]
+pub extern "C" fn dasd_show_registers(
+    handle: &mut Handle,
+    alloc: Global,
+    channel: u8,
+    shown: &mut ShownRegisters,
+) -> i32
+    ensures { CallsAny handle.old.slot.held handle.new.slot.held result
+        (λ old new. (new ≡ old) × ShowsRegistersOf (channel_at channel old) old.storage result shown.old shown.new) }
+{
+    let Some(subsystem) = take(handle, alloc) else {
+        return NOTHING_HELD;
+    };
+    let code = show_registers(&subsystem.channels, channel, shown);
+    put(handle, subsystem);
+    code
+}
+
+fn show_registers(channels: &Selectors<VolumeFile>, number: u8, shown: &mut ShownRegisters) -> i32
+    ensures { (s : StorageState) → ShowsRegistersOf (channel_at number (across channels.now s)) s result shown.old shown.new }
+{
+    if !channels.has(number) {
+        return NO_CHANNEL;
+    }
+    match channels.drive_at_work(number) {
+        Some(drive) => {
+            *shown = ShownRegisters::of(drive.registers());
+            DONE
+        }
+        None => NO_PROGRAM,
+    }
+}
