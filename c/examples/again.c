@@ -27,8 +27,8 @@ static int become(machine *to, machine *from, uint8_t *room) {
     to->d = (dasd)DASD_NOTHING;
     to->storage = room;
     if (copy_shelf(to) || dasd_copy(&from->d, &to->d) != DASD_DONE) return -1;
-    if (to->lends) memcpy(room, from->storage, from->size);
-    else dasd_show_storage(&to->d, &shown);
+    if (!to->lends) dasd_show_storage(&to->d, &shown);
+    else if (room) memcpy(room, from->storage, from->size);
     to->storage = shown.at;
     to->memory = (dasd_memory){to->storage, to->size, to->keys, BLOCKS};
     return 0;

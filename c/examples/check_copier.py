@@ -7,6 +7,7 @@ what was worked out by hand.
 Each is done with main storage that is the library's, and with a file that is mapped and lent; and with a copy of the whole machine that
 is taken at some tick and gone back to."""
 
+import argparse
 import subprocess
 import sys
 from pathlib import Path
@@ -120,7 +121,11 @@ class Check:
 
 def main() -> int:
     """All of it."""
-    check = Check(*sys.argv[1:])
+    words = argparse.ArgumentParser(description=__doc__, formatter_class=argparse.RawDescriptionHelpFormatter)
+    for name in ("s360", "mkpacks", "copier", "listing", "folder"):
+        words.add_argument(name)
+    said = words.parse_args()
+    check = Check(said.s360, said.mkpacks, said.copier, said.listing, said.folder)
     try:
         for how in ("--keep", "--lend"):
             # ticks at which both channels work for the first pack, the operator is on his way, and both channels work for the second

@@ -21,7 +21,7 @@ static void tick(machine *m, int has_waited) {
 }
 
 int step(machine *m) {
-    while (take_interruption(m)) {}
+    while (take_interruption(m)) continue;
     int waits = is_waiting(m);
     if (waits && m->mask == 0) return 0;
     if (!waits) instruction(m);

@@ -21,11 +21,11 @@ static int write_source(dasd *d) {
     uint8_t body[LENGTH];
     char text[] = "RECORD 0 OF PACK SOURCE";
     if (write_pack(d, SOURCE, "SOURCE")) return -1;
-    for (uint8_t n = 1; n <= RECORDS; n++) {
+    for (unsigned n = 1; n <= RECORDS; n++) {
         text[7] = (char)('0' + n);
         for (unsigned at = 0; at < LENGTH; at++) body[at] = (uint8_t)(at * n);
         ebcdic(body, text);
-        if (write_record(d, SOURCE, FILE_CYLINDER, n, 0, body, sizeof body)) return -1;
+        if (write_record(d, SOURCE, FILE_CYLINDER, (uint8_t)n, 0, body, sizeof body)) return -1;
     }
     return 0;
 }

@@ -51,12 +51,12 @@ typedef struct arm {
 /* A volume: its file, and where it is. A mounted one's bytes are the library's; another stands on the shelf. */
 typedef struct volume {
     const char *path;
-    char serial[7];    /* by which the operator knows a pack of the shelf */
-    uint16_t address;  /* of the drive on which it is mounted; 0: it is on the shelf */
-    uint8_t *bytes;    /* on the shelf: its file */
-    size_t len;        /* of that file */
-    uint64_t changes;  /* the number of its changes as it was mounted */
-    int is_changed;    /* a byte of it was changed before that */
+    char serial[7];   /* by which the operator knows a pack of the shelf */
+    uint16_t address; /* of the drive on which it is mounted; 0: it is on the shelf */
+    uint8_t *bytes;   /* on the shelf: its file */
+    size_t len;       /* of that file */
+    uint64_t changes; /* the number of its changes as it was mounted */
+    int is_changed;   /* a byte of it was changed before that */
 } volume;
 
 enum { MOST_VOLUMES = 16, MOST_DRIVES = 8 };
