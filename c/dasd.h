@@ -9,9 +9,9 @@
  *     ...
  *     dasd_free(&d);
  *
- * WHAT A CALL ANSWERS. Zero or above: it was done. Below zero, one of `enum dasd_fault`: it was refused, and nothing has changed,
- * what a pointer leads to either. An instruction answers its condition code, 0 to 3. A call that is not documented to answer a
- * fault answers DASD_NOTHING_HELD alone, where the handle holds nothing; so do all others, before anything else.
+ * WHAT A CALL ANSWERS. Zero or above: it was done. Below zero, one of `enum dasd_fault`: it was refused, and nothing has changed, nor
+ * has what a pointer leads to. An instruction answers its condition code, 0 to 3, or that it was refused. Where the handle holds nothing
+ * every call answers DASD_NOTHING_HELD before anything else, but those that make one; a call whose text names no fault answers no other.
  *
  * WHAT NO CALL DOES. None blocks, starts a thread, opens a file, prints, or calls back. Only dasd_new, dasd_new_lent, dasd_copy,
  * dasd_attach, dasd_attach_new and dasd_check take memory, by malloc, and want of it is an ordinary fault.
@@ -20,12 +20,15 @@
  *   1. A pointer leads to a value of its type, and a pointer and a length to so many bytes. No two arguments of a call overlap, and
  *      none lies in the main storage or in a volume's file that a call has shown. A pointer to bytes is not null, even where there
  *      are none.
- *   2. A handle is DASD_NOTHING before its first use. While it holds something it is not copied but by dasd_copy, and its fields are
- *      left alone.
- *   3. A handle is in one call at a time. Between two calls it may go to another thread, by whatever orders the two: a lock, the
- *      start of a thread, a join. Two handles have nothing in common.
+ *   2. A handle is DASD_NOTHING before its first use, and its fields are left alone. While it holds something it may be moved: its bytes
+ *      are copied, and the old ones no longer used, or made DASD_NOTHING. A second one of the same is made by dasd_copy alone.
+ *   3. A handle is in one call at a time, also where the call takes it as `const`. Between two calls it may go to another thread, by
+ *      whatever orders the two: a lock, the start of a thread, a join. Two handles have nothing in common.
  *   4. malloc, realloc and free are one allocator. No call is made in a signal handler.
  *   5. What a call shows is used no longer than that call's text says.
+ *
+ * A CALL THAT ASKS takes its handle as `const dasd *`: whatever it answers, the handle holds behind it what it held before. While it
+ * runs it writes the handle's own bytes, and puts them back: so a handle is never defined `const`, and rule 3 is for these calls too.
  *
  * AN ADDRESS is that of the System/360: the channel's number is the high byte, and the low byte is the drive's (190 is drive 90 of
  * channel 1). A SET OF CHANNELS is the first byte of a program status word, the system mask: bit 0, the highest, is channel 0, and
@@ -119,7 +122,7 @@ int32_t dasd_new(dasd *d, uint32_t storage_bytes, uint8_t channels);
  * drives with their sense bytes; and their volumes. Whatever is called of both from then on is answered alike, over memory with the same
  * bytes and keys where it is lent, and no call of one changes the other. So a program is stepped backwards, or tried and gone back to. It
  * costs what copying all volumes does. DASD_IN_USE, `copy` holds something; DASD_NO_MEMORY. Where it is refused both are as they were. */
-int32_t dasd_copy(dasd *d, dasd *copy);
+int32_t dasd_copy(const dasd *d, dasd *copy);
 
 /* Frees all that the handle holds, its volumes too, whether they were saved or not. The handle holds nothing then. */
 int32_t dasd_free(dasd *d);
@@ -161,7 +164,7 @@ typedef struct dasd_file {
 /* Shows a file of a drive's volume, 0 for its first, where no program runs on the drive's channel. The bytes stand there, and are the
  * volume's, until the next dasd_step, dasd_run_on, dasd_hio or dasd_reset of that channel, dasd_detach or dasd_free.
  * DASD_NO_CHANNEL, DASD_PROGRAM_RUNS, DASD_NO_DRIVE, DASD_NO_FILE. */
-int32_t dasd_show_file(dasd *d, uint16_t address, uint8_t file, dasd_file *shown);
+int32_t dasd_show_file(const dasd *d, uint16_t address, uint8_t file, dasd_file *shown);
 
 enum dasd_arm { DASD_AT_REST = 0, DASD_IN_MOTION = 1, DASD_ARRIVED = 2 };
 
@@ -177,7 +180,7 @@ typedef struct dasd_drive {
 } dasd_drive;
 
 /* DASD_NO_CHANNEL, DASD_NO_DRIVE. */
-int32_t dasd_show_drive(dasd *d, uint16_t address, dasd_drive *shown);
+int32_t dasd_show_drive(const dasd *d, uint16_t address, dasd_drive *shown);
 
 /* --- The processor's instructions (PoO, 'Input/Output Instructions') ---
  *
@@ -196,7 +199,7 @@ int32_t dasd_tio(dasd *d, uint16_t address);
 int32_t dasd_hio(dasd *d, uint16_t address);
 
 /* Test Channel, of the channel of an address: 0, it is available; 1, a channel status word pends; 2, a program runs; 3, no channel. */
-int32_t dasd_tch(dasd *d, uint16_t address);
+int32_t dasd_tch(const dasd *d, uint16_t address);
 
 /* --- What happens beside the processor --- */
 
@@ -223,7 +226,7 @@ int32_t dasd_run_on(dasd *d, uint8_t channel, uint32_t units, dasd_run *ran);
 int32_t dasd_arrive(dasd *d, uint16_t address);
 
 /* Whether dasd_interrupt would take an interruption from one of these channels now: 1 or 0. */
-int32_t dasd_is_pending(dasd *d, uint8_t channels);
+int32_t dasd_is_pending(const dasd *d, uint8_t channels);
 
 /* The processor takes an interruption from a channel of this set: 1, its address is answered, and its channel status word is stored; 0,
  * there is none, and `address` stays. Of several channels that have one it is the channel with the lowest number; the others keep
@@ -251,7 +254,7 @@ typedef struct dasd_state {
 } dasd_state;
 
 /* DASD_NO_CHANNEL. */
-int32_t dasd_show_channel(dasd *d, uint8_t channel, dasd_state *shown);
+int32_t dasd_show_channel(const dasd *d, uint8_t channel, dasd_state *shown);
 
 /* What the next unit of a channel program does. */
 enum dasd_phase {
@@ -279,7 +282,7 @@ typedef struct dasd_program {
 } dasd_program;
 
 /* Shows the program that runs on a channel. DASD_NO_CHANNEL; DASD_NO_PROGRAM, none runs, and `shown` stays. */
-int32_t dasd_show_program(dasd *d, uint8_t channel, dasd_program *shown);
+int32_t dasd_show_program(const dasd *d, uint8_t channel, dasd_program *shown);
 
 /* An area of a track. */
 enum dasd_area {
@@ -316,7 +319,7 @@ typedef struct dasd_registers {
 } dasd_registers;
 
 /* Shows what the drive of the program remembers that runs on a channel. DASD_NO_CHANNEL; DASD_NO_PROGRAM, none runs, and `shown` stays. */
-int32_t dasd_show_registers(dasd *d, uint8_t channel, dasd_registers *shown);
+int32_t dasd_show_registers(const dasd *d, uint8_t channel, dasd_registers *shown);
 
 /* --- Main storage --- */
 
@@ -331,11 +334,11 @@ typedef struct dasd_storage {
 int32_t dasd_show_storage(dasd *d, dasd_storage *shown);
 
 /* Copies `len` bytes of storage from an address on, or stores them, with the bounds looked at. DASD_OUTSIDE_STORAGE. */
-int32_t dasd_peek(dasd *d, uint32_t at, uint8_t *into, size_t len);
+int32_t dasd_peek(const dasd *d, uint32_t at, uint8_t *into, size_t len);
 int32_t dasd_poke(dasd *d, uint32_t at, const uint8_t *bytes, size_t len);
 
 /* The storage key, 0 to 15, of the block of 2,048 bytes that has this address (PoO, 'Storage Protection'). DASD_OUTSIDE_STORAGE. */
-int32_t dasd_key(dasd *d, uint32_t at);
+int32_t dasd_key(const dasd *d, uint32_t at);
 
 /* Sets it. DASD_BAD_KEY, DASD_OUTSIDE_STORAGE. */
 int32_t dasd_set_key(dasd *d, uint32_t at, uint8_t key);

@@ -330,16 +330,35 @@ def image_is(disks: dasd.Channels, channel: int, line: str) -> bool:
     return found is not None and hashlib.sha256(whole(disks, channel << 8 | int(found[1], 16))).hexdigest() == found[2]
 
 
-def comes_out(maker: Maker, lines: List[Line], folder: str) -> bool:
+#: What goes on behind an event of a deck: the same channels, or a copy of them.
+Behind = Callable[[dasd.Channels], dasd.Channels]
+
+
+def the_same(disks: dasd.Channels) -> dasd.Channels:
+    """The same channels go on."""
+    return disks
+
+
+def a_copy(disks: dasd.Channels) -> dasd.Channels:
+    """A copy goes on, and what was copied is closed."""
+    assert isinstance(disks, dasd.Subsystem)
+    with disks:
+        return disks.copy()
+
+
+def comes_out(maker: Maker, lines: List[Line], folder: str, behind: Behind = the_same) -> bool:
     """Whether a vector's fault, answers and images come out as they must."""
     of = {word: [rest for it, rest in lines if it == word] for word, _ in lines}
     wanted: List[Optional[str]] = [*of["fault"]] if "fault" in of else [None]
-    number, (events, fault) = int(of["channel"][0]), deck_of(lines)
-    with maker(int(of["storage"][0]), number) as disks:
-        for volume in of.get("volume", []):
-            unit, *source = volume.split()
-            attach(disks, number << 8 | int(unit, 16), source, folder)
-        answers = [play(disks, number, *it) for it in events]
+    number, (events, fault), answers = int(of["channel"][0]), deck_of(lines), []
+    disks = maker(int(of["storage"][0]), number)
+    for volume in of.get("volume", []):
+        unit, *source = volume.split()
+        attach(disks, number << 8 | int(unit, 16), source, folder)
+    for it in events:
+        answers.append(play(disks, number, *it))
+        disks = behind(disks)
+    with disks:
         disks.reset(number)
         same = all(image_is(disks, number, it) for it in of.get("image", []))
         return [fault] == wanted and answers == of.get("<", []) and same
@@ -370,16 +389,24 @@ class Vectors(unittest.TestCase):
     """The vectors of the conformance suite, where they are."""
 
     maker: Maker = dasd.Subsystem
+    copier: Behind = staticmethod(a_copy)
 
-    def test_vectors(self) -> None:
+    def played(self, behind: Behind, how: str) -> None:
+        """All vectors come out as they must, whatever goes on behind an event."""
         folder = os.environ.get("DASD_VECTORS")
         if not folder:
             self.skipTest("DASD_VECTORS names no folder")
         paths = sorted(glob.glob(f"{folder}/*.vectors"))
-        outcomes = {name: comes_out(self.maker, lines, folder) for path in paths for name, lines in read(path)}
+        outcomes = {name: comes_out(self.maker, lines, folder, behind) for path in paths for name, lines in read(path)}
         self.assertEqual([name for name, it in outcomes.items() if not it], [])
-        print(f"python: {sum(outcomes.values())} of {len(outcomes)} vectors come out as they must")
+        print(f"python: {sum(outcomes.values())} of {len(outcomes)} vectors come out as they must{how}")
         self.assertGreater(len(outcomes), 400)
+
+    def test_vectors(self) -> None:
+        self.played(the_same, "")
+
+    def test_vectors_with_a_copy_behind_each_event(self) -> None:
+        self.played(self.copier, ", with a copy behind each event")
 
 
 if __name__ == "__main__":

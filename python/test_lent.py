@@ -88,10 +88,21 @@ class MovedCalls(test_dasd.Calls):
             self.assertEqual((disks.interrupt(), disks.peek(0x200, 16)), (0x190, RECORD_0))
 
 
+def a_copy(disks: dasd.Channels) -> dasd.Channels:
+    """A copy goes on, over memory of its own; what was copied is closed, and its memory spoilt."""
+    assert isinstance(disks, dasd.LentSubsystem)
+    with disks:
+        keys = bytearray(disks.key(at) for at in range(0, len(disks.storage), 2048))
+        second = disks.copy(bytearray(disks.storage), keys)
+        disks.storage[:] = b"\xA5" * len(disks.storage)
+    return second
+
+
 class Vectors(test_dasd.Vectors):
     """The vectors, over memory that is moved."""
 
     maker = Moved
+    copier = staticmethod(a_copy)
 
 
 def read_with(disks: dasd.Channels, key: int) -> bool:

@@ -1,51 +1,47 @@
-/* channels.c - the processor's four instructions, the clock's side of the channels, interruptions, and the load function. */
-#include <stdlib.h>
+/* channels.c - the processor's four instructions, the channels' side of the clock, interruptions, and the load function. */
 #include <string.h>
 
 #include "s360.h"
 
-/* A tick is 10 microseconds: at 312,000 bytes a second three bytes pass. A 2314's arm takes 25 milliseconds to the next cylinder, and
- * some 0.54 for each one more. */
-enum { UNITS_A_TICK = 3, SEEK_TICKS = 2500, TICKS_A_CYLINDER = 54 };
-
 static uint8_t channel_of(uint16_t address) { return (uint8_t)(address >> 8); }
 
-/* --- Arms. A program that ends with a Seek leaves its arm in motion; when it arrives is for the clock to say --- */
+/* --- A drive whose pack was changed. The library has no word for that: the device end by which a drive tells that it is ready is the
+ * emulator's own. It comes once the channel of the drive is available (PoO, 'Unit Status Conditions', device end) --- */
 
-static void send_off(machine *m, arm *a, uint16_t cylinder) {
-    unsigned distance = (unsigned)abs((int)cylinder - (int)a->cylinder);
-    a->moves = 1;
-    a->arrives = m->clock + SEEK_TICKS + (uint64_t)TICKS_A_CYLINDER * distance;
-}
+enum { DEVICE_END = 0x04, BUSY = 0x10 };
 
-/* Looks at the drives behind whatever may have moved an arm. */
-static void look_at_arms(machine *m) {
-    dasd_drive drive;
-    for (int i = 0; i < m->arm_count; i++) {
-        arm *a = &m->arms[i];
-        if (dasd_show_drive(&m->d, a->address, &drive) != DASD_DONE) continue;
-        if (drive.arm == DASD_IN_MOTION && !a->moves) send_off(m, a, drive.cylinder);
-        a->cylinder = drive.cylinder;
-    }
+static int is_ready(machine *m, uint16_t address) { return address && address == m->ready && dasd_tch(&m->d, address) == 0; }
+
+/* Tells it in a channel status word, of which Start I/O stores the status alone. */
+static void tell_ready(machine *m, uint8_t status, int is_whole) {
+    m->ready = 0;
+    if (is_whole) memset(m->storage + CSW, 0, 8);
+    m->storage[CSW + 4] = status;
+    m->storage[CSW + 5] = 0;
 }
 
 /* --- Instructions (PoO, 'Input/Output Instructions') --- */
 
 int start_io(machine *m, uint16_t address) {
     if (address == CONSOLE) return console_start(m);
+    if (is_ready(m, address)) return tell_ready(m, DEVICE_END | BUSY, 0), 1;
     int code = lent_or_own_sio(m, address);
-    if (code == 0) m->works = 1;
+    if (code == 0) m->works |= (uint8_t)DASD_CHANNEL(channel_of(address));
     if (code == 1) look_at_arms(m); /* a Recalibrate, say, that ended at once */
     return code;
 }
 
-int test_io(machine *m, uint16_t address) { return address == CONSOLE ? console_test(m) : lent_or_own_tio(m, address); }
+int test_io(machine *m, uint16_t address) {
+    if (address == CONSOLE) return console_test(m);
+    if (is_ready(m, address)) return tell_ready(m, DEVICE_END, 1), 1;
+    return lent_or_own_tio(m, address);
+}
 
 int halt_io(machine *m, uint16_t address) {
     if (address == CONSOLE) return 0;
     int code = lent_or_own_hio(m, address);
     if (code == 2) { /* the program was cut */
-        m->works = 0;
+        m->works &= (uint8_t)~DASD_CHANNEL(channel_of(address));
         look_at_arms(m);
     }
     return code;
@@ -53,62 +49,71 @@ int halt_io(machine *m, uint16_t address) {
 
 int test_channel(machine *m, uint16_t address) { return channel_of(address) == channel_of(CONSOLE) ? 0 : dasd_tch(&m->d, address); }
 
-/* --- The clock --- */
+/* --- The clock. A slice is short, so that an interruption that a program asks for is taken while the program runs --- */
 
-/* Lets the program that runs on the channel go on. */
-static void run_channel(machine *m) {
+static void run_channel(machine *m, uint8_t channel) {
     dasd_run ran;
-    if (!m->works || lent_or_own_run_on(m, UNITS_A_TICK, &ran) != DASD_DONE) return;
-    if (ran.subchannel != DASD_WORKING) {
-        m->works = 0;
-        look_at_arms(m);
-    }
+    if (lent_or_own_run_on(m, channel, m->units_a_tick, &ran) != DASD_DONE || ran.subchannel == DASD_WORKING) return;
+    m->works &= (uint8_t)~DASD_CHANNEL(channel);
+    look_at_arms(m);
 }
 
-void tick(machine *m) {
-    m->clock++;
-    run_channel(m);
-    for (int i = 0; i < m->arm_count; i++) {
-        arm *a = &m->arms[i];
-        if (a->moves && m->clock >= a->arrives) {
-            a->moves = 0;
-            dasd_arrive(&m->d, a->address);
-        }
-    }
-    console_tick(m);
+void channels_tick(machine *m) {
+    for (uint8_t channel = 0; channel < 7 && m->works; channel++)
+        if (m->works & DASD_CHANNEL(channel)) run_channel(m, channel);
 }
 
 /* --- Interruptions: channel 0 comes first, and a channel that the system mask closes keeps its own (PoO, 'Input/Output
  * Interruption') --- */
 
-void take_interruption(machine *m) {
+static int console_interrupts(machine *m, uint16_t *address) {
+    if (!m->console.pends || !(m->mask & DASD_CHANNEL(0))) return 0;
+    m->console.pends = 0;
+    memcpy(m->storage + CSW, m->console.csw, 8);
+    *address = CONSOLE;
+    return 1;
+}
+
+static int ready_interrupts(machine *m, uint16_t *address) {
+    if (!(m->mask & DASD_CHANNEL(channel_of(m->ready))) || !is_ready(m, m->ready)) return 0;
+    *address = m->ready;
+    tell_ready(m, DEVICE_END, 1);
+    return 1;
+}
+
+int take_interruption(machine *m) {
     uint16_t address;
-    if (m->console.pends && m->mask & DASD_CHANNEL(0)) {
-        m->console.pends = 0;
-        memcpy(m->storage + CSW, m->console.csw, 8);
-        address = CONSOLE;
-    } else if (lent_or_own_interrupt(m, &address) != 1) {
-        return;
-    }
+    if (!console_interrupts(m, &address) && lent_or_own_interrupt(m, &address) != 1 && !ready_interrupts(m, &address)) return 0;
     m->length = 0;
     interrupt(m, address, IO_OLD, IO_NEW);
+    return 1;
 }
 
 /* --- Initial program loading (PoO, 'Initial Program Loading'): 24 bytes of record 1 are read to location 0; the channel program goes on
  * with the words that they bring; behind its end the program status word at 0 is loaded --- */
 
+enum { SLICE = 65536, MOST_SLICES = 256 };
+
+void reset(machine *m) {
+    dasd_track unsaved; /* no file in memory refuses to be written */
+    for (uint8_t channel = 0; channel < 7; channel++)
+        if (CHANNELS & DASD_CHANNEL(channel)) dasd_reset(&m->d, channel, &unsaved);
+    m->works = 0;
+    m->ready = 0;
+    m->console.is_busy = m->console.pends = 0;
+    stop_arms(m);
+}
+
 int load(machine *m, uint16_t address) {
     static const uint8_t read_ipl[8] = {0x02, 0, 0, 0, 0x60, 0, 0, 24};
-    dasd_track unsaved;
-    dasd_run ran;
-    if (dasd_reset(&m->d, CHANNEL, &unsaved) < 0) return -1;
+    dasd_run ran = {0, DASD_WORKING, 0, 0, 0};
+    reset(m);
     /* the word lies where its own bytes will come to: it has been fetched by then */
     memcpy(m->storage, read_ipl, 8);
     put_word(m->storage + CAW, 0);
     if (lent_or_own_sio(m, address) != 0) return -1;
-    do {
-        if (lent_or_own_run_on(m, 65536, &ran) != DASD_DONE) return -1;
-    } while (ran.subchannel == DASD_WORKING);
+    for (int slice = 0; slice < MOST_SLICES && ran.subchannel == DASD_WORKING; slice++)
+        if (lent_or_own_run_on(m, channel_of(address), SLICE, &ran) != DASD_DONE) return -1;
     if (lent_or_own_tio(m, address) != 1 || m->storage[CSW + 4] != 0x0C || m->storage[CSW + 5] != 0) return -1;
     look_at_arms(m);
     load_psw(m, 0);

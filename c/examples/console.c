@@ -26,10 +26,24 @@ static int printed(uint8_t c) {
 }
 
 /* The console types so many bytes, and says how many it did not find in storage. */
-static uint32_t types(const machine *m, uint32_t at, uint32_t count) {
+static uint32_t types(machine *m, uint32_t at, uint32_t count) {
+    console *c = &m->console;
+    size_t stands = strlen(c->line);
     uint32_t n = 0;
-    for (; n < count && at + n < m->size; n++) putchar(printed(m->storage[at + n]));
+    for (; n < count && at + n < m->size; n++) {
+        char sign = (char)printed(m->storage[at + n]);
+        putc(sign, c->paper);
+        if (stands < sizeof c->line - 1) c->line[stands++] = sign;
+    }
+    c->line[stands] = '\0';
     return count - n;
+}
+
+/* The line is over, and the operator reads it. */
+static void new_line(machine *m) {
+    putc('\n', m->console.paper);
+    operator_reads(m, m->console.line);
+    m->console.line[0] = '\0';
 }
 
 int console_start(machine *m) {
@@ -47,7 +61,7 @@ int console_start(machine *m) {
         rest = count;
         if (ccw[0] == WRITE || ccw[0] == WRITE_NEW_LINE) rest = types(m, bytes, count);
         else if (ccw[0] != NO_OPERATION) unit |= UNIT_CHECK;
-        if (ccw[0] == WRITE_NEW_LINE) putchar('\n');
+        if (ccw[0] == WRITE_NEW_LINE) new_line(m);
         if (rest && ccw[0] != NO_OPERATION && !(unit & UNIT_CHECK)) channel = PROGRAM_CHECK;
         c->ready = m->clock + (uint64_t)TICKS_A_CHARACTER * (count - rest);
     }

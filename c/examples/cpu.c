@@ -60,8 +60,8 @@ static uint8_t *bytes(const machine *m, uint32_t at, uint32_t len) {
 /* These bytes, to be written: the key of each of their blocks must be the program's, unless that is 0 (PoO, 'Storage Protection'). */
 static uint8_t *written(machine *m, uint32_t at, uint32_t len) {
     uint8_t *p = bytes(m, at, len);
-    for (uint32_t block = at / 2048; p && m->key && block <= (at + len - 1) / 2048; block++)
-        if (dasd_key(&m->d, block * 2048) != m->key) return refused(PROTECTION);
+    for (uint32_t block = at / BLOCK; p && m->key && block <= (at + len - 1) / BLOCK; block++)
+        if (storage_key_of(m, block * BLOCK) != m->key) return refused(PROTECTION);
     return p;
 }
 

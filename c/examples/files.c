@@ -10,19 +10,30 @@
 
 #include "s360.h"
 
-uint8_t *read_file(const char *path, size_t *len) {
+/* Room for the bytes of a file: none where it is no file whose length is known, as a folder or a pipe. */
+static uint8_t *room_for(int fd, size_t *size) {
     struct stat s;
+    if (fstat(fd, &s)) return NULL;
+    if (!S_ISREG(s.st_mode)) return errno = S_ISDIR(s.st_mode) ? EISDIR : EINVAL, NULL;
+    *size = (size_t)s.st_size;
+    return malloc(*size + 1);
+}
+
+uint8_t *read_file(const char *path, size_t *len) {
+    size_t size = 0;
+    ssize_t got = 0;
     int fd = open(path, O_RDONLY | O_CLOEXEC);
     if (fd < 0) return NULL;
-    uint8_t *bytes = fstat(fd, &s) == 0 && S_ISREG(s.st_mode) ? malloc((size_t)s.st_size + 1) : NULL;
-    ssize_t got = 0;
+    uint8_t *bytes = room_for(fd, &size);
     *len = 0;
-    while (bytes && (got = read(fd, bytes + *len, (size_t)s.st_size - *len)) > 0) *len += (size_t)got;
+    while (bytes && (got = read(fd, bytes + *len, size - *len)) > 0) *len += (size_t)got;
+    int why = errno;
     if (got < 0) {
         free(bytes);
         bytes = NULL;
     }
     close(fd);
+    errno = why;
     return bytes;
 }
 

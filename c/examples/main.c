@@ -1,85 +1,119 @@
-/* s360 RESIDENT WORK [STORAGE] - loads a program from the volume RESIDENT, at 190, and runs it with the volume WORK at 191, until the
- * processor waits and takes no more interruptions. What it types comes to standard output. Volumes that were changed are saved. Main
- * storage is the library's; or the file STORAGE, which is mapped, and has afterwards what the program left.
+/* s360 [--lend FILE | --keep FILE] [--again TICK] ADDRESS=VOLUME.. [SERIAL=VOLUME..] - loads a program from the first of these volumes, and
+ * runs it until the processor waits and takes no more interruptions. A volume is mounted on the drive of an address, or stands on the shelf
+ * for the operator, who knows it by its serial number. What the program types comes to standard output. Volumes that were changed are saved.
  *
- * Status 0: the program ended at address 0. 1: it did not, or a volume could not be saved. 2: it was not loaded. */
+ * Main storage is the library's, and with `--keep` is written to a file at the end. With `--lend` it is a file, which is mapped, and has
+ * afterwards what the program left. With `--again` all is copied at that tick of the clock, and the machine goes back there from its end
+ * and comes to it once more: what it types from there on stands there twice.
+ *
+ * Status 0: the program ended at address 0. 1: it did not, or something could not be saved. 2: it was not loaded. */
 #include <errno.h>
-#include <stdio.h>
 #include <stdlib.h>
 #include <string.h>
 
 #include "s360.h"
 
-enum { RESIDENT = 0x190, WORK = 0x191 };
-static const uint64_t MOST_TICKS = 100000000;
+enum { LOADED_AND_ENDED = 0, NOT_ENDED = 1, NOT_LOADED = 2 };
+static const uint64_t MOST_TICKS = 1000000000;
 
-/* A volume: its file, its drive, and the number of its changes as it was attached. */
-typedef struct volume {
-    const char *path;
-    uint16_t address;
-    uint64_t changes;
-} volume;
+typedef struct words {
+    const char *lent, *kept;
+    uint64_t again;
+    char **volumes;
+} words;
 
-static int attach(machine *m, volume *v) {
-    dasd_file shown;
-    dasd_bytes file;
-    uint8_t *bytes = read_file(v->path, &file.len);
-    if (!bytes) return fprintf(stderr, "s360: %s: %s\n", v->path, strerror(errno)), -1;
-    file.at = bytes;
-    int code = dasd_attach(&m->d, v->address, &file, 1);
-    free(bytes); /* the library has its own copy */
-    if (code != DASD_DONE) return fprintf(stderr, "s360: %s: refused with %d\n", v->path, code), -1;
-    dasd_show_file(&m->d, v->address, 0, &shown);
-    v->changes = shown.changes;
-    m->arms[m->arm_count++].address = v->address;
-    return 0;
-}
-
-/* Saves a volume, if a byte of it was changed since it was attached. */
-static int save(machine *m, const volume *v) {
-    dasd_file shown;
-    int code = dasd_show_file(&m->d, v->address, 0, &shown);
-    if (code != DASD_DONE) return fprintf(stderr, "s360: %s: not shown: %d\n", v->path, code), -1;
-    if (shown.changes == v->changes) return 0;
-    if (save_file(v->path, shown.at, shown.len)) return fprintf(stderr, "s360: %s: %s\n", v->path, strerror(errno)), -1;
-    fprintf(stderr, "s360: %s is saved\n", v->path);
-    return 0;
-}
-
-/* Instruction after instruction, with the channels between them. A processor that waits lets the clock go on alone. */
-static int run(machine *m) {
-    while (m->clock < MOST_TICKS) {
-        take_interruption(m);
-        if (!is_waiting(m)) instruction(m);
-        else if (m->mask == 0) return m->at == 0 ? 0 : -1;
-        tick(m);
-    }
+static int usage(void) {
+    fprintf(stderr, "usage: s360 [--lend FILE | --keep FILE] [--again TICK] ADDRESS=VOLUME.. [SERIAL=VOLUME..]\n");
     return -1;
 }
 
-/* Cuts a program that still runs, so that its track is in the volume. */
-static void stop_channel(machine *m) {
-    dasd_track unsaved;
-    dasd_reset(&m->d, CHANNEL, &unsaved);
+static int complain(const char *of, const char *why) {
+    fprintf(stderr, "s360: %s: %s\n", of, why);
+    return -1;
+}
+
+static int read_words(char **given, words *w) {
+    for (; given[0] && !strncmp(given[0], "--", 2); given += 2) {
+        if (!given[1]) return usage();
+        if (!strcmp(given[0], "--lend")) w->lent = given[1];
+        else if (!strcmp(given[0], "--keep")) w->kept = given[1];
+        else if (!strcmp(given[0], "--again")) w->again = strtoull(given[1], NULL, 10);
+        else return usage();
+    }
+    w->volumes = given;
+    return given[0] && !(w->lent && w->kept) ? 0 : usage();
+}
+
+/* The address that a word of three hexadecimal digits spells; else 0. */
+static uint16_t address_of(const char *name) {
+    return strlen(name) == 3 && strspn(name, "0123456789ABCDEFabcdef") == 3 ? (uint16_t)strtoul(name, NULL, 16) : 0;
+}
+
+/* ADDRESS=VOLUME or SERIAL=VOLUME; the address, or 0 for the shelf. */
+static int take_volume(machine *m, const char *word, uint16_t *address) {
+    char name[7];
+    const char *path = strchr(word, '=');
+    if (!path || path - word > 6) return usage();
+    snprintf(name, sizeof name, "%.*s", (int)(path - word), word);
+    *address = address_of(name);
+    volume *v = read_volume(m, path + 1, *address ? "" : name);
+    if (!v) return -1;
+    return *address ? mount(m, v, *address) : 0;
+}
+
+/* All volumes; the address of the first, from which is loaded. */
+static int take_volumes(machine *m, char **given, uint16_t *first) {
+    uint16_t address;
+    *first = 0;
+    for (; *given; given++) {
+        if (take_volume(m, *given, &address)) return -1;
+        if (!*first) *first = address;
+    }
+    return *first ? 0 : usage();
+}
+
+/* Runs to the end; and where a copy is asked for, goes back to it from there, and comes to the end once more. */
+static int runs_to_its_end(machine *m, uint64_t again) {
+    static machine kept;
+    if (again && !run(m, again)) {
+        if (keep(m, &kept)) return complain("a copy", strerror(ENOMEM)), 0;
+        int went_back = run(m, MOST_TICKS) && go_back(m, &kept) == 0;
+        drop(&kept);
+        if (!went_back) return 0;
+    }
+    return run(m, MOST_TICKS) && m->at == 0;
+}
+
+static int keep_storage(const machine *m, const char *path) {
+    FILE *f = fopen(path, "wb");
+    if (!f) return complain(path, strerror(errno));
+    int bad = fwrite(m->storage, 1, m->size, f) != m->size;
+    return fclose(f) || bad ? complain(path, strerror(errno)) : 0;
+}
+
+static int play(machine *m, const words *w) {
+    uint16_t first;
+    if (take_volumes(m, w->volumes, &first)) return NOT_LOADED;
+    if (load(m, first)) return complain(w->volumes[0], "no program was loaded"), NOT_LOADED;
+    int status = runs_to_its_end(m, w->again) ? LOADED_AND_ENDED : NOT_ENDED;
+    fflush(m->console.paper);
+    if (status) fprintf(stderr, "s360: stopped at %06X\n", (unsigned)m->at);
+    reset(m); /* cuts what still runs, so that its track is in its volume */
+    if (save_volumes(m) || (w->kept && keep_storage(m, w->kept))) status = NOT_ENDED;
+    return status;
 }
 
 int main(int argc, char **argv) {
     static machine m;
-    if (argc != 3 && argc != 4) return fprintf(stderr, "usage: s360 RESIDENT WORK [STORAGE]\n"), 2;
-    volume volumes[2] = {{argv[1], RESIDENT, 0}, {argv[2], WORK, 0}};
-    if (dasd_interface() != DASD_INTERFACE) return fprintf(stderr, "s360: the library has another interface\n"), 2;
-    if (open_storage(&m, argv[3])) return fprintf(stderr, "s360: %s: %s\n", argc == 4 ? argv[3] : "main storage", strerror(errno)), 2;
-    int status = 2;
-    if (attach(&m, &volumes[0]) == 0 && attach(&m, &volumes[1]) == 0) {
-        if (load(&m, RESIDENT)) fprintf(stderr, "s360: no program was loaded from %s\n", volumes[0].path);
-        else {
-            status = run(&m) ? 1 : 0;
-            fflush(stdout);
-            if (status) fprintf(stderr, "s360: stopped at %06X\n", (unsigned)m.at);
-            stop_channel(&m);
-            if (save(&m, &volumes[0]) || save(&m, &volumes[1])) status = 1;
-        }
-    }
-    if (close_storage(&m)) status = 1;
+    words w = {NULL, NULL, 0, NULL};
+    (void)argc;
+    if (read_words(argv + 1, &w)) return NOT_LOADED;
+    if (dasd_interface() != DASD_INTERFACE) return complain("the library", "it has another interface"), NOT_LOADED;
+    if (open_storage(&m, w.lent)) return complain(w.lent ? w.lent : "main storage", strerror(errno)), NOT_LOADED;
+    m.console.paper = stdout;
+    m.units_a_tick = 3; /* at 312,000 bytes a second */
+    int status = play(&m, &w);
+    free_volumes(&m);
+    if (close_storage(&m)) status = NOT_ENDED;
     return status;
 }

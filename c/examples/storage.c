@@ -31,7 +31,7 @@ int open_storage(machine *m, const char *path) {
     m->size = STORAGE;
     m->lends = path != NULL;
     if (!m->lends) {
-        if (dasd_new(&m->d, STORAGE, DASD_CHANNEL(CHANNEL)) != DASD_DONE) return errno = ENOMEM, -1;
+        if (dasd_new(&m->d, STORAGE, CHANNELS) != DASD_DONE) return errno = ENOMEM, -1;
         dasd_show_storage(&m->d, &shown);
         m->storage = shown.at;
         return 0;
@@ -39,7 +39,7 @@ int open_storage(machine *m, const char *path) {
     m->storage = mapped(path, STORAGE);
     if (!m->storage) return -1;
     m->memory = (dasd_memory){m->storage, STORAGE, m->keys, BLOCKS};
-    return dasd_new_lent(&m->d, STORAGE, DASD_CHANNEL(CHANNEL)) == DASD_DONE ? 0 : (errno = ENOMEM, -1);
+    return dasd_new_lent(&m->d, STORAGE, CHANNELS) == DASD_DONE ? 0 : (errno = ENOMEM, -1);
 }
 
 int close_storage(machine *m) {
@@ -53,9 +53,9 @@ int32_t lent_or_own_tio(machine *m, uint16_t address) { return m->lends ? dasd_l
 
 int32_t lent_or_own_hio(machine *m, uint16_t address) { return m->lends ? dasd_lent_hio(&m->d, &m->memory, address) : dasd_hio(&m->d, address); }
 
-int32_t lent_or_own_run_on(machine *m, uint32_t units, dasd_run *ran) {
+int32_t lent_or_own_run_on(machine *m, uint8_t channel, uint32_t units, dasd_run *ran) {
     ran->units = units;
-    return m->lends ? dasd_lent_run_on(&m->d, &m->memory, CHANNEL, ran) : dasd_run_on(&m->d, CHANNEL, units, ran);
+    return m->lends ? dasd_lent_run_on(&m->d, &m->memory, channel, ran) : dasd_run_on(&m->d, channel, units, ran);
 }
 
 int32_t lent_or_own_interrupt(machine *m, uint16_t *address) {

@@ -1,9 +1,9 @@
 #!/bin/sh
-# install.sh MAKE CC: installs what was built into an empty folder, by PREFIX and by DESTDIR, where no `rt` works and none may be called;
-# builds the emulator outside the repository with what pkg-config says of it, with the shared library and with the static one; and takes
-# all of it away again.
+# install.sh MAKE CC FILES: installs what was built into an empty folder, by PREFIX and by DESTDIR, where no `rt` works and none may be
+# called; builds the emulator of these files outside the repository with what pkg-config says of it, with the shared library and with the
+# static one; and takes all of it away again.
 set -eu
-make=$1 cc=$2
+make=$1 cc=$2 files=$3
 here=$(cd "$(dirname "$0")/.." && pwd)
 work=$(mktemp -d)
 trap 'rm -rf "$work"' EXIT
@@ -32,12 +32,13 @@ else
     echo "install.sh: no pkg-config here: its flags are written out" >&2
     flags="-I$work/usr/include -L$work/usr/lib -ldasd"
 fi
-# shellcheck disable=SC2086 # the flags are words
-$cc -std=c11 -O1 -o emulator cpu.c channels.c console.c files.c main.c storage.c $flags
+# shellcheck disable=SC2086 # the files and the flags are words
+$cc -std=c11 -O1 -o emulator $files $flags
 status=0
 LD_LIBRARY_PATH=$work/usr/lib ./emulator 2>/dev/null || status=$?
 test "$status" -eq 2
-$cc -std=c11 -O1 -I"$work/usr/include" -o emulator cpu.c channels.c console.c files.c main.c storage.c "$work/usr/lib/libdasd.a"
+# shellcheck disable=SC2086 # the files are words
+$cc -std=c11 -O1 -I"$work/usr/include" -o emulator $files "$work/usr/lib/libdasd.a"
 
 install_with uninstall PREFIX="$work/usr"
 test -z "$(find "$work/usr" -type f -o -type l)"

@@ -1,6 +1,7 @@
-/* vectors FOLDER - plays all vectors of a folder through dasd.h: each deck over its volumes, and compares the answers, the fault of the
- * deck's text, and the images that are left with what the vector says. For each file it prints how many come out as they must, and for
- * each that does not why. Status 1 where one does not.
+/* vectors FOLDER [copies] - plays all vectors of a folder through dasd.h: each deck over its volumes, and compares the answers, the fault
+ * of the deck's text, and the images that are left with what the vector says. For each file it prints how many come out as they must, and
+ * for each that does not why. Status 1 where one does not. With `copies` behind each event of a deck the handle is copied, freed, and the
+ * copy goes on in its place.
  *
  * The lines of a vector are described in conformance/FORMAT.md. */
 #define _POSIX_C_SOURCE 200809L
@@ -46,6 +47,7 @@ typedef struct vector {
 } vector;
 
 static const char *folder;
+static int copies;    /* the copy goes on behind each event */
 static char why[256]; /* how the vector that was played last differs */
 
 static int differs(const char *form, ...) {
@@ -178,6 +180,14 @@ static int is_faulty(line_kind kind, size_t number, char *fault, size_t room) {
     return 1;
 }
 
+/* A copy of what the handle holds goes on in its place; the first is moved, and freed. */
+static int goes_on_as_a_copy(dasd *d) {
+    dasd copy = DASD_NOTHING, first = *d;
+    if (dasd_copy(&first, &copy) != DASD_DONE) return 0;
+    *d = copy;
+    return dasd_free(&first) == DASD_DONE;
+}
+
 /* Plays the deck; where a line is faulty, none of it. */
 static int plays_deck(dasd *d, const vector *v) {
     static event events[MOST_LINES];
@@ -194,6 +204,7 @@ static int plays_deck(dasd *d, const vector *v) {
         play(d, v->channel, &events[i], answer);
         answer[strcspn(answer, "\n")] = '\0';
         if (strcmp(answer, v->answers[i]) != 0) return differs("answer %zu: %s, not %s", i + 1, answer, v->answers[i]);
+        if (copies && !goes_on_as_a_copy(d)) return differs("answer %zu: there is no copy", i + 1);
     }
     return 1;
 }
@@ -292,12 +303,13 @@ static void play_group(const char *path) {
 int main(int argc, char **argv) {
     char pattern[1024];
     glob_t found;
-    if (argc != 2) stop("usage", "vectors FOLDER");
+    if (argc < 2 || argc > 3 || (argc == 3 && strcmp(argv[2], "copies") != 0)) stop("usage", "vectors FOLDER [copies]");
     folder = argv[1];
+    copies = argc == 3;
     snprintf(pattern, sizeof pattern, "%s/*.vectors", folder);
     if (glob(pattern, 0, NULL, &found)) stop("no vectors", folder);
     for (size_t i = 0; i < found.gl_pathc; i++) play_group(found.gl_pathv[i]);
     globfree(&found);
-    printf("%d of %d vectors come out as they must\n", right_ones, all);
+    printf("%d of %d vectors come out as they must%s\n", right_ones, all, copies ? ", with a copy behind each event" : "");
     return right_ones == all && all > 0 ? EXIT_SUCCESS : EXIT_FAILURE;
 }

@@ -45,3 +45,20 @@ class LentEmulator(LibraryEmulator):
         super().__init__(file)
         self.name += ", main storage lent"
         self.subsystem = over_lent(self.dasd)
+
+
+class LentCopiedEmulator(LibraryEmulator):
+    """The same, whose channels are copied behind each event and closed. The copy goes on, over memory of its own."""
+
+    def __init__(self, file: Optional[str] = None) -> None:
+        super().__init__(file)
+        self.name += ", main storage lent, a copy behind each event"
+        self.subsystem = over_lent(self.dasd)
+
+    def behind_event(self, channels: Any) -> Any:
+        size = len(channels.storage)
+        with channels:
+            keys = bytearray(channels.key(at) for at in range(0, size, BLOCK))
+            second = channels.copy(bytearray(channels.storage), keys)
+            channels.storage[:] = b"\xA5" * size
+        return second

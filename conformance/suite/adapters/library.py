@@ -54,14 +54,33 @@ class LibraryEmulator(Emulator):
         for unit, volume in vector.before().items():
             channels.attach(vector.channel << 8 | unit, *volume.files())
             counts[unit] = len(volume.tracks_in)
-        player = Player(self.dasd, channels, vector.channel)
-        answers = [getattr(player, event.name.lower())(event) for event in events]
-        channels.reset(vector.channel)
-        try:
-            after = {unit: Volume.read([channels.file(vector.channel << 8 | unit, at)[0] for at in range(number)]) for unit, number in counts.items()}
-        except BadImage as why:
-            return Outcome(broke="an image is spoilt: %s" % why)
+        player, answers = Player(self.dasd, channels, vector.channel), []
+        for event in events:
+            answers.append(getattr(player, event.name.lower())(event))
+            player.channels = self.behind_event(player.channels)
+        with player.channels as last:
+            last.reset(vector.channel)
+            try:
+                after = {unit: Volume.read([last.file(vector.channel << 8 | unit, at)[0] for at in range(number)]) for unit, number in counts.items()}
+            except BadImage as why:
+                return Outcome(broke="an image is spoilt: %s" % why)
         return Outcome(answers, None, after)
+
+    def behind_event(self, channels: Any) -> Any:
+        """What goes on behind an event: the same channels."""
+        return channels
+
+
+class CopiedEmulator(LibraryEmulator):
+    """The library, whose channels are copied behind each event and closed, and the copy goes on."""
+
+    def __init__(self, file: Optional[str] = None) -> None:
+        super().__init__(file)
+        self.name += ", a copy behind each event"
+
+    def behind_event(self, channels: Any) -> Any:
+        with channels:
+            return channels.copy()
 
 
 class Player:

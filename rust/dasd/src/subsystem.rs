@@ -14,7 +14,7 @@ const CSW: u32 = 64;
 /// one at a time.
 #[derive(Debug)]
 pub struct Subsystem<Storage = Owned> {
-    // in a place of its own, which a move of this value leaves as it is: dasd.h forbids that the handle is copied
+    // in a place of its own, which a move of this value leaves as it is
     pub(crate) handle: Box<sys::dasd>,
     storage: PhantomData<Storage>,
 }

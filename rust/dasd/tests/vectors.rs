@@ -1,7 +1,8 @@
 //! Plays the vectors of the folder that DASD_VECTORS names; their lines are described in conformance/FORMAT.md. The digests
-//! of images are those of `sha256sum`.
+//! of images are those of `sha256sum`. Main storage is the subsystem's, or is lent; and either goes on as it is behind each event,
+//! or a copy of it does.
 
-use dasd::{Address, Answer, ChannelSet, Subsystem, Condition, Csw, DriveModel, Event, Status};
+use dasd::{Address, Answer, ChannelSet, Condition, Csw, DriveModel, Event, LentSubsystem, Status, Subsystem};
 use std::fs;
 use std::io::Write;
 use std::path::Path;
@@ -107,6 +108,93 @@ fn line(answer: &Answer) -> String {
     }
 }
 
+// Who plays an event.
+
+/// Channels with their drives, over main storage that is theirs or the player's.
+trait Player: Sized {
+    type Storage;
+
+    fn new(storage_bytes: u32, channel: u8) -> Self;
+    fn disks(&mut self) -> &mut Subsystem<Self::Storage>;
+    fn react(&mut self, channel: u8, event: &Event) -> Answer;
+    fn copied(&mut self) -> Self;
+}
+
+impl Player for Subsystem {
+    type Storage = dasd::Owned;
+
+    fn new(storage_bytes: u32, channel: u8) -> Self {
+        Subsystem::new(storage_bytes, ChannelSet::of(&[channel])).unwrap()
+    }
+
+    fn disks(&mut self) -> &mut Subsystem {
+        self
+    }
+
+    fn react(&mut self, channel: u8, event: &Event) -> Answer {
+        Subsystem::react(self, channel, event).unwrap()
+    }
+
+    fn copied(&mut self) -> Self {
+        self.try_clone().unwrap()
+    }
+}
+
+struct Lending {
+    disks: LentSubsystem,
+    bytes: Vec<u8>,
+    keys: Vec<u8>,
+}
+
+impl Lending {
+    fn within(&mut self, at: u32, count: usize) -> Option<&mut [u8]> {
+        self.bytes.get_mut(at as usize..)?.get_mut(..count)
+    }
+
+    fn store(&mut self, at: u32, new: &[u8]) -> bool {
+        self.within(at, new.len()).map(|old| old.copy_from_slice(new)).is_some()
+    }
+
+    fn set_key(&mut self, at: u32, key: u8) -> bool {
+        self.keys.get_mut(at as usize / 2048).map(|old| *old = key).is_some()
+    }
+}
+
+impl Player for Lending {
+    type Storage = dasd::Lent;
+
+    fn new(storage_bytes: u32, channel: u8) -> Self {
+        let disks = LentSubsystem::lent(storage_bytes, ChannelSet::of(&[channel])).unwrap();
+        Lending { disks, bytes: vec![0; storage_bytes as usize], keys: vec![0; storage_bytes as usize / 2048] }
+    }
+
+    fn disks(&mut self) -> &mut LentSubsystem {
+        &mut self.disks
+    }
+
+    fn react(&mut self, channel: u8, event: &Event) -> Answer {
+        let (disks, bytes, keys) = (&mut self.disks, &mut self.bytes, &self.keys);
+        match event {
+            Event::Sio(at) => Answer::Sio(*at, disks.sio(bytes, keys, *at).unwrap()),
+            Event::Tio(at) => Answer::Tio(*at, disks.tio(bytes, keys, *at).unwrap()),
+            Event::Hio(at) => Answer::Hio(*at, disks.hio(bytes, keys, *at).unwrap()),
+            Event::Tch => Answer::Tch(disks.tch(Address(u16::from(channel) << 8))),
+            Event::Step(units) => Answer::Step(disks.step(bytes, keys, channel, *units).unwrap()),
+            Event::Run(units) => Answer::Run(disks.run_on(bytes, keys, channel, *units).unwrap().units),
+            Event::Arrive(at) => Answer::Arrive(*at, disks.arrive(*at)),
+            Event::Interrupt => Answer::Interrupt(disks.interrupt(bytes, keys, ChannelSet::of(&[channel])).unwrap()),
+            Event::Reset => Answer::Reset(disks.reset(channel).unwrap()),
+            Event::Store(at, new) => Answer::Store(self.store(*at, new)),
+            Event::Key(at, key) => Answer::Key(self.set_key(*at, *key)),
+            Event::Show(at, count) => Answer::Show(*at, self.within(*at, *count).map(|bytes| bytes.to_vec())),
+        }
+    }
+
+    fn copied(&mut self) -> Self {
+        Lending { disks: self.disks.try_clone().unwrap(), bytes: self.bytes.clone(), keys: self.keys.clone() }
+    }
+}
+
 // Vectors.
 
 fn digest(bytes: &[u8]) -> String {
@@ -116,7 +204,7 @@ fn digest(bytes: &[u8]) -> String {
     String::from_utf8_lossy(&output.stdout)[..64].to_string()
 }
 
-fn attach(disks: &mut Subsystem, channel: u8, volume: &str, folder: &Path) {
+fn attach<Storage>(disks: &mut Subsystem<Storage>, channel: u8, volume: &str, folder: &Path) {
     let (unit, source) = volume.split_once(' ').unwrap();
     let address = Address(u16::from(channel) << 8 | u16::from_str_radix(unit, 16).unwrap());
     match source.split(' ').collect::<Vec<_>>()[..] {
@@ -132,7 +220,7 @@ fn attach(disks: &mut Subsystem, channel: u8, volume: &str, folder: &Path) {
 }
 
 /// All files of a drive's volume, one behind the other.
-fn whole(disks: &mut Subsystem, address: Address) -> Vec<u8> {
+fn whole<Storage>(disks: &mut Subsystem<Storage>, address: Address) -> Vec<u8> {
     let mut bytes = Vec::new();
     for place in 0.. {
         let Ok(file) = disks.file(address, place) else { break };
@@ -141,12 +229,12 @@ fn whole(disks: &mut Subsystem, address: Address) -> Vec<u8> {
     bytes
 }
 
-/// How a vector comes out otherwise than it must.
-fn difference(lines: &[(&str, &str)], folder: &Path) -> Option<String> {
+/// How a vector comes out otherwise than it must. With `copies` a copy goes on behind each event.
+fn difference<P: Player>(lines: &[(&str, &str)], folder: &Path, copies: bool) -> Option<String> {
     let all = |word: &'static str| lines.iter().filter(move |line| line.0 == word).map(|line| line.1);
     let channel: u8 = all("channel").next()?.parse().ok()?;
-    let mut disks = Subsystem::new(all("storage").next()?.parse().ok()?, ChannelSet::of(&[channel])).unwrap();
-    all("volume").for_each(|volume| attach(&mut disks, channel, volume, folder));
+    let mut player = P::new(all("storage").next()?.parse().ok()?, channel);
+    all("volume").for_each(|volume| attach(player.disks(), channel, volume, folder));
     let deck = lines.iter().filter_map(|(word, rest)| match *word {
         ">" => Some(rest.as_bytes().to_vec()),
         ">hex" | ">end" => bytes_of(rest),
@@ -157,21 +245,26 @@ fn difference(lines: &[(&str, &str)], folder: &Path) -> Option<String> {
     if fault.as_deref() != all("fault").next() {
         return Some(format!("fault {fault:?}"));
     }
-    let answers: Vec<String> = events.unwrap_or_default().iter().flatten().map(|event| line(&disks.react(channel, event).unwrap())).collect();
+    let mut answers = Vec::new();
+    for event in events.unwrap_or_default().iter().flatten() {
+        answers.push(line(&player.react(channel, event)));
+        if copies {
+            player = player.copied();
+        }
+    }
     if let Some((answer, wanted)) = answers.iter().zip(all("<")).find(|(answer, wanted)| answer.as_str() != *wanted) {
         return Some(format!("{answer}, not {wanted}"));
     }
-    disks.reset(channel).unwrap();
+    player.disks().reset(channel).unwrap();
     let wrong = all("image").find(|image| {
         let (unit, wanted) = image.split_once(" sha256 ").unwrap();
         let address = Address(u16::from(channel) << 8 | u16::from_str_radix(unit, 16).unwrap());
-        digest(&whole(&mut disks, address)) != wanted
+        digest(&whole(player.disks(), address)) != wanted
     });
     wrong.map(str::to_string).or_else(|| (answers.len() != all("<").count()).then(|| "another number of answers".into()))
 }
 
-#[test]
-fn all_come_out_as_they_must() {
+fn all_come_out<P: Player>(how: &str, copies: bool) {
     let Ok(folder) = std::env::var("DASD_VECTORS") else { return };
     let folder = Path::new(&folder);
     let (mut count, mut wrong) = (0, Vec::new());
@@ -185,10 +278,30 @@ fn all_come_out_as_they_must() {
             let (name, rest) = vector.split_once('\n').unwrap();
             let lines: Vec<_> = rest.lines().filter_map(|line| line.strip_prefix("  ")).map(|line| line.split_once(' ').unwrap_or((line, ""))).collect();
             count += 1;
-            wrong.extend(difference(&lines, folder).map(|how| format!("{group} {name}: {how}")));
+            wrong.extend(difference::<P>(&lines, folder, copies).map(|how| format!("{group} {name}: {how}")));
         }
     }
-    println!("rust: {} of {count} vectors come out as they must", count - wrong.len());
+    println!("rust: {} of {count} vectors come out as they must{how}", count - wrong.len());
     assert!(wrong.is_empty(), "{wrong:#?}");
     assert!(count > 400);
+}
+
+#[test]
+fn all_come_out_as_they_must() {
+    all_come_out::<Subsystem>("", false);
+}
+
+#[test]
+fn all_come_out_with_a_copy_behind_each_event() {
+    all_come_out::<Subsystem>(", with a copy behind each event", true);
+}
+
+#[test]
+fn all_come_out_over_storage_that_is_lent() {
+    all_come_out::<Lending>(" over storage that is lent", false);
+}
+
+#[test]
+fn all_come_out_over_storage_that_is_lent_with_a_copy_behind_each_event() {
+    all_come_out::<Lending>(" over storage that is lent, with a copy behind each event", true);
 }
