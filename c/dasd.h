@@ -310,7 +310,7 @@ typedef struct dasd_registers {
     uint16_t cylinder; /* where its arm is */
     uint16_t head;     /* the head that is selected */
     uint8_t sense[6];  /* the sense bytes, of this program so far */
-    uint8_t area;      /* enum dasd_area: what passed last on this turn of the track */
+    uint8_t area;      /* enum dasd_area: what passed last on this turn of the track; an area passes as the command ends that found it */
     uint8_t lap;       /* 1: the index has passed once since the commands began to look on this track */
     uint8_t mask;      /* the file mask, in the bits C0 and 18 of the byte that Set File Mask takes */
     uint8_t mask_set;  /* 1: a Set File Mask of this program has set it */

@@ -65,11 +65,11 @@ class Calls(unittest.TestCase):
         with self.made() as disks:
             disks.storage[0x100:0x108] = READ_R0
             self.assertEqual((disks.program(1), disks.registers(1), disks.sio(0x190)), (None, None, 0))
-            self.assertEqual(disks.step(1, 3), 3)  # the word, and two of its bytes
-            word = {"code": 0x16, "flags": 0x20, "address": 0x200, "count": 16, "place": 0x202, "left": 14}
+            self.assertEqual(disks.step(1, 3), 3)  # three of its bytes
+            word = {"code": 0x16, "flags": 0x20, "address": 0x200, "count": 16, "place": 0x203, "left": 13}
             shown = dasd.Program(device=0x90, phase=dasd.Phase.MOVES, last=0x100, next=0x108, key=0, asked=False, **word)
             self.assertEqual(disks.program(1), shown)
-            turn = {"area": dasd.Area.COUNT, "passed": 0, "lap": 0}
+            turn = {"area": dasd.Area.INDEX, "passed": 0, "lap": 0}
             left = {"credit": dasd.Credit.NONE, "credited": 0, "sense": bytes(6)}
             self.assertEqual(disks.registers(1), dasd.Registers(cylinder=0, head=0, mask=0, mask_set=False, **turn, **left))
             self.refused("NO_CHANNEL", disks.program, 2)

@@ -75,11 +75,11 @@ void a_record_is_read() {
 
 void a_program_is_shown_while_it_runs() {
     Subsystem disks = made(read_r0);
-    CHECK(!disks.program(1) && !disks.registers(1) && disks.sio(drive) == 0 && disks.step(1, 3) == 3); // the word, and two of its bytes
+    CHECK(!disks.program(1) && !disks.registers(1) && disks.sio(drive) == 0 && disks.step(1, 3) == 3); // three bytes
     const auto program = disks.program(1);
-    CHECK(program && program->phase == DASD_MOVES && program->last == 0x100 && program->place == 0x202 && program->left == 14);
+    CHECK(program && program->phase == DASD_MOVES && program->last == 0x100 && program->place == 0x203 && program->left == 13);
     const auto registers = disks.registers(1);
-    CHECK(registers && registers->area == DASD_COUNT && registers->passed == 0 && registers->credit == DASD_NO_CREDIT);
+    CHECK(registers && registers->area == DASD_INDEX && registers->passed == 0 && registers->credit == DASD_NO_CREDIT);
     CHECK(refused([&] { (void)disks.program(2); }) == DASD_NO_CHANNEL && refused([&] { (void)disks.registers(2); }) == DASD_NO_CHANNEL);
     (void)disks.run_on(1, 1000);
     CHECK(!disks.program(1) && !disks.registers(1));

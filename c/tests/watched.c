@@ -1,5 +1,6 @@
 /* watched.c - a channel program is shown while it runs, between any two of its units, with what its drive remembers. What is wanted was
- * worked out by hand: a unit is a word that is fetched, an index that passes, a byte that moves, or an end. */
+ * worked out by hand: a unit is a word that is fetched, an index that passes, a byte that moves, or an end; Start I/O does the first one;
+ * and an area has passed when the command that found it ends. */
 #include <stdint.h>
 #include <string.h>
 
@@ -12,7 +13,7 @@ static const char words[] = "31000200 40000005 08000100 00000000 06000210 200000
 
 enum { SEARCH = 0x100, READ = 0x110 };
 
-/* What is wanted behind so many units. */
+/* What is wanted behind so many units, beside the first. */
 typedef struct row {
     uint32_t units;
     uint8_t phase;
@@ -22,12 +23,13 @@ typedef struct row {
 } row;
 
 static const row rows[] = {
-    {1, DASD_LOOKS, SEARCH, 0x108, 0x200, 5, DASD_INDEX, DASD_NO_CREDIT},
-    {2, DASD_MOVES, SEARCH, 0x108, 0x201, 4, DASD_COUNT, DASD_NO_CREDIT},
-    {6, DASD_MOVES, SEARCH, 0x108, 0x205, 0, DASD_COUNT, DASD_NO_CREDIT},
-    {7, DASD_FETCHES, SEARCH, READ, 0, 0, DASD_COUNT, DASD_EQUAL_ID}, /* the word behind the transfer is next: the record was equal */
-    {9, DASD_MOVES, READ, 0x118, 0x211, 2, DASD_DATA, DASD_NO_CREDIT},
-    {11, DASD_MOVES, READ, 0x118, 0x213, 0, DASD_DATA, DASD_NO_CREDIT},
+    {0, DASD_LOOKS, SEARCH, 0x108, 0x200, 5, DASD_INDEX, DASD_NO_CREDIT},
+    {1, DASD_MOVES, SEARCH, 0x108, 0x201, 4, DASD_INDEX, DASD_NO_CREDIT},
+    {5, DASD_MOVES, SEARCH, 0x108, 0x205, 0, DASD_INDEX, DASD_NO_CREDIT},
+    {6, DASD_FETCHES, SEARCH, READ, 0, 0, DASD_COUNT, DASD_EQUAL_ID}, /* the word behind the transfer is next: the record was equal */
+    {7, DASD_LOOKS, READ, 0x118, 0x210, 3, DASD_COUNT, DASD_NO_CREDIT},
+    {8, DASD_MOVES, READ, 0x118, 0x211, 2, DASD_COUNT, DASD_NO_CREDIT},
+    {10, DASD_MOVES, READ, 0x118, 0x213, 0, DASD_COUNT, DASD_NO_CREDIT},
 };
 
 /* Where a word is to be fetched its fields are zeros; else they are those of the word at work. */

@@ -191,7 +191,7 @@ class ChannelState(NamedTuple):
     drives: Tuple[AttachedDrive, ...]
 
 
-class Phase(IntEnum):
+class Phase(enum.IntEnum):
     """What the next unit of a channel program does."""
 
     #: it fetches a word that begins a command
@@ -232,7 +232,7 @@ class Program(NamedTuple):
     asked: bool
 
 
-class Area(IntEnum):
+class Area(enum.IntEnum):
     """An area of a track."""
 
     #: none has passed since the index
@@ -243,7 +243,7 @@ class Area(IntEnum):
     DATA = 4
 
 
-class Credit(IntEnum):
+class Credit(enum.IntEnum):
     """What a command leaves for the very next one, between which Transfer In Channel may stand: that a search found the whole of
     something equal, or that it was written."""
 
@@ -262,7 +262,7 @@ class Registers(NamedTuple):
     cylinder: int
     #: the head that is selected
     head: int
-    #: what passed last on this turn of the track
+    #: what passed last on this turn of the track; an area passes as the command ends that found it
     area: Area
     #: its record
     passed: int

@@ -192,7 +192,8 @@ pub struct dasd_registers {
     pub head: u16,
     /// The sense bytes, of this program so far.
     pub sense: [u8; 6],
-    /// What passed last on this turn of the track: 0, nothing; 1, the home address; 2, a count; 3, a key; 4, a data area.
+    /// What passed last on this turn of the track: 0, nothing; 1, the home address; 2, a count; 3, a key; 4, a data area. An area passes as
+    /// the command ends that found it.
     pub area: u8,
     /// 1: the index has passed once since the commands began to look on this track.
     pub lap: u8,

@@ -80,7 +80,7 @@ pub struct Registers {
     pub cylinder: u16,
     /// The head that is selected.
     pub head: u16,
-    /// What passed last on this turn of the track; none since the index.
+    /// What passed last on this turn of the track; none since the index. An area passes as the command ends that found it.
     pub area: Option<Area>,
     /// How often the index has passed since the commands began to look on this track, 0 or 1.
     pub lap: u8,

@@ -1,6 +1,6 @@
 //! Each call once, and what the library refuses.
 
-use dasd::{check, version, Address, Area, Arm, ChannelSet, Subsystem, Condition, DriveModel, Fault, Phase, SubchannelView};
+use dasd::{check, version, Address, Arm, ChannelSet, Subsystem, Condition, DriveModel, Fault, Phase, SubchannelView};
 
 const DRIVE: Address = Address(0x190);
 
@@ -40,13 +40,13 @@ fn a_record_is_read() {
 fn a_program_is_shown_while_it_runs() {
     let mut disks = made();
     assert_eq!((disks.program(1), disks.registers(1), disks.sio(DRIVE)), (Ok(None), Ok(None), Condition::Zero));
-    assert_eq!(disks.step(1, 3), Ok(3)); // the word, and two of its bytes
+    assert_eq!(disks.step(1, 3), Ok(3)); // three of its bytes
     let program = disks.program(1).unwrap().unwrap();
     assert_eq!((program.device, program.phase, program.last, program.next), (0x90, Phase::Moves, 0x100, 0x108));
     assert_eq!((program.code, program.flags, program.address, program.count), (0x16, 0x20, 0x200, 16));
-    assert_eq!((program.place, program.left, program.key, program.asked), (0x202, 14, 0, false));
+    assert_eq!((program.place, program.left, program.key, program.asked), (0x203, 13, 0, false));
     let registers = disks.registers(1).unwrap().unwrap();
-    assert_eq!((registers.area, registers.lap, registers.credit), (Some(Area::Count(0)), 0, None));
+    assert_eq!((registers.area, registers.lap, registers.credit), (None, 0, None));
     assert_eq!((registers.mask, registers.mask_set, registers.sense), (0, false, [0; 6]));
     assert_eq!((disks.program(2), disks.registers(2)), (Err(Fault::NoChannel), Err(Fault::NoChannel)));
     disks.run_on(1, 1000).unwrap();
