@@ -8,4 +8,4 @@ use Rattle.dasd_c.proofs.watching.show_registers.Goals as goal
 pub returns-in-Some : goal.returns-in-Some
 returns-in-Some c = λ s.
     registers_of (channel_at c.args.number (across c.args.channels.now s)) s c.in-Some.drive.now c.args.shown.now c.of.result
-        (c.in-Some.ensures s) (c.of.ensures ∙ ap registers_shown c.registers.ensures)
+    (c.in-Some.ensures s) (c.of.ensures ∙ ap registers_shown c.registers.ensures)
