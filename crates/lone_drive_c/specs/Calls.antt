@@ -1,14 +1,13 @@
 -- What the calls of a handle say and leave. What is said of a drive is what the calls of the same names say of it, whose crate has the
 -- definitions.
-use Rattle.std.specs.Prelude.{◌≡◌, ℤ, pos, ℕ, ◌+◌, Bool, true, false, nat_le, List, length, slice_range, Unit, Option, Some, None, Result}
+use Rattle.std.specs.Prelude.{◌≡◌, ℤ, pos, ℕ, ◌+◌, Bool, true, false, nat_le, List, length, slice_range, Option, Some, None, Result}
 use Rattle.ckd_track.specs.declared.model.DriveModel.{DriveModel}
 use Rattle.ckd_image.specs.Store.{Counts}
 use Rattle.ckd_image.specs.declared.store.StoreFault.{StoreFault}
 use Rattle.ckd_command.specs.Drive.{begin, is_written, unsaved}
 use Rattle.ckd_command.specs.declared.close.DriveEnding.{DriveEnding}
-use Rattle.ckd_drive.specs.Calls as drive
-use Rattle.ckd_drive.specs.Work.{Over, DriveState, CallsStore, Reports, fault_met, with_image, after_begin, after_look, after_settle}
-use Rattle.ckd_drive.specs.Work.{answer_of_begin, answer_of_look, begin_saves, look_loads, look_saves, failed_ending, begun_program, without_sense}
+use Rattle.ckd_drive.specs.Work.{Over, DriveState, CallsStore, Reports, fault_met, with_image, after_begin, after_look, after_end, after_settle}
+use Rattle.ckd_drive.specs.Work.{answer_of_begin, answer_of_look, begin_saves, look_loads, look_saves, end_saves, failed_ending, closed_of, ending_of, begun_program, without_sense}
 use Rattle.ckd_drive.specs.Work.{is_idle, is_working, may_end, gives_now, takes_now, left_of, passed_of, given_now, moved_on, new_drive}
 use Rattle.ckd_drive.specs.declared.answers.Begun.{Begun}
 use Rattle.ckd_drive.specs.declared.answers.Begun.TheVariants.{Rejected}
@@ -90,7 +89,10 @@ Looks code old new = Allowed (is_working old.work) no_command (LooksOn code old 
 pub record EndsCommand (code : ℤ) (old new : DriveState) : Type 0 where
   pub ending : DriveEnding
   pub told : code ≡ pos (ending.unit.0)
-  pub ends : drive.Ends old new ending
+  pub ends : ending ≡ ending_of (closed_of (fault_met old new) old old.work)
+  pub state : new ≡ with_image (after_end (fault_met old new) old) new.image
+  pub calls : CallsStore false (end_saves old) old new
+  pub reported : Reports (ending ≡ failed_ending) old new
 
 -- A command that is over, or has found its area, ends.
 abbrev pub Ends : (code : ℤ) → (old new : DriveState) → Type 0

@@ -1,5 +1,5 @@
 -- What C is told by numbers. They are those of dasd.h and of dasd_drive.h.
-use Rattle.std.specs.Prelude.{ℤ, pos, neg_ℤ, ℕ, Unit, Option, Some, None, Result, Ok, Err, ◌==◌, if◌then◌else◌}
+use Rattle.std.specs.Prelude.{ℤ, pos, neg_ℤ, ℕ, Option, Some, None, Result, Ok, Err, ◌==◌, if◌then◌else◌}
 use Rattle.ckd_track.specs.declared.model.DriveModel.{DriveModel}
 use Rattle.ckd_track.specs.declared.model.DriveModel.TheVariants.{D2311, D2314}
 use Rattle.ckd_image.specs.declared.fault.MountFault.{MountFault}

@@ -48,7 +48,7 @@ fn show_file(drive: &Drive<VolumeFile>, shown: &mut File) -> i32
 }
 
 fn show(file: Option<&VolumeFile>, shown: &mut File) -> i32
-    ensures { ShowsContent (option_map (λ f. f.now.content) file) result shown.old shown.new }
+    ensures { ShowsContent (option_map (λ f. f.now.content) file.entry) result shown.old shown.new }
 {
     match file {
         Some(file) => {
@@ -101,7 +101,7 @@ fn copy_file(drive: &Drive<VolumeFile>, into: &mut [u8]) -> i32
 }
 
 fn copy(file: Option<&VolumeFile>, into: &mut [u8]) -> i32
-    ensures { CopiesContent (option_map (λ f. f.now.content) file) result into.old into.new }
+    ensures { CopiesContent (option_map (λ f. f.now.content) file.entry) result into.old into.new }
 {
     let Some(file) = file else {
         return NO_FILE;
