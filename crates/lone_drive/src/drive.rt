@@ -1,6 +1,6 @@
 //! A drive alone.
 
-ghost use Rattle.std.specs.Prelude.{◌≡◌, ◌<◌, IfOk, IfErr};
+ghost use Rattle.std.specs.Prelude.{◌≡◌, ◌<◌, IfOk, IfErr, OnOk};
 ghost use Rattle.ckd_drive.specs.Work.{new_drive};
 ghost use Rattle.lone_drive.specs.Making.{IsOver, NotMounted, NotFormatted, new_volume};
 
@@ -44,6 +44,7 @@ impl LoneDrive {
     /// `NoCylinders`; and `OutOfMemory`, for the volume, and last for the drive.
     pub fn format(alloc: Global, model: DriveModel, cylinders: u16) -> Result<LoneDrive, NotMade>
         ensures made { IfOk result (λ d. d.drive ≡ new_drive (new_volume model cylinders)) }
+        ensures some { OnOk result (0 < cylinders) }
         ensures refused { IfErr result (λ e. NotFormatted cylinders e) }
     {
         if cylinders == 0 {

@@ -14,7 +14,7 @@ use Rattle.ckd_drive.specs.declared.answers.Phase.TheVariants as phase
 use Rattle.lone_drive.specs.declared.refusal.NotMade.{NotMade}
 use Rattle.lone_drive.specs.declared.refusal.NotMade.TheVariants.{NoCylinders, Mount, OutOfMemory}
 
--- DASD_NOTHING_HELD, DASD_IN_USE, DASD_BAD_MODEL, DASD_NO_FILE
+-- DASD_NOTHING_HELD, DASD_IN_USE, DASD_BAD_MODEL
 abbrev pub nothing_held : ℤ
 nothing_held = neg_ℤ (pos 1)
 
@@ -23,9 +23,6 @@ in_use = neg_ℤ (pos 2)
 
 abbrev pub bad_model : ℤ
 bad_model = neg_ℤ (pos 8)
-
-abbrev pub no_file : ℤ
-no_file = neg_ℤ (pos 16)
 
 -- DASD_COMMAND_OPEN, DASD_NO_COMMAND, DASD_NO_END, DASD_GIVES_NONE, DASD_TAKES_NONE, DASD_TOO_MANY, DASD_BYTES_PASSED, DASD_NOT_SAVED,
 -- DASD_OTHER_LENGTH

@@ -24,10 +24,14 @@ may_now w = record {
   take = left_if (takes_now w) w;
 }
 
--- the same, by what is reported of it
+-- what is allowed while no bytes pass
+abbrev pub without_bytes : (begin look end : Bool) → Allowance
+without_bytes begin look end = record { begin = begin; look = look; end = end; settle = true; give = None; take = None }
+
+-- what is allowed, by what is reported of the command
 abbrev pub may_at : Phase → Allowance
-may_at Idle = record { begin = true; look = false; end = false; settle = true; give = None; take = None }
-may_at Over = record { begin = false; look = false; end = true; settle = true; give = None; take = None }
-may_at Looking = record { begin = false; look = true; end = false; settle = true; give = None; take = None }
+may_at Idle = without_bytes true false false
+may_at Over = without_bytes false false true
+may_at Looking = without_bytes false true false
 may_at (Gives passed left) = record { begin = false; look = true; end = true; settle = passed == 0; give = Some left; take = None }
 may_at (Takes passed left) = record { begin = false; look = true; end = true; settle = passed == 0; give = None; take = Some left }

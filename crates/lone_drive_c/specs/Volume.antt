@@ -6,11 +6,11 @@ use Rattle.ckd_drive.specs.Work.{DriveState, is_idle}
 use Rattle.lone_drive.specs.declared.drive.LoneDrive.{LoneDrive}
 use Rattle.lone_drive_c.specs.declared.volume.File.{File}
 use Rattle.lone_drive_c.specs.Calls.{Allowed}
-use Rattle.lone_drive_c.specs.Codes.{nothing_held, command_open, no_file, not_saved, other_length}
+use Rattle.lone_drive_c.specs.Codes.{nothing_held, command_open, not_saved, other_length}
 
--- The first file of a drive's image is this, and the image is the drive's volume, with all that was written; or there is no file.
-pub record IsVolume (d : DriveState) (file : Option (List ℕ)) : Type 0 where
-  pub first : IsFileAt d.image 0 file
+-- The first file of a drive's image is this, and the image is the drive's volume, with all that was written.
+pub record IsVolume (d : DriveState) (file : List ℕ) : Type 0 where
+  pub first : IsFileAt d.image 0 (Some file)
   pub geometry : d.image.geometry ≡ d.state.volume.geometry
   pub slots : d.image.slots ≡ d.state.volume.slots
 
@@ -19,29 +19,24 @@ abbrev pub AllowsFile : DriveState → (does : Type 0) → (code : ℤ) → (sta
 AllowsFile d does code stays = Allowed (is_idle d.work) command_open
     (Allowed (not (is_written d.state)) not_saved does code stays) code stays
 
--- A file is shown by its length; or there is none, and nothing is.
-abbrev pub ShowsContent : Option (List ℕ) → (code : ℤ) → (before shown : File) → Type 0
-ShowsContent (Some bytes) code before shown = (code ≡ pos 0) × (shown.len ≡ length bytes)
-ShowsContent None code before shown = (code ≡ no_file) × (shown ≡ before)
-
--- The file of the volume is.
-pub record ShowsVolume (code : ℤ) (before shown : File) (d : DriveState) : Type 0 where
-  pub file : Option (List ℕ)
+-- The file of the volume is shown by its length.
+pub record ShowsVolume (code : ℤ) (shown : File) (d : DriveState) : Type 0 where
+  pub told : code ≡ pos 0
+  pub file : List ℕ
   pub is_volume : IsVolume d file
-  pub shows : ShowsContent file code before shown
+  pub shows : shown.len ≡ length file
 
 abbrev pub ShowsFile : (code : ℤ) → (before shown : File) → DriveState → Type 0
-ShowsFile code before shown d = AllowsFile d (ShowsVolume code before shown d) code (shown ≡ before)
+ShowsFile code before shown d = AllowsFile d (ShowsVolume code shown d) code (shown ≡ before)
 
 -- A file's bytes are copied, where there is room for just these; else nothing is.
-abbrev pub CopiesContent : Option (List ℕ) → (code : ℤ) → (before into : List ℕ) → Type 0
-CopiesContent (Some bytes) code before into =
-    Allowed (length bytes == length before) other_length ((code ≡ pos 0) × (into ≡ bytes)) code (into ≡ before)
-CopiesContent None code before into = (code ≡ no_file) × (into ≡ before)
+abbrev pub CopiesContent : (file : List ℕ) → (code : ℤ) → (before into : List ℕ) → Type 0
+CopiesContent file code before into =
+    Allowed (length file == length before) other_length ((code ≡ pos 0) × (into ≡ file)) code (into ≡ before)
 
 -- The file of the volume is copied.
 pub record CopiesVolume (code : ℤ) (before into : List ℕ) (d : DriveState) : Type 0 where
-  pub file : Option (List ℕ)
+  pub file : List ℕ
   pub is_volume : IsVolume d file
   pub copies : CopiesContent file code before into
 

@@ -1,7 +1,7 @@
 //! What a drive allows, by the phase that it reports.
 
 ghost use Rattle.std.specs.Prelude.{◌≡◌};
-ghost use Rattle.lone_drive_c.specs.Phases.{may_at, may_now};
+ghost use Rattle.lone_drive_c.specs.Phases.{may_at, may_now, without_bytes};
 
 use ckd_drive::{Drive, Phase};
 use dasd_files::VolumeFile;
@@ -34,30 +34,9 @@ fn may_at(phase: Phase) -> Allowance
     ensures { result ≡ may_at phase }
 {
     match phase {
-        Phase::Idle => Allowance {
-            begin: true,
-            look: false,
-            end: false,
-            settle: true,
-            give: None,
-            take: None,
-        },
-        Phase::Over => Allowance {
-            begin: false,
-            look: false,
-            end: true,
-            settle: true,
-            give: None,
-            take: None,
-        },
-        Phase::Looking => Allowance {
-            begin: false,
-            look: true,
-            end: false,
-            settle: true,
-            give: None,
-            take: None,
-        },
+        Phase::Idle => without_bytes(true, false, false),
+        Phase::Over => without_bytes(false, false, true),
+        Phase::Looking => without_bytes(false, true, false),
         Phase::Gives { passed, left } => Allowance {
             begin: false,
             look: true,
@@ -74,5 +53,18 @@ fn may_at(phase: Phase) -> Allowance
             give: None,
             take: Some(left),
         },
+    }
+}
+
+fn without_bytes(begin: bool, look: bool, end: bool) -> Allowance
+    ensures { result ≡ without_bytes begin look end }
+{
+    Allowance {
+        begin,
+        look,
+        end,
+        settle: true,
+        give: None,
+        take: None,
     }
 }

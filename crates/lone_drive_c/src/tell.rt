@@ -26,9 +26,6 @@ pub(crate) const BAD_MODEL: i32 = -8;
 /// A volume has at least one cylinder.
 pub(crate) const NO_CYLINDERS: i32 = -9;
 
-/// The drive's image has no such file.
-pub(crate) const NO_FILE: i32 = -16;
-
 /// A command is open.
 pub(crate) const COMMAND_OPEN: i32 = -48;
 

@@ -1,12 +1,13 @@
 //! The volume's file is shown, and given back.
 
-ghost use Rattle.std.specs.Prelude.{◌≡◌, None, length, option_map};
+ghost use Rattle.std.specs.Prelude.{◌≡◌, Some, None, length};
+ghost use Rattle.ckd_image.specs.Image.{IsFileAt};
 ghost use Rattle.lone_drive_c.specs.Calls.{Holds};
-ghost use Rattle.lone_drive_c.specs.Volume.{CopiesContent, CopiesFile, GivesBack, ShowsContent, ShowsFile};
+ghost use Rattle.lone_drive_c.specs.Volume.{CopiesContent, CopiesFile, GivesBack, ShowsFile};
 
 use crate::allowed::may;
 use crate::handle::{Handle, put, take};
-use crate::tell::{COMMAND_OPEN, DONE, NO_FILE, NOT_SAVED, NOTHING_HELD, OTHER_LENGTH};
+use crate::tell::{COMMAND_OPEN, DONE, NOT_SAVED, NOTHING_HELD, OTHER_LENGTH};
 use ckd_drive::Drive;
 use ckd_image::{Image, ImageStore};
 use dasd_files::VolumeFile;
@@ -44,18 +45,17 @@ fn show_file(drive: &Drive<VolumeFile>, shown: &mut File) -> i32
     if drive.is_written() {
         return NOT_SAVED;
     }
-    show(drive.image().store(0), shown)
+    *shown = as_file(first_file(drive.image()));
+    DONE
 }
 
-fn show(file: Option<&VolumeFile>, shown: &mut File) -> i32
-    ensures { ShowsContent (option_map (λ f. f.now.content) file.entry) result shown.old shown.new }
+// The first file of an image, which each has.
+fn first_file(image: &Image<VolumeFile>) -> &VolumeFile
+    ensures { IsFileAt image.now 0 (Some result.now.content) }
 {
-    match file {
-        Some(file) => {
-            *shown = as_file(file);
-            DONE
-        }
-        None => NO_FILE,
+    match image.store(0) {
+        Some(file) => file,
+        None => unreachable!(),
     }
 }
 
@@ -97,16 +97,12 @@ fn copy_file(drive: &Drive<VolumeFile>, into: &mut [u8]) -> i32
     if drive.is_written() {
         return NOT_SAVED;
     }
-    copy(drive.image().store(0), into)
+    copy(first_file(drive.image()).bytes(), into)
 }
 
-fn copy(file: Option<&VolumeFile>, into: &mut [u8]) -> i32
-    ensures { CopiesContent (option_map (λ f. f.now.content) file.entry) result into.old into.new }
+fn copy(bytes: &[u8], into: &mut [u8]) -> i32
+    ensures { CopiesContent bytes.now result into.old into.new }
 {
-    let Some(file) = file else {
-        return NO_FILE;
-    };
-    let bytes = file.bytes();
     if bytes.len() != into.len() {
         return OTHER_LENGTH;
     }
