@@ -5,8 +5,8 @@
 CRATE is dasd_c, or lone_drive_c for a drive alone. `rt lib --cpu x86-64` in its folder makes the same archive. Where it did not make the
 libraries below itself, it proves each of them once more, which takes some 20 minutes of processor time from nothing. `.ci/run` has `rt ci`
 prove them in this very checkout, a moment before: so here rattle checks the crate over them as they stand, as `rt ci` checks each crate
-over those below it, and compiles what it proved. It does not see whether the libraries are made of today's files, nor who made them: so it is for `.ci/run` alone, right behind
-`rt ci`.
+over those below it, and compiles what it proved. It does not see whether the libraries are made of today's files, nor who made them: so it
+is for `.ci/run` alone, right behind `rt ci`.
 
 Beside FILE stand FILE.bc, the module of which the archive is made, and FILE.words, as tools/make/capture.py writes them. Status 1 where
 a library below is not there, or something is not proved; FILE then stays as it was."""

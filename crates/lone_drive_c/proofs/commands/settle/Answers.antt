@@ -1,9 +1,13 @@
-use Rattle.std.proofs.Common.{rules, ◌≡◌, ◌∙◌, ap, sym, subst, w32, Bool, to_z, of_z}
+use Rattle.std.proofs.Common.{rules, ◌≡◌, ◌∙◌, ap, refl, subst, w32, Bool, true, false, not, to_z, of_z}
 use Rattle.std.proofs.lemmas.Int.{to_z-of_z}
 use Rattle.lone_drive_c.specs.declared.allowed.Allowance.{Allowance}
 use Rattle.lone_drive_c.specs.Calls.{Allowed, SettlesTrack}
 use Rattle.lone_drive_c.specs.Codes.{bytes_passed}
 use Rattle.lone_drive_c.proofs.commands.settle.Goals as goal
+
+allowed : (b : Bool) → not b ≡ false → true ≡ b
+allowed true h = refl
+allowed false h = h
 
 -- it is allowed, and C is told whether the track was saved
 pub returns : goal.returns
@@ -18,4 +22,4 @@ returns c =
       calls = c.settle.ensures.calls;
       reported = c.settle.ensures.reported;
     } in subst (λ (b : Bool). Allowed b bytes_passed (SettlesTrack code old new) code (new ≡ old))
-    (sym c.if-not-may.false ∙ ap (λ (m : Allowance). m.settle) c.may.ensures) settles
+    (allowed c.may.result.settle c.if-not-may.false ∙ ap (λ (m : Allowance). m.settle) c.may.ensures) settles
