@@ -19,6 +19,14 @@ typedef struct word {
     size_t count;
 } word;
 
+/* A table of words. Behind its end stand words of no bytes, which no channel takes. */
+typedef struct program {
+    const word *words;
+    size_t count;
+} program;
+
+static word word_at(const program *p, size_t at) { return at < p->count ? p->words[at] : (word){0, 0, NULL, 0}; }
+
 /* What a channel status word tells: both status bytes, the number of the last word, and the count that is left of it. */
 typedef struct ending {
     uint8_t unit, channel;
@@ -41,7 +49,7 @@ static void move(dasd_drive_alone *d, int32_t phase, word *w, size_t allowed) {
 
 /* Does what the drive wants next, until the command may end: it is over, no byte is left of its area, or none of its words. Answers how many
  * bytes were left on either side: where some are, the lengths differ. */
-static size_t pass(dasd_drive_alone *d, const word *words, size_t *at, word *w) {
+static size_t pass(dasd_drive_alone *d, const program *p, size_t *at, word *w) {
     dasd_drive_next_bytes next;
     for (;;) {
         int32_t phase = dasd_drive_next(d, &next);
@@ -54,40 +62,44 @@ static size_t pass(dasd_drive_alone *d, const word *words, size_t *at, word *w) 
             dasd_drive_look(d);
             dasd_drive_next(d, &next);
         }
-        if (next.left > 0 && w->count == 0 && w->flags & CHAIN_DATA) *w = words[++*at];
+        if (next.left > 0 && w->count == 0 && w->flags & CHAIN_DATA) *w = word_at(p, ++*at);
         if (next.left == 0 || w->count == 0) return next.left + w->count;
         move(d, phase, w, next.left);
     }
 }
 
 /* Plays one command, and tells how it ended. */
-static ending command(dasd_drive_alone *d, const word *words, size_t at) {
-    word w = words[at];
+static ending command(dasd_drive_alone *d, const program *p, size_t at) {
+    word w = word_at(p, at);
     size_t unmoved = 0;
     int32_t begun = dasd_drive_begin(d, w.code);
-    if (begun == DASD_DRIVE_STARTED) unmoved = pass(d, words, &at, &w);
+    if (begun == DASD_DRIVE_STARTED) unmoved = pass(d, p, &at, &w);
     ending e = {UNIT_CHECK, 0, at, w.count};
     if (begun != DASD_DRIVE_REJECTED) e.unit = (uint8_t)dasd_drive_end(d);
     if (unmoved > 0 && !(w.flags & SUPPRESS_LENGTH) && !(e.unit & UNIT_CHECK)) e.channel = INCORRECT_LENGTH;
     return e;
 }
 
-/* Plays the program that begins with the first word; one that goes on for ever is ended as if it were wrong. */
-static ending play(dasd_drive_alone *d, const word *words) {
+/* Plays a program from its first word on. A word of no bytes is a program check; so is one more than a thousand words. */
+static ending play(dasd_drive_alone *d, const program *p) {
     size_t at = 0;
     dasd_drive_begin_program(d);
     for (int fetched = 0; fetched < 1000; fetched++) {
-        if (words[at].code == TRANSFER_IN_CHANNEL) {
-            at = words[at].count;
+        word w = word_at(p, at);
+        if (w.code == TRANSFER_IN_CHANNEL) {
+            at = w.count;
             continue;
         }
-        ending e = command(d, words, at);
-        if (!(words[e.at].flags & CHAIN_COMMAND) || e.channel || e.unit & (UNIT_CHECK | UNIT_EXCEPTION)) return e;
+        if (w.count == 0) break;
+        ending e = command(d, p, at);
+        if (!(word_at(p, e.at).flags & CHAIN_COMMAND) || e.channel || e.unit & (UNIT_CHECK | UNIT_EXCEPTION)) return e;
         /* where the arm moves, the next command waits for device end; here no time passes */
         at = e.at + (e.unit & STATUS_MODIFIER ? 2 : 1);
     }
     return (ending){CHANNEL_END | DEVICE_END, PROGRAM_CHECK, at, 0};
 }
+
+#define PROGRAM(table) (&(program){table, sizeof(table) / sizeof *(table)})
 
 static void tell(const char *what, ending e) { printf("%s: unit %02X channel %02X word %zu left %zu\n", what, e.unit, e.channel, e.at, e.left); }
 
@@ -103,11 +115,11 @@ int main(void) {
     dasd_file file;
 
     if (dasd_drive_attach_new(&d, 2311, 2) < 0) return 1;
-    tell("write", play(&d, write));
-    tell("find", play(&d, find));
+    tell("write", play(&d, PROGRAM(write)));
+    tell("find", play(&d, PROGRAM(find)));
     printf("read %02X%02X%02X%02X\n", read[0], read[1], read[2], read[3]);
-    tell("miss", play(&d, miss));
-    tell("ask", play(&d, ask));
+    tell("miss", play(&d, PROGRAM(miss)));
+    tell("ask", play(&d, PROGRAM(ask)));
     printf("sense %02X%02X\n", sense[0], sense[1]);
     if (dasd_drive_settle(&d) == 0 && dasd_drive_show_file(&d, &file) == 0) printf("saved: %zu bytes\n", file.len);
     dasd_drive_free(&d);

@@ -30,9 +30,13 @@ static uint8_t *bytes_of(const char *word, size_t *len) {
     if (!bytes || *word == '-') return bytes;
     while (*word) {
         size_t begins = *len, times = 1;
-        for (; digit(word[0]) >= 0 && digit(word[1]) >= 0; word += 2) bytes[(*len)++] = (uint8_t)(digit(word[0]) << 4 | digit(word[1]));
-        if (*word == '*') times = (size_t)strtoul(word + 1, (char **)(uintptr_t)&word, 10);
-        if (times > 1) {
+        for (int high, low; (high = digit(word[0])) >= 0 && (low = digit(word[1])) >= 0; word += 2) bytes[(*len)++] = (uint8_t)(high * 16 + low);
+        if (*word == '*') {
+            char *end;
+            times = (size_t)strtoul(word + 1, &end, 10);
+            word = end;
+        }
+        if (times > 1 && *len > 0) {
             uint8_t *more = realloc(bytes, *len + times + strlen(word) + 1);
             if (!more) return bytes;
             bytes = more;
