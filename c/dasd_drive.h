@@ -20,8 +20,8 @@
  *
  * WHAT A CALL ANSWERS, WHAT NO CALL DOES and WHAT THE CALLER OWES are as in dasd.h: zero or above, it was done; below zero, one of
  * `enum dasd_fault` or of `enum dasd_drive_fault`, and nothing has changed, nor has what a pointer leads to. On a handle that holds nothing
- * every call but the two that attach answers DASD_NOTHING_HELD, before anything else. Only dasd_drive_attach and dasd_drive_attach_new
- * take memory. Its calls stand in libdasd_drive.a; a program that has a subsystem of dasd.h too links both libraries.
+ * every call but the two that attach answers DASD_NOTHING_HELD, before anything else. Only these two and dasd_drive_copy take memory. Its
+ * calls stand in libdasd_drive.a; a program that has a subsystem of dasd.h too links both libraries.
  *
  * Rules that come from a manual name it: 'CD' are the IBM component descriptions of the 2841 (A26-5988) and of the 2314 (A26-3599). */
 #ifndef DASD_DRIVE_H
@@ -74,6 +74,11 @@ int32_t dasd_drive_show_file(dasd_drive_alone *d, dasd_file *shown);
 /* Gives the volume back: copies its file, with all that was written, to `into`, which has just its length, and frees the drive. The handle
  * holds nothing then. DASD_COMMAND_OPEN, DASD_NOT_SAVED, DASD_OTHER_LENGTH. */
 int32_t dasd_drive_give_back(dasd_drive_alone *d, uint8_t *into, size_t len);
+
+/* Makes `copy`, a handle that holds nothing, hold a second drive that is as this one is, also in the middle of a command, with its volume.
+ * Whatever is called of both from then on is answered alike, and no call of one changes the other. It costs what copying the volume does.
+ * DASD_IN_USE, `copy` holds something; DASD_NO_MEMORY. Where it is refused both are as they were. */
+int32_t dasd_drive_copy(dasd_drive_alone *d, dasd_drive_alone *copy);
 
 /* Frees the drive and its volume, whether it was saved or not. The handle holds nothing then. */
 int32_t dasd_drive_free(dasd_drive_alone *d);

@@ -205,13 +205,32 @@ static void arm_and_sense(void) {
     CHECK(dasd_drive_free(&d) == DASD_DONE && dasd_drive_free(&e) == DASD_DONE);
 }
 
+/* A copy in the middle of a write goes on by itself; the first is as it was. */
+static void copied_in_the_middle(void) {
+    static const uint8_t count[8] = {0, 0, 0, 0, 1, 0, 0, 2}, first[5] = {0, 0, 0, 0, 0}, data[2] = {0xAA, 0xBB};
+    dasd_drive_alone d = DASD_DRIVE_NOTHING, e = DASD_DRIVE_NOTHING;
+    dasd_drive_next_bytes one, other;
+    dasd_file shown;
+    CHECK(dasd_drive_copy(&d, &e) == DASD_NOTHING_HELD && phase(&e) == DASD_NOTHING_HELD);
+    made(&d, DASD_DRIVE_IDLE);
+    CHECK(does(&d, SEARCH_ID, first, 5) == 0x4C && dasd_drive_begin(&d, 0x1D) == DASD_DRIVE_STARTED);
+    CHECK(dasd_drive_look(&d) == DASD_DRIVE_READY && dasd_drive_take(&d, count, 8) == DASD_DONE && dasd_drive_look(&d) == DASD_DRIVE_READY);
+    CHECK(dasd_drive_copy(&d, &e) == DASD_DONE && dasd_drive_copy(&d, &e) == DASD_IN_USE);
+    CHECK(dasd_drive_take(&e, data, 2) == DASD_DONE && dasd_drive_end(&e) == 0x0C && phase(&e) == DASD_DRIVE_IDLE);
+    CHECK(dasd_drive_next(&d, &one) == DASD_DRIVE_TAKES && one.passed == 8 && one.left == 2);
+    CHECK(dasd_drive_settle(&e) == 0 && dasd_drive_show_file(&e, &shown) == DASD_DONE && !memcmp(shown.at + DATA + 8 + 8, data, 2));
+    CHECK(dasd_drive_end(&d) == 0x0C && dasd_drive_settle(&d) == 0 && dasd_drive_show_file(&d, &shown) == DASD_DONE);
+    CHECK(shown.at[DATA + 8 + 8] == 0 && dasd_drive_next(&e, &other) == DASD_DRIVE_IDLE);
+    CHECK(dasd_drive_free(&d) == DASD_DONE && phase(&e) == DASD_DRIVE_IDLE && dasd_drive_free(&e) == DASD_DONE);
+}
+
 #ifdef HEAP
 extern long heap_refuse_at, heap_live;
 
 /* Each taking of memory of an attach refused in turn: it is told, and nothing is held. */
 static void memory_is_refused(int is_new) {
     dasd_drive_alone d = DASD_DRIVE_NOTHING;
-    long refusals = 0;
+    long refusals = 0, copies = 0;
     for (int32_t code = DASD_NO_MEMORY; code != DASD_DONE; refusals++) {
         heap_refuse_at = refusals + 1;
         code = is_new ? dasd_drive_attach_new(&d, 2311, 1) : dasd_drive_attach(&d, bytes, sizeof bytes);
@@ -220,7 +239,15 @@ static void memory_is_refused(int is_new) {
         if (code != DASD_DONE && code != DASD_NO_MEMORY) break;
         if (code == DASD_NO_MEMORY) CHECK(heap_live == 0 && phase(&d) == DASD_NOTHING_HELD);
     }
-    CHECK(refusals > 3 && dasd_drive_give_back(&d, bytes, sizeof bytes) == DASD_DONE && heap_live == 0);
+    for (int32_t code = DASD_NO_MEMORY; code == DASD_NO_MEMORY; copies++) {
+        dasd_drive_alone copy = DASD_DRIVE_NOTHING;
+        long before = heap_live;
+        heap_refuse_at = copies + 1;
+        code = dasd_drive_copy(&d, &copy);
+        heap_refuse_at = 0;
+        CHECK(code == DASD_NO_MEMORY ? heap_live == before && phase(&copy) == DASD_NOTHING_HELD : dasd_drive_free(&copy) == DASD_DONE);
+    }
+    CHECK(copies > 3 && refusals > 3 && dasd_drive_give_back(&d, bytes, sizeof bytes) == DASD_DONE && heap_live == 0);
 }
 #else
 /* The library of a subsystem goes into the same program. */
@@ -241,6 +268,7 @@ int main(void) {
     why_files_are_none();
     written_track_is_not_lost();
     arm_and_sense();
+    copied_in_the_middle();
 #ifdef HEAP
     memory_is_refused(1);
     memory_is_refused(0);

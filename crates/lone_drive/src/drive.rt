@@ -58,6 +58,21 @@ impl LoneDrive {
             Err((fault, _)) => Err(NotMade::Mount(fault)),
         }
     }
+
+    /// A second drive that is as this one is, also in the middle of a command, over a copy of its volume.
+    ///
+    /// # Errors
+    ///
+    /// `OutOfMemory`. This drive stays in any case.
+    pub fn copy(&self, alloc: Global) -> Result<LoneDrive, NotMade>
+        ensures copied { IfOk result (λ d. d ≡ self.now) }
+        ensures refused { IfErr result (λ e. e ≡ NotMade.OutOfMemory) }
+    {
+        match self.drive.copy(alloc) {
+            Ok(drive) => Ok(LoneDrive { drive }),
+            Err(_) => Err(NotMade::OutOfMemory),
+        }
+    }
 }
 
 // A drive over an image.

@@ -4,3 +4,4 @@ pub mod Phases
 pub mod Calls
 pub mod Shown
 pub mod Volume
+pub mod Copying

@@ -5,6 +5,7 @@
 
 mod allowed;
 mod commands;
+mod copying;
 mod handle;
 mod parts;
 mod passing;
