@@ -219,8 +219,8 @@ static void copied_in_the_middle(void) {
     CHECK(dasd_drive_take(&e, data, 2) == DASD_DONE && dasd_drive_end(&e) == 0x0C && phase(&e) == DASD_DRIVE_IDLE);
     CHECK(dasd_drive_next(&d, &one) == DASD_DRIVE_TAKES && one.passed == 8 && one.left == 2);
     CHECK(dasd_drive_settle(&e) == 0 && dasd_drive_show_file(&e, &shown) == DASD_DONE && !memcmp(shown.at + DATA + 8 + 8, data, 2));
-    CHECK(dasd_drive_end(&d) == 0x0C && dasd_drive_settle(&d) == 0 && dasd_drive_show_file(&d, &shown) == DASD_DONE);
-    CHECK(shown.at[DATA + 8 + 8] == 0 && dasd_drive_next(&e, &other) == DASD_DRIVE_IDLE);
+    CHECK(dasd_drive_end(&d) == 0x0C && dasd_drive_settle(&d) == 0 && dasd_drive_next(&e, &other) == DASD_DRIVE_IDLE);
+    CHECK(dasd_drive_show_file(&d, &shown) == DASD_DONE && !memcmp(shown.at + DATA + 8 + 8, "\0\0", 2));
     CHECK(dasd_drive_free(&d) == DASD_DONE && phase(&e) == DASD_DRIVE_IDLE && dasd_drive_free(&e) == DASD_DONE);
 }
 
