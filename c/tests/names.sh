@@ -1,16 +1,20 @@
 #!/bin/sh
-# names.sh ARCHIVE SHARED: both show exactly the calls of dasd.h, and want nothing but the C library's few functions.
+# names.sh ARCHIVE [SHARED]: both show exactly the calls of the archive's header, dasd.h for libdasd.a, and want nothing but the C library's
+# few functions.
 set -eu
-archive=$1 shared=$2
+archive=$1 shared=${2-}
 here=$(dirname "$0")
+header=$here/../$(basename "$archive" .a | sed 's/^lib//').h
 work=$(mktemp -d)
 trap 'rm -rf "$work"' EXIT
 
-sed -n 's/^u\{0,1\}int32_t \(dasd_[a-z_]*\)(.*/\1/p' "$here/../dasd.h" | sort > "$work/declared"
+sed -n 's/^u\{0,1\}int32_t \(dasd_[a-z_]*\)(.*/\1/p' "$header" | sort > "$work/declared"
 nm -g --defined-only "$archive" | awk '$2 ~ /^[A-Z]$/ { print $3 }' | sort > "$work/archive"
-nm -D --defined-only "$shared" | awk '{ print $3 }' | sort > "$work/shared"
 diff "$work/declared" "$work/archive"
-diff "$work/declared" "$work/shared"
+if [ -n "$shared" ]; then
+    nm -D --defined-only "$shared" | awk '{ print $3 }' | sort > "$work/shared"
+    diff "$work/declared" "$work/shared"
+fi
 
 printf '%s\n' free malloc memcpy memmove memset realloc > "$work/known"
 nm -g --undefined-only "$archive" | awk '$1 == "U" { print $2 }' | sort -u > "$work/wanted"

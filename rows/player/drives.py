@@ -235,6 +235,26 @@ def play_in_pieces(stage: Stage, disk: Disk, block: Block, failing: Failing | No
     return len(drive.names)
 
 
+def is_of_memory(block: Block) -> bool:
+    """Whether a row can be played at a drive over one file in memory, of which no call fails and none is counted; nor are reads lent whole
+    there."""
+    return not block.behind("failing ") and all(call.split()[0] != "whole" for call in row_calls(block))
+
+
+def play_in_memory(stage: Stage, disk: Disk, block: Block) -> None:
+    """Plays a row at a drive over a file in memory, its bytes in pieces of several sizes."""
+    disk = disk.with_puts(block.behind("track "))
+    for piece in PIECES:
+        drive = DriveRow(stage, disk, None, piece)
+        for call in row_calls(block):
+            drive.does(call)
+        stage.ask("DRIVE SETTLE")
+        same("the end", (["idle"], "NO"), (drive.phase(), drive.state()[1]))
+        same("DRIVE RELEASE", "OK", stage.ask("DRIVE RELEASE"))
+        if block.behind("left "):
+            are_left(block, disk, [content(stage, it) for it in drive.names])
+
+
 def sweep(stage: Stage, disk: Disk, block: Block, file: int) -> None:
     """Plays a row with each call of a store failing, once and for good, which must be told. The first call reads the header, as the
     image is mounted."""

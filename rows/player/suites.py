@@ -56,6 +56,16 @@ def rows_behind_volumes(name: str, function: Callable[[Stage, Disk, Block], None
             yield Case(block.name, play(function, disk, block))
 
 
+def drives_in_memory() -> Iterator[Case]:
+    """The rows of a drive that want one file in memory, and nothing of its store: what c/tests/drive_stage.c can play, too."""
+    disk = Disk("2311", 1)
+    for block in read_blocks("drives.rows"):
+        if block.name.startswith("volume "):
+            disk = disk_of(block)
+        elif drives.is_of_memory(block) and disk.split is None:
+            yield Case(block.name, play(drives.play_in_memory, disk, block))
+
+
 @dataclass(frozen=True)
 class Suite:
     """A suite: what gives its cases, at the stage; or those at the program `dasd` with this path."""
@@ -77,6 +87,7 @@ SUITES = {
     "lists": Suite(lists.cases),
     "failing_lists": Suite(lists.failing_cases),
     "drives": Suite(partial(rows_behind_volumes, "drives.rows", drives.play_row)),
+    "drives_in_memory": Suite(drives_in_memory),
     "programs": Suite(partial(rows_behind_volumes, "programs.rows", programs.play_row)),
     "images": Suite(images.cases),
     "tracks": Suite(partial(lines.cases, "tracks.rows")),

@@ -37,6 +37,7 @@ PAGES = [
     "docs/CATALOGUE.md",
     "docs/JSON.md",
     "docs/EMBEDDING.md",
+    "docs/DRIVE.md",
     "docs/CALLING.md",
     "docs/CONFORMANCE.md",
     "docs/RELEASES.md",
@@ -71,6 +72,11 @@ def has_library() -> bool:
     return (TOP / "c/libdasd.a").exists() and bool(shutil.which("cc")) and bool(shutil.which("pkg-config"))
 
 
+def has_drive() -> bool:
+    """Whether a program of C can be linked with a drive alone."""
+    return (TOP / "c/libdasd_drive.a").exists() and bool(shutil.which("cc"))
+
+
 def has_module() -> bool:
     """Whether the program's module for WebAssembly can be run."""
     return (TOP / "web/out/program.wasm").exists() and bool(shutil.which("node"))
@@ -85,6 +91,7 @@ NEEDS = {
     "kit": Need("the kit", has("rt"), True),
     "library": Need("c/libdasd.a, which `make -C c` makes, a C compiler and pkg-config", has_library),
     "shared": Need("c/libdasd.so.1, which `make -C c` makes", has_shared),
+    "drive": Need("c/libdasd_drive.a, which `make -C c` makes, and a C compiler", has_drive),
     "web": Need("web/out/program.wasm, which `make -C web` makes, and node", has_module),
     "hercules": Need("Hercules", has("hercules"), True),
     "sqlite3": Need("sqlite3", has("sqlite3")),

@@ -2,8 +2,8 @@
 
     tools/run make/capture CRATE MODULE.bc
 
-CRATE is `dasd_c`, the library, or `dasd_cmd`, the program. Rattle checks the crate over the libraries that stand in this checkout,
-as `rt ci` checks each crate over those below it, and compiles what it proved. It does not see whether those libraries are made of
+CRATE is `dasd_c`, the library, `dasd_cmd`, the program, or `lone_drive_c`, a drive alone. Rattle checks the crate over the libraries that
+stand in this checkout, as `rt ci` checks each crate over those below it, and compiles what it proved. It does not see whether those libraries are made of
 today's files: so this is for a checkout where `rt ci`, or `rt lib` and `rt run` in these two crates, has just passed.
 
 The kit's folder of tools is stood in for by one whose `clang` keeps its module and then is the kit's; nothing of the kit is

@@ -16,8 +16,8 @@ from pathlib import Path
 from tools import TOP
 from tools.common.kit import kit_crate
 
-# The crates of which a release is made: the library, and the program.
-MADE = ("dasd_c", "dasd_cmd")
+# The crates of which a release is made, the library and the program; and a drive alone, which the gate tests.
+MADE = ("dasd_c", "dasd_cmd", "lone_drive_c")
 # The seconds between two looks at the report.
 PAUSE = 3
 # How `rt ci` tells that a crate's library stands in this checkout, and how it ends.

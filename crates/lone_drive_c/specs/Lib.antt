@@ -1,0 +1,7 @@
+pub mod Slot
+pub mod Codes
+pub mod Phases
+pub mod Calls
+pub mod Shown
+pub mod Volume
+pub mod Copying
