@@ -221,6 +221,17 @@ static void convert_to_decimal(machine *m, unsigned r1, uint32_t at) {
     for (int digit = 14; digit >= 0; digit--, n /= 10) p[digit / 2] |= (uint8_t)(n % 10 << (digit % 2 ? 0 : 4));
 }
 
+/* 48 to 4B with a halfword, 54 to 5F with a word. */
+static void with_operand(machine *m, unsigned code, unsigned r1, uint32_t at) {
+    int is_half = code >= 0x48 && code <= 0x4B;
+    if (!is_half && code < 0x54) {
+        fault = OPERATION;
+        return;
+    }
+    uint32_t b = operand(m, at, is_half ? 2 : 4);
+    if (!fault && !arithmetic(m, code & 15, r1, b)) fault = OPERATION;
+}
+
 static void execute(machine *m, unsigned r1, uint32_t at);
 
 static void rx(machine *m, const uint8_t *i) {
@@ -256,13 +267,7 @@ static void rx(machine *m, const uint8_t *i) {
         if ((p = aligned_to_write(m, at, 4)) != NULL) put_word(p, m->r[r1]);
         return;
     }
-    int is_half = i[0] >= 0x48 && i[0] <= 0x4B;
-    if (!is_half && i[0] < 0x54) {
-        fault = OPERATION;
-        return;
-    }
-    uint32_t b = operand(m, at, is_half ? 2 : 4);
-    if (!fault && !arithmetic(m, i[0] & 15, r1, b)) fault = OPERATION;
+    with_operand(m, i[0], r1, at);
 }
 
 /* STM and LM go from one register to another, behind 15 on from 0. */

@@ -63,7 +63,7 @@ static int take_volume(machine *m, const char *word, uint16_t *address) {
 
 /* All volumes; the address of the first, from which is loaded. */
 static int take_volumes(machine *m, char **given, uint16_t *first) {
-    uint16_t address;
+    uint16_t address = 0;
     *first = 0;
     for (; *given; given++) {
         if (take_volume(m, *given, &address)) return -1;
