@@ -35,7 +35,7 @@ returns-in_err-add_file-clause-not_opened g c =
     let opened = g.F.ImageFiles.opened in
     let p = err_from_is_err_and c.from_residual.result c.from_residual.ensures.1 in
     rw (p.1, p.2) (
-    stopped (λ path. path.now) c.args.paths.now (opened c.args.files.now) c.in_err-add_file.field-0.0 c.loop-path.path-index _
+    stopped (λ path. path.now) c.args.paths.now (opened c.args.files.now) c.args.as_far c.in_err-add_file.field-0.0 c.loop-path.path-index _
     (map g.F.Opened.OpenedFile.content c.loop-path.opened.items)
     (opened c.loop-path.files) (opened c.add_file.new.files) c.loop-path-test.true c.loop-path.invariant.opens
     c.in_err-add_file.ensures.not_added)
@@ -54,6 +54,6 @@ returns-in-Err-clause-not_opened g c =
     let those = c.loop-path.invariant.opens in
     let opens = subst (λ ps. OpensPaths (map (λ path. path.now) ps) contents before (opened c.loop-path.files)) all those in
     let are = subst (λ (hs : List Head). AllZip IsHeadOf contents hs) (sym c.as_slice-heads.ensures.value) c.loop-path.invariant.heads in
-    subst (λ (f : JobFault). NotOpened f paths before (opened c.remark_on.new.files)) (sym c.of_mount.ensures)
-    (subst (λ (l : List SourceFile). NotOpened (mounting_fault c.in-Err.fault) paths before l) (sym c.remark_on.ensures.same)
-    (not_mounted c.in-Err.fault paths contents heads before (opened c.loop-path.files) opens are (c.in-Err.ensures.not_mounted few)))
+    subst (λ (f : JobFault). NotOpened c.args.as_far f paths before (opened c.remark_on.new.files)) (sym c.of_mount.ensures)
+    (subst (λ (l : List SourceFile). NotOpened c.args.as_far (mounting_fault c.in-Err.fault) paths before l) (sym c.remark_on.ensures.same)
+    (not_mounted c.args.as_far c.in-Err.fault paths contents heads before (opened c.loop-path.files) opens are (c.in-Err.ensures.not_mounted few)))
