@@ -155,8 +155,8 @@ def no_volume_is_in_a_file_without_a_whole_track(s: Scratch) -> None:
 @row
 def option_goes_with_a_strict_check_alone(s: Scratch) -> None:
     put(s, HEADER + 15 * SLOT)
-    same(s.dasd("check", FAR, "vol.ckd"), (1, "", f"error: {FAR} goes with --strict\n"))
-    same(s.dasd("run", FAR, "90=vol.ckd")[:2], (1, ""))
+    same(s.dasd("check", FAR, "vol.ckd"), (2, "", f"error: {FAR} goes with --strict\n"))
+    same(s.dasd("run", FAR, "90=vol.ckd")[:2], (2, ""))
 
 
 # Files and pipes.
@@ -270,7 +270,7 @@ def all_that_is_there_is_taken_out(s: Scratch) -> None:
     s.path("out").mkdir()
     status, printed, told = s.dasd("extract", FAR, "--all", "out", "vol.ckd")
     lines = printed.splitlines()
-    same((status, told), (1, reach.told()))
+    same((status, told.startswith(reach.told())), (1, True), told)  # behind it stands the name that two data sets have
     same("SYS1.MACLIB(BETA): track 1 of the data set: unreadable not in the file" in lines, True, printed)
     same("OPEN.END: track 0 of the data set: unreadable not in the file" in lines, True, printed)
     is_held(s.path("out") / "PAY.CARDS", raw(*LINES))

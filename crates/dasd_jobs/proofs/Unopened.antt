@@ -14,7 +14,7 @@ use Rattle.dasd_jobs.specs.Sources.{Content, SourceFile, IsWhole, OpensMaybe, Op
 use Rattle.dasd_jobs.specs.Unopened.{OpensSome, OpensBut, NotOpened, NotRead}
 use Rattle.dasd_jobs.specs.Opening.{IsHeadOf, NotAdded, NotLocked, IsBroken, IsNoImage, alone, judged}
 use Rattle.dasd_jobs.proofs.Volumes.{all_known, both_long, one_more_opened}
-use Rattle.dasd_jobs.proofs.Lengths.{broken_files}
+use Rattle.dasd_jobs.proofs.Reached.{broken_files}
 
 -- The first files.
 

@@ -56,7 +56,7 @@ fn judged_length(head: &Head) -> u64
 }
 
 /// The header at this place as it is judged: of the last file, where files are read as far as they go, as if it had all of its cylinders.
-#[tactic(auto, using(crate::proofs::Lengths::judged_other, crate::proofs::Lengths::judged_last))]
+#[tactic(auto, using(crate::proofs::Reached::judged_other, crate::proofs::Reached::judged_last))]
 pub(crate) fn judged_at(heads: &[Head], i: usize, as_far: bool) -> Head
     requires { i < length heads.now }
     ensures { (d : Head) → result ≡ slice_index_or (judged as_far heads.now) i d }

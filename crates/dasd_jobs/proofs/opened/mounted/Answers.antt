@@ -3,7 +3,7 @@ use Rattle.std.proofs.lemmas.List.{take_all}
 use Rattle.ckd_image.specs.Header.{mount_of}
 use Rattle.dasd_jobs.specs.Opening.{alone, judged}
 use Rattle.dasd_jobs.proofs.Volumes.{next_alone}
-use Rattle.dasd_jobs.proofs.Lengths.{length-judged, judged_long}
+use Rattle.dasd_jobs.proofs.Reached.{length-judged, judged_long}
 use Rattle.dasd_jobs.proofs.opened.mounted.Goals as goal
 
 pub loop-i-preserved : goal.loop-i-preserved

@@ -4,7 +4,7 @@ use Rattle.std.proofs.lemmas.List.{length-map, take_all}
 use Rattle.dasd_jobs.specs.declared.reasons.Head.{Head}
 use Rattle.dasd_jobs.specs.Opening.{IsHeadOf, AreTracks}
 use Rattle.dasd_jobs.proofs.Volumes.{both_long, next_counted}
-use Rattle.dasd_jobs.proofs.Lengths.{lies, reaches}
+use Rattle.dasd_jobs.proofs.Reached.{lies, reaches}
 use Rattle.ckd_track.specs.Geometry.{tracks_of}
 use Rattle.dasd_jobs.proofs.opened.volume_of.Goals as goal
 

@@ -5,7 +5,7 @@ use Rattle.ckd_track.specs.Geometry.{tracks_of}
 use Rattle.ckd_image.specs.Files.{place_in}
 use Rattle.dasd_volumes.specs.Reading.{IsSlotOf}
 use Rattle.dasd_jobs.specs.Sources.{OpenedState, StandsIn, volume_in}
-use Rattle.dasd_jobs.proofs.Lengths.{slot_loaded}
+use Rattle.dasd_jobs.proofs.Reached.{slot_loaded}
 use Rattle.dasd_jobs.proofs.opened.OpenedVolumeSlotReader.load.Goals as goal
 
 pub returns-in-Ok-clause-slot : goal.returns-in-Ok-clause-slot
