@@ -1,17 +1,19 @@
 -- Files whose last one may have an odd length.
-use Rattle.std.proofs.Common.{◌≡◌, ◌∙◌, ℕ, ◌+◌, ◌-◌, ◌*◌, ◌/◌, ◌<◌, ◌≤◌, ◌^◌, ◌||◌, Bool, true, false, nat_lt, nat_le, min, if◌then◌else◌, List, [], ◌∷◌}
+use Rattle.std.proofs.Common.{◌≡◌, ◌∙◌, ℕ, zero, suc, ◌+◌, ◌-◌, ◌*◌, ◌/◌, ◌<◌, ◌≤◌, ◌^◌, ◌||◌, Bool, true, false, nat_lt, nat_le, min, if◌then◌else◌, List, [], ◌∷◌}
 use Rattle.std.proofs.Common.{◌++◌, length, take, drop, map, get_or, set, slice_range, Option, Some, None, IsSome, Result, Ok, Err, ◌⊎◌, inl, inr, refl}
 use Rattle.std.proofs.Common.{sym, ap, subst, arith, length-append, length-drop}
 use Rattle.std.specs.List.{AllZip, AllByRecursion, sum}
 use Rattle.std.proofs.lemmas.Bool.{cases_lt, lt-ltb}
-use Rattle.std.proofs.lemmas.List.{take_all, take_more, drop_all, length-take-le, take-append-drop, take-append-le, drop-append-le}
-use Rattle.std.proofs.lemmas.List.Sums.{sum_by-append}
+use Rattle.std.proofs.lemmas.List.{take_all, drop_all, get_or_default, length-take-le, take-append-drop, take-append-le, drop-append-le}
+use Rattle.std.proofs.Math.Seq.{take-nil}
 use Rattle.std.proofs.Math.Nat.{zero-mul, add-mul, min-le_left, div-mul-le_self, mul-le-mul_right}
 use Rattle.ckd_track.specs.declared.geometries.Geometry.{Geometry}
 use Rattle.ckd_track.specs.Geometry.{tracks_of}
 use Rattle.ckd_image.specs.Header as mounting
 use Rattle.ckd_image.specs.Header.{head_of, header_of, headers_of, then_with, volume_of, mount_of}
 use Rattle.ckd_image.specs.declared.fault.MountFault.{MountFault}
+use Rattle.ckd_image.specs.declared.fault.MountFault.TheVariants.{StoreFault}
+use Rattle.ckd_image.specs.Image.{FilesRefused}
 use Rattle.ckd_image.specs.Slots.{slots_in}
 use Rattle.ckd_image.specs.Files.{each, held, file_at, place_in, slot_bytes, HoldTracks, HoldsWhole}
 use Rattle.ckd_image.proofs.MountLemmas.{mount_fits}
@@ -24,7 +26,7 @@ use Rattle.dasd_jobs.specs.declared.reasons.Head.{Head}
 use Rattle.dasd_jobs.specs.Lengths.{whole_length, keeps_length, judged_length, as_whole, last_made, mounted_by, slots_held, held_part}
 use Rattle.dasd_jobs.specs.Lengths.{tracks_lacking, bytes_left_out}
 use Rattle.dasd_jobs.specs.Sources.{Content, StandsIn, Mounts, NotMounted, IsReach, known, volume_in}
-use Rattle.dasd_jobs.specs.Opening.{IsHeadOf, AreTracks, Lies, alone, whole_head, judged, left_behind}
+use Rattle.dasd_jobs.specs.Opening.{IsHeadOf, AreTracks, IsBroken, Lies, alone, whole_head, judged, left_behind}
 use Rattle.dasd_jobs.proofs.Volumes.{Made, made, all_known, some_held, length_alone, alone_head, same_seen, same_header, then_same, mount_same}
 
 -- The last of several.
@@ -37,15 +39,15 @@ length-last_made f (x ∷ y ∷ xs) = let more = length-last_made f (y ∷ xs) i
 -- it is made so where it stands, and the others are as they were
 pub made_last : {A : Type 0} (f : A → A) (xs : List A) (i : ℕ) (d : A) → i + 1 ≡ length xs → f (get_or xs i d) ≡ get_or (last_made f xs) i d
 made_last f [] i d last = absurd (omega (arith, last))
-made_last f (x ∷ []) 0 d last = refl
+made_last f (x ∷ []) zero d last = refl
 made_last f (x ∷ []) (suc i) d last = absurd (omega (arith, last))
-made_last f (x ∷ y ∷ xs) 0 d last = absurd (omega (arith, last))
+made_last f (x ∷ y ∷ xs) zero d last = absurd (omega (arith, last))
 made_last f (x ∷ y ∷ xs) (suc i) d last = made_last f (y ∷ xs) i d (omega (arith, last))
 
 pub made_other : {A : Type 0} (f : A → A) (xs : List A) (i : ℕ) (d : A) → i + 1 < length xs → get_or xs i d ≡ get_or (last_made f xs) i d
 made_other f [] i d before = absurd (omega (arith, before))
 made_other f (x ∷ []) i d before = absurd (omega (arith, before))
-made_other f (x ∷ y ∷ xs) 0 d before = refl
+made_other f (x ∷ y ∷ xs) zero d before = refl
 made_other f (x ∷ y ∷ xs) (suc i) d before = made_other f (y ∷ xs) i d (omega (arith, before))
 
 pub judged_last : (heads : List Head) (i : ℕ) (d : Head) → i + 1 ≡ length heads
@@ -61,9 +63,14 @@ judged_other true heads i d inside other = made_other whole_head heads i d (by (
     by (inl before) = before
     by (inr last) = absurd (other refl (omega (arith, inside, last)))
 
-pub length-judged : (as_far : Bool) (heads : List Head) → length (judged as_far heads) ≡ length heads
-length-judged false heads = refl
-length-judged true heads = length-last_made whole_head heads
+pub judged_count : (as_far : Bool) (heads : List Head) → length (judged as_far heads) ≡ length heads
+judged_count false heads = refl
+judged_count true heads = length-last_made whole_head heads
+
+pub judged_default : (as_far : Bool) (heads : List Head) (i : ℕ) (d e : Head) → i < length heads
+    → get_or (judged as_far heads) i d ≡ get_or (judged as_far heads) i e
+judged_default as_far heads i d e inside =
+    get_or_default (judged as_far heads) i d e (let long = judged_count as_far heads in omega (arith, long, inside))
 
 -- Lengths by which files are judged.
 
@@ -138,6 +145,12 @@ pub broken_files : (as_far : Bool) (broken : MountFault) (contents : List Conten
     → mount_of (map alone (judged as_far heads)) ≡ Err broken → NotMounted as_far contents broken
 broken_files as_far broken contents heads are breaks files is =
     judged_same as_far files heads (those contents heads files is are) ∙ breaks
+
+-- a mount that was refused breaks this rule
+pub is_broken : (fault : MountFault) (seen files : List (List ℕ)) (before now : List ℕ) → FilesRefused fault seen before now → seen ≡ files
+    → IsBroken fault files
+is_broken StoreFault seen files before now refused same = tt
+is_broken fault seen files before now refused same = ap mount_of (sym same) ∙ refused.0
 
 -- Files that are mounted have whole headers.
 
@@ -238,16 +251,10 @@ reaches g contents heads tracks lacking left_out are counts lacking_is left_is f
 pub left_at : (g : Geometry) (heads : List Head) (n : ℕ) (d : Head) → length heads ≡ n + 1
     → left_behind g heads ≡ (get_or heads n d).len - (512 + slots_held g (get_or heads n d).len * g.track_size)
 left_at g [] n d long = absurd (omega (arith, long))
-left_at g (head ∷ []) 0 d long = refl
+left_at g (head ∷ []) zero d long = refl
 left_at g (head ∷ []) (suc n) d long = absurd (omega (arith, long))
-left_at g (head ∷ next ∷ heads) 0 d long = absurd (omega (arith, long))
+left_at g (head ∷ next ∷ heads) zero d long = absurd (omega (arith, long))
 left_at g (head ∷ next ∷ heads) (suc n) d long = left_at g (next ∷ heads) n d (omega (arith, long))
-
--- one more file's tracks
-pub sum_next : (tracks : List ℕ) (i d : ℕ) → i < length tracks → sum (take (i + 1) tracks) ≡ sum (take i tracks) + get_or tracks i d
-sum_next tracks i d inside =
-    ap sum (take_more tracks i d inside) ∙ sum_by-append (λ (k : ℕ). k) (take i tracks) (get_or tracks i d ∷ [])
-    ∙ ap (λ (k : ℕ). sum (take i tracks) + k) (sum_cons (get_or tracks i d) [])
 
 -- Slots.
 
@@ -330,7 +337,7 @@ module _ (g : Geometry) (contents : List Content) (tracks : List ℕ) (track : �
       ∙ bytes_held part g.track_size stores tracks l counted in
       let most = mul-le-mul_right g.track_size past in
       let none : drop (track * g.track_size) bytes ≡ [] = drop_all (track * g.track_size) bytes (omega (arith, long, most)) in
-      sym (ap (take g.track_size) none) ∙ sym (range_is bytes (track * g.track_size) g.track_size)
+      sym (take-nil g.track_size) ∙ sym (ap (take g.track_size) none) ∙ sym (range_is bytes (track * g.track_size) g.track_size)
       ∙ slot_is g (map part files) track exists ∙ ap (λ (s : List (List ℕ)). get_or s track []) (sym m.is)
 
   -- so many bytes of a slot were read

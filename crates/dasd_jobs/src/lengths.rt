@@ -2,7 +2,7 @@
 
 ghost use Rattle.std.specs.Prelude.{◌≡◌, ◌≤◌, ◌-◌, ◌^◌, ◌<◌, length, slice_index_or, IfSome, IfNone};
 ghost use Rattle.std.specs.List.{sum};
-ghost use Rattle.ckd_track.specs.Geometry.{IsGeometry, tracks_of};
+ghost use Rattle.ckd_track.specs.Geometry.{IsGeometry};
 ghost use Rattle.dasd_jobs.specs.declared.reasons.Head.{Head};
 ghost use Rattle.dasd_jobs.specs.Lengths.{judged_length, whole_length};
 ghost use Rattle.dasd_jobs.specs.Opening.{AreTracks, judged, left_behind};
@@ -83,18 +83,19 @@ pub(crate) fn tracks_in(head: &Head, geometry: Geometry) -> u32
     tracks.min(u64::from(geometry.tracks())) as u32
 }
 
-/// How many tracks of a volume of this geometry are in none of files that have so many slots each.
-pub(crate) fn lacking(tracks: &[u32], geometry: Geometry) -> u32
-    ensures { result ≡ tracks_of geometry - sum tracks.now }
+/// How many of so many tracks are in none of files that have so many slots each.
+#[tactic(auto, using(ckd_image::proofs::FileLemmas::sum_cons))]
+pub(crate) fn lacking(tracks: &[u32], all: u32) -> u32
+    ensures { result ≡ all - sum tracks.now }
 {
-    let mut lacking = geometry.tracks();
-    for held in tracks {
-        lacking = lacking.saturating_sub(*held);
-    }
-    lacking
+    let [held, others @ ..] = tracks else {
+        return all;
+    };
+    lacking(others, all.saturating_sub(*held))
 }
 
 /// How many bytes stand behind the slots of the last of the files with these headers.
+#[tactic(auto, using(crate::proofs::Reached::left_at))]
 pub(crate) fn left_out(heads: &[Head], geometry: Geometry) -> u64
     requires { IsGeometry geometry }
     ensures { result ≡ left_behind geometry heads.now }
@@ -164,7 +165,7 @@ pub(crate) fn remark_reach<F: ImageFiles>(
 fn address_of(geometry: Geometry, track: u32) -> TrackAddress {
     let heads = u32::from(geometry.model.heads());
     TrackAddress {
-        cylinder: track.checked_div(heads).unwrap_or(0) as u16,
-        head: track.checked_rem(heads).unwrap_or(0) as u16,
+        cylinder: u16::try_from(track.checked_div(heads).unwrap_or(0)).unwrap_or(0),
+        head: u16::try_from(track.checked_rem(heads).unwrap_or(0)).unwrap_or(0),
     }
 }

@@ -253,6 +253,7 @@ fn read_head<O: OpenedFile>(file: &mut O) -> Result<Head, JobFault>
 }
 
 /// The geometry of the volume in files with these headers, which are read as far as they go or not; or why they hold none.
+#[tactic(auto, using(crate::proofs::Reached::judged_count))]
 pub(crate) fn mounted(heads: &[Head], as_far: bool) -> Result<Geometry, MountFault>
     ensures valid { IfOk result IsGeometry }
     ensures mounts { IfOk result (λ g. mount_of (map alone (judged as_far heads.now)) ≡ Ok g) }
@@ -297,7 +298,7 @@ fn volume_of<O: OpenedFile>(files: Vec<O>, heads: &[Head], geometry: Geometry) -
         tracks.push(tracks_in(head, geometry));
     }
     let reach = Reach {
-        lacking: lacking(tracks.as_slice(), geometry),
+        lacking: lacking(tracks.as_slice(), geometry.tracks()),
         left_out: left_out(heads, geometry),
     };
     OpenedVolume {

@@ -5,10 +5,11 @@ use Rattle.std.proofs.lemmas.Result.{err_from_is_err_and}
 use Rattle.dasd_jobs.specs.declared.faults.JobFault.{JobFault}
 use Rattle.dasd_jobs.specs.declared.reasons.Head.{Head}
 use Rattle.dasd_jobs.specs.Causes.{mounting_fault}
-use Rattle.dasd_jobs.specs.Sources.{SourceFile, OpensPaths}
+use Rattle.dasd_jobs.specs.Sources.{SourceFile, OpenedState, OpensPaths, Mounts}
 use Rattle.dasd_jobs.specs.Unopened.{NotOpened}
 use Rattle.dasd_jobs.specs.Opening.{IsHeadOf}
 use Rattle.dasd_jobs.proofs.Volumes.{next_opened}
+use Rattle.dasd_jobs.proofs.Reached.{mounted_files}
 use Rattle.dasd_jobs.proofs.Unopened.{stopped, not_mounted}
 use Rattle.dasd_jobs.proofs.opened.open_volume.Goals as goal
 
@@ -28,6 +29,14 @@ loop-path-preserved g c =
           length-append c.loop-path.heads.items (c.in_ok-add_file.ensures.adds.adds.head ∷ []) in let so_far = i.count in
           omega (arith, long, so_far));
     }
+
+-- all were, and they hold the volume
+pub returns-in-Ok-clause-mounts : goal.returns-in-Ok-clause-mounts
+returns-in-Ok-clause-mounts g c =
+    let contents = map g.F.Opened.OpenedFile.content c.loop-path.opened.items in
+    let are = subst (λ (hs : List Head). AllZip IsHeadOf contents hs) (sym c.as_slice-heads.ensures.value) c.loop-path.invariant.heads in
+    subst (λ (v : OpenedState). Mounts c.args.as_far v.contents v.geometry) (sym c.volume_of-volume.ensures)
+    (mounted_files c.args.as_far c.in-Ok.geometry contents c.as_slice-heads.result.now are c.in-Ok.ensures.mounts)
 
 -- the next file is not opened
 pub returns-in_err-add_file-clause-not_opened : goal.returns-in_err-add_file-clause-not_opened

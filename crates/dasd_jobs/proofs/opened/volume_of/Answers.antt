@@ -29,5 +29,6 @@ invariant_of-result g c =
           ∙ both_long (AreTracks geometry) heads tracks counts,
       lies geometry contents heads tracks c.requires.heads counts c.requires.long,
       reaches geometry contents heads tracks _ _ c.requires.heads counts
-          (c.lacking.ensures ∙ ap (λ (l : List ℕ). tracks_of geometry - sum l) c.as_slice.ensures.value) c.left_out.ensures,
+          (c.lacking.ensures ∙ ap (λ (n : ℕ). n - sum c.as_slice.result.now) c.tracks.ensures
+              ∙ ap (λ (l : List ℕ). tracks_of geometry - sum l) c.as_slice.ensures.value) c.left_out.ensures,
     )

@@ -18,7 +18,7 @@ returns-in-Ok-clause-slot g c =
     let exists : c.args.track < tracks_of i.geometry = rw (← c.self.view_is) at c.requires.exists in
     let long : length slot ≡ size = c.load_from.auto.slot ∙ (rw (← c.self.view_is) at c.requires.size) in
     let held = c.in-Ok.held in
-    let it = slot_loaded i.geometry contents i.tracks.items c.args.track c.self.invariant.2.0 (length-map i.files.items content
+    let it = slot_loaded i.geometry contents i.tracks.items c.args.track c.self.invariant.2 (length-map i.files.items content
     ∙ c.self.invariant.1) exists slot held long
     (subst (λ (ts : List ℕ). c.args.track < sum ts → (held ≡ length slot) × StandsIn (slice_index_or contents (place_in ts c.args.track).file None)
     (512 + (place_in ts c.args.track).track * size) slot) c.as_slice.ensures.value c.in-Ok.ensures.read)
