@@ -1,6 +1,8 @@
 -- Files whose last one may have an odd length.
-use Rattle.std.proofs.Common.{◌≡◌, ◌∙◌, ℕ, zero, suc, ◌+◌, ◌-◌, ◌*◌, ◌/◌, ◌<◌, ◌≤◌, ◌^◌, ◌||◌, Bool, true, false, nat_lt, nat_le, min, if◌then◌else◌, List, [], ◌∷◌}
-use Rattle.std.proofs.Common.{◌++◌, length, take, drop, map, get_or, set, slice_range, Option, Some, None, IsSome, Result, Ok, Err, ◌⊎◌, inl, inr, refl}
+use Rattle.std.proofs.Common.{◌≡◌, ◌∙◌, ℕ, zero, suc, ◌+◌, ◌-◌, ◌*◌, ◌/◌, ◌<◌, ◌≤◌}
+use Rattle.std.proofs.Common.{◌^◌, ◌||◌, Bool, true, false, nat_lt, nat_le, min, if◌then◌else◌, List, [], ◌∷◌}
+use Rattle.std.proofs.Common.{◌++◌, length, take, drop, map, get_or, set, slice_range, Option}
+use Rattle.std.proofs.Common.{Some, None, IsSome, Result, Ok, Err, ◌⊎◌, inl, inr, refl}
 use Rattle.std.proofs.Common.{sym, ap, subst, arith, length-append, length-drop}
 use Rattle.std.specs.List.{AllZip, AllByRecursion, sum}
 use Rattle.std.proofs.lemmas.Bool.{cases_lt, lt-ltb}
@@ -27,7 +29,8 @@ use Rattle.dasd_jobs.specs.Lengths.{whole_length, keeps_length, judged_length, a
 use Rattle.dasd_jobs.specs.Lengths.{tracks_lacking, bytes_left_out}
 use Rattle.dasd_jobs.specs.Sources.{Content, StandsIn, Mounts, NotMounted, IsReach, known, volume_in}
 use Rattle.dasd_jobs.specs.Opening.{IsHeadOf, AreTracks, IsBroken, Lies, alone, whole_head, judged, left_behind}
-use Rattle.dasd_jobs.proofs.Volumes.{Made, made, all_known, some_held, length_alone, alone_head, same_seen, same_header, then_same, mount_same}
+use Rattle.dasd_jobs.proofs.Volumes.{Made, made, all_known, some_held, length_alone}
+use Rattle.dasd_jobs.proofs.Volumes.{alone_head, same_seen, same_header, then_same, mount_same}
 
 -- The last of several.
 
@@ -107,8 +110,8 @@ same_whole file head is = by (cases_lt (length file) 512)
         let same : judged_length (take 512 file) (length file) ≡ judged_length head.header head.len =
         ap (λ (h : List ℕ). judged_length h (length file)) (sym first) ∙ ap (judged_length head.header) (sym its.0) in
         let whole = judged_enough head.header head.len (omega (arith, its.0, enough)) in
-        ap header_of (same_seen (take 512 file) head.header (judged_length (take 512 file) (length file)) (judged_length head.header head.len)
-        (sym first) same ∙ sym (alone_head (whole_head head) long whole))
+        ap header_of (same_seen (take 512 file) head.header (judged_length (take 512 file) (length file))
+        (judged_length head.header head.len) (sym first) same ∙ sym (alone_head (whole_head head) long whole))
 
 wholes_same : (read : List _) (files : List (List ℕ)) (heads : List Head) → AllZip IsHeadOf (map Some files) heads
     → headers_of read (last_made as_whole (map head_of files)) ≡ headers_of read (map head_of (map alone (last_made whole_head heads)))
@@ -120,7 +123,8 @@ wholes_same read (file ∷ []) (head ∷ []) are =
 wholes_same read (file ∷ []) (head ∷ next ∷ heads) are = absurd are.1
 wholes_same read (file ∷ second ∷ files) (head ∷ []) are = absurd are.1
 wholes_same read (file ∷ second ∷ files) (head ∷ next ∷ heads) are =
-    ap (λ r. then_with r (λ h. headers_of (read ++ h ∷ []) (last_made as_whole (map head_of (second ∷ files))))) (same_header file head are.0)
+    ap (λ r. then_with r (λ h. headers_of (read ++ h ∷ []) (last_made as_whole (map head_of (second ∷ files)))))
+    (same_header file head are.0)
     ∙ then_same (header_of (head_of (alone head))) (λ h. headers_of (read ++ h ∷ []) (last_made as_whole (map head_of (second ∷ files))))
     (λ h. headers_of (read ++ h ∷ []) (map head_of (map alone (last_made whole_head (next ∷ heads)))))
     (λ h. wholes_same (read ++ h ∷ []) (second ∷ files) (next ∷ heads) are.1)
@@ -157,7 +161,8 @@ is_broken fault seen files before now refused same = ap mount_of (sym same) ∙ 
 long_one : (size : ℕ) (head : Head) → HoldsWhole size (alone head) → 512 ≤ head.len
 long_one size head w = let long = length_alone head in let is = w.is_length in omega (arith, long, is)
 
-long_each : (size : ℕ) (heads : List Head) → AllByRecursion (HoldsWhole size) (map alone heads) → AllByRecursion (λ (h : Head). 512 ≤ h.len) heads
+long_each : (size : ℕ) (heads : List Head) → AllByRecursion (HoldsWhole size) (map alone heads)
+    → AllByRecursion (λ (h : Head). 512 ≤ h.len) heads
 long_each size [] all = tt
 long_each size (head ∷ heads) all = (long_one size head all.0, long_each size heads all.1)
 
@@ -190,7 +195,8 @@ held_enough size x most =
     let all = div-mul-le_self x size in
     omega (arith, few, all)
 
-length-held_part : (g : Geometry) (file : List ℕ) → 512 ≤ length file → length (held_part g file) ≡ 512 + slots_held g (length file) * g.track_size
+length-held_part : (g : Geometry) (file : List ℕ) → 512 ≤ length file
+    → length (held_part g file) ≡ 512 + slots_held g (length file) * g.track_size
 length-held_part g file enough =
     let few = held_enough g.track_size (length file - 512) (tracks_of g) in
     length-take-le (512 + slots_held g (length file) * g.track_size) file (omega (arith, few, enough))
@@ -238,7 +244,8 @@ left_same g (file ∷ []) (head ∷ next ∷ heads) are = absurd are.1
 left_same g (file ∷ second ∷ files) (head ∷ []) are = absurd are.1
 left_same g (file ∷ second ∷ files) (head ∷ next ∷ heads) are = left_same g (second ∷ files) (next ∷ heads) are.1
 
-pub reaches : (g : Geometry) (contents : List Content) (heads : List Head) (tracks : List ℕ) (lacking left_out : ℕ) → AllZip IsHeadOf contents heads
+pub reaches : (g : Geometry) (contents : List Content) (heads : List Head) (tracks : List ℕ) (lacking left_out : ℕ)
+    → AllZip IsHeadOf contents heads
     → AllZip (AreTracks g) heads tracks → lacking ≡ tracks_of g - sum tracks → left_out ≡ left_behind g heads
     → IsReach g contents (record { lacking = lacking; left_out = left_out })
 reaches g contents heads tracks lacking left_out are counts lacking_is left_is files is =
@@ -259,7 +266,8 @@ left_at g (head ∷ next ∷ heads) (suc n) d long = left_at g (next ∷ heads) 
 -- Slots.
 
 -- what is read in the front of bytes
-front_range : (front back : List ℕ) (at n : ℕ) → at + n ≤ length front → slice_range (front ++ back) at (at + n) ≡ slice_range front at (at + n)
+front_range : (front back : List ℕ) (at n : ℕ) → at + n ≤ length front
+    → slice_range (front ++ back) at (at + n) ≡ slice_range front at (at + n)
 front_range front back at n within =
     let room : n ≤ length (drop at front) = simp length-drop (omega arith) in
     range_is (front ++ back) at n ∙ ap (take n) (drop-append-le at front back (omega arith)) ∙ take-append-le n (drop at front) back room
@@ -269,7 +277,8 @@ part_range : (g : Geometry) (file : List ℕ) (at n : ℕ) → at + n ≤ length
     → slice_range file at (at + n) ≡ slice_range (held_part g file) at (at + n)
 part_range g file at n within =
     let k = 512 + slots_held g (length file) * g.track_size in
-    ap (λ (bytes : List ℕ). slice_range bytes at (at + n)) (sym (take-append-drop k file)) ∙ front_range (take k file) (drop k file) at n within
+    ap (λ (bytes : List ℕ). slice_range bytes at (at + n)) (sym (take-append-drop k file))
+    ∙ front_range (take k file) (drop k file) at n within
 
 each_made : (f : List ℕ → List ℕ) (files : List (List ℕ)) → each f (map Some files) ≡ map f files
 each_made f [] = refl
@@ -280,7 +289,8 @@ made_held f None some = cc
 made_held f (Some file) some = refl
 
 -- the bytes of all slots
-bytes_held : (content : List ℕ → List ℕ) (size : ℕ) (files : List (Option (List ℕ))) (tracks : List ℕ) → HoldTracks content size files tracks
+bytes_held : (content : List ℕ → List ℕ) (size : ℕ) (files : List (Option (List ℕ))) (tracks : List ℕ)
+    → HoldTracks content size files tracks
     → length files ≡ length tracks → length (slot_bytes (each content files)) ≡ sum tracks * size
 bytes_held content size [] [] holds count = sym (zero-mul size)
 bytes_held content size [] (n ∷ tracks) holds count = absurd (omega (arith, count))
@@ -313,7 +323,8 @@ module _ (g : Geometry) (contents : List Content) (tracks : List ℕ) (track : �
       let here : get_or contents p.file None ≡ Some file = ap (λ (c : List Content). get_or c p.file None) all
       ∙ some_held (file_at stores p.file) there.there in
       let part_is : held part [] (file_at stores p.file) ≡ part file = made_held part (file_at stores p.file) there.there in
-      let within : at + g.track_size ≤ length (part file) = subst (λ (bytes : List ℕ). at + g.track_size ≤ length bytes) part_is there.within in
+      let within : at + g.track_size ≤ length (part file) =
+      subst (λ (bytes : List ℕ). at + g.track_size ≤ length bytes) part_is there.within in
       stands file here ∙ ap (λ (n : ℕ). slice_range file at (at + n)) size
       ∙ part_range g file at g.track_size within
       ∙ ap (λ (bytes : List ℕ). slice_range bytes at (at + g.track_size)) (sym part_is)

@@ -1,5 +1,6 @@
 -- Why the volume in files is not opened.
-use Rattle.std.proofs.Common.{◌≡◌, Bool, false, ◌∙◌, ◌⊎◌, inl, inr, ℕ, ◌+◌, ◌<◌, ◌≤◌, List, [], ◌∷◌, ◌++◌, length, take, map, get_or, Some, refl}
+use Rattle.std.proofs.Common.{◌≡◌, Bool, false, ◌∙◌, ◌⊎◌, inl, inr, ℕ, ◌+◌, ◌<◌}
+use Rattle.std.proofs.Common.{◌≤◌, List, [], ◌∷◌, ◌++◌, length, take, map, get_or, Some, refl}
 use Rattle.std.proofs.Common.{sym, ap, subst, arith}
 use Rattle.std.specs.List.{AllZip}
 use Rattle.std.proofs.lemmas.List.{take_all, take_more, take-map, length-map, length-take-le, map-append}

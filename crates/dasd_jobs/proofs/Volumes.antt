@@ -111,7 +111,8 @@ same_header file head is = by (cases_lt (length file) 512)
         rw (one, other) refl
     by (inr enough) = let long = (is file refl).0 in ap header_of (same_head file head is (omega (arith, long, enough)))
 
-pub then_same : {A B : Type 0} (r : Result A MountFault) (f g : A → Result B MountFault) → ((a : A) → f a ≡ g a) → then_with r f ≡ then_with r g
+pub then_same : {A B : Type 0} (r : Result A MountFault) (f g : A → Result B MountFault) → ((a : A) → f a ≡ g a)
+    → then_with r f ≡ then_with r g
 then_same (Ok a) f g same = same a
 then_same (Err fault) f g same = refl
 

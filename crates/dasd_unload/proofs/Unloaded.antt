@@ -307,8 +307,8 @@ module _ (v : KnownVolume) (p : Plan) (a b : Outcome) (c : Stream) (t : Tally)
       })
 
 -- the volume in files that were opened
-module _ (as_far : Bool) (paths : List (List ℕ)) (p : Plan) (opened_before opened : List SourceFile) (x : OpenedState) (a b : Outcome) (t : Tally)
-    (opens : OpensPaths paths x.contents opened_before opened) (mounts : Mounts as_far x.contents x.geometry) where
+module _ (as_far : Bool) (paths : List (List ℕ)) (p : Plan) (opened_before opened : List SourceFile) (x : OpenedState) (a b : Outcome)
+    (t : Tally) (opens : OpensPaths paths x.contents opened_before opened) (mounts : Mounts as_far x.contents x.geometry) where
   abbrev of_volume : (KnownVolume → Type 0) → Type 0
   of_volume P = OfVolume as_far paths opened_before opened P
 

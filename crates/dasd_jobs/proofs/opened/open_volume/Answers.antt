@@ -65,4 +65,5 @@ returns-in-Err-clause-not_opened g c =
     let are = subst (λ (hs : List Head). AllZip IsHeadOf contents hs) (sym c.as_slice-heads.ensures.value) c.loop-path.invariant.heads in
     subst (λ (f : JobFault). NotOpened c.args.as_far f paths before (opened c.remark_on.new.files)) (sym c.of_mount.ensures)
     (subst (λ (l : List SourceFile). NotOpened c.args.as_far (mounting_fault c.in-Err.fault) paths before l) (sym c.remark_on.ensures.same)
-    (not_mounted c.args.as_far c.in-Err.fault paths contents heads before (opened c.loop-path.files) opens are (c.in-Err.ensures.not_mounted few)))
+    (not_mounted c.args.as_far c.in-Err.fault paths contents heads before (opened c.loop-path.files) opens are
+    (c.in-Err.ensures.not_mounted few)))

@@ -30,5 +30,5 @@ invariant_of-result g c =
       lies geometry contents heads tracks c.requires.heads counts c.requires.long,
       reaches geometry contents heads tracks _ _ c.requires.heads counts
           (c.lacking.ensures ∙ ap (λ (n : ℕ). n - sum c.as_slice.result.now) c.tracks.ensures
-              ∙ ap (λ (l : List ℕ). tracks_of geometry - sum l) c.as_slice.ensures.value) c.left_out.ensures,
+          ∙ ap (λ (l : List ℕ). tracks_of geometry - sum l) c.as_slice.ensures.value) c.left_out.ensures,
     )

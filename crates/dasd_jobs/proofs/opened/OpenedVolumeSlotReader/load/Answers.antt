@@ -20,7 +20,8 @@ returns-in-Ok-clause-slot g c =
     let held = c.in-Ok.held in
     let it = slot_loaded i.geometry contents i.tracks.items c.args.track c.self.invariant.2 (length-map i.files.items content
     ∙ c.self.invariant.1) exists slot held long
-    (subst (λ (ts : List ℕ). c.args.track < sum ts → (held ≡ length slot) × StandsIn (slice_index_or contents (place_in ts c.args.track).file None)
+    (subst (λ (ts : List ℕ). c.args.track < sum ts
+    → (held ≡ length slot) × StandsIn (slice_index_or contents (place_in ts c.args.track).file None)
     (512 + (place_in ts c.args.track).track * size) slot) c.as_slice.ensures.value c.in-Ok.ensures.read)
     (subst (λ (ts : List ℕ). sum ts ≤ c.args.track → held ≡ 0) c.as_slice.ensures.value c.in-Ok.ensures.lacking) in
     subst (λ (v : OpenedState). IsSlotOf (volume_in v.geometry v.contents) c.args.track (take held slot)) c.self.view_is it
