@@ -144,8 +144,8 @@ fn answer(
         let mut deck = Counted::new(&STORED_DECK[..]);
         return obey(alloc, &STORED_RUN, files, &mut deck, writer, &mut progress);
     }
-    let is_told = |word: &&str| -> bool { matches!(*word, "--verbose" | AS_FAR) };
-    if words.iter().any(is_told) {
+    let as_far = words.iter().any(|word| *word == AS_FAR);
+    if as_far || words.iter().any(|word| *word == "--verbose") {
         files.ask_remarks();
     }
     let mut deck = Counted::new(HostInput::new(rt.reader(), remarks));
@@ -158,9 +158,7 @@ fn answer(
     }
     match &ended {
         Err(fault) => write_fault(alloc, words, remarks, writer, fault),
-        Ok(_) if words.iter().any(|word| *word == AS_FAR) => {
-            write_reach(alloc, words, remarks, writer)?;
-        }
+        Ok(_) if as_far => write_reach(alloc, words, remarks, writer)?,
         Ok(_) => {}
     }
     ended
