@@ -1,8 +1,8 @@
 -- Files whose last one may have an odd length.
 use Rattle.std.proofs.Common.{◌≡◌, ◌∙◌, ℕ, zero, suc, ◌+◌, ◌-◌, ◌*◌, ◌/◌, ◌<◌, ◌≤◌}
-use Rattle.std.proofs.Common.{◌^◌, ◌||◌, Bool, true, false, nat_lt, nat_le, min, if◌then◌else◌, List, [], ◌∷◌}
-use Rattle.std.proofs.Common.{◌++◌, length, take, drop, map, get_or, set, slice_range, Option}
-use Rattle.std.proofs.Common.{Some, None, IsSome, Result, Ok, Err, ◌⊎◌, inl, inr, refl}
+use Rattle.std.proofs.Common.{Bool, true, false, nat_lt, min, if◌then◌else◌, List, [], ◌∷◌}
+use Rattle.std.proofs.Common.{◌++◌, length, take, drop, map, get_or, slice_range, Option}
+use Rattle.std.proofs.Common.{Some, None, IsSome, Ok, Err, ◌⊎◌, inl, inr, refl}
 use Rattle.std.proofs.Common.{sym, ap, subst, arith, length-append, length-drop}
 use Rattle.std.specs.List.{AllZip, AllByRecursion, sum}
 use Rattle.std.proofs.lemmas.Bool.{cases_lt, lt-ltb}
@@ -16,7 +16,6 @@ use Rattle.ckd_image.specs.Header.{head_of, header_of, headers_of, then_with, vo
 use Rattle.ckd_image.specs.declared.fault.MountFault.{MountFault}
 use Rattle.ckd_image.specs.declared.fault.MountFault.TheVariants.{StoreFault}
 use Rattle.ckd_image.specs.Image.{FilesRefused}
-use Rattle.ckd_image.specs.Slots.{slots_in}
 use Rattle.ckd_image.specs.Files.{each, held, file_at, place_in, slot_bytes, HoldTracks, HoldsWhole}
 use Rattle.ckd_image.proofs.MountLemmas.{mount_fits}
 use Rattle.ckd_image.proofs.FileLemmas.{located_at, range_located, slot_bytes-cons, tracks_behind, sum_cons}
@@ -26,7 +25,7 @@ use Rattle.dasd_volumes.specs.Reading.{IsSlotOf}
 use Rattle.dasd_jobs.specs.declared.lengths.Reach.{Reach}
 use Rattle.dasd_jobs.specs.declared.reasons.Head.{Head}
 use Rattle.dasd_jobs.specs.Lengths.{whole_length, keeps_length, judged_length, as_whole, last_made, mounted_by, slots_held, held_part}
-use Rattle.dasd_jobs.specs.Lengths.{tracks_lacking, bytes_left_out}
+use Rattle.dasd_jobs.specs.Lengths.{bytes_left_out}
 use Rattle.dasd_jobs.specs.Sources.{Content, StandsIn, Mounts, NotMounted, IsReach, known, volume_in}
 use Rattle.dasd_jobs.specs.Opening.{IsHeadOf, AreTracks, IsBroken, Lies, alone, whole_head, judged, left_behind}
 use Rattle.dasd_jobs.proofs.Volumes.{Made, made, all_known, some_held, length_alone}

@@ -1,29 +1,22 @@
 -- Volumes in files that were opened.
-use Rattle.std.proofs.Common.{◌≡◌, ◌∙◌, ℕ, zero, suc, ◌+◌, ◌-◌, ◌*◌, ◌/◌, ◌<◌, ◌≤◌, ◌^◌, List, [], ◌∷◌, ◌++◌, length, take, drop, map}
+use Rattle.std.proofs.Common.{◌≡◌, ◌∙◌, ℕ, zero, suc, ◌+◌, ◌-◌, ◌<◌, ◌≤◌, List, [], ◌∷◌, ◌++◌, length, take, drop, map}
 use Rattle.std.proofs.Common.{replicate, get_or, set, slice_range, nat_lt, true, Option, Some, None, IsSome, Result, Ok, Err, option_map}
-use Rattle.std.proofs.Common.{◌⊎◌, inl, inr, refl, sym, ap, subst, arith, length-append, add-one, append_assoc, append-nil}
-use Rattle.std.specs.List.{AllZip, AllByRecursion}
+use Rattle.std.proofs.Common.{◌⊎◌, inl, inr, refl, sym, ap, subst, arith, length-append, append_assoc, append-nil}
+use Rattle.std.specs.List.{AllZip}
 use Rattle.std.proofs.lemmas.Bool.{cases_lt, lt-ltb}
 use Rattle.std.proofs.lemmas.List.{take_at, take_all, take_more, length-take-le, length-replicate, length-set, map-append, map-set}
 use Rattle.std.proofs.lemmas.List.{set-get_or, get_or-map}
 use Rattle.std.proofs.Math.Seq.{take-append-add}
-use Rattle.std.proofs.Math.Nat.{mul-div_cancel}
 use Rattle.ckd_track.specs.declared.geometries.Geometry.{Geometry}
-use Rattle.ckd_track.specs.Geometry.{tracks_of}
 use Rattle.ckd_image.specs.Header as mounting
 use Rattle.ckd_image.specs.Header.{head_of, header_of, headers_of, then_with, volume_of, mount_of}
 use Rattle.ckd_image.specs.declared.fault.MountFault.{MountFault}
-use Rattle.ckd_image.specs.Slots.{slots_in}
-use Rattle.ckd_image.specs.Files.{each, held, file_at, place_in, slot_bytes, HoldTracks, HoldsWhole}
-use Rattle.ckd_image.proofs.MountLemmas.{mount_fits}
-use Rattle.ckd_image.proofs.FileLemmas.{located_at, range_located}
+use Rattle.ckd_image.specs.Files.{each, held}
 use Rattle.ckd_image.proofs.Writes.{range_is}
-use Rattle.ckd_image.proofs.ImageLemmas.{tracks_held, slot_is, slots_of}
-use Rattle.dasd_volumes.specs.Reading.{IsSlotOf}
 use Rattle.dasd_jobs.specs.declared.reasons.Head.{Head}
-use Rattle.dasd_jobs.specs.Sources.{Content, SourceFile, IsLength, StandsIn, IsHeader, IsWhole, OpensPaths, Mounts, NotMounted, sources}
-use Rattle.dasd_jobs.specs.Sources.{known, volume_in}
-use Rattle.dasd_jobs.specs.Opening.{IsHeadOf, AreTracks, AddsFile, Lies, alone}
+use Rattle.dasd_jobs.specs.Sources.{Content, SourceFile, IsLength, StandsIn, IsHeader, IsWhole, OpensPaths, sources}
+use Rattle.dasd_jobs.specs.Sources.{known}
+use Rattle.dasd_jobs.specs.Opening.{IsHeadOf, AreTracks, AddsFile, alone}
 
 -- Lists.
 

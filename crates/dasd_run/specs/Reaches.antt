@@ -1,6 +1,5 @@
 -- How a command ends over a volume that may lack tracks, and what is said of it.
 use Rattle.std.specs.Prelude.{◌≡◌, ℕ, nat_lt, Bool, if◌then◌else◌, List, Result, Ok, Err}
-use Rattle.counted_io.specs.Streams.{Stream}
 use Rattle.dasd_volumes.specs.Reading.{KnownVolume}
 use Rattle.dasd_jobs.specs.declared.lengths.Reach.{Reach}
 use Rattle.dasd_jobs.specs.Sources.{SourceFile, OfReach}

@@ -1,8 +1,8 @@
-use Rattle.std.proofs.Common.{◌≡◌, ◌∙◌, [], ap, sym, length, slice_index_or}
+use Rattle.std.proofs.Common.{◌≡◌, ◌∙◌, [], ap, sym, slice_index_or}
 use Rattle.std.proofs.lemmas.Bool.{false≢true}
 use Rattle.dasd_jobs.specs.declared.reasons.Head.{Head}
 use Rattle.dasd_jobs.specs.Lengths.{judged_length}
-use Rattle.dasd_jobs.specs.Opening.{judged, whole_head}
+use Rattle.dasd_jobs.specs.Opening.{judged}
 use Rattle.dasd_jobs.proofs.Reached.{judged_last, judged_other, judged_default}
 use Rattle.dasd_jobs.proofs.lengths.judged_at.Goals.{else-as_far-via-then-as_far+else-i-heads, else-as_far-via-else-as_far}
 use Rattle.dasd_jobs.proofs.lengths.judged_at.Goals as goal
