@@ -77,31 +77,31 @@ _dasd() {
         _dasd_files
         ;;
     list)
-        if [[ $word == -* ]]; then _dasd_words --cylinder --used --json --verbose -h --help; return; fi
+        if [[ $word == -* ]]; then _dasd_words --cylinder --used --as-far-as-it-goes --json --verbose -h --help; return; fi
         _dasd_files
         ;;
     check)
-        if [[ $word == -* ]]; then _dasd_words --strict --warnings --json --verbose -h --help; return; fi
+        if [[ $word == -* ]]; then _dasd_words --strict --warnings --as-far-as-it-goes --json --verbose -h --help; return; fi
         _dasd_files
         ;;
     dump)
-        if [[ $word == -* ]]; then _dasd_words --json --verbose -h --help; return; fi
+        if [[ $word == -* ]]; then _dasd_words --as-far-as-it-goes --json --verbose -h --help; return; fi
         _dasd_files
         ;;
     compare)
-        if [[ $word == -* ]]; then _dasd_words --tracks --whole --json --verbose -h --help; return; fi
+        if [[ $word == -* ]]; then _dasd_words --tracks --whole --as-far-as-it-goes --json --verbose -h --help; return; fi
         _dasd_files
         ;;
     hash)
-        if [[ $word == -* ]]; then _dasd_words --json --verbose -h --help; return; fi
+        if [[ $word == -* ]]; then _dasd_words --as-far-as-it-goes --json --verbose -h --help; return; fi
         _dasd_files
         ;;
     vtoc)
-        if [[ $word == -* ]]; then _dasd_words --json --verbose -h --help; return; fi
+        if [[ $word == -* ]]; then _dasd_words --as-far-as-it-goes --json --verbose -h --help; return; fi
         _dasd_files
         ;;
     extract)
-        if [[ $word == -* ]]; then _dasd_words --to --all --text --record-format --record-length --block-length --raw --json --verbose -h --help; return; fi
+        if [[ $word == -* ]]; then _dasd_words --to --all --text --record-format --record-length --block-length --raw --as-far-as-it-goes --json --verbose -h --help; return; fi
         _dasd_files
         ;;
     explain)

@@ -181,7 +181,7 @@ def make_packs(folder: Path) -> list[list[str]]:
 
 
 def play(dasd: Path, folder: Path, lines: Lines) -> None:
-    """Runs each command over each pack."""
+    """Runs each command over each pack, and again as far as its files go."""
     for number, files in enumerate(make_packs(folder)):
         taken = folder / f"taken{number}"
         taken.mkdir()
@@ -196,9 +196,10 @@ def play(dasd: Path, folder: Path, lines: Lines) -> None:
             ["compare", "--json", "pack.ckd", joined],
             ["compare", "--json", "--tracks", "pack.ckd", joined],
         ):
-            done = subprocess.run([dasd, *words], cwd=folder, stdin=subprocess.DEVNULL, capture_output=True, text=True, check=False)
-            lines.look(words[0], done.stdout)
-            lines.look_at_fault(words[0], done.stdout, done.stderr)
+            for option in ([], ["--as-far-as-it-goes"]):
+                done = subprocess.run([dasd, *words, *option], cwd=folder, stdin=subprocess.DEVNULL, capture_output=True, text=True, check=False)
+                lines.look(words[0], done.stdout)
+                lines.look_at_fault(words[0], done.stdout, done.stderr)
 
 
 def play_suites(dasd: Path, folder: Path, lines: Lines) -> None:

@@ -1,6 +1,6 @@
 //! A comparison of two volumes.
 
-ghost use Rattle.std.specs.Prelude.{◌≡◌, ◌≢◌, ◌<◌, ◌≤◌, length, OnOk, IfOk, IfErr};
+ghost use Rattle.std.specs.Prelude.{◌≡◌, ◌≢◌, ◌<◌, ◌≤◌, length, take, OnOk, IfOk, IfErr};
 ghost use Rattle.std.specs.Io.KnownBytes.{Appends};
 ghost use Rattle.counted_io.specs.Streams.{seen_by, IsFlushed};
 ghost use Rattle.ckd_track.specs.Geometry.{tracks_of};
@@ -186,14 +186,14 @@ fn compare_cylinder<V: SlotReader, U: SlotReader, W: Write>(
     let mut differing: u32 = 0;
     for head in 0..geometry.model.heads() {
         let track = geometry.track_at(cylinder, head);
-        if load_both(one, other, track, slots).is_err() {
+        let Ok(held) = load_both(one, other, track, slots) else {
             return Err(VolumeFault::Store);
-        }
+        };
         let on_track = TrackForm {
             form: form.form,
             address: TrackAddress { cylinder, head },
         };
-        match print_track(writer, &on_track, slots) {
+        match print_track(writer, &on_track, slots, held) {
             Ok(found) => differing += found,
             Err(fault) => return Err(fault),
         }
@@ -201,26 +201,42 @@ fn compare_cylinder<V: SlotReader, U: SlotReader, W: Write>(
     Ok(differing)
 }
 
-// Reads the slots of a track of both volumes.
+// How many bytes there are of the slots of a track on both volumes.
+#[derive(Clone, Copy)]
+struct Held {
+    one: usize,
+    other: usize,
+}
+
+// Reads the slots of a track of both volumes, and says how many of their bytes there are.
 fn load_both<V: SlotReader, U: SlotReader>(
     one: &mut V,
     other: &mut U,
     track: u32,
     slots: &mut Slots,
-) -> Result<(), StoreFault>
+) -> Result<Held, StoreFault>
     requires same { (U.volume other.old).geometry ≡ (V.volume one.old).geometry }
     requires exists { track < tracks_of (V.volume one.old).geometry }
     requires size { length slots.old.one.items ≡ (V.volume one.old).geometry.track_size }
     requires other_size { length slots.old.other.items ≡ (V.volume one.old).geometry.track_size }
-    ensures first { OnOk result (IsSlotOf (V.volume one.old) track slots.new.one.items) }
-    ensures second { OnOk result (IsSlotOf (U.volume other.old) track slots.new.other.items) }
+    ensures within { IfOk result (λ held. held.one ≤ length slots.new.one.items) }
+    ensures other_within { IfOk result (λ held. held.other ≤ length slots.new.other.items) }
+    ensures first { IfOk result (λ held. IsSlotOf (V.volume one.old) track (take held.one slots.new.one.items)) }
+    ensures second { IfOk result (λ held. IsSlotOf (U.volume other.old) track (take held.other slots.new.other.items)) }
     ensures kept { V.volume one.new ≡ V.volume one.old }
     ensures other_kept { U.volume other.new ≡ U.volume other.old }
     ensures size { length slots.new.one.items ≡ length slots.old.one.items }
     ensures other_size { length slots.new.other.items ≡ length slots.old.other.items }
 {
-    match one.load(track, slots.one.as_mut_slice()) {
-        Ok(()) => other.load(track, slots.other.as_mut_slice()),
+    let first = match one.load(track, slots.one.as_mut_slice()) {
+        Ok(held) => held,
+        Err(fault) => return Err(fault),
+    };
+    match other.load(track, slots.other.as_mut_slice()) {
+        Ok(held) => Ok(Held {
+            one: first,
+            other: held,
+        }),
         Err(fault) => Err(fault),
     }
 }
@@ -230,19 +246,23 @@ fn print_track<W: Write>(
     writer: &mut Counted<W>,
     form: &TrackForm,
     slots: &mut Slots,
+    held: Held,
 ) -> Result<u32, VolumeFault>
-    ensures number { IfOk result (λ n. n ≡ length (changed slots.old.one.items slots.old.other.items)) }
+    requires within { held.one ≤ length slots.old.one.items }
+    requires other_within { held.other ≤ length slots.old.other.items }
+    ensures number { IfOk result (λ n. n ≡ length (changed (take held.one slots.old.one.items) (take held.other slots.old.other.items))) }
     ensures few { IfOk result (λ n. n ≤ 1) }
     ensures lines { PrintsBytes result
         (track_lines form.now.form.style form.now.form.path.now form.now.form.other.now form.now.form.lists form.now.address.cylinder form.now.address.head
-        slots.old.one.items slots.old.other.items)
+        (take held.one slots.old.one.items) (take held.other slots.old.other.items))
         (seen_by W.contents writer.old) (seen_by W.contents writer.new) }
     ensures writes { CountsWrites result (seen_by W.contents writer.old) (seen_by W.contents writer.new) }
     ensures size { length slots.new.one.items ≡ length slots.old.one.items }
     ensures other_size { length slots.new.other.items ≡ length slots.old.other.items }
 {
     slots.lines.clear();
-    let (one, other) = (slots.one.as_slice(), slots.other.as_slice());
+    let one = &slots.one.as_slice()[..held.one];
+    let other = &slots.other.as_slice()[..held.other];
     let Ok(differing) = compare_track(&mut slots.lines, form, one, other) else {
         return Err(VolumeFault::OutOfMemory);
     };

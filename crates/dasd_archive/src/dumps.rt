@@ -164,16 +164,14 @@ fn dump_cylinder<V: SlotReader, W: Write>(
     let geometry = volume.geometry();
     for i in 0..part.heads.last + 1 - part.heads.first {
         let head = part.heads.first + i;
-        if volume
-            .load(geometry.track_at(cylinder, head), slot)
-            .is_err()
-        {
+        let Ok(held) = volume.load(geometry.track_at(cylinder, head), slot) else {
             return Err(VolumeFault::Store);
-        }
+        };
         let track = TrackForm {
             form: form.form,
             address: TrackAddress { cylinder, head },
         };
+        let slot = &slot[..held];
         if let Err(fault) = print_track(writer, &track, part.numbers, slot, lines) {
             return Err(fault);
         }

@@ -180,18 +180,15 @@ fn list_cylinder<V: SlotReader, W: Write>(
 {
     let geometry = volume.geometry();
     for head in 0..geometry.model.heads() {
-        if volume
-            .load(geometry.track_at(cylinder, head), slot)
-            .is_err()
-        {
+        let Ok(held) = volume.load(geometry.track_at(cylinder, head), slot) else {
             return Err(VolumeFault::Store);
-        }
+        };
         let track = TrackPlace {
             geometry,
             cylinder,
             head,
         };
-        if let Err(WriteFault) = list_track(writer, listing, track, slot) {
+        if let Err(WriteFault) = list_track(writer, listing, track, &slot[..held]) {
             return Err(VolumeFault::Write);
         }
     }

@@ -75,13 +75,10 @@ fn has_on_cylinder<V: SlotReader>(
 {
     let geometry = volume.geometry();
     for head in part.heads.first..part.heads.last + 1 {
-        if volume
-            .load(geometry.track_at(part.cylinder, head), slot)
-            .is_err()
-        {
+        let Ok(held) = volume.load(geometry.track_at(part.cylinder, head), slot) else {
             return Err(VolumeFault::Store);
-        }
-        if has_in_slot(slot, part.numbers) {
+        };
+        if has_in_slot(&slot[..held], part.numbers) {
             return Ok(true);
         }
     }

@@ -1,6 +1,6 @@
 //! A strict check of a volume.
 
-ghost use Rattle.std.specs.Prelude.{◌≡◌, ◌≢◌, ◌<◌, ◌≤◌, List, length, IfOk, IfErr, OnOk};
+ghost use Rattle.std.specs.Prelude.{◌≡◌, ◌≢◌, ◌<◌, ◌≤◌, List, length, take, IfOk, IfErr, OnOk};
 ghost use Rattle.counted_io.specs.Streams.{seen_by, IsFlushed};
 ghost use Rattle.ckd_track.specs.Geometry.{tracks_of};
 ghost use Rattle.ckd_image.specs.Store.{Counts};
@@ -176,9 +176,9 @@ fn check_cylinder<V: SlotReader, W: Write>(
     let geometry = volume.geometry();
     let cylinder = form.cylinder;
     for head in 0..geometry.model.heads() {
-        if load(volume, geometry.track_at(cylinder, head), room).is_err() {
+        let Ok(held) = load(volume, geometry.track_at(cylinder, head), room) else {
             return Err(VolumeFault::Store);
-        }
+        };
         let track = CheckedTrack {
             form: form.form,
             place: TrackPlace {
@@ -187,18 +187,19 @@ fn check_cylinder<V: SlotReader, W: Write>(
                 head,
             },
         };
-        if let Err(fault) = print_track(writer, tally, &track, room) {
+        if let Err(fault) = print_track(writer, tally, &track, room, held) {
             return Err(fault);
         }
     }
     Ok(())
 }
 
-// Reads the slot of a track.
-fn load<V: SlotReader>(volume: &mut V, track: u32, room: &mut Room) -> Result<(), StoreFault>
+// Reads the slot of a track, and says how many of its bytes there are.
+fn load<V: SlotReader>(volume: &mut V, track: u32, room: &mut Room) -> Result<usize, StoreFault>
     requires exists { track < tracks_of (V.volume volume.old).geometry }
     requires size { length room.old.slot.items ≡ (V.volume volume.old).geometry.track_size }
-    ensures slot { OnOk result (IsSlotOf (V.volume volume.old) track room.new.slot.items) }
+    ensures within { IfOk result (λ held. held ≤ length room.new.slot.items) }
+    ensures slot { IfOk result (λ held. IsSlotOf (V.volume volume.old) track (take held room.new.slot.items)) }
     ensures kept { V.volume volume.new ≡ V.volume volume.old }
     ensures counted { Counts (V.failures volume.old) (V.failures volume.new) result }
     ensures size { length room.new.slot.items ≡ length room.old.slot.items }
@@ -207,17 +208,19 @@ fn load<V: SlotReader>(volume: &mut V, track: u32, room: &mut Room) -> Result<()
     volume.load(track, room.slot.as_mut_slice())
 }
 
-// Checks the track in the slot, and prints what is found of it.
+// Checks the track in the slot, of whose bytes there are so many, and prints what is found of it.
 fn print_track<W: Write>(
     writer: &mut Counted<W>,
     tally: &mut Tally,
     track: &CheckedTrack,
     room: &mut Room,
+    held: usize,
 ) -> Result<(), VolumeFault>
+    requires within { held ≤ length room.old.slot.items }
     requires size { length room.old.slot.items ≤ 65536 }
     requires table { length room.old.table.items ≡ length room.old.slot.items }
     ensures found { PrintsFindings result track.now.form.style track.now.form.path.now
-        (findings_in_slot track.now.place.geometry track.now.place.cylinder track.now.place.head room.old.slot.items)
+        (findings_in_slot track.now.place.geometry track.now.place.cylinder track.now.place.head (take held room.old.slot.items))
         (seen_by W.contents writer.old) (seen_by W.contents writer.new) tally.old tally.new }
     ensures writes { CountsWrites result (seen_by W.contents writer.old) (seen_by W.contents writer.new) }
     ensures fault { IfErr result (λ e. e ≢ VolumeFault.Store) }
@@ -225,7 +228,7 @@ fn print_track<W: Write>(
     ensures table { length room.new.table.items ≡ length room.old.table.items }
 {
     room.lines.clear();
-    let slot = room.slot.as_slice();
+    let slot = &room.slot.as_slice()[..held];
     let table = room.table.as_mut_slice();
     if check_track(&mut room.lines, tally, track, slot, table).is_err() {
         return Err(VolumeFault::OutOfMemory);

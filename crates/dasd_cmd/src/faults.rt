@@ -58,6 +58,39 @@ pub(crate) fn write_fault<W: Write>(
     }
 }
 
+/// Prints an object of JSON for what was remarked of a volume that was read as far as it goes, where the words ask for objects and something
+/// was. Where memory lacks it takes none.
+///
+/// # Errors
+///
+/// A write failed, or the flush.
+pub(crate) fn write_reach<W: Write>(
+    alloc: Global,
+    words: &[&str],
+    remarks: &Remarks,
+    writer: &mut W,
+) -> Result<(), ProgramFault> {
+    let Some(object) = reach_object(alloc, words, remarks) else {
+        return Ok(());
+    };
+    let object = object.as_str();
+    match writeln!(writer, "{object}").and_then(|()| writer.flush()) {
+        Ok(()) => Ok(()),
+        Err(_) => Err(ProgramFault::Job(JobFault::Write)),
+    }
+}
+
+// The object of what was remarked.
+fn reach_object(alloc: Global, words: &[&str], remarks: &Remarks) -> Option<String> {
+    let path = object_path(alloc, words)?;
+    let path = quoted(alloc, path.as_str()).ok()?;
+    let listed = listed(alloc, remarks)?;
+    if listed.is_empty() {
+        return None;
+    }
+    format!(in alloc; "{{\"path\":{path},\"remarks\":[{listed}]}}").ok()
+}
+
 // Whether no command was begun.
 fn is_of_words(fault: &ProgramFault) -> bool {
     matches!(

@@ -15,7 +15,7 @@ ghost use Rattle.std.specs.Prelude.{◌≡◌};
 ghost use Rattle.std.specs.Process.{exit_status};
 ghost use Rattle.dasd_cmd.specs.Ends.{ended_status};
 
-use crate::faults::{note_rule, write_fault};
+use crate::faults::{note_rule, write_fault, write_reach};
 use crate::host::HostFiles;
 use crate::remarks::{Remarks, Shown};
 use crate::terminal::{HostInput, HostOutput, TerminalLine};
@@ -42,6 +42,9 @@ const NO_TEXT: &str =
 
 /// The status of a comparison that came to no end, as that of `cmp`.
 const NOT_COMPARED: u8 = 2;
+
+/// The option by which what is lacking of a volume is always told.
+const AS_FAR: &str = "--as-far-as-it-goes";
 
 /// What `dasd` does without words.
 const STORED_RUN: [&str; 3] = ["dasd", "run", "90=new:2311:1"];
@@ -141,16 +144,22 @@ fn answer(
         let mut deck = Counted::new(&STORED_DECK[..]);
         return obey(alloc, &STORED_RUN, files, &mut deck, writer, &mut progress);
     }
-    if words.iter().any(|word| *word == "--verbose") {
+    let as_far = words.iter().any(|word| *word == AS_FAR);
+    if as_far || words.iter().any(|word| *word == "--verbose") {
         files.ask_remarks();
     }
     let mut deck = Counted::new(HostInput::new(rt.reader(), remarks));
     let ended = obey(alloc, words, files, &mut deck, writer, &mut progress);
     if let Err(fault) = &ended {
         note_rule(alloc, words, remarks, fault);
-        if !writer.inner.get_ref().has_failed() {
-            write_fault(alloc, words, remarks, writer, fault);
-        }
+    }
+    if writer.inner.get_ref().has_failed() {
+        return ended;
+    }
+    match &ended {
+        Err(fault) => write_fault(alloc, words, remarks, writer, fault),
+        Ok(_) if as_far => write_reach(alloc, words, remarks, writer)?,
+        Ok(_) => {}
     }
     ended
 }

@@ -1,6 +1,6 @@
 //! The volume table of contents, read track by track.
 
-ghost use Rattle.std.specs.Prelude.{◌≡◌, ◌≢◌, ◌+◌, ◌^◌, ◌≤◌, ◌<◌, [], ◌∷◌, ◌++◌, true, None, length, IfOk, OnOk, IfErr, IfSome};
+ghost use Rattle.std.specs.Prelude.{◌≡◌, ◌≢◌, ◌+◌, ◌^◌, ◌≤◌, ◌<◌, [], ◌∷◌, ◌++◌, true, None, length, take, IfOk, OnOk, IfErr, IfSome};
 ghost use Rattle.ckd_track.specs.Geometry.{tracks_of};
 ghost use Rattle.ckd_track.specs.Track.{track_of};
 ghost use Rattle.ckd_image.specs.Store.{Counts};
@@ -119,10 +119,10 @@ fn read_label<V: SlotReader>(
     ensures volume { IsRead result (V.volume volume.old) (V.volume volume.new) (V.failures volume.old) (V.failures volume.new) }
     ensures size { length slot.new ≡ length slot.old }
 {
-    if load(volume, 0, slot).is_err() {
+    let Ok(held) = load(volume, 0, slot) else {
         return Err(VolumeFault::Store);
-    }
-    Ok(label_of(slot))
+    };
+    Ok(label_of(&slot[..held]))
 }
 
 // The volume label of the first track.
@@ -157,14 +157,14 @@ fn read_table<V: SlotReader>(
         return Ok(None);
     }
     let track = geometry.track_at(address.track.cylinder, address.track.head);
-    if load(volume, track, slot).is_err() {
+    let Ok(held) = load(volume, track, slot) else {
         return Err(VolumeFault::Store);
-    }
+    };
     let mut found = Found {
         blocks: Vec::new(alloc),
         findings: Vec::new(alloc),
     };
-    match read_track(&mut found, address.track, slot) {
+    match read_track(&mut found, address.track, &slot[..held]) {
         Ok(()) => Ok(table_of(found.blocks.as_slice(), address)),
         Err(_) => Err(VolumeFault::OutOfMemory),
     }
@@ -272,20 +272,21 @@ fn read_one<V: SlotReader>(
     ensures size { length slot.new ≡ length slot.old }
 {
     let address = address_of_track(volume.geometry(), track);
-    if load(volume, track, slot).is_err() {
+    let Ok(held) = load(volume, track, slot) else {
         return Err(VolumeFault::Store);
-    }
-    match read_track(found, address, slot) {
+    };
+    match read_track(found, address, &slot[..held]) {
         Ok(()) => Ok(()),
         Err(_) => Err(VolumeFault::OutOfMemory),
     }
 }
 
-// Loads a track into the slot.
-fn load<V: SlotReader>(volume: &mut V, track: u32, slot: &mut [u8]) -> Result<(), StoreFault>
+// Loads a track into the slot, and says how many of its bytes there are.
+fn load<V: SlotReader>(volume: &mut V, track: u32, slot: &mut [u8]) -> Result<usize, StoreFault>
     requires size { length slot.old ≡ (V.volume volume.old).geometry.track_size }
     requires exists { track < tracks_of (V.volume volume.old).geometry }
-    ensures slot { OnOk result (IsSlotOf (V.volume volume.old) track slot.new) }
+    ensures within { IfOk result (λ held. held ≤ length slot.new) }
+    ensures slot { IfOk result (λ held. IsSlotOf (V.volume volume.old) track (take held slot.new)) }
     ensures kept { V.volume volume.new ≡ V.volume volume.old }
     ensures counted { Counts (V.failures volume.old) (V.failures volume.new) result }
     ensures size { length slot.new ≡ length slot.old }

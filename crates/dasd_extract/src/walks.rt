@@ -1,6 +1,6 @@
 //! The blocks of a data set, over extents and tracks.
 
-ghost use Rattle.std.specs.Prelude.{◌≡◌, ◌<◌, ◌≤◌, ◌+◌, ◌≢◌, length, OnOk, IfErr};
+ghost use Rattle.std.specs.Prelude.{◌≡◌, ◌<◌, ◌≤◌, ◌+◌, ◌≢◌, length, take, OnOk, IfOk, IfErr};
 ghost use Rattle.counted_io.specs.Streams.{seen_by};
 ghost use Rattle.ckd_track.specs.Geometry.{tracks_of};
 ghost use Rattle.ckd_track.specs.Track as tracks;
@@ -81,11 +81,12 @@ fn extract_found<V: SlotReader, W: Write>(
     ensures alternates { OnOk result (Reads (V.volume volume.old) (found_read_from found) room.old.alternates room.new.alternates) }
     ensures few { room.new.alternates ≤ room.old.alternates + 1 }
 {
-    if load(volume, found, room).is_err() {
+    let Ok(bytes) = load(volume, found, room) else {
         return Err(VolumeFault::Store);
-    }
-    match holder_of(volume.geometry(), room.slot.as_slice()) {
-        Holder::Itself => print_slot(writer, part, room.slot.as_slice(), &mut room.written),
+    };
+    let slot = &room.slot.as_slice()[..bytes];
+    match holder_of(volume.geometry(), slot) {
+        Holder::Itself => print_slot(writer, part, slot, &mut room.written),
         Holder::Alternate(held) => extract_alternate(volume, writer, part, held, room),
         Holder::Nowhere => Ok(Some(stop_at(part.track, Cause::NoAlternate))),
     }
@@ -110,21 +111,23 @@ fn extract_alternate<V: SlotReader, W: Write>(
         (λ _ slots. read_from slots (Holder.Alternate held)) room.old.alternates room.new.alternates) }
     ensures few { room.new.alternates ≤ room.old.alternates + 1 }
 {
-    if load(volume, held, room).is_err() {
+    let Ok(bytes) = load(volume, held, room) else {
         return Err(VolumeFault::Store);
-    }
-    if is_other(room.slot.as_slice()) {
+    };
+    let slot = &room.slot.as_slice()[..bytes];
+    if is_other(slot) {
         return Ok(Some(stop_at(part.track, Cause::NotAlternate)));
     }
     room.alternates += 1;
-    print_slot(writer, part, room.slot.as_slice(), &mut room.written)
+    print_slot(writer, part, slot, &mut room.written)
 }
 
-// Reads the slot of a track.
-fn load<V: SlotReader>(volume: &mut V, track: u32, room: &mut Room) -> Result<(), StoreFault>
+// Reads the slot of a track, and says how many of its bytes there are.
+fn load<V: SlotReader>(volume: &mut V, track: u32, room: &mut Room) -> Result<usize, StoreFault>
     requires exists { track < tracks_of (V.volume volume.old).geometry }
     requires size { length room.old.slot.items ≡ (V.volume volume.old).geometry.track_size }
-    ensures slot { OnOk result (IsSlotOf (V.volume volume.old) track room.new.slot.items) }
+    ensures within { IfOk result (λ bytes. bytes ≤ length room.new.slot.items) }
+    ensures slot { IfOk result (λ bytes. IsSlotOf (V.volume volume.old) track (take bytes room.new.slot.items)) }
     ensures kept { V.volume volume.new ≡ V.volume volume.old }
     ensures counted { Counts (V.failures volume.old) (V.failures volume.new) result }
     ensures size { length room.new.slot.items ≡ length room.old.slot.items }

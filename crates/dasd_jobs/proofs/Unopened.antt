@@ -1,5 +1,6 @@
 -- Why the volume in files is not opened.
-use Rattle.std.proofs.Common.{◌≡◌, ◌∙◌, ◌⊎◌, inl, inr, ℕ, ◌+◌, ◌<◌, ◌≤◌, List, [], ◌∷◌, ◌++◌, length, take, map, get_or, Some, refl}
+use Rattle.std.proofs.Common.{◌≡◌, Bool, false, ◌∙◌, ◌⊎◌, inl, inr, ℕ, ◌+◌, ◌<◌}
+use Rattle.std.proofs.Common.{◌≤◌, List, [], ◌∷◌, ◌++◌, length, take, map, get_or, Some, refl}
 use Rattle.std.proofs.Common.{sym, ap, subst, arith}
 use Rattle.std.specs.List.{AllZip}
 use Rattle.std.proofs.lemmas.List.{take_all, take_more, take-map, length-map, length-take-le, map-append}
@@ -12,8 +13,9 @@ use Rattle.dasd_jobs.specs.declared.reasons.Head.{Head}
 use Rattle.dasd_jobs.specs.Causes.{mounting_fault}
 use Rattle.dasd_jobs.specs.Sources.{Content, SourceFile, IsWhole, OpensMaybe, OpensPaths, OpensFirst}
 use Rattle.dasd_jobs.specs.Unopened.{OpensSome, OpensBut, NotOpened, NotRead}
-use Rattle.dasd_jobs.specs.Opening.{IsHeadOf, NotAdded, NotLocked, IsBroken, IsNoImage, alone}
-use Rattle.dasd_jobs.proofs.Volumes.{all_known, both_long, broken_files, one_more_opened}
+use Rattle.dasd_jobs.specs.Opening.{IsHeadOf, NotAdded, NotLocked, IsBroken, IsNoImage, alone, judged}
+use Rattle.dasd_jobs.proofs.Volumes.{all_known, both_long, one_more_opened}
+use Rattle.dasd_jobs.proofs.Reached.{broken_files}
 
 -- The first files.
 
@@ -65,15 +67,15 @@ module _ {P : Type 0} (path : P → List ℕ) (paths : List P) (before : List So
       (i, omega (arith, long, inside), in_front i contents now (omega arith) so_far)
 
   -- the next is not opened
-  pub stopped : (f : JobFault) (i : ℕ) (d : P) (contents : List Content) (between now : List SourceFile) → i < length paths
+  pub stopped : (as_far : Bool) (f : JobFault) (i : ℕ) (d : P) (contents : List Content) (between now : List SourceFile) → i < length paths
       → OpensPaths (map path (take i paths)) contents before between → NotAdded f (path (get_or paths i d)) between now
-      → NotOpened f (map path paths) before now
-  stopped (Mount broken) i d contents between now inside opens not = absurd not
-  stopped Write i d contents between now inside opens not = absurd not
-  stopped Store i d contents between now inside opens not = absurd not
-  stopped InUse i d contents between now inside opens not = but i contents between now inside opens not
-  stopped Exists i d contents between now inside opens not = but i contents between now inside opens not
-  stopped f i d contents between now inside opens not = up_to i d contents between now inside opens not
+      → NotOpened as_far f (map path paths) before now
+  stopped as_far (Mount broken) i d contents between now inside opens not = absurd not
+  stopped as_far Write i d contents between now inside opens not = absurd not
+  stopped as_far Store i d contents between now inside opens not = absurd not
+  stopped as_far InUse i d contents between now inside opens not = but i contents between now inside opens not
+  stopped as_far Exists i d contents between now inside opens not = but i contents between now inside opens not
+  stopped as_far f i d contents between now inside opens not = up_to i d contents between now inside opens not
 
   -- or not locked
   pub stopped_locking : (f : JobFault) (i : ℕ) (d : P) (contents : List Content) (heads : List Head) (between now : List SourceFile)
@@ -94,16 +96,16 @@ module _ {P : Type 0} (path : P → List ℕ) (paths : List P) (before : List So
         in_front i contents now (omega arith)
             (subst (λ (l : List SourceFile). OpensPaths (map path (take i paths)) contents before l) (sym not.2) opens),
       )
-  stopped_locking f i d contents heads between now inside opens are not = inl (stopped f i d contents between now inside opens not)
+  stopped_locking f i d contents heads between now inside opens are not = inl (stopped false f i d contents between now inside opens not)
 
 -- Files that were opened, and are no image.
 
-pub not_mounted : (broken : MountFault) (paths : List (List ℕ)) (contents : List Content) (heads : List Head) (before now : List SourceFile)
-    → OpensPaths paths contents before now → AllZip IsHeadOf contents heads → IsBroken broken (map alone heads)
-    → NotOpened (mounting_fault broken) paths before now
-not_mounted StoreFault paths contents heads before now opens are is = opens_all paths contents before now opens
-not_mounted broken paths contents heads before now opens are is =
-    inr (record { contents = contents; opens = opens; breaks = broken_files broken contents heads are is })
+pub not_mounted : (as_far : Bool) (broken : MountFault) (paths : List (List ℕ)) (contents : List Content) (heads : List Head)
+    (before now : List SourceFile) → OpensPaths paths contents before now → AllZip IsHeadOf contents heads
+    → IsBroken broken (map alone (judged as_far heads)) → NotOpened as_far (mounting_fault broken) paths before now
+not_mounted as_far StoreFault paths contents heads before now opens are is = opens_all paths contents before now opens
+not_mounted as_far broken paths contents heads before now opens are is =
+    inr (record { contents = contents; opens = opens; breaks = broken_files as_far broken contents heads are is })
 
 -- what was read of files that are known is what they hold
 read_whole : (files bytes : List (List ℕ)) → AllZip IsWhole (map Some files) bytes → bytes ≡ files
@@ -114,11 +116,11 @@ read_whole (file ∷ files) (b ∷ bytes) are =
     ap (λ (x : List ℕ). x ∷ bytes) (are.0 file refl) ∙ ap (λ (l : List (List ℕ)). file ∷ l) (read_whole files bytes are.1)
 
 pub not_an_image : (f : JobFault) (paths : List (List ℕ)) (contents : List Content) (bytes : List (List ℕ)) (before now : List SourceFile)
-    → OpensPaths paths contents before now → AllZip IsWhole contents bytes → IsNoImage f bytes → NotOpened f paths before now
+    → OpensPaths paths contents before now → AllZip IsWhole contents bytes → IsNoImage f bytes → NotOpened false f paths before now
 not_an_image f paths contents bytes before now opens are (broken, told, is) =
-    subst (λ (g : JobFault). NotOpened g paths before now) (sym told) (by broken is)
+    subst (λ (g : JobFault). NotOpened false g paths before now) (sym told) (by broken is)
   where
-    by : (m : MountFault) → IsBroken m bytes → NotOpened (mounting_fault m) paths before now
+    by : (m : MountFault) → IsBroken m bytes → NotOpened false (mounting_fault m) paths before now
     by StoreFault rule = opens_all paths contents before now opens
     by m rule = inr (record {
       contents = contents;
@@ -130,8 +132,8 @@ not_an_image f paths contents bytes before now opens are (broken, told, is) =
 
 -- files that were opened are not read, or there is no memory
 pub not_read : (f : JobFault) (paths : List (List ℕ)) (contents : List Content) (before now : List SourceFile)
-    → OpensPaths paths contents before now → (f ≡ Read) ⊎ (f ≡ OutOfMemory) → NotOpened f paths before now
+    → OpensPaths paths contents before now → (f ≡ Read) ⊎ (f ≡ OutOfMemory) → NotOpened false f paths before now
 not_read f paths contents before now opens (inl read) =
-    subst (λ (g : JobFault). NotOpened g paths before now) (sym read) (opens_all paths contents before now opens)
+    subst (λ (g : JobFault). NotOpened false g paths before now) (sym read) (opens_all paths contents before now opens)
 not_read f paths contents before now opens (inr none) =
-    subst (λ (g : JobFault). NotOpened g paths before now) (sym none) (opens_all paths contents before now opens)
+    subst (λ (g : JobFault). NotOpened false g paths before now) (sym none) (opens_all paths contents before now opens)

@@ -1,29 +1,22 @@
 -- Volumes in files that were opened.
-use Rattle.std.proofs.Common.{◌≡◌, ◌∙◌, ℕ, zero, suc, ◌+◌, ◌-◌, ◌*◌, ◌/◌, ◌<◌, ◌≤◌, ◌^◌, List, [], ◌∷◌, ◌++◌, length, take, drop, map}
+use Rattle.std.proofs.Common.{◌≡◌, ◌∙◌, ℕ, zero, suc, ◌+◌, ◌-◌, ◌<◌, ◌≤◌, List, [], ◌∷◌, ◌++◌, length, take, drop, map}
 use Rattle.std.proofs.Common.{replicate, get_or, set, slice_range, nat_lt, true, Option, Some, None, IsSome, Result, Ok, Err, option_map}
-use Rattle.std.proofs.Common.{◌⊎◌, inl, inr, refl, sym, ap, subst, arith, length-append, add-one, append_assoc, append-nil}
-use Rattle.std.specs.List.{AllZip, AllByRecursion}
+use Rattle.std.proofs.Common.{◌⊎◌, inl, inr, refl, sym, ap, subst, arith, length-append, append_assoc, append-nil}
+use Rattle.std.specs.List.{AllZip}
 use Rattle.std.proofs.lemmas.Bool.{cases_lt, lt-ltb}
 use Rattle.std.proofs.lemmas.List.{take_at, take_all, take_more, length-take-le, length-replicate, length-set, map-append, map-set}
 use Rattle.std.proofs.lemmas.List.{set-get_or, get_or-map}
 use Rattle.std.proofs.Math.Seq.{take-append-add}
-use Rattle.std.proofs.Math.Nat.{mul-div_cancel}
 use Rattle.ckd_track.specs.declared.geometries.Geometry.{Geometry}
-use Rattle.ckd_track.specs.Geometry.{tracks_of}
 use Rattle.ckd_image.specs.Header as mounting
 use Rattle.ckd_image.specs.Header.{head_of, header_of, headers_of, then_with, volume_of, mount_of}
 use Rattle.ckd_image.specs.declared.fault.MountFault.{MountFault}
-use Rattle.ckd_image.specs.Slots.{slots_in}
-use Rattle.ckd_image.specs.Files.{each, held, file_at, place_in, slot_bytes, HoldTracks, HoldsWhole}
-use Rattle.ckd_image.proofs.MountLemmas.{mount_fits}
-use Rattle.ckd_image.proofs.FileLemmas.{located_at, range_located}
+use Rattle.ckd_image.specs.Files.{each, held}
 use Rattle.ckd_image.proofs.Writes.{range_is}
-use Rattle.ckd_image.proofs.ImageLemmas.{tracks_held, slot_is, slots_of}
-use Rattle.dasd_volumes.specs.Reading.{IsSlotOf}
 use Rattle.dasd_jobs.specs.declared.reasons.Head.{Head}
-use Rattle.dasd_jobs.specs.Sources.{Content, SourceFile, IsLength, StandsIn, IsHeader, IsWhole, OpensPaths, Mounts, NotMounted, sources}
-use Rattle.dasd_jobs.specs.Sources.{known, volume_in}
-use Rattle.dasd_jobs.specs.Opening.{IsHeadOf, AreTracks, AddsFile, Lies, alone}
+use Rattle.dasd_jobs.specs.Sources.{Content, SourceFile, IsLength, StandsIn, IsHeader, IsWhole, OpensPaths, sources}
+use Rattle.dasd_jobs.specs.Sources.{known}
+use Rattle.dasd_jobs.specs.Opening.{IsHeadOf, AreTracks, AddsFile, alone}
 
 -- Lists.
 
@@ -38,12 +31,12 @@ and_both R (a ∷ xs) (b ∷ ys) x y all one = (all.0, and_both R xs ys x y all.
 -- What is known of each file.
 
 -- what is made of a value, if there is one
-record Made {A B : Type 0} (f : A → B) (o : Option A) (y : B) : Type 0 where
+pub record Made {A B : Type 0} (f : A → B) (o : Option A) (y : B) : Type 0 where
   pub x : A
   pub there : o ≡ Some x
   pub is : y ≡ f x
 
-made : {A B : Type 0} (f : A → B) (o : Option A) (y : B) → option_map f o ≡ Some y → Made f o y
+pub made : {A B : Type 0} (f : A → B) (o : Option A) (y : B) → option_map f o ≡ Some y → Made f o y
 made f None y e = cc
 made f (Some x) y e = record { x = x; there = refl; is = cc }
 
@@ -60,24 +53,35 @@ each_some : (files : List (List ℕ)) → each (λ (file : List ℕ). file) (map
 each_some [] = refl
 each_some (file ∷ files) = ap (λ (l : List (List ℕ)). file ∷ l) (each_some files)
 
-some_held : (o : Option (List ℕ)) → IsSome o → o ≡ Some (held (λ (file : List ℕ). file) [] o)
+pub some_held : (o : Option (List ℕ)) → IsSome o → o ≡ Some (held (λ (file : List ℕ). file) [] o)
 some_held None some = cc
 some_held (Some file) some = refl
 
 -- Headers.
 
-length_alone : (head : Head) → length (alone head) ≡ head.len
+pub length_alone : (head : Head) → length (alone head) ≡ head.len
 length_alone head =
     length-take-le head.len (head.header ++ replicate head.len 0)
     (let all = length-append head.header (replicate head.len 0) in let zeros = length-replicate {A = ℕ} head.len 0 in
     omega (arith, all, zeros))
 
-same_seen : (a b : List ℕ) (n m : ℕ) → a ≡ b → n ≡ m → ◌≡◌ {A = mounting.Head} (record { header = a; len = n }) (record {
+pub same_seen : (a b : List ℕ) (n m : ℕ) → a ≡ b → n ≡ m → ◌≡◌ {A = mounting.Head} (record { header = a; len = n }) (record {
   header = b;
   len =
       m;
 })
 same_seen a b n m same_bytes same_number = rw (same_bytes, same_number) refl
+
+-- a header with zeros behind it is looked at as the header and its length
+pub alone_head : (head : Head) → length head.header ≡ 512 → 512 ≤ head.len
+    → ◌≡◌ {A = mounting.Head} (head_of (alone head)) (record { header = head.header; len = head.len })
+alone_head head long enough =
+    let zeros = replicate head.len 0 in
+    let split : head.len ≡ length head.header + (head.len - 512) = omega (arith, long, enough) in
+    let whole : alone head ≡ head.header ++ take (head.len - 512) zeros =
+    ap (λ (n : ℕ). take n (head.header ++ zeros)) split ∙ take-append-add head.header zeros (head.len - 512) in
+    let front : take 512 (alone head) ≡ head.header = ap (take 512) whole ∙ take_at head.header (take (head.len - 512) zeros) 512 long in
+    same_seen (take 512 (alone head)) head.header (length (alone head)) head.len front (length_alone head)
 
 -- a file with this header and length is looked at as its header with zeros behind it
 same_head : (file : List ℕ) (head : Head) → IsHeadOf (Some file) head → 512 ≤ head.len → head_of file ≡ head_of (alone head)
@@ -85,20 +89,10 @@ same_head file head is enough =
     let its = is file refl in
     let first : head.header ≡ take 512 file = its.1 (omega (arith, its.0)) in
     let long : length head.header ≡ 512 = ap length first ∙ length-take-le 512 file (omega (arith, its.0)) in
-    let zeros = replicate head.len 0 in
-    let split : head.len ≡ length head.header + (head.len - 512) = omega (arith, long) in
-    let whole : alone head ≡ head.header ++ take (head.len - 512) zeros =
-    ap (λ (n : ℕ). take n (head.header ++ zeros)) split ∙ take-append-add head.header zeros (head.len - 512) in
-    let front : take 512 (alone head) ≡ head.header = ap (take 512) whole ∙ take_at head.header (take (head.len - 512) zeros) 512 long in
-    same_seen (take 512 file) (take 512 (alone head)) (length file) (length (alone head)) (sym first ∙ sym front) (sym its.0
-    ∙ sym (length_alone head))
-
--- how long a file is whose header with zeros is whole
-len_whole : (size : ℕ) (head : Head) (w : HoldsWhole size (alone head)) → head.len ≡ 512 + w.tracks * size
-len_whole size head w = sym (length_alone head) ∙ w.is_length
+    same_seen (take 512 file) head.header (length file) head.len (sym first) (sym its.0) ∙ sym (alone_head head long enough)
 
 -- so it breaks the same rule on one file, or none; of one that is too short the header is not looked at
-same_header : (file : List ℕ) (head : Head) → IsHeadOf (Some file) head → header_of (head_of file) ≡ header_of (head_of (alone head))
+pub same_header : (file : List ℕ) (head : Head) → IsHeadOf (Some file) head → header_of (head_of file) ≡ header_of (head_of (alone head))
 same_header file head is = by (cases_lt (length file) 512)
   where
     by : (length file < 512) ⊎ (512 ≤ length file) → header_of (head_of file) ≡ header_of (head_of (alone head))
@@ -110,7 +104,8 @@ same_header file head is = by (cases_lt (length file) 512)
         rw (one, other) refl
     by (inr enough) = let long = (is file refl).0 in ap header_of (same_head file head is (omega (arith, long, enough)))
 
-then_same : {A B : Type 0} (r : Result A MountFault) (f g : A → Result B MountFault) → ((a : A) → f a ≡ g a) → then_with r f ≡ then_with r g
+pub then_same : {A B : Type 0} (r : Result A MountFault) (f g : A → Result B MountFault) → ((a : A) → f a ≡ g a)
+    → then_with r f ≡ then_with r g
 then_same (Ok a) f g same = same a
 then_same (Err fault) f g same = refl
 
@@ -130,57 +125,13 @@ pub mount_same : (files : List (List ℕ)) (heads : List Head) → AllZip IsHead
     → mount_of files ≡ mount_of (map alone heads)
 mount_same files heads are = ap (λ r. then_with r volume_of) (headers_same [] files heads are)
 
--- the tracks that were counted of one file
-one_held : (size : ℕ) (file : List ℕ) (head : Head) (n : ℕ) → IsHeadOf (Some file) head → AreTracks size head n
-    → HoldsWhole size (alone head) → length file ≡ 512 + n * size
-one_held size file head n is counts w =
-    let len = len_whole size head w in
-    let same : n ≡ w.tracks = counts.are w.tracks w.most len in
-    sym (is file refl).0 ∙ len ∙ ap (λ (k : ℕ). 512 + k * size) (sym same)
-
-hold : (size : ℕ) (files : List (List ℕ)) (heads : List Head) (tracks : List ℕ) → AllZip IsHeadOf (map Some files) heads
-    → AllZip (AreTracks size) heads tracks → AllByRecursion (HoldsWhole size) (map alone heads)
-    → HoldTracks (λ (file : List ℕ). file) size (map Some files) tracks
-hold size [] heads tracks are counts whole = tt
-hold size (file ∷ files) [] tracks are counts whole = absurd are
-hold size (file ∷ files) (head ∷ heads) [] are counts whole = absurd counts
-hold size (file ∷ files) (head ∷ heads) (n ∷ tracks) are counts whole =
-    (one_held size file head n are.0 counts.0 whole.0, hold size files heads tracks are.1 counts.1 whole.1)
-
--- files whose headers are mounted hold the volume
-pub mounted_files : (g : Geometry) (contents : List Content) (heads : List Head) → AllZip IsHeadOf contents heads
-    → mount_of (map alone heads) ≡ Ok g → Mounts contents g
-mounted_files g contents heads are mounts files is =
-    let those = subst (λ (l : List Content). AllZip IsHeadOf l heads) (all_known contents files is) are in
-    mount_same files heads those ∙ mounts
-
--- and those whose headers are not are no image
-pub broken_files : (broken : MountFault) (contents : List Content) (heads : List Head) → AllZip IsHeadOf contents heads
-    → mount_of (map alone heads) ≡ Err broken → NotMounted contents broken
-broken_files broken contents heads are breaks files is =
-    mount_same files heads (subst (λ (l : List Content). AllZip IsHeadOf l heads) (all_known contents files is) are) ∙ breaks
-
--- a volume has as many tracks as were counted
-pub lies : (g : Geometry) (contents : List Content) (heads : List Head) (tracks : List ℕ) → AllZip IsHeadOf contents heads
-    → AllZip (AreTracks g.track_size) heads tracks → mount_of (map alone heads) ≡ Ok g → Lies g contents tracks
-lies g contents heads tracks are counts mounts files is =
-    let those = subst (λ (l : List Content). AllZip IsHeadOf l heads) (all_known contents files is) are in (
-      mounted_files g contents heads are mounts files is,
-      hold g.track_size files heads tracks those counts
-          (mount_fits (map alone heads) g mounts).whole,
-    )
-
--- how many slots stand behind a header
-pub counted : (size n len : ℕ) → 0 < size → len ≡ 512 + n * size → (len - 512) / size ≡ n
-counted size n len some is = let behind : len - 512 ≡ n * size = omega arith in rw behind (mul-div_cancel n some)
-
 -- one more file is counted
-pub next_counted : (size : ℕ) (heads : List Head) (tracks now : List ℕ) (i : ℕ) (d : Head) (n : ℕ) → i < length heads
-    → now ≡ tracks ++ n ∷ [] → AllZip (AreTracks size) (take i heads) tracks → AreTracks size (get_or heads i d) n
-    → AllZip (AreTracks size) (take (i + 1) heads) now
-next_counted size heads tracks now i d n inside is so_far one =
-    rw is (subst (λ (l : List Head). AllZip (AreTracks size) l (tracks ++ n ∷ [])) (sym (take_more heads i d inside))
-    (and_both (AreTracks size) (take i heads) tracks (get_or heads i d) n so_far one))
+pub next_counted : (g : Geometry) (heads : List Head) (tracks now : List ℕ) (i : ℕ) (d : Head) (n : ℕ) → i < length heads
+    → now ≡ tracks ++ n ∷ [] → AllZip (AreTracks g) (take i heads) tracks → AreTracks g (get_or heads i d) n
+    → AllZip (AreTracks g) (take (i + 1) heads) now
+next_counted g heads tracks now i d n inside is so_far one =
+    rw is (subst (λ (l : List Head). AllZip (AreTracks g) l (tracks ++ n ∷ [])) (sym (take_more heads i d inside))
+    (and_both (AreTracks g) (take i heads) tracks (get_or heads i d) n so_far one))
 
 -- what was read of a header, and of one that is too short
 pub head_read : (content : Content) (header : List ℕ) (len : ℕ) → IsLength content len → StandsIn content 0 header → length header ≡ 512
@@ -233,35 +184,6 @@ module _ {O : Type 0} (content : O → Content) where
   one_read files lent len place file new is count inside there same =
       lent_kept files (set lent place new) len (length-set lent place new ∙ ap length is) count
       (kept_there lent place file new inside there same ∙ ap (map content) is)
-
--- Slots.
-
--- what stands in the place of a track is its slot
-pub slot_read : (g : Geometry) (contents : List Content) (tracks : List ℕ) (track : ℕ) (slot : List ℕ) → Lies g contents tracks
-    → length contents ≡ length tracks → track < tracks_of g → length slot ≡ g.track_size
-    → StandsIn (get_or contents (place_in tracks track).file None) (512 + (place_in tracks track).track * g.track_size) slot
-    → IsSlotOf (volume_in g contents) track slot
-slot_read g contents tracks track slot lie count exists size stands slots e =
-    let content : List ℕ → List ℕ = λ file. file in
-    let m = made (λ (files : List (List ℕ)). slots_of g files) (known contents) slots e in
-    let files = m.x in
-    let l = lie files m.there in
-    let all : contents ≡ map Some files = all_known contents files m.there in
-    let stores : List (Option (List ℕ)) = map Some files in
-    let counted : length stores ≡ length tracks = ap length (sym all) ∙ count in
-    let mounts : mount_of (each content stores) ≡ Ok g = ap mount_of (each_some files) ∙ l.0 in
-    let sum_is = tracks_held content g stores tracks mounts l.1 counted in
-    let p = place_in tracks track in
-    let at = 512 + p.track * g.track_size in
-    let there = located_at content g.track_size stores tracks track p l.1 counted (rw sum_is exists) refl in
-    let file = held content [] (file_at stores p.file) in
-    let here : get_or contents p.file None ≡ Some file = ap (λ (c : List Content). get_or c p.file None) all
-    ∙ some_held (file_at stores p.file) there.there in
-    stands file here ∙ ap (λ (n : ℕ). slice_range file at (at + n)) size
-    ∙ range_located content g.track_size stores track at p there refl
-    ∙ ap (λ (cs : List (List ℕ)). slice_range (slot_bytes cs) (track * g.track_size) (track * g.track_size + g.track_size))
-    (each_some files)
-    ∙ slot_is g files track exists ∙ ap (λ (s : List (List ℕ)). get_or s track []) (sym m.is)
 
 -- Files that are opened one after another.
 

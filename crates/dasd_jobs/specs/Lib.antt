@@ -1,6 +1,7 @@
 pub mod Back
 pub mod Causes
 pub mod Lines
+pub mod Lengths
 pub mod Sources
 pub mod Opening
 pub mod Unopened

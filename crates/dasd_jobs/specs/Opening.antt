@@ -1,11 +1,12 @@
 -- How files are opened one after another, and what is known of their headers. No contract above cites this.
-use Rattle.std.specs.Prelude.{◌≡◌, ℕ, ◌+◌, ◌*◌, ◌<◌, ◌≤◌, ◌^◌, List, [], ◌∷◌, ◌++◌, length, take, map, replicate, Some, Ok, Err}
+use Rattle.std.specs.Prelude.{◌≡◌, ℕ, ◌+◌, ◌-◌, ◌*◌, ◌<◌, ◌≤◌, Bool, if◌then◌else◌, List, [], ◌∷◌, ◌++◌, length, take, map, replicate, Some, Err}
 use Rattle.ckd_track.specs.declared.geometries.Geometry.{Geometry}
 use Rattle.ckd_image.specs.Header.{mount_of}
 use Rattle.ckd_image.specs.Files.{HoldTracks}
 use Rattle.ckd_image.specs.declared.fault.MountFault.{MountFault}
 use Rattle.ckd_image.specs.declared.fault.MountFault.TheVariants.{Split, StoreFault}
 use Rattle.dasd_jobs.specs.Causes.{mounting_fault}
+use Rattle.dasd_jobs.specs.Lengths.{judged_length, last_made, slots_held, held_part}
 use Rattle.dasd_jobs.specs.declared.faults.JobFault.{JobFault}
 use Rattle.dasd_jobs.specs.declared.faults.JobFault.TheVariants.{Mount, Write, Store, InUse, Exists}
 use Rattle.dasd_jobs.specs.declared.reasons.Head.{Head}
@@ -19,14 +20,27 @@ IsHeadOf content head = (bytes : List ℕ) → content ≡ Some bytes → (head.
 abbrev pub alone : Head → List ℕ
 alone head = take head.len (head.header ++ replicate head.len 0)
 
--- a file of this length holds so many slots, where it is a header and whole slots
-pub record AreTracks (size : ℕ) (head : Head) (tracks : ℕ) : Type 0 where
-  pub are : (n : ℕ) → n < 2 ^ 32 → head.len ≡ 512 + n * size → tracks ≡ n
+-- a header and a length as if the file had all of the cylinders that it has a slot of
+abbrev pub whole_head : Head → Head
+whole_head head = record head { len = judged_length head.header head.len }
 
--- files hold so many slots each, behind the headers of an image
+-- the headers as they are judged of files that are read in this way, as far as they go or not
+abbrev pub judged : (as_far : Bool) → List Head → List Head
+judged as_far heads = if as_far then last_made whole_head heads else heads
+
+-- this many slots of a volume are whole in a file of this length
+abbrev pub AreTracks : Geometry → Head → (tracks : ℕ) → Type 0
+AreTracks g head tracks = tracks ≡ slots_held g head.len
+
+-- how many bytes stand behind the slots of the last of several files
+abbrev pub left_behind : Geometry → List Head → ℕ
+left_behind g [] = 0
+left_behind g (last ∷ []) = last.len - (512 + slots_held g last.len * g.track_size)
+left_behind g (first ∷ second ∷ rest) = left_behind g (second ∷ rest)
+
+-- files hold so many whole slots each, behind their headers
 abbrev pub Lies : Geometry → List Content → (tracks : List ℕ) → Type 0
-Lies g contents tracks =
-    (files : List (List ℕ)) → known contents ≡ Some files → (mount_of files ≡ Ok g) × HoldTracks (λ file. file) g.track_size (map Some files) tracks
+Lies g contents tracks = (files : List (List ℕ)) → known contents ≡ Some files → HoldTracks (held_part g) g.track_size (map Some files) tracks
 
 -- one file more stands behind the others, and its header behind theirs
 pub record AddsHead (content : Content) (contents_before contents : List Content) (heads_before heads : List Head) : Type 0 where

@@ -1,5 +1,5 @@
 -- Lines that a job prints.
-use Rattle.std.specs.Prelude.{◌≡◌, ◌⊎◌, ℕ, List, Some, Result, Ok, Err}
+use Rattle.std.specs.Prelude.{◌≡◌, ◌⊎◌, ℕ, false, List, Some, Result, Ok, Err}
 use Rattle.counted_io.specs.Streams.{Stream, Takes, TakesFront, NoneFailed, OneFailed}
 use Rattle.ckd_track.specs.declared.geometries.Geometry.{Geometry}
 use Rattle.dasd_jobs.specs.declared.faults.JobFault.{JobFault}
@@ -17,7 +17,7 @@ CountsLines _ before after = NoneFailed before after
 abbrev pub PrintsFiles : {A : Type 0} → Result A JobFault → (text : Geometry → List (List ℕ) → List ℕ) → (paths : List (List ℕ))
     → (opened_before opened : List SourceFile) → (before after : Stream) → Type 0
 PrintsFiles (Ok _) text paths opened_before opened before after =
-    OfVolume paths opened_before opened (λ v. (slots : List (List ℕ)) → v.slots ≡ Some slots → Takes before after (text v.geometry slots))
+    OfVolume false paths opened_before opened (λ v. (slots : List (List ℕ)) → v.slots ≡ Some slots → Takes before after (text v.geometry slots))
 PrintsFiles (Err fault) text paths opened_before opened before after =
-    (NotOpened fault paths opened_before opened × (after ≡ before))
-    ⊎ OfVolume paths opened_before opened (λ v. (slots : List (List ℕ)) → v.slots ≡ Some slots → TakesFront before after (text v.geometry slots))
+    (NotOpened false fault paths opened_before opened × (after ≡ before))
+    ⊎ OfVolume false paths opened_before opened (λ v. (slots : List (List ℕ)) → v.slots ≡ Some slots → TakesFront before after (text v.geometry slots))

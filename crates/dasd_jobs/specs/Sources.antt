@@ -1,14 +1,15 @@
 -- Files that were opened to be read, and the volumes that they hold.
-use Rattle.std.specs.Prelude.{◌≡◌, ◌⊎◌, ℕ, ◌+◌, ◌≤◌, List, [], ◌∷◌, ◌++◌, length, take, slice_range}
+use Rattle.std.specs.Prelude.{◌≡◌, ◌⊎◌, ℕ, ◌+◌, ◌≤◌, List, [], ◌∷◌, ◌++◌, length, take, map, slice_range, Bool}
 use Rattle.std.specs.Prelude.{Option, Some, None, option_map, Result, Ok, Err}
 use Rattle.std.specs.List.{AllZip}
 use Rattle.ckd_track.specs.declared.geometries.Geometry.{Geometry}
 use Rattle.ckd_track.specs.Geometry.{tracks_of}
-use Rattle.ckd_image.specs.Header.{mount_of}
 use Rattle.ckd_image.specs.declared.fault.MountFault.{MountFault}
 use Rattle.ckd_image.specs.Slots.{slots_in}
 use Rattle.ckd_image.specs.Files.{slot_bytes}
 use Rattle.dasd_volumes.specs.Reading.{KnownVolume}
+use Rattle.dasd_jobs.specs.declared.lengths.Reach.{Reach}
+use Rattle.dasd_jobs.specs.Lengths.{mounted_by, held_part, tracks_lacking, bytes_left_out}
 
 -- What a file holds, where that is known: all its bytes, as of one in memory. Of one that others may change while it is read it is not.
 abbrev pub Content : Type 0
@@ -84,30 +85,47 @@ pub record ReadsWhole (paths bytes : List (List ℕ)) (before now : List SourceF
   pub opens : OpensPaths paths contents before now
   pub whole : AllZip IsWhole contents bytes
 
--- Files hold the volume of this geometry: their headers and lengths keep the rules of a mount.
-abbrev pub Mounts : List Content → Geometry → Type 0
-Mounts contents g = (files : List (List ℕ)) → known contents ≡ Some files → mount_of files ≡ Ok g
+-- Files hold the volume of this geometry: their headers and lengths keep the rules of a mount, but for the length of the last one where they
+-- are read as far as they go.
+abbrev pub Mounts : (as_far : Bool) → List Content → Geometry → Type 0
+Mounts as_far contents g = (files : List (List ℕ)) → known contents ≡ Some files → mounted_by as_far files ≡ Ok g
 
 -- Files hold no image: this is the first rule of a mount that they break, where all is known that they hold.
-abbrev pub NotMounted : List Content → MountFault → Type 0
-NotMounted contents broken = (files : List (List ℕ)) → known contents ≡ Some files → mount_of files ≡ Err broken
+abbrev pub NotMounted : (as_far : Bool) → List Content → MountFault → Type 0
+NotMounted as_far contents broken = (files : List (List ℕ)) → known contents ≡ Some files → mounted_by as_far files ≡ Err broken
 
--- the volume of this geometry in files: its slots are the bytes behind their headers, in their order
+-- The volume of this geometry in files: its slots are those that stand whole behind their headers, in their order. The slots of tracks that
+-- the files lack have no bytes.
 abbrev pub volume_in : Geometry → List Content → KnownVolume
 volume_in g contents = record {
   geometry = g;
-  slots = option_map (λ files. slots_in g.track_size (tracks_of g) (slot_bytes files)) (known contents);
+  slots = option_map (λ files. slots_in g.track_size (tracks_of g) (slot_bytes (map (held_part g) files))) (known contents);
   header = [];
   saves = 0;
 }
 
+-- these files lack so many tracks of the volume, and so many of their bytes are left out
+abbrev pub IsReach : Geometry → List Content → Reach → Type 0
+IsReach g contents reach =
+    (files : List (List ℕ)) → known contents ≡ Some files → (reach.lacking ≡ tracks_lacking g files) × (reach.left_out ≡ bytes_left_out g files)
+
 -- The files at these paths were opened, and no other file; and this is said of the volume that they hold.
-pub record OfVolume (paths : List (List ℕ)) (before now : List SourceFile) (P : KnownVolume → Type 0) : Type 0 where
+pub record OfVolume (as_far : Bool) (paths : List (List ℕ)) (before now : List SourceFile) (P : KnownVolume → Type 0) : Type 0 where
   pub geometry : Geometry
   pub contents : List Content
   pub opens : OpensPaths paths contents before now
-  pub mounts : Mounts contents geometry
+  pub mounts : Mounts as_far contents geometry
   pub so : P (volume_in geometry contents)
+
+-- the same, and of how far the files go
+pub record OfReach (as_far : Bool) (paths : List (List ℕ)) (before now : List SourceFile) (P : KnownVolume → Reach → Type 0) : Type 0 where
+  pub geometry : Geometry
+  pub contents : List Content
+  pub opens : OpensPaths paths contents before now
+  pub mounts : Mounts as_far contents geometry
+  pub reach : Reach
+  pub is_reach : IsReach geometry contents reach
+  pub so : P (volume_in geometry contents) reach
 
 -- a volume in files that were opened, as it is seen: what the files hold, in their order, and how many reads failed
 pub record OpenedState : Type 0 where

@@ -1,5 +1,5 @@
 -- Why the volume in files is not opened, and which files were opened until then.
-use Rattle.std.specs.Prelude.{◌≡◌, ◌⊎◌, ◌<◌, ℕ, List, length}
+use Rattle.std.specs.Prelude.{◌≡◌, ◌⊎◌, ◌<◌, ℕ, Bool, false, List, length}
 use Rattle.ckd_image.specs.declared.fault.MountFault.{MountFault}
 use Rattle.ckd_image.specs.declared.fault.MountFault.TheVariants.{Split, Length, StoreFault}
 use Rattle.dasd_jobs.specs.Sources.{Content, SourceFile, OpensPaths, OpensFirst, NotMounted}
@@ -7,10 +7,10 @@ use Rattle.dasd_jobs.specs.declared.faults.JobFault.{JobFault}
 use Rattle.dasd_jobs.specs.declared.faults.JobFault.TheVariants.{OutOfMemory, Mount, Write, Store, InUse, Exists}
 
 -- The files at these paths were opened, and they hold no image: they break this rule of a mount first.
-pub record HoldNone (broken : MountFault) (paths : List (List ℕ)) (before now : List SourceFile) : Type 0 where
+pub record HoldNone (as_far : Bool) (broken : MountFault) (paths : List (List ℕ)) (before now : List SourceFile) : Type 0 where
   pub contents : List Content
   pub opens : OpensPaths paths contents before now
-  pub breaks : NotMounted contents broken
+  pub breaks : NotMounted as_far contents broken
 
 -- an image has at most eight files; of more none is opened
 abbrev pub AreMany : (broken : MountFault) → (paths : List (List ℕ)) → (before now : List SourceFile) → Type 0
@@ -27,14 +27,14 @@ OpensBut paths before now = (number : ℕ) × (number < length paths) × OpensFi
 -- Why the volume in the files at these paths is not opened. There are too many, or they hold no image; the next one is in use; or the
 -- next can't be opened, a header can't be read, or there is no memory. Nothing was written, so no write failed; no slot was read; and a
 -- header that can't be read is no fault of a mount.
-abbrev pub NotOpened : JobFault → (paths : List (List ℕ)) → (before now : List SourceFile) → Type 0
-NotOpened (Mount StoreFault) paths before now = ⊥
-NotOpened (Mount broken) paths before now = AreMany broken paths before now ⊎ HoldNone broken paths before now
-NotOpened Write paths before now = ⊥
-NotOpened Store paths before now = ⊥
-NotOpened InUse paths before now = OpensBut paths before now
-NotOpened Exists paths before now = OpensBut paths before now
-NotOpened f paths before now = OpensSome paths before now
+abbrev pub NotOpened : (as_far : Bool) → JobFault → (paths : List (List ℕ)) → (before now : List SourceFile) → Type 0
+NotOpened as_far (Mount StoreFault) paths before now = ⊥
+NotOpened as_far (Mount broken) paths before now = AreMany broken paths before now ⊎ HoldNone as_far broken paths before now
+NotOpened as_far Write paths before now = ⊥
+NotOpened as_far Store paths before now = ⊥
+NotOpened as_far InUse paths before now = OpensBut paths before now
+NotOpened as_far Exists paths before now = OpensBut paths before now
+NotOpened as_far f paths before now = OpensSome paths before now
 
 -- a file is named a second time, behind at least one that was opened, and so these are not the files of an image
 abbrev pub NamesTwice : JobFault → (paths : List (List ℕ)) → (before now : List SourceFile) → Type 0
@@ -42,7 +42,7 @@ NamesTwice f paths before now = (f ≡ Mount Split) × (number : ℕ) × (0 < nu
 
 -- Why the image in the files at these paths is not read whole: as above, where they are locked and read; or one of them is locked already.
 abbrev pub NotRead : JobFault → (paths : List (List ℕ)) → (before now : List SourceFile) → Type 0
-NotRead f paths before now = NotOpened f paths before now ⊎ NamesTwice f paths before now
+NotRead f paths before now = NotOpened false f paths before now ⊎ NamesTwice f paths before now
 
 -- Why a new volume is not made: it would have no cylinders; there is no memory; or its file was not written, which no file in memory
 -- meets, as its own contract says.

@@ -179,7 +179,7 @@ pub fn list_files<F: ImageFiles, W: Write>(
     ensures none { IfErr result (λ e. e ≡ JobFault.OutOfMemory → writer.new ≡ writer.old) }
     ensures flushed { OnOk result (IsFlushed (seen_by W.contents writer.new)) }
 {
-    let mut volume = open_volume(alloc, files, paths)?;
+    let mut volume = open_volume(alloc, files, paths, false)?;
     match dasd_volumes::list(alloc, &mut volume, writer) {
         Ok(()) => Ok(()),
         Err(fault) => Err(of_volume(fault)),
@@ -200,14 +200,14 @@ pub fn check_files<F: ImageFiles, W: Write, P: Progress>(
     paths: &[&str],
 ) -> Result<u32, JobFault>
     ensures kept { F.written files.new ≡ F.written files.old }
-    ensures number { IfOk result (λ n. OfVolume (map (λ path. path.now) paths.now) (F.opened files.old) (F.opened files.new) (λ v. NumberIn v n)) }
+    ensures number { IfOk result (λ n. OfVolume false (map (λ path. path.now) paths.now) (F.opened files.old) (F.opened files.new) (λ v. NumberIn v n)) }
     ensures lines { PrintsFiles result check_text (map (λ path. path.now) paths.now) (F.opened files.old) (F.opened files.new)
         (seen_by W.contents writer.old) (seen_by W.contents writer.new) }
     ensures writes { CountsLines result (seen_by W.contents writer.old) (seen_by W.contents writer.new) }
     ensures none { IfErr result (λ e. e ≡ JobFault.OutOfMemory → writer.new ≡ writer.old) }
     ensures flushed { OnOk result (IsFlushed (seen_by W.contents writer.new)) }
 {
-    let mut volume = open_volume(alloc, files, paths)?;
+    let mut volume = open_volume(alloc, files, paths, false)?;
     match dasd_volumes::check(alloc, &mut volume, writer, progress) {
         Ok(findings) => Ok(findings),
         Err(fault) => Err(of_volume(fault)),

@@ -47,7 +47,7 @@ pub fn read_image<F: ImageFiles>(
     let mut heads = Vec::new(alloc);
     let mut locked = lock_files(alloc, files, paths, &mut heads)?;
     let heads = heads.as_slice();
-    if let Err(fault) = mounted(heads) {
+    if let Err(fault) = mounted(heads, false) {
         remark_on(files, paths, heads, fault);
         return Err(of_mount(fault));
     }

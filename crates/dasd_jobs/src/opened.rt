@@ -1,19 +1,21 @@
 //! The volume in files that are read in place.
 
 ghost use Rattle.std.specs.Prelude.{◌≡◌, ◌≢◌, ◌⊎◌, ◌+◌, ◌*◌, ◌<◌, ◌≤◌, ◌++◌, ◌∷◌, vec_len, length, map, slice_index_or, All, IsSome, [], None, Ok, IfOk, IfErr};
-ghost use Rattle.std.specs.Prelude.{IfSome, OnOk};
-ghost use Rattle.std.specs.List.{AllZip};
+ghost use Rattle.std.specs.Prelude.{IfSome, IfNone, OnOk};
+ghost use Rattle.std.specs.List.{sum};
+ghost use Rattle.std.specs.List.{AllZip, AllByRecursion};
 ghost use Rattle.arrayvec.specs.ArrayVec.{array_vec_len};
 ghost use Rattle.ckd_track.specs.Geometry.{IsGeometry};
 ghost use Rattle.ckd_image.specs.Header.{mount_of};
 ghost use Rattle.ckd_image.specs.Files.{each, place_in};
-ghost use Rattle.dasd_jobs.specs.Sources.{StandsIn, IsHeader, OpensPaths, Mounts};
+ghost use Rattle.dasd_jobs.specs.Sources.{StandsIn, IsHeader, OpensPaths, Mounts, IsReach};
 ghost use Rattle.dasd_jobs.specs.Unopened.{NotOpened};
-ghost use Rattle.dasd_jobs.specs.Opening.{IsHeadOf, AreTracks, AddsFile, AddsHead, NotAdded, IsBroken, alone};
+ghost use Rattle.dasd_jobs.specs.Opening.{IsHeadOf, AddsFile, AddsHead, NotAdded, IsBroken, alone, judged};
 
 use crate::faults::{JobFault, of_mount, of_read};
 use crate::files::{ImageFiles, OpenedFile};
 use crate::headers::{HEADER, HeaderStore};
+use crate::lengths::{Reach, judged_at, lacking, left_out, remark_reach, tracks_in};
 use crate::reasons::{Head, remark_on};
 use arrayvec::ArrayVec;
 use ckd_image::{Image, MOST_FILES, MountFault, StoreFault};
@@ -30,13 +32,14 @@ pub struct OpenedVolume<O: OpenedFile> {
     /// How many tracks each file holds.
     tracks: ArrayVec<u32, MOST_FILES>,
     geometry: Geometry,
+    reach: Reach,
     failed: Count,
 }
 
 impl<O: OpenedFile> Model for OpenedVolume<O> {
     ghost use Rattle.std.specs.Prelude.{◌≡◌, length, map};
     ghost use Rattle.ckd_track.specs.Geometry.{IsGeometry};
-    ghost use Rattle.dasd_jobs.specs.Sources.{OpenedState};
+    ghost use Rattle.dasd_jobs.specs.Sources.{OpenedState, IsReach};
     ghost use Rattle.dasd_jobs.specs.Opening.{Lies};
 
     ghost Value = { OpenedState };
@@ -44,7 +47,7 @@ impl<O: OpenedFile> Model for OpenedVolume<O> {
     ghost view = { λ v. record { geometry = v.geometry; contents = map O.content v.files.items; failures = v.failed } };
 
     ghost invariant = { λ v. IsGeometry v.geometry × (length v.files.items ≡ length v.tracks.items)
-        × Lies v.geometry (map O.content v.files.items) v.tracks.items };
+        × Lies v.geometry (map O.content v.files.items) v.tracks.items × IsReach v.geometry (map O.content v.files.items) v.reach };
 }
 
 impl<O: OpenedFile> SlotReader for OpenedVolume<O> {
@@ -58,10 +61,10 @@ impl<O: OpenedFile> SlotReader for OpenedVolume<O> {
         self.geometry
     }
 
-    fn load(&mut self, track: u32, slot: &mut [u8]) -> Result<(), StoreFault> {
+    fn load(&mut self, track: u32, slot: &mut [u8]) -> Result<usize, StoreFault> {
         let size = self.geometry.track_size;
         match load_from(&mut self.files, self.tracks.as_slice(), size, track, slot) {
-            Ok(()) => Ok(()),
+            Ok(held) => Ok(held),
             Err(fault) => {
                 self.failed = self.failed.next();
                 Err(fault)
@@ -79,6 +82,8 @@ struct SlotPlace {
 
 // Where the slot of a track is, in files of so many tracks each; nowhere behind the last one.
 fn place_of(tracks: &[u32], track: u32) -> Option<SlotPlace>
+    ensures held { IfSome result (λ place. track < sum tracks.now) }
+    ensures lacking { IfNone result (sum tracks.now ≤ track) }
     ensures exists { IfSome result (λ place. place.file < length tracks.now) }
     ensures file { IfSome result (λ place. place.file ≡ (place_in tracks.now track).file) }
     ensures track { IfSome result (λ place. place.track ≡ (place_in tracks.now track).track) }
@@ -98,24 +103,29 @@ fn place_of(tracks: &[u32], track: u32) -> Option<SlotPlace>
     }
 }
 
-// Reads the slot of a track from its place in the file that holds it.
+// Reads the slot of a track from its place in the file that holds it, and says how many of its bytes there are; none where no file does.
 fn load_from<O: OpenedFile>(
     files: &mut Vec<O>,
     tracks: &[u32],
     size: u32,
     track: u32,
     slot: &mut [u8],
-) -> Result<(), StoreFault>
+) -> Result<usize, StoreFault>
     requires { vec_len files.old ≡ length tracks.now }
-    ensures read { let place = place_in tracks.now track in
-        OnOk result (StandsIn (slice_index_or (map O.content files.old.items) place.file None) (512 + place.track * size) slot.new) }
+    ensures within { IfOk result (λ held. held ≤ length slot.new) }
+    ensures read { let place = place_in tracks.now track in IfOk result (λ held. track < sum tracks.now → (held ≡ length slot.new)
+        × StandsIn (slice_index_or (map O.content files.old.items) place.file None) (512 + place.track * size) slot.new) }
+    ensures lacking { IfOk result (λ held. sum tracks.now ≤ track → held ≡ 0) }
     ensures kept { map O.content files.new.items ≡ map O.content files.old.items }
 {
     let Some(place) = place_of(tracks, track) else {
-        return Err(StoreFault);
+        return Ok(0);
     };
     let at = HEADER as u64 + place.track as u64 * size as u64;
-    read_from(files, place.file, at, slot)
+    match read_from(files, place.file, at, slot) {
+        Ok(()) => Ok(slot.len()),
+        Err(fault) => Err(fault),
+    }
 }
 
 /// Reads from the file at this place.
@@ -133,8 +143,9 @@ pub(crate) fn read_from<O: OpenedFile>(
     files[place].read_at(at, into)
 }
 
-/// The volume of the image that these files hold, in their order: their headers are read and judged, and their lengths. It is
-/// read slot by slot, while the files stay as they are.
+/// The volume of the image that these files hold, in their order: their headers are read and judged, and their lengths; but for that of
+/// the last one, or of the only one, where they are read as far as they go: then the volume has each cylinder of which a slot stands whole
+/// in a file, and may lack tracks. It is read slot by slot, while the files stay as they are.
 ///
 /// # Errors
 ///
@@ -144,12 +155,13 @@ pub fn open_volume<F: ImageFiles>(
     alloc: Global,
     files: &mut F,
     paths: &[&str],
+    as_far: bool,
 ) -> Result<OpenedVolume<F::Opened>, JobFault>
     ensures kept { F.written files.new ≡ F.written files.old }
     ensures fault { IfErr result (λ e. e ≢ JobFault.Write) }
     ensures opens { IfOk result (λ v. OpensPaths (map (λ path. path.now) paths.now) v.contents (F.opened files.old) (F.opened files.new)) }
-    ensures mounts { IfOk result (λ v. Mounts v.contents v.geometry) }
-    ensures not_opened { IfErr result (λ e. NotOpened e (map (λ path. path.now) paths.now) (F.opened files.old) (F.opened files.new)) }
+    ensures mounts { IfOk result (λ v. Mounts as_far v.contents v.geometry) }
+    ensures not_opened { IfErr result (λ e. NotOpened as_far e (map (λ path. path.now) paths.now) (F.opened files.old) (F.opened files.new)) }
 {
     if paths.len() > MOST_FILES {
         return Err(JobFault::Mount(MountFault::Split));
@@ -160,8 +172,12 @@ pub fn open_volume<F: ImageFiles>(
         add_file(alloc, files, path, &mut opened, &mut heads)?;
     }
     let heads = heads.as_slice();
-    match mounted(heads) {
-        Ok(geometry) => Ok(volume_of(opened, heads, geometry)),
+    match mounted(heads, as_far) {
+        Ok(geometry) => {
+            let volume = volume_of(opened, heads, geometry);
+            remark_reach(files, paths, geometry, volume.reach);
+            Ok(volume)
+        }
         Err(fault) => {
             remark_on(files, paths, heads, fault);
             Err(of_mount(fault))
@@ -236,17 +252,20 @@ fn read_head<O: OpenedFile>(file: &mut O) -> Result<Head, JobFault>
     }
 }
 
-/// The geometry of the volume in files with these headers, or why they hold none.
-pub(crate) fn mounted(heads: &[Head]) -> Result<Geometry, MountFault>
+/// The geometry of the volume in files with these headers, which are read as far as they go or not; or why they hold none.
+#[tactic(auto, using(crate::proofs::Reached::judged_count))]
+pub(crate) fn mounted(heads: &[Head], as_far: bool) -> Result<Geometry, MountFault>
     ensures valid { IfOk result IsGeometry }
-    ensures mounts { IfOk result (λ g. mount_of (map alone heads.now) ≡ Ok g) }
-    ensures not_mounted { IfErr result (λ e. length heads.now ≤ 8 → IsBroken e (map alone heads.now)) }
+    ensures mounts { IfOk result (λ g. mount_of (map alone (judged as_far heads.now)) ≡ Ok g) }
+    ensures long { IfOk result (λ g. AllByRecursion (λ head. 512 ≤ head.len) heads.now) }
+    ensures not_mounted { IfErr result (λ e. length heads.now ≤ 8 → IsBroken e (map alone (judged as_far heads.now))) }
 {
     let mut stores = ArrayVec::new();
-    for head in heads {
+    for i in 0..heads.len() {
         if stores.is_full() {
             return Err(MountFault::Split);
         }
+        let head = judged_at(heads, i, as_far);
         append(&mut stores, HeaderStore::new(head.header, head.len));
     }
     match Image::mount_files(stores) {
@@ -270,39 +289,35 @@ fn append(stores: &mut ArrayVec<Option<HeaderStore>, MOST_FILES>, store: HeaderS
 fn volume_of<O: OpenedFile>(files: Vec<O>, heads: &[Head], geometry: Geometry) -> OpenedVolume<O>
     requires valid { IsGeometry geometry }
     requires heads { AllZip IsHeadOf (map O.content files.items) heads.now }
-    requires mounts { mount_of (map alone heads.now) ≡ Ok geometry }
+    requires long { AllByRecursion (λ head. 512 ≤ head.len) heads.now }
     requires room { length heads.now ≤ 8 }
     ensures { result ≡ record { geometry = geometry; contents = map O.content files.items; failures = 0 } }
 {
     let mut tracks = ArrayVec::new();
     for head in heads {
-        tracks.push(tracks_in(head, geometry.track_size));
+        tracks.push(tracks_in(head, geometry));
     }
+    let reach = Reach {
+        lacking: lacking(tracks.as_slice(), geometry.tracks()),
+        left_out: left_out(heads, geometry),
+    };
     OpenedVolume {
         files,
         tracks,
         geometry,
+        reach,
         failed: Count::new(),
     }
 }
 
-// How many tracks of this size a file with this header holds.
-#[tactic(auto, using(crate::proofs::Volumes::counted))]
-fn tracks_in(head: &Head, size: u32) -> u32
-    requires { 0 < size }
-    ensures { AreTracks size head.now result }
-{
-    if head.len < HEADER as u64 {
-        return 0;
-    }
-    let tracks = (head.len - HEADER as u64) / size as u64;
-    if tracks > u32::MAX as u64 {
-        return u32::MAX;
-    }
-    tracks as u32
-}
-
 impl<O: OpenedFile> OpenedVolume<O> {
+    /// How far its files go.
+    pub fn reach(&self) -> Reach
+        ensures { IsReach self.now.geometry self.now.contents result }
+    {
+        self.reach
+    }
+
     /// The headers of its files, in their order, read of the files that were opened for it.
     ///
     /// # Errors

@@ -1,5 +1,5 @@
 -- What a volume holds, as it is printed.
-use Rattle.std.proofs.Common.{◌≡◌, ◌≢◌, ◌∙◌, inl, inr, refl, ap, subst, ℕ, List, [], ◌++◌, length, Option, Some, None, Result, Ok, Err}
+use Rattle.std.proofs.Common.{◌≡◌, ◌≢◌, ◌∙◌, inl, inr, refl, ap, subst, ℕ, List, [], ◌++◌, length, Option, Some, None, Ok, Err}
 use Rattle.std.specs.List.{flat_map}
 use Rattle.counted_io.specs.Streams.{Stream, Takes, TakesFront, NoneFailed, IsFlushed}
 use Rattle.counted_io.proofs.Written.{takes_nothing}
@@ -14,16 +14,13 @@ use Rattle.dasd_contents.specs.declared.findings.Finding.{Finding}
 use Rattle.dasd_contents.specs.Contents.{Said, contents_of}
 use Rattle.dasd_contents.specs.Lines.{volume_lines, finding_line}
 use Rattle.dasd_contents.specs.Objects.{volume_objects, finding_object}
-use Rattle.dasd_words.specs.declared.requests.PrintedVolume.{PrintedVolume}
 use Rattle.dasd_jobs.specs.declared.faults.JobFault.TheVariants as job
-use Rattle.dasd_jobs.specs.Sources.{SourceFile, OpensPaths, Mounts, OpenedState, volume_in}
 use Rattle.dasd_run.specs.declared.commands.Ending.{Ending}
 use Rattle.dasd_run.specs.declared.fault.ProgramFault.{ProgramFault}
 use Rattle.dasd_run.specs.declared.fault.ProgramFault.TheVariants as fault
 use Rattle.dasd_run.specs.Faults.{printing_fault}
-use Rattle.dasd_run.specs.Held.{SaysWith, SaysAll, all_findings, said_text, contents_text, CountsFault, PrintsHeld, json_path}
-use Rattle.dasd_run.specs.Held.{ListsContents}
-use Rattle.dasd_run.specs.Printed.{paths_of, ending_of}
+use Rattle.dasd_run.specs.Held.{SaysWith, SaysAll, all_findings, said_text, contents_text, CountsFault, PrintsHeld}
+use Rattle.dasd_run.specs.Printed.{ending_of}
 
 -- the text of what was read is that of what the volume says
 text_is : (json : Option (List ℕ)) (g : Geometry) (s : Said) (all : List Finding) (c : Contents) → SaysWith s all c
@@ -72,26 +69,3 @@ module _ (json : Option (List ℕ)) (v : KnownVolume) (c : Contents) (is : SaysA
 pub none_held : (json : Option (List ℕ)) (v : KnownVolume) (f : ProgramFault) (a : Stream) → f ≢ fault.Job job.Write
     → PrintsHeld (Err f) json v a a
 none_held json v f a other = (λ slots known. record { front = []; rest = _; whole = refl; taken = takes_nothing a }, inl (other, refl))
-
--- the volume in files that were opened
-pub listed : (r : Result Ending ProgramFault) (asked : PrintedVolume) (opened_before opened : List SourceFile) (x : OpenedState)
-    (a b : Stream)
-    → OpensPaths (paths_of asked) x.contents opened_before opened → Mounts x.contents x.geometry
-    → PrintsHeld r (json_path asked) (volume_in x.geometry x.contents) a b
-    → ListsContents r asked opened_before opened a b
-listed (Ok ending) asked opened_before opened x a b opens mounts so = record {
-  geometry = x.geometry;
-  contents = x.contents;
-  opens =
-      opens;
-  mounts = mounts;
-  so = so;
-}
-listed (Err f) asked opened_before opened x a b opens mounts so = inr (record {
-  geometry = x.geometry;
-  contents = x.contents;
-  opens =
-      opens;
-  mounts = mounts;
-  so = so;
-})

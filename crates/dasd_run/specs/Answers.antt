@@ -26,6 +26,7 @@ use Rattle.dasd_run.specs.Held.{ListsContents}
 use Rattle.dasd_run.specs.Outside.{Outside}
 use Rattle.dasd_run.specs.Paths.{joined_paths, quoted_paths}
 use Rattle.dasd_run.specs.Printed.{style_of, paths_of, asked_part, asked_list, HasCylinders, ending_of, IsUnopened, HashesWhole, PrintsPart, TakesMemoryFirst}
+use Rattle.dasd_run.specs.Reaches.{EndsOver}
 use Rattle.dasd_run.specs.Runs.{RunsOrStops}
 use Rattle.dasd_run.specs.Strict.{ChecksStrictly}
 use Rattle.dasd_run.specs.Unloads.{ExtractsSet, ExtractsTracks, ExtractsVolume}
@@ -55,7 +56,7 @@ abbrev pub ChecksVolume : Result Ending ProgramFault → (paths : List (List ℕ
     → Type 0
 ChecksVolume result paths opened_before opened printed_before printed =
     (job : Result ℕ JobFault) × (result ≡ ended ending_of job)
-    × IfOk job (λ n. OfVolume paths opened_before opened (λ v. NumberIn v n))
+    × IfOk job (λ n. OfVolume false paths opened_before opened (λ v. NumberIn v n))
     × PrintsFiles job check_text paths opened_before opened printed_before printed × CountsLines job printed_before printed
     × OnOk job (IsFlushed printed)
 
@@ -74,16 +75,16 @@ DumpsRecords result part text v before now =
 -- this part of the volume in the files that are named is dumped
 abbrev pub DumpsPart : Result Ending ProgramFault → PrintedVolume → DumpedPart → (opened_before opened : List SourceFile) → (before now : Stream) → Type 0
 DumpsPart result asked part opened_before opened before now =
-    IsUnopened result (paths_of asked) opened_before opened before now
-    ⊎ OfVolume (paths_of asked) opened_before opened
-    (λ v. DumpsRecords result part (dump_text (style_of asked.json) (quoted_paths (paths_of asked)) (asked_part part)) v before now)
+    IsUnopened asked.as_far result (paths_of asked) opened_before opened before now
+    ⊎ EndsOver result asked.as_far (paths_of asked) opened_before opened
+    (λ ended v. DumpsRecords ended part (dump_text (style_of asked.json) (quoted_paths (paths_of asked)) (asked_part part)) v before now)
 
 -- some of its cylinders are listed
 abbrev pub ListsPart : Result Ending ProgramFault → PrintedVolume → ListedPart → (opened_before opened : List SourceFile) → (before now : Stream) → Type 0
 ListsPart result asked part opened_before opened before now =
-    IsUnopened result (paths_of asked) opened_before opened before now
-    ⊎ OfVolume (paths_of asked) opened_before opened
-    (λ v. PrintsPart result (HasCylinders part.cylinders) (asked_list (style_of asked.json) (quoted_paths (paths_of asked)) part) v before now)
+    IsUnopened asked.as_far result (paths_of asked) opened_before opened before now
+    ⊎ EndsOver result asked.as_far (paths_of asked) opened_before opened
+    (λ ended v. PrintsPart ended (HasCylinders part.cylinders) (asked_list (style_of asked.json) (quoted_paths (paths_of asked)) part) v before now)
 
 -- the path in the line of a hash: as it was typed, and as a string of JSON in an object
 abbrev pub hashed_path : PrintedVolume → List ℕ
@@ -92,8 +93,8 @@ hashed_path asked = if asked.json then quoted_paths (paths_of asked) else joined
 -- its hash is printed, and it has findings where there are tracks that can't be read
 abbrev pub HashesVolume : Result Ending ProgramFault → PrintedVolume → (opened_before opened : List SourceFile) → (before now : Stream) → Type 0
 HashesVolume result asked opened_before opened before now =
-    IsUnopened result (paths_of asked) opened_before opened before now
-    ⊎ OfVolume (paths_of asked) opened_before opened (λ v. HashesWhole result (hashed_path asked) asked.json v before now)
+    IsUnopened asked.as_far result (paths_of asked) opened_before opened before now
+    ⊎ OfVolume asked.as_far (paths_of asked) opened_before opened (λ v. HashesWhole result (hashed_path asked) asked.json v before now)
 
 -- no file is written, and nothing is read of the reader
 abbrev pub Looks : (before now : Outside) → Type 0

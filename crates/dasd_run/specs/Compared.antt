@@ -59,20 +59,20 @@ ComparesVolumes result style path other lists v w before now =
 
 -- The files at the paths of the first list were opened, then those of the second, and no other file; and this is said of the volumes
 -- that they hold.
-pub record OfVolumes (paths other_paths : List (List ℕ)) (before now : List SourceFile) (P : KnownVolume → KnownVolume → Type 0) : Type 0 where
+pub record OfVolumes (as_far : Bool) (paths other_paths : List (List ℕ)) (before now : List SourceFile) (P : KnownVolume → KnownVolume → Type 0) : Type 0 where
   pub between : List SourceFile
-  pub so : OfVolume paths before between (λ v. OfVolume other_paths between now (λ w. P v w))
+  pub so : OfVolume as_far paths before between (λ v. OfVolume as_far other_paths between now (λ w. P v w))
 
 -- The first is not opened; or it is, and the other is not; and nothing is printed.
 abbrev pub NotBothOpened : Result Ending ProgramFault → ComparedVolumes → (opened_before opened : List SourceFile) → (before now : Stream) → Type 0
 NotBothOpened result asked opened_before opened before now =
-    IsUnopened result (one_of asked) opened_before opened before now
-    ⊎ ((between : List SourceFile) × OfVolume (one_of asked) opened_before between (λ v. Unit {0})
-    × IsUnopened result (other_of asked) between opened before now)
+    IsUnopened asked.as_far result (one_of asked) opened_before opened before now
+    ⊎ ((between : List SourceFile) × OfVolume asked.as_far (one_of asked) opened_before between (λ v. Unit {0})
+    × IsUnopened asked.as_far result (other_of asked) between opened before now)
 
 -- the volumes of two lists of files are compared; or they are not opened
 abbrev pub ComparesFiles : Result Ending ProgramFault → ComparedVolumes → (opened_before opened : List SourceFile) → (before now : Stream) → Type 0
 ComparesFiles result asked opened_before opened before now =
     NotBothOpened result asked opened_before opened before now
-    ⊎ OfVolumes (one_of asked) (other_of asked) opened_before opened
+    ⊎ OfVolumes asked.as_far (one_of asked) (other_of asked) opened_before opened
     (λ v w. ComparesVolumes result (style_of asked.json) (quoted_paths (one_of asked)) (quoted_paths (other_of asked)) asked.lists v w before now)

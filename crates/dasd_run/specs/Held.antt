@@ -12,12 +12,13 @@ use Rattle.dasd_contents.specs.Lines.{volume_lines, finding_line, contents_lines
 use Rattle.dasd_contents.specs.Objects.{volume_objects, finding_object, contents_objects}
 use Rattle.dasd_words.specs.declared.requests.PrintedVolume.{PrintedVolume}
 use Rattle.dasd_jobs.specs.declared.faults.JobFault.TheVariants as job
-use Rattle.dasd_jobs.specs.Sources.{SourceFile, OfVolume}
+use Rattle.dasd_jobs.specs.Sources.{SourceFile}
 use Rattle.dasd_run.specs.declared.commands.Ending.{Ending}
 use Rattle.dasd_run.specs.declared.fault.ProgramFault.{ProgramFault}
 use Rattle.dasd_run.specs.declared.fault.ProgramFault.TheVariants as fault
 use Rattle.dasd_run.specs.Paths.{quoted_paths}
-use Rattle.dasd_run.specs.Printed.{paths_of, ending_of, WhyUnopened}
+use Rattle.dasd_run.specs.Printed.{paths_of, ending_of, IsUnopened}
+use Rattle.dasd_run.specs.Reaches.{EndsOver}
 
 -- all that is wrong: with the label and the control blocks, and with the data sets and the free tracks
 abbrev pub all_findings : Geometry → Said → List Finding
@@ -70,8 +71,6 @@ json_path asked = if asked.json then Some (quoted_paths (paths_of asked)) else N
 -- The volume in the files at the paths that were named was printed so, and no other file was opened; or it was not opened, and nothing was
 -- printed.
 abbrev pub ListsContents : Result Ending ProgramFault → PrintedVolume → (opened_before opened : List SourceFile) → (before now : Stream) → Type 0
-ListsContents (Ok ending) asked opened_before opened before now =
-    OfVolume (paths_of asked) opened_before opened (λ v. PrintsHeld (Ok ending) (json_path asked) v before now)
-ListsContents (Err f) asked opened_before opened before now =
-    (WhyUnopened f (paths_of asked) opened_before opened × (now ≡ before))
-    ⊎ OfVolume (paths_of asked) opened_before opened (λ v. PrintsHeld (Err f) (json_path asked) v before now)
+ListsContents result asked opened_before opened before now =
+    IsUnopened asked.as_far result (paths_of asked) opened_before opened before now
+    ⊎ EndsOver result asked.as_far (paths_of asked) opened_before opened (λ ended v. PrintsHeld ended (json_path asked) v before now)

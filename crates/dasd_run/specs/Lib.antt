@@ -6,6 +6,7 @@ pub mod Runs
 pub mod Saves
 pub mod Paths
 pub mod Printed
+pub mod Reaches
 pub mod Held
 pub mod Unloads
 pub mod Compared

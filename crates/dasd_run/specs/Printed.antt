@@ -58,15 +58,16 @@ asked_list style path part g slots = list_text style path part.used_only (asked_
 
 -- Why the volume in the files at these paths is not opened: there is no memory for the paths as they are printed, and no file was opened;
 -- or its job's fault says why.
-abbrev pub WhyUnopened : ProgramFault → (paths : List (List ℕ)) → (opened_before opened : List SourceFile) → Type 0
-WhyUnopened fault.OutOfMemory paths opened_before opened = opened ≡ opened_before
-WhyUnopened (fault.Job f) paths opened_before opened = NotOpened f paths opened_before opened
-WhyUnopened f paths opened_before opened = ⊥
+abbrev pub WhyUnopened : (as_far : Bool) → ProgramFault → (paths : List (List ℕ)) → (opened_before opened : List SourceFile) → Type 0
+WhyUnopened as_far fault.OutOfMemory paths opened_before opened = opened ≡ opened_before
+WhyUnopened as_far (fault.Job f) paths opened_before opened = NotOpened as_far f paths opened_before opened
+WhyUnopened as_far f paths opened_before opened = ⊥
 
 -- it is not opened, and nothing is printed
-abbrev pub IsUnopened : Result Ending ProgramFault → (paths : List (List ℕ)) → (opened_before opened : List SourceFile) → (before now : Stream) → Type 0
-IsUnopened (Ok ending) paths opened_before opened before now = ⊥
-IsUnopened (Err f) paths opened_before opened before now = WhyUnopened f paths opened_before opened × (now ≡ before)
+abbrev pub IsUnopened : (as_far : Bool) → Result Ending ProgramFault → (paths : List (List ℕ)) → (opened_before opened : List SourceFile)
+    → (before now : Stream) → Type 0
+IsUnopened as_far (Ok ending) paths opened_before opened before now = ⊥
+IsUnopened as_far (Err f) paths opened_before opened before now = WhyUnopened as_far f paths opened_before opened × (now ≡ before)
 
 -- a check or a comparison has findings where it counts some
 abbrev pub ending_of : ℕ → Ending

@@ -1,5 +1,5 @@
 -- What a strict check of the volume of files prints: what is found of the headers, and of the volume.
-use Rattle.std.specs.Prelude.{◌≡◌, ◌⊎◌, ◌+◌, ◌==◌, ℕ, min, if◌then◌else◌, List, [], ◌++◌, length, slice_index_or, Result, Ok, Err, IfOk}
+use Rattle.std.specs.Prelude.{◌≡◌, ◌⊎◌, ◌+◌, ◌==◌, ℕ, min, if◌then◌else◌, Bool, List, [], ◌++◌, length, slice_index_or, Result, Ok, Err, IfOk}
 use Rattle.std.specs.List.{AllZip}
 use Rattle.counted_io.specs.Streams.{Stream}
 use Rattle.ckd_track.specs.declared.geometries.Geometry.{Geometry}
@@ -40,20 +40,21 @@ ChecksWhole result style path heads v before now =
     × PrintsWhole checking (checked_text style path heads) v before now
 
 -- The files at these paths were opened, once each, and no other; and this is said of the volume that they hold and of their headers.
-pub record OfHeads (paths : List (List ℕ)) (before now : List SourceFile) (P : KnownVolume → List (List ℕ) → Type 0) : Type 0 where
+pub record OfHeads (as_far : Bool) (paths : List (List ℕ)) (before now : List SourceFile) (P : KnownVolume → List (List ℕ) → Type 0) : Type 0 where
   pub geometry : Geometry
   pub contents : List Content
   pub opens : OpensPaths paths contents before now
-  pub mounts : Mounts contents geometry
+  pub mounts : Mounts as_far contents geometry
   pub heads : List (List ℕ)
   pub are_heads : AllZip IsHeader contents heads
   pub so : P (volume_in geometry contents) heads
 
 -- The volume was opened, and a header of its files can't be read, or there is no memory for them; nothing is printed.
-abbrev pub HasNoHeads : Result Ending ProgramFault → (paths : List (List ℕ)) → (opened_before opened : List SourceFile) → (before now : Stream) → Type 0
-HasNoHeads (Ok ending) paths opened_before opened before now = ⊥
-HasNoHeads (Err f) paths opened_before opened before now =
-    ((f ≡ fault.Job Read) ⊎ (f ≡ fault.Job OutOfMemory)) × OfVolume paths opened_before opened (λ v. Unit {0}) × (now ≡ before)
+abbrev pub HasNoHeads : (as_far : Bool) → Result Ending ProgramFault → (paths : List (List ℕ)) → (opened_before opened : List SourceFile)
+    → (before now : Stream) → Type 0
+HasNoHeads as_far (Ok ending) paths opened_before opened before now = ⊥
+HasNoHeads as_far (Err f) paths opened_before opened before now =
+    ((f ≡ fault.Job Read) ⊎ (f ≡ fault.Job OutOfMemory)) × OfVolume as_far paths opened_before opened (λ v. Unit {0}) × (now ≡ before)
 
 -- for whom what is found is printed, and whether notes are
 abbrev pub checked_style : StrictCheck → FindingStyle
@@ -62,7 +63,7 @@ checked_style asked = record { style = style_of asked.volume.json; with_notes = 
 -- the volume in the files that are named is checked; or they are not opened, and nothing is printed
 abbrev pub ChecksStrictly : Result Ending ProgramFault → StrictCheck → (opened_before opened : List SourceFile) → (before now : Stream) → Type 0
 ChecksStrictly result asked opened_before opened before now =
-    IsUnopened result (paths_of asked.volume) opened_before opened before now
-    ⊎ HasNoHeads result (paths_of asked.volume) opened_before opened before now
-    ⊎ OfHeads (paths_of asked.volume) opened_before opened
+    IsUnopened asked.volume.as_far result (paths_of asked.volume) opened_before opened before now
+    ⊎ HasNoHeads asked.volume.as_far result (paths_of asked.volume) opened_before opened before now
+    ⊎ OfHeads asked.volume.as_far (paths_of asked.volume) opened_before opened
     (λ v heads. ChecksWhole result (checked_style asked) (quoted_paths (paths_of asked.volume)) heads v before now)

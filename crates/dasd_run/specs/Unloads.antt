@@ -1,5 +1,5 @@
 -- Data sets that are taken out of a volume.
-use Rattle.std.specs.Prelude.{◌≡◌, ◌⊎◌, ℕ, List, map, Result, Ok, Err, OnOk}
+use Rattle.std.specs.Prelude.{◌≡◌, ◌⊎◌, ℕ, Bool, List, map, Result, Ok, Err, OnOk}
 use Rattle.std.specs.Option.{option_copied}
 use Rattle.counted_io.specs.Streams.{IsFlushed}
 use Rattle.dasd_words.specs.declared.requests.ExtractedSet.{ExtractedSet}
@@ -25,9 +25,10 @@ unload_ending ending (Ok done) = Ok (ending done)
 unload_ending ending (Err f) = Err (fault.Unload f)
 
 -- the volume in the files at these paths is not opened, or there is no memory; and nothing came, and nothing was printed
-abbrev pub NothingCame : Result Ending ProgramFault → (paths : List (List ℕ)) → (opened_before opened : List SourceFile) → (before now : Outcome) → Type 0
-NothingCame (Ok ending) paths opened_before opened before now = ⊥
-NothingCame (Err f) paths opened_before opened before now = WhyUnopened f paths opened_before opened × (now ≡ before)
+abbrev pub NothingCame : (as_far : Bool) → Result Ending ProgramFault → (paths : List (List ℕ)) → (opened_before opened : List SourceFile)
+    → (before now : Outcome) → Type 0
+NothingCame as_far (Ok ending) paths opened_before opened before now = ⊥
+NothingCame as_far (Err f) paths opened_before opened before now = WhyUnopened as_far f paths opened_before opened × (now ≡ before)
 
 -- the data set that is asked for, or the member of one
 abbrev pub asked_set : ExtractedSet → AskedSet
@@ -38,12 +39,12 @@ asked_set e = asked e.name.data_set.now (option_copied e.name.member) e.is_text 
 pub record TakesSet (result : Result Ending ProgramFault) (e : ExtractedSet) (opened_before opened : List SourceFile) (before now : Outcome) : Type 0 where
   pub unloading : Result (Unit {0}) UnloadFault
   pub told : result ≡ unload_ending (λ done. Done) unloading
-  pub unloaded : OfVolume (map (λ path. path.now) e.paths.items) opened_before opened (λ v. UnloadsOrTells unloading (asked_set e) v before now)
+  pub unloaded : OfVolume e.as_far (map (λ path. path.now) e.paths.items) opened_before opened (λ v. UnloadsOrTells unloading (asked_set e) v before now)
   pub writes : CountsSet unloading (option_copied e.target) before.printed now.printed
 
 abbrev pub ExtractsSet : Result Ending ProgramFault → ExtractedSet → (opened_before opened : List SourceFile) → (before now : Outcome) → Type 0
 ExtractsSet result e opened_before opened before now =
-    NothingCame result (map (λ path. path.now) e.paths.items) opened_before opened before now ⊎ TakesSet result e opened_before opened before now
+    NothingCame e.as_far result (map (λ path. path.now) e.paths.items) opened_before opened before now ⊎ TakesSet result e opened_before opened before now
 
 -- the data set whose tracks are asked for
 abbrev pub tracks_asked : ExtractedTracks → AskedTracks
@@ -54,12 +55,12 @@ tracks_asked e = asked_tracks e.name.now (option_copied e.target)
 pub record TakesTracks (result : Result Ending ProgramFault) (e : ExtractedTracks) (opened_before opened : List SourceFile) (before now : Outcome) : Type 0 where
   pub unloading : Result (Unit {0}) UnloadFault
   pub told : result ≡ unload_ending (λ done. Done) unloading
-  pub unloaded : OfVolume (map (λ path. path.now) e.paths.items) opened_before opened (λ v. TracksOrTell unloading (tracks_asked e) v before now)
+  pub unloaded : OfVolume e.as_far (map (λ path. path.now) e.paths.items) opened_before opened (λ v. TracksOrTell unloading (tracks_asked e) v before now)
   pub writes : CountsSet unloading (option_copied e.target) before.printed now.printed
 
 abbrev pub ExtractsTracks : Result Ending ProgramFault → ExtractedTracks → (opened_before opened : List SourceFile) → (before now : Outcome) → Type 0
 ExtractsTracks result e opened_before opened before now =
-    NothingCame result (map (λ path. path.now) e.paths.items) opened_before opened before now ⊎ TakesTracks result e opened_before opened before now
+    NothingCame e.as_far result (map (λ path. path.now) e.paths.items) opened_before opened before now ⊎ TakesTracks result e opened_before opened before now
 
 -- where all data sets go, and how what is told of them is printed
 abbrev pub asked_plan : ExtractedVolume → Plan
@@ -70,10 +71,10 @@ asked_plan e = plan_of e.folder.now e.is_text e.json (quoted_paths (map (λ path
 pub record TakesAll (result : Result Ending ProgramFault) (e : ExtractedVolume) (opened_before opened : List SourceFile) (before now : Outcome) : Type 0 where
   pub unloading : Result ℕ UnloadFault
   pub told : result ≡ unload_ending ending_of unloading
-  pub unloaded : UnloadsVolume unloading (map (λ path. path.now) e.paths.items) (asked_plan e) opened_before opened before now
+  pub unloaded : UnloadsVolume e.as_far unloading (map (λ path. path.now) e.paths.items) (asked_plan e) opened_before opened before now
   pub writes : CountsReport unloading before.printed now.printed
   pub flushed : OnOk unloading (IsFlushed now.printed)
 
 abbrev pub ExtractsVolume : Result Ending ProgramFault → ExtractedVolume → (opened_before opened : List SourceFile) → (before now : Outcome) → Type 0
 ExtractsVolume result e opened_before opened before now =
-    NothingCame result (map (λ path. path.now) e.paths.items) opened_before opened before now ⊎ TakesAll result e opened_before opened before now
+    NothingCame e.as_far result (map (λ path. path.now) e.paths.items) opened_before opened before now ⊎ TakesAll result e opened_before opened before now

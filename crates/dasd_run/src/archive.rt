@@ -14,6 +14,7 @@ ghost use Rattle.dasd_run.specs.Printed.{style_of, range_of, asked_part};
 use crate::commands::{Ending, ending_of};
 use crate::fault::{ProgramFault, of_printing};
 use crate::printed_paths::quoted;
+use crate::reaches::with_reach;
 use ckd_track::{DriveModel, Geometry};
 use counted_io::{Counted, WriteFault, write_flushed};
 use dasd_archive::{Comparison, Form, Part, Range, Style, compare, dump, has_records};
@@ -57,8 +58,12 @@ pub(crate) fn dump_part<F: ImageFiles, W: Write>(
         style: style(asked.json),
         path: path.as_str(),
     };
-    match open_volume(alloc, files, paths) {
-        Ok(mut volume) => dump_opened(alloc, &mut volume, writer, form, part),
+    match open_volume(alloc, files, paths, asked.as_far) {
+        Ok(mut volume) => {
+            let reach = volume.reach();
+            let dumped = dump_opened(alloc, &mut volume, writer, form, part);
+            with_reach(reach, dumped)
+        }
         Err(fault) => Err(ProgramFault::Job(fault)),
     }
 }
@@ -162,11 +167,11 @@ pub(crate) fn compare_both<F: ImageFiles, W: Write>(
         other: other.as_str(),
         lists: asked.lists,
     };
-    let mut volume = match open_volume(alloc, files, asked.one.as_slice()) {
+    let mut volume = match open_volume(alloc, files, asked.one.as_slice(), asked.as_far) {
         Ok(volume) => volume,
         Err(fault) => return Err(ProgramFault::Job(fault)),
     };
-    match open_volume(alloc, files, asked.other.as_slice()) {
+    match open_volume(alloc, files, asked.other.as_slice(), asked.as_far) {
         Ok(mut beside) => compare_opened(alloc, &mut volume, &mut beside, writer, form),
         Err(fault) => Err(ProgramFault::Job(fault)),
     }

@@ -39,7 +39,7 @@ pub(crate) fn hash_volume<F: ImageFiles, W: Write>(
         path: path.as_str(),
         json: asked.json,
     };
-    match open_volume(alloc, files, asked.paths.as_slice()) {
+    match open_volume(alloc, files, asked.paths.as_slice(), asked.as_far) {
         Ok(mut volume) => hash_opened(alloc, &mut volume, writer, form),
         Err(fault) => Err(ProgramFault::Job(fault)),
     }

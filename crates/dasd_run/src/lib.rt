@@ -10,6 +10,7 @@ mod fault;
 mod hash;
 mod list;
 mod printed_paths;
+mod reaches;
 mod remarks;
 mod runs;
 mod saves;

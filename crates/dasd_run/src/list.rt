@@ -9,6 +9,7 @@ use crate::archive::{range, style};
 use crate::commands::Ending;
 use crate::fault::{ProgramFault, of_printing};
 use crate::printed_paths::quoted;
+use crate::reaches::with_reach;
 use ckd_track::Geometry;
 use counted_io::Counted;
 use dasd_archive::{Form, Listing, Range};
@@ -44,8 +45,12 @@ pub(crate) fn list_part<F: ImageFiles, W: Write>(
         style: style(asked.json),
         path: path.as_str(),
     };
-    match open_volume(alloc, files, paths) {
-        Ok(mut volume) => list_opened(alloc, &mut volume, writer, form, part),
+    match open_volume(alloc, files, paths, asked.as_far) {
+        Ok(mut volume) => {
+            let reach = volume.reach();
+            let listed = list_opened(alloc, &mut volume, writer, form, part);
+            with_reach(reach, listed)
+        }
         Err(fault) => Err(ProgramFault::Job(fault)),
     }
 }

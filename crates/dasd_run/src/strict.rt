@@ -46,7 +46,7 @@ pub(crate) fn check_strictly<F: ImageFiles, W: Write>(
         style: style_of(asked),
         path: path.as_str(),
     };
-    let mut volume = match open_volume(alloc, files, paths) {
+    let mut volume = match open_volume(alloc, files, paths, asked.volume.as_far) {
         Ok(volume) => volume,
         Err(fault) => return Err(ProgramFault::Job(fault)),
     };

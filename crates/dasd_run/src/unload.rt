@@ -37,7 +37,7 @@ pub(crate) fn extract_set<F: ImageFiles, W: Write>(
         is_text: asked.is_text,
         given: asked.given,
     };
-    let mut volume = match open_volume(alloc, files, asked.paths.as_slice()) {
+    let mut volume = match open_volume(alloc, files, asked.paths.as_slice(), asked.as_far) {
         Ok(volume) => volume,
         Err(fault) => return Err(ProgramFault::Job(fault)),
     };
@@ -62,7 +62,7 @@ pub(crate) fn extract_tracks<F: ImageFiles, W: Write>(
         name: asked.name,
         target: asked.target,
     };
-    let mut volume = match open_volume(alloc, files, asked.paths.as_slice()) {
+    let mut volume = match open_volume(alloc, files, asked.paths.as_slice(), asked.as_far) {
         Ok(volume) => volume,
         Err(fault) => return Err(ProgramFault::Job(fault)),
     };
@@ -93,6 +93,7 @@ pub(crate) fn extract_volume<F: ImageFiles, W: Write>(
         is_text: asked.is_text,
         path: path.as_str(),
         json: asked.json,
+        as_far: asked.as_far,
     };
     unload_ending(unload_volume(alloc, files, writer, paths, volume))
 }

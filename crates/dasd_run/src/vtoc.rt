@@ -10,6 +10,7 @@ ghost use Rattle.dasd_run.specs.Printed.{ending_of};
 use crate::commands::Ending;
 use crate::fault::{ProgramFault, of_printing};
 use crate::printed_paths::{path_if, quoted};
+use crate::reaches::with_reach;
 use ckd_track::Geometry;
 use counted_io::Counted;
 use dasd_contents::{Contents, check_contents, read_contents, write_lines, write_objects};
@@ -41,8 +42,12 @@ pub(crate) fn list_contents<F: ImageFiles, W: Write>(
         Err(fault) => return Err(fault),
     };
     let json = path_if(asked.json, path.as_str());
-    match open_volume(alloc, files, paths) {
-        Ok(mut volume) => print_contents(alloc, &mut volume, writer, json),
+    match open_volume(alloc, files, paths, asked.as_far) {
+        Ok(mut volume) => {
+            let reach = volume.reach();
+            let printed = print_contents(alloc, &mut volume, writer, json);
+            with_reach(reach, printed)
+        }
         Err(fault) => Err(ProgramFault::Job(fault)),
     }
 }

@@ -307,10 +307,10 @@ module _ (v : KnownVolume) (p : Plan) (a b : Outcome) (c : Stream) (t : Tally)
       })
 
 -- the volume in files that were opened
-module _ (paths : List (List ℕ)) (p : Plan) (opened_before opened : List SourceFile) (x : OpenedState) (a b : Outcome) (t : Tally)
-    (opens : OpensPaths paths x.contents opened_before opened) (mounts : Mounts x.contents x.geometry) where
+module _ (as_far : Bool) (paths : List (List ℕ)) (p : Plan) (opened_before opened : List SourceFile) (x : OpenedState) (a b : Outcome)
+    (t : Tally) (opens : OpensPaths paths x.contents opened_before opened) (mounts : Mounts as_far x.contents x.geometry) where
   abbrev of_volume : (KnownVolume → Type 0) → Type 0
-  of_volume P = OfVolume paths opened_before opened P
+  of_volume P = OfVolume as_far paths opened_before opened P
 
   is_of : (P : KnownVolume → Type 0) → P (volume_in x.geometry x.contents) → of_volume P
   is_of P so = record { geometry = x.geometry; contents = x.contents; opens = opens; mounts = mounts; so = so }
@@ -318,7 +318,7 @@ module _ (paths : List (List ℕ)) (p : Plan) (opened_before opened : List Sourc
   pub volume_ended : (r : Result ℕ UnloadFault) (c : Stream) → DoesOfVolume {A = Unit {0}} (Ok tt) (volume_in x.geometry x.contents) p
       volume_steps a b no_line t
       → TellsText r (total_text p.json t) b.printed c → IfOk r (λ n. n ≡ t.findings)
-      → UnloadsVolume r paths p opened_before opened a (outcome b.written c)
+      → UnloadsVolume as_far r paths p opened_before opened a (outcome b.written c)
   volume_ended (Ok n) c d last is =
       is_of (λ v. UnloadsKnown (Ok n) v p a (outcome b.written c)) (reported (volume_in x.geometry x.contents) p a b c t d n last.0 is)
   volume_ended (Err f) c d last is =
@@ -327,5 +327,5 @@ module _ (paths : List (List ℕ)) (p : Plan) (opened_before opened : List Sourc
 
   pub volume_stopped : (f : UnloadFault) → DoesOfVolume {A = Unit {0}} (Err f) (volume_in x.geometry x.contents) p volume_steps a b
       no_line t
-      → UnloadsVolume (Err f) paths p opened_before opened a b
+      → UnloadsVolume as_far (Err f) paths p opened_before opened a b
   volume_stopped f d = inr (is_of (λ v. UnloadsKnown (Err f) v p a b) (λ slots known. inl (d.does slots known)))

@@ -186,13 +186,14 @@ abbrev pub UnloadsKnown : Result ℕ UnloadFault → KnownVolume → Plan → (b
 UnloadsKnown r v p before now = (slots : List (List ℕ)) → v.slots ≡ Some slots → UnloadsAll r (unloading v slots p) before now
 
 -- the volume in the files at these paths is not opened, for this fault
-abbrev pub IsUnopened : UnloadFault → (paths : List (List ℕ)) → (opened_before opened : List SourceFile) → Type 0
-IsUnopened (Job f) paths opened_before opened = NotOpened f paths opened_before opened
-IsUnopened fault paths opened_before opened = ⊥
+abbrev pub IsUnopened : (as_far : Bool) → UnloadFault → (paths : List (List ℕ)) → (opened_before opened : List SourceFile) → Type 0
+IsUnopened as_far (Job f) paths opened_before opened = NotOpened as_far f paths opened_before opened
+IsUnopened as_far fault paths opened_before opened = ⊥
 
 -- The volume in the files at these paths was unloaded, if its slots are known; or it is not opened, and nothing came.
-abbrev pub UnloadsVolume : Result ℕ UnloadFault → (paths : List (List ℕ)) → Plan → (opened_before opened : List SourceFile) → (before now : Outcome) → Type 0
-UnloadsVolume (Ok n) paths p opened_before opened before now = OfVolume paths opened_before opened (λ v. UnloadsKnown (Ok n) v p before now)
-UnloadsVolume (Err fault) paths p opened_before opened before now =
-    (IsUnopened fault paths opened_before opened × (now ≡ before))
-    ⊎ OfVolume paths opened_before opened (λ v. UnloadsKnown (Err fault) v p before now)
+abbrev pub UnloadsVolume : (as_far : Bool) → Result ℕ UnloadFault → (paths : List (List ℕ)) → Plan → (opened_before opened : List SourceFile)
+    → (before now : Outcome) → Type 0
+UnloadsVolume as_far (Ok n) paths p opened_before opened before now = OfVolume as_far paths opened_before opened (λ v. UnloadsKnown (Ok n) v p before now)
+UnloadsVolume as_far (Err fault) paths p opened_before opened before now =
+    (IsUnopened as_far fault paths opened_before opened × (now ≡ before))
+    ⊎ OfVolume as_far paths opened_before opened (λ v. UnloadsKnown (Err fault) v p before now)

@@ -34,6 +34,8 @@ pub struct WantedVolume<'a> {
     pub path: &'a str,
     /// Whether each line that is printed is an object of JSON, with this path.
     pub json: bool,
+    /// Whether its files are read as far as they go.
+    pub as_far: bool,
 }
 
 /// Where data sets go, how, and how the lines of what is told are written.
@@ -98,7 +100,7 @@ pub fn unload_volume<F: ImageFiles, W: Write>(
     paths: &[&str],
     volume: WantedVolume,
 ) -> Result<usize, UnloadFault>
-    ensures volume { UnloadsVolume result (map (λ path. path.now) paths.now)
+    ensures volume { UnloadsVolume volume.entry.as_far result (map (λ path. path.now) paths.now)
         (plan_of volume.entry.folder.now volume.entry.is_text volume.entry.json volume.entry.path.now)
         (F.opened files.old) (F.opened files.new)
         (outcome (F.written files.old) (seen_by W.contents writer.old)) (outcome (F.written files.new) (seen_by W.contents writer.new)) }
@@ -107,7 +109,7 @@ pub fn unload_volume<F: ImageFiles, W: Write>(
     ensures files { AddsIn volume.entry.folder.now (F.written files.old) (F.written files.new) }
     ensures fault { IfErr result (λ e. is_of_job e ≡ true) }
 {
-    let mut opened = match open_volume(alloc, files, paths) {
+    let mut opened = match open_volume(alloc, files, paths, volume.as_far) {
         Ok(opened) => opened,
         Err(fault) => return Err(UnloadFault::Job(fault)),
     };

@@ -1,5 +1,5 @@
 -- What is printed of a volume. Hexadecimal digits are capitals.
-use Rattle.std.specs.Prelude.{ℕ, ◌-◌, ◌^◌, min, List, [], ◌∷◌, ◌++◌, true, length, replicate, codes, Result, Ok, Err}
+use Rattle.std.specs.Prelude.{ℕ, ◌-◌, ◌^◌, ◌==◌, min, if◌then◌else◌, List, [], ◌∷◌, ◌++◌, true, length, replicate, codes, Result, Ok, Err}
 use Rattle.std.specs.List.{flat_map, concat}
 use Rattle.std.specs.Fmt.{digits, decimal}
 use Rattle.ckd_track.specs.declared.model.DriveModel.{DriveModel}
@@ -27,9 +27,9 @@ model_number_of D2314 = 2314
 abbrev pub address_text : (cylinder head : ℕ) → List ℕ
 address_text cylinder head = hexadecimal 4 cylinder ++ (codes " " ++ hexadecimal 4 head)
 
--- why a slot spells no track
+-- Why a slot spells no track. One without an end at its very beginning is shorter than a home address: of such a track nothing is there.
 abbrev pub fault_text : SlotFault → List ℕ
-fault_text (NoEnd offset) = codes "no end at " ++ decimal offset
+fault_text (NoEnd offset) = if offset == 0 then codes "not in the file" else codes "no end at " ++ decimal offset
 fault_text (RecordPastEnd offset) = codes "record past end at " ++ decimal offset
 
 -- the end of a line

@@ -6,7 +6,7 @@ use Rattle.dasd_volumes.specs.declared.fault.VolumeFault.{VolumeFault}
 use Rattle.dasd_volumes.specs.declared.fault.VolumeFault.TheVariants.{Store}
 
 -- What is known of a volume. Its slots are known where it is known what a read gives, as of bytes in memory; of a file of the
--- host they are not.
+-- host they are not. The slot of a track that the volume lacks has no bytes.
 pub record KnownVolume : Type 0 where
   pub geometry : Geometry
   pub slots : Option (List (List ℕ))

@@ -108,13 +108,11 @@ fn check_cylinder<V: SlotReader, W: Write, P: Progress>(
     let geometry = volume.geometry();
     let mut findings: u32 = 0;
     for head in 0..geometry.model.heads() {
-        if volume
-            .load(geometry.track_at(cylinder, head), slot)
-            .is_err()
-        {
+        let Ok(held) = volume.load(geometry.track_at(cylinder, head), slot) else {
             return Err(VolumeFault::Store);
-        }
-        match check_track(writer, progress, TrackAddress { cylinder, head }, slot) {
+        };
+        let address = TrackAddress { cylinder, head };
+        match check_track(writer, progress, address, &slot[..held]) {
             Ok(found) => findings += found,
             Err(WriteFault) => return Err(VolumeFault::Write),
         }

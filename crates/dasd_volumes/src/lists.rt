@@ -88,14 +88,11 @@ fn list_cylinder<V: SlotReader, W: Write>(
 {
     let geometry = volume.geometry();
     for head in 0..geometry.model.heads() {
-        if volume
-            .load(geometry.track_at(cylinder, head), slot)
-            .is_err()
-        {
+        let Ok(held) = volume.load(geometry.track_at(cylinder, head), slot) else {
             return Err(VolumeFault::Store);
-        }
+        };
         let address = TrackAddress { cylinder, head };
-        if let Err(WriteFault) = list_track(writer, geometry, address, slot) {
+        if let Err(WriteFault) = list_track(writer, geometry, address, &slot[..held]) {
             return Err(VolumeFault::Write);
         }
     }

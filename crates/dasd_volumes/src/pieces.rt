@@ -31,6 +31,7 @@ pub(crate) fn put_fault(line: &mut ArrayString<LINE>, fault: SlotFault)
     ensures size { length line.new.bytes ≤ length line.old.bytes + 39 }
 {
     match fault {
+        SlotFault::NoEnd(0) => line.push_str("not in the file"),
         SlotFault::NoEnd(offset) => {
             line.push_str("no end at ");
             put_count(line, offset);

@@ -1,6 +1,6 @@
 //! Volumes that are read slot by slot.
 
-ghost use Rattle.std.specs.Prelude.{◌≡◌, ℕ, ◌<◌, length, OnOk};
+ghost use Rattle.std.specs.Prelude.{◌≡◌, ℕ, ◌<◌, ◌≤◌, length, take, IfOk};
 ghost use Rattle.ckd_track.specs.Geometry.{IsGeometry, tracks_of};
 ghost use Rattle.ckd_image.specs.Store.{Counts};
 ghost use Rattle.dasd_volumes.specs.Reading.{KnownVolume, IsSlotOf};
@@ -20,11 +20,13 @@ pub trait SlotReader {
         ensures geometry { result ≡ (volume self.now).geometry }
         ensures valid { IsGeometry (volume self.now).geometry };
 
-    /// Reads the slot of a track, which `slot` has room for. After an error `slot` holds any bytes.
-    fn load(&mut self, track: u32, slot: &mut [u8]) -> Result<(), StoreFault>
+    /// Reads the slot of a track, which `slot` has room for, and says how many of its bytes there are: all; or none, where the volume
+    /// lacks the track. Behind these, and after an error, `slot` holds any bytes.
+    fn load(&mut self, track: u32, slot: &mut [u8]) -> Result<usize, StoreFault>
         requires exists { track < tracks_of (volume self.old).geometry }
         requires size { length slot.old ≡ (volume self.old).geometry.track_size }
-        ensures slot { OnOk result (IsSlotOf (volume self.old) track slot.new) }
+        ensures few { IfOk result (λ held. held ≤ length slot.new) }
+        ensures slot { IfOk result (λ held. IsSlotOf (volume self.old) track (take held slot.new)) }
         ensures kept { volume self.new ≡ volume self.old }
         ensures counted { Counts (failures self.old) (failures self.new) result };
 }
@@ -40,7 +42,11 @@ impl<S: ImageStore> SlotReader for Image<S> {
         self.geometry()
     }
 
-    fn load(&mut self, track: u32, slot: &mut [u8]) -> Result<(), StoreFault> {
-        self.load(track, slot)
+    // An image has all of its tracks.
+    fn load(&mut self, track: u32, slot: &mut [u8]) -> Result<usize, StoreFault> {
+        match self.load(track, slot) {
+            Ok(()) => Ok(slot.len()),
+            Err(fault) => Err(fault),
+        }
     }
 }

@@ -68,6 +68,7 @@ impl fmt::Display for Reason {
 
     fn fmt<W: fmt::Write>(&self, f: &mut fmt::Formatter<W>) -> fmt::Result {
         match self.0 {
+            SlotFault::NoEnd(0) => f.write_str("not in the file"),
             SlotFault::NoEnd(offset) => write!(f, "no end at {offset}"),
             SlotFault::RecordPastEnd(offset) => write!(f, "record past end at {offset}"),
         }

@@ -2,7 +2,7 @@
 
 use crate::commands::{NO_PATH, wrong};
 use crate::listings::{self, PATHS, read_joined, read_paths};
-use crate::options::{ArgKind, ArgRow, CommandRow, JSON, WORD, WORDS};
+use crate::options::{AS_FAR, ArgKind, ArgRow, CommandRow, JSON, WORD, WORDS};
 use crate::requests::{
     ComparedVolumes, DumpedPart, Numbers, PrintedVolume, Request, StrictCheck, WordFault,
 };
@@ -17,6 +17,8 @@ Numbers are decimal, or hexadecimal behind 0x, as places are printed; records ha
 const STRICT_JSON: &str = "error: --json goes with --strict\n";
 
 const STRICT_WARNINGS: &str = "error: --warnings goes with --strict\n";
+
+const STRICT_FAR: &str = "error: --as-far-as-it-goes goes with --strict\n";
 
 /// The name of the words of a dump.
 const DUMP_WORDS: &str = "WORD";
@@ -44,6 +46,7 @@ pub(crate) const CHECK: CommandRow = CommandRow {
             help: "prints errors and warnings alone; notes are counted",
             kind: ArgKind::Flag,
         },
+        AS_FAR,
         JSON,
     ],
 };
@@ -64,6 +67,9 @@ pub(crate) fn read_check<'a>(
     if !with_notes {
         return Err(wrong(alloc, STRICT_WARNINGS));
     }
+    if volume.as_far {
+        return Err(wrong(alloc, STRICT_FAR));
+    }
     Ok(Request::Check(volume.paths))
 }
 
@@ -79,6 +85,7 @@ pub(crate) const DUMP: CommandRow = CommandRow {
             help: "the files of an image, and behind them numbers or ranges, such as 0-2 or 0x14; records by their numbers",
             kind: WORDS,
         },
+        AS_FAR,
         JSON,
     ],
 };
@@ -107,8 +114,12 @@ pub(crate) fn read_dump<'a>(
         return Err(wrong(alloc, NO_NUMBERS));
     }
     let paths = read_paths(alloc, &words[..count])?;
-    let json = options.get_flag("json");
-    Ok(Request::Dump(PrintedVolume { paths, json }, part))
+    let volume = PrintedVolume {
+        paths,
+        json: options.get_flag("json"),
+        as_far: options.get_flag("as-far-as-it-goes"),
+    };
+    Ok(Request::Dump(volume, part))
 }
 
 // Three words as ranges of cylinders, heads and records.
@@ -176,6 +187,7 @@ pub(crate) const COMPARE: CommandRow = CommandRow {
             help: "takes each of A and B for one file, whose name may have a +",
             kind: ArgKind::Flag,
         },
+        AS_FAR,
         JSON,
     ],
 };
@@ -194,6 +206,7 @@ pub(crate) fn read_compare<'a>(
         other: read_compared(alloc, other, is_whole)?,
         lists: !options.get_flag("tracks"),
         json: options.get_flag("json"),
+        as_far: options.get_flag("as-far-as-it-goes"),
     }))
 }
 

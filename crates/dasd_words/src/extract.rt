@@ -2,7 +2,7 @@
 
 use crate::commands::{NO_PATH, wrong};
 use crate::listings::read_paths;
-use crate::options::{ArgKind, ArgRow, CommandRow, FILE, JSON, Value, WORDS};
+use crate::options::{AS_FAR, ArgKind, ArgRow, CommandRow, FILE, JSON, Value, WORDS};
 use crate::record_words::{BLOCK_LENGTH, FORMAT, RECORD_LENGTH, read_given};
 use crate::requests::{
     ExtractedSet, ExtractedTracks, ExtractedVolume, Request, SetName, WordFault,
@@ -65,6 +65,7 @@ pub(crate) const COMMAND: CommandRow = CommandRow {
             help: "writes the tracks of a data set as they stand in the image: all bytes of each, in order",
             kind: ArgKind::Flag,
         },
+        AS_FAR,
         JSON,
     ],
 };
@@ -77,6 +78,7 @@ pub(crate) fn read<'a>(alloc: Global, options: &ArgMatches<'a>) -> Result<Reques
     let is_text = options.get_flag("text");
     let json = options.get_flag("json");
     let is_raw = options.get_flag("raw");
+    let as_far = options.get_flag("as-far-as-it-goes");
     if is_raw && (is_text || options.get_str("all").is_some()) {
         return Err(wrong(alloc, RAW_TEXT));
     }
@@ -84,6 +86,7 @@ pub(crate) fn read<'a>(alloc: Global, options: &ArgMatches<'a>) -> Result<Reques
     if let Some(folder) = options.get_str("all") {
         return Ok(Request::ExtractAll(ExtractedVolume {
             paths: read_paths(alloc, words)?,
+            as_far,
             folder,
             is_text,
             json,
@@ -95,32 +98,36 @@ pub(crate) fn read<'a>(alloc: Global, options: &ArgMatches<'a>) -> Result<Reques
     let Some((paths, name)) = split_words(words) else {
         return Err(wrong(alloc, NO_NAME));
     };
-    let paths = read_paths(alloc, paths)?;
-    let target = options.get_str("to");
-    if is_raw {
-        return read_raw(alloc, paths, name, target);
-    }
-    Ok(Request::Extract(ExtractedSet {
-        paths,
+    let set = ExtractedSet {
+        paths: read_paths(alloc, paths)?,
+        as_far,
         name,
-        target,
+        target: options.get_str("to"),
         is_text,
         given,
-    }))
+    };
+    if is_raw {
+        return read_raw(alloc, set);
+    }
+    Ok(Request::Extract(set))
 }
 
 // The tracks of a data set, which is no member.
-fn read_raw<'a>(
-    alloc: Global,
-    paths: Vec<&'a str>,
-    name: SetName<'a>,
-    target: Option<&'a str>,
-) -> Result<Request<'a>, WordFault> {
+fn read_raw<'a>(alloc: Global, set: ExtractedSet<'a>) -> Result<Request<'a>, WordFault> {
+    let ExtractedSet {
+        paths,
+        as_far,
+        name,
+        target,
+        is_text: _,
+        given: _,
+    } = set;
     if name.member.is_some() {
         return Err(wrong(alloc, RAW_MEMBER));
     }
     Ok(Request::ExtractTracks(ExtractedTracks {
         paths,
+        as_far,
         name: name.data_set,
         target,
     }))

@@ -1,7 +1,7 @@
 //! The words of `dasd hash`.
 
 use crate::listings::{self, PATHS};
-use crate::options::{CommandRow, JSON};
+use crate::options::{AS_FAR, CommandRow, JSON};
 use crate::requests::{Request, WordFault};
 use clap::ArgMatches;
 use std::alloc::Global;
@@ -12,7 +12,7 @@ pub(crate) const COMMAND: CommandRow = CommandRow {
     about: "Prints the SHA-256 of what a volume says, without what stands behind end marks",
     usage: None,
     after_help: "Example: dasd hash pack.ckd",
-    args: &[PATHS, JSON],
+    args: &[PATHS, AS_FAR, JSON],
 };
 
 /// What it is asked.

@@ -2,7 +2,7 @@
 
 use crate::archive::read_numbers;
 use crate::listings::{self, PATHS};
-use crate::options::{ArgKind, ArgRow, CommandRow, FILE, JSON, Value, not_taken};
+use crate::options::{AS_FAR, ArgKind, ArgRow, CommandRow, FILE, JSON, Value, not_taken};
 use crate::requests::{ListedPart, Numbers, Request, WordFault};
 use clap::ArgMatches;
 use std::alloc::Global;
@@ -31,6 +31,7 @@ pub(crate) const COMMAND: CommandRow = CommandRow {
             help: "lists only tracks that have more than one record or can't be read",
             kind: ArgKind::Flag,
         },
+        AS_FAR,
         JSON,
     ],
 };
@@ -42,7 +43,8 @@ pub(crate) fn read<'a>(alloc: Global, options: &ArgMatches<'a>) -> Result<Reques
         cylinders: read_cylinders(alloc, options)?,
         used_only: options.get_flag("used"),
     };
-    if part.cylinders.is_none() && !part.used_only && !volume.json {
+    let is_plain = !volume.json && !volume.as_far;
+    if part.cylinders.is_none() && !part.used_only && is_plain {
         return Ok(Request::List(volume.paths));
     }
     Ok(Request::ListPart(volume, part))

@@ -33,6 +33,7 @@ pub(crate) fn read_printed<'a>(
     Ok(PrintedVolume {
         paths: read(alloc, options)?,
         json: options.get_flag("json"),
+        as_far: options.get_flag("as-far-as-it-goes"),
     })
 }
 

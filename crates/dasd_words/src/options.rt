@@ -79,6 +79,13 @@ pub(crate) const JSON: ArgRow = ArgRow {
     kind: ArgKind::Flag,
 };
 
+/// The option for a volume whose last file is too short or too long.
+pub(crate) const AS_FAR: ArgRow = ArgRow {
+    id: "as-far-as-it-goes",
+    help: "reads a volume also where its only or last file is too short or too long, and tells what it lacks",
+    kind: ArgKind::Flag,
+};
+
 /// The option of each command, and of the program itself, for more about a fault.
 pub(crate) const VERBOSE: ArgRow = ArgRow {
     id: "verbose",

@@ -120,6 +120,8 @@ pub struct PrintedVolume<'a> {
     pub paths: Vec<&'a str>,
     /// Whether each line is an object of JSON.
     pub json: bool,
+    /// Whether the files are read as far as they go, where the last one has an odd length.
+    pub as_far: bool,
 }
 
 /// A strict check of the volume of an image.
@@ -142,6 +144,8 @@ pub struct ComparedVolumes<'a> {
     pub lists: bool,
     /// Whether each line is an object of JSON.
     pub json: bool,
+    /// Whether the files are read as far as they go, where the last one has an odd length.
+    pub as_far: bool,
 }
 
 /// A data set or a member of one that is taken out of a volume.
@@ -149,6 +153,8 @@ pub struct ComparedVolumes<'a> {
 pub struct ExtractedSet<'a> {
     /// The files of the image.
     pub paths: Vec<&'a str>,
+    /// Whether the files are read as far as they go, where the last one has an odd length.
+    pub as_far: bool,
     /// What is taken.
     pub name: SetName<'a>,
     /// The new file for it; none is standard output.
@@ -164,6 +170,8 @@ pub struct ExtractedSet<'a> {
 pub struct ExtractedTracks<'a> {
     /// The files of the image.
     pub paths: Vec<&'a str>,
+    /// Whether the files are read as far as they go, where the last one has an odd length.
+    pub as_far: bool,
     /// The name of the data set.
     pub name: &'a str,
     /// The new file for them; none is standard output.
@@ -175,6 +183,8 @@ pub struct ExtractedTracks<'a> {
 pub struct ExtractedVolume<'a> {
     /// The files of the image.
     pub paths: Vec<&'a str>,
+    /// Whether the files are read as far as they go, where the last one has an odd length.
+    pub as_far: bool,
     /// The folder of the new files.
     pub folder: &'a str,
     /// Whether records are written as lines of text; if not, blocks are as they stand.

@@ -16,7 +16,7 @@ use std::alloc::Global;
 pub struct VolumeHash {
     /// The SHA-256 of what it says.
     pub digest: [u8; 32],
-    /// How many of its tracks can't be read. What their slots hold is hashed as it stands.
+    /// How many of its tracks can't be read. What their slots hold is hashed as it stands; those that the volume lacks hold nothing.
     pub unreadable: u32,
 }
 
@@ -80,10 +80,10 @@ fn add_tracks<V: SlotReader>(
     let geometry = volume.geometry();
     let mut unreadable: u32 = 0;
     for track in 0..geometry.tracks() {
-        if volume.load(track, slot).is_err() {
+        let Ok(held) = volume.load(track, slot) else {
             return Err(VolumeFault::Store);
-        }
-        unreadable += add_slot(message, slot);
+        };
+        unreadable += add_slot(message, &slot[..held]);
     }
     Ok(unreadable)
 }

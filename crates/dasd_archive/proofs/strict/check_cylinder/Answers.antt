@@ -25,8 +25,8 @@ loop-head-preserved g c = record {
 }
 
 -- a slot could not be read
-pub returns-then-is_err-clause-found : goal.returns-then-is_err-clause-found
-returns-then-is_err-clause-found g c =
+pub returns-in_default-clause-found : goal.returns-in_default-clause-found
+returns-in_default-clause-found g c =
     λ slots known. lines_so_far _ _ _ _ c.loop-head.head _ (search (rules, tests)) (c.loop-head.invariant.found slots known).0
 
 -- a track was not printed to its end

@@ -1,4 +1,4 @@
-use Rattle.std.proofs.Common.{◌≡◌, ◌≤◌, List, ℕ, inl, length, map, subst, sym, arith}
+use Rattle.std.proofs.Common.{◌≡◌, false, ◌≤◌, List, ℕ, inl, length, map, subst, sym, arith}
 use Rattle.std.specs.List.{AllZip}
 use Rattle.std.proofs.lemmas.List.{length-map}
 use Rattle.std.proofs.lemmas.Result.{IfOk-weaker, IfErr-weaker, err_from_is_err_and}
@@ -45,9 +45,9 @@ returns-in-Err-clause-not_read g c =
     let long = length-map c.args.paths.now (λ path. path.now) in
     let room = c.if-paths-gt-MOST_FILES.false in
     let few : length heads ≤ 8 = omega (arith, both, count, long, room) in
-    inl (subst (λ (f : JobFault). NotOpened f paths before (opened c.remark_on.new.files)) (sym c.of_mount.ensures)
-    (subst (λ (l : List SourceFile). NotOpened (mounting_fault c.in-Err.fault) paths before l) (sym c.remark_on.ensures.same)
-    (not_mounted c.in-Err.fault paths contents heads before now c.in_ok-locked.ensures.opens are (c.in-Err.ensures.not_mounted few))))
+    inl (subst (λ (f : JobFault). NotOpened false f paths before (opened c.remark_on.new.files)) (sym c.of_mount.ensures)
+    (subst (λ (l : List SourceFile). NotOpened false (mounting_fault c.in-Err.fault) paths before l) (sym c.remark_on.ensures.same)
+    (not_mounted false c.in-Err.fault paths contents heads before now c.in_ok-locked.ensures.opens are (c.in-Err.ensures.not_mounted few))))
 
 -- or one was not read whole
 pub returns-in_err-stores-clause-not_read : goal.returns-in_err-stores-clause-not_read

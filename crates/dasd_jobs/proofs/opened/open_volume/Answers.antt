@@ -5,10 +5,11 @@ use Rattle.std.proofs.lemmas.Result.{err_from_is_err_and}
 use Rattle.dasd_jobs.specs.declared.faults.JobFault.{JobFault}
 use Rattle.dasd_jobs.specs.declared.reasons.Head.{Head}
 use Rattle.dasd_jobs.specs.Causes.{mounting_fault}
-use Rattle.dasd_jobs.specs.Sources.{SourceFile, OpensPaths}
+use Rattle.dasd_jobs.specs.Sources.{SourceFile, OpenedState, OpensPaths, Mounts}
 use Rattle.dasd_jobs.specs.Unopened.{NotOpened}
 use Rattle.dasd_jobs.specs.Opening.{IsHeadOf}
 use Rattle.dasd_jobs.proofs.Volumes.{next_opened}
+use Rattle.dasd_jobs.proofs.Reached.{mounted_files}
 use Rattle.dasd_jobs.proofs.Unopened.{stopped, not_mounted}
 use Rattle.dasd_jobs.proofs.opened.open_volume.Goals as goal
 
@@ -29,13 +30,21 @@ loop-path-preserved g c =
           omega (arith, long, so_far));
     }
 
+-- all were, and they hold the volume
+pub returns-in-Ok-clause-mounts : goal.returns-in-Ok-clause-mounts
+returns-in-Ok-clause-mounts g c =
+    let contents = map g.F.Opened.OpenedFile.content c.loop-path.opened.items in
+    let are = subst (λ (hs : List Head). AllZip IsHeadOf contents hs) (sym c.as_slice-heads.ensures.value) c.loop-path.invariant.heads in
+    subst (λ (v : OpenedState). Mounts c.args.as_far v.contents v.geometry) (sym c.volume_of-volume.ensures)
+    (mounted_files c.args.as_far c.in-Ok.geometry contents c.as_slice-heads.result.now are c.in-Ok.ensures.mounts)
+
 -- the next file is not opened
 pub returns-in_err-add_file-clause-not_opened : goal.returns-in_err-add_file-clause-not_opened
 returns-in_err-add_file-clause-not_opened g c =
     let opened = g.F.ImageFiles.opened in
     let p = err_from_is_err_and c.from_residual.result c.from_residual.ensures.1 in
     rw (p.1, p.2) (
-    stopped (λ path. path.now) c.args.paths.now (opened c.args.files.now) c.in_err-add_file.field-0.0 c.loop-path.path-index _
+    stopped (λ path. path.now) c.args.paths.now (opened c.args.files.now) c.args.as_far c.in_err-add_file.field-0.0 c.loop-path.path-index _
     (map g.F.Opened.OpenedFile.content c.loop-path.opened.items)
     (opened c.loop-path.files) (opened c.add_file.new.files) c.loop-path-test.true c.loop-path.invariant.opens
     c.in_err-add_file.ensures.not_added)
@@ -54,6 +63,7 @@ returns-in-Err-clause-not_opened g c =
     let those = c.loop-path.invariant.opens in
     let opens = subst (λ ps. OpensPaths (map (λ path. path.now) ps) contents before (opened c.loop-path.files)) all those in
     let are = subst (λ (hs : List Head). AllZip IsHeadOf contents hs) (sym c.as_slice-heads.ensures.value) c.loop-path.invariant.heads in
-    subst (λ (f : JobFault). NotOpened f paths before (opened c.remark_on.new.files)) (sym c.of_mount.ensures)
-    (subst (λ (l : List SourceFile). NotOpened (mounting_fault c.in-Err.fault) paths before l) (sym c.remark_on.ensures.same)
-    (not_mounted c.in-Err.fault paths contents heads before (opened c.loop-path.files) opens are (c.in-Err.ensures.not_mounted few)))
+    subst (λ (f : JobFault). NotOpened c.args.as_far f paths before (opened c.remark_on.new.files)) (sym c.of_mount.ensures)
+    (subst (λ (l : List SourceFile). NotOpened c.args.as_far (mounting_fault c.in-Err.fault) paths before l) (sym c.remark_on.ensures.same)
+    (not_mounted c.args.as_far c.in-Err.fault paths contents heads before (opened c.loop-path.files) opens are
+    (c.in-Err.ensures.not_mounted few)))

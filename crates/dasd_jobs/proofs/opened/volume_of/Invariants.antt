@@ -6,6 +6,6 @@ use Rattle.dasd_jobs.proofs.opened.volume_of.Given as goal
 -- the tracks of the files so far are counted
 abbrev pub invariant-loop-head : goal.invariant-loop-head
 invariant-loop-head g l = record {
-  counts : AllZip (AreTracks l.geometry.track_size) (take l.head-index l.heads) l.tracks.items;
+  counts : AllZip (AreTracks l.geometry) (take l.head-index l.heads) l.tracks.items;
   count : length l.tracks.items ≡ l.head-index;
 }

@@ -82,5 +82,5 @@ returns-clause-compares g c =
         mounts = c.in-Ok-open_volume.ensures.mounts;
         so = tt;
       },
-      (subst (λ paths. NotOpened f paths between now) other_is c.in-Err-open_volume-2.ensures.not_opened, refl),
+      (subst (λ paths. NotOpened c.args.asked.now.as_far f paths between now) other_is c.in-Err-open_volume-2.ensures.not_opened, refl),
     ))

@@ -14,8 +14,14 @@ returns-in-Ok-open_volume-clause-dumps g c = inr (record {
   contents = v.contents;
   opens = subst (λ paths. OpensPaths paths v.contents before now) same_paths c.in-Ok-open_volume.ensures.opens;
   mounts = c.in-Ok-open_volume.ensures.mounts;
-  so = subst (Dumps (style_of c.args.asked.now.json)) same_path (subst (λ style. Dumps style c.as_str.result.now) c.style.ensures
-      c.dump_opened.ensures);
+  reach = c.reach-reach.result;
+  is_reach = c.reach-reach.ensures;
+  so = (
+    c.dump_opened-dumped.result,
+    c.with_reach.ensures,
+    subst (Dumps (style_of c.args.asked.now.json)) same_path (subst (λ style. Dumps style c.as_str.result.now) c.style.ensures
+        c.dump_opened-dumped.ensures),
+  );
 })
   where
     v : OpenedState
@@ -29,9 +35,9 @@ returns-in-Ok-open_volume-clause-dumps g c = inr (record {
 
     Dumps : Style → (path : List ℕ) → Type 0
     Dumps style path =
-        DumpsRecords c.dump_opened.result c.args.part (dump_text style path (asked_part c.args.part))
+        DumpsRecords c.dump_opened-dumped.result c.args.part (dump_text style path (asked_part c.args.part))
         (volume_in v.geometry v.contents)
-        (seen_by g.W.Write.contents c.args.writer.now) (seen_by g.W.Write.contents c.dump_opened.new.writer)
+        (seen_by g.W.Write.contents c.args.writer.now) (seen_by g.W.Write.contents c.dump_opened-dumped.new.writer)
 
     same_paths : map (λ path. path.now) c.as_slice-paths.result.now ≡ paths_of c.args.asked.now
     same_paths = ap (map (λ path. path.now)) c.as_slice-paths.ensures.value

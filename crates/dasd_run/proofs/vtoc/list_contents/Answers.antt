@@ -1,14 +1,23 @@
-use Rattle.std.proofs.Common.{◌∙◌}
-use Rattle.dasd_run.proofs.Held.{listed}
+use Rattle.std.proofs.Common.{◌∙◌, inr}
 use Rattle.dasd_run.proofs.vtoc.list_contents.Goals as goal
 
 pub returns-in-Ok-open_volume-clause-lists : goal.returns-in-Ok-open_volume-clause-lists
 returns-in-Ok-open_volume-clause-lists g c =
-    listed c.print_contents.result c.args.asked.now _ _ c.in-Ok-open_volume.volume _ _
-    (rw c.as_slice-paths.ensures.value at c.in-Ok-open_volume.ensures.opens)
-    c.in-Ok-open_volume.ensures.mounts (rw (
-      c.path_if-json.ensures,
-      c.as_str.ensures.value
-          ∙ c.in-Ok.ensures.text,
-      c.as_slice-paths.ensures.value,
-    ) at c.print_contents.ensures)
+    let v = c.in-Ok-open_volume.volume in
+    inr (record {
+      geometry = v.geometry;
+      contents = v.contents;
+      opens = rw c.as_slice-paths.ensures.value at c.in-Ok-open_volume.ensures.opens;
+      mounts = c.in-Ok-open_volume.ensures.mounts;
+      reach = c.reach-reach.result;
+      is_reach = c.reach-reach.ensures;
+      so = (
+        c.print_contents-printed.result,
+        c.with_reach.ensures,
+        rw (
+          c.path_if-json.ensures,
+          c.as_str.ensures.value ∙ c.in-Ok.ensures.text,
+          c.as_slice-paths.ensures.value,
+        ) at c.print_contents-printed.ensures,
+      );
+    })

@@ -22,8 +22,8 @@ loop-head-preserved g c = record {
 }
 
 -- a slot could not be read
-pub returns-then-is_err-clause-lines : goal.returns-then-is_err-clause-lines
-returns-then-is_err-clause-lines g c = λ slots known. front_so_far _ _ [] _ c.loop-head.head _ (search (rules, tests))
+pub returns-in_default-clause-lines : goal.returns-in_default-clause-lines
+returns-in_default-clause-lines g c = λ slots known. front_so_far _ _ [] _ c.loop-head.head _ (search (rules, tests))
     (c.loop-head.invariant.lines slots known)
 
 -- a line could not be written

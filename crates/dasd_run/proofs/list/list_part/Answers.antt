@@ -1,0 +1,57 @@
+use Rattle.std.proofs.Common.{◌≡◌, ◌∙◌, ℕ, List, Result, Ok, Err, map, inr, ap, subst}
+use Rattle.counted_io.specs.Streams.{Stream, seen_by}
+use Rattle.dasd_archive.specs.declared.reports.Style.{Style}
+use Rattle.dasd_jobs.specs.declared.lengths.Reach.{Reach}
+use Rattle.dasd_jobs.specs.Sources.{SourceFile, OpenedState, OpensPaths, volume_in}
+use Rattle.dasd_run.specs.Paths.{quoted_paths}
+use Rattle.dasd_run.specs.Printed.{style_of, paths_of, asked_list, HasCylinders, PrintsPart, TakesMemoryFirst}
+use Rattle.dasd_run.specs.Reaches.{with_reach}
+use Rattle.dasd_run.specs.declared.commands.Ending.{Ending}
+use Rattle.dasd_run.specs.declared.fault.ProgramFault.{ProgramFault}
+use Rattle.dasd_run.proofs.list.list_part.Goals as goal
+
+pub returns-in-Ok-open_volume-clause-lists : goal.returns-in-Ok-open_volume-clause-lists
+returns-in-Ok-open_volume-clause-lists g c = inr (record {
+  geometry = v.geometry;
+  contents = v.contents;
+  opens = subst (λ paths. OpensPaths paths v.contents before now) same_paths c.in-Ok-open_volume.ensures.opens;
+  mounts = c.in-Ok-open_volume.ensures.mounts;
+  reach = c.reach-reach.result;
+  is_reach = c.reach-reach.ensures;
+  so = (
+    c.list_opened-listed.result,
+    c.with_reach.ensures,
+    subst (Lists (style_of c.args.asked.now.json)) same_path (subst (λ style. Lists style c.as_str.result.now) c.style.ensures
+        c.list_opened-listed.ensures.part),
+  );
+})
+  where
+    v : OpenedState
+    v = c.in-Ok-open_volume.volume
+
+    before : List SourceFile
+    before = g.F.ImageFiles.opened c.args.files.now
+
+    now : List SourceFile
+    now = g.F.ImageFiles.opened c.open_volume.new.files
+
+    Lists : Style → (path : List ℕ) → Type 0
+    Lists style path =
+        PrintsPart c.list_opened-listed.result (HasCylinders c.args.part.cylinders) (asked_list style path c.args.part)
+        (volume_in v.geometry v.contents)
+        (seen_by g.W.Write.contents c.args.writer.now) (seen_by g.W.Write.contents c.list_opened-listed.new.writer)
+
+    same_paths : map (λ path. path.now) c.as_slice-paths.result.now ≡ paths_of c.args.asked.now
+    same_paths = ap (map (λ path. path.now)) c.as_slice-paths.ensures.value
+
+    same_path : c.as_str.result.now ≡ quoted_paths (paths_of c.args.asked.now)
+    same_path = c.as_str.ensures.value ∙ (c.in-Ok.ensures.text ∙ ap quoted_paths same_paths)
+
+first : (reach : Reach) (ended result : Result Ending ProgramFault) (before now : Stream) → result ≡ with_reach reach ended
+    → TakesMemoryFirst ended before now → TakesMemoryFirst result before now
+first reach (Ok ending) result before now is memory = rw is tt
+first reach (Err f) result before now is memory = rw is memory
+
+pub returns-in-Ok-open_volume-clause-memory : goal.returns-in-Ok-open_volume-clause-memory
+returns-in-Ok-open_volume-clause-memory g c =
+    first c.reach-reach.result c.list_opened-listed.result _ _ _ c.with_reach.ensures c.list_opened-listed.ensures.memory

@@ -1,0 +1,21 @@
+//! How a command ends over a volume that may lack tracks.
+
+ghost use Rattle.std.specs.Prelude.{◌≡◌};
+ghost use Rattle.dasd_run.specs.Reaches.{with_reach};
+
+use crate::commands::Ending;
+use crate::fault::ProgramFault;
+use dasd_jobs::Reach;
+
+/// How a command ends that ended so over a volume whose files go so far: there are findings where they lack tracks.
+pub(crate) fn with_reach(
+    reach: Reach,
+    ended: Result<Ending, ProgramFault>,
+) -> Result<Ending, ProgramFault>
+    ensures { result ≡ with_reach reach ended }
+{
+    match ended {
+        Ok(Ending::Done) if reach.lacking > 0 => Ok(Ending::Findings),
+        ended => ended,
+    }
+}
