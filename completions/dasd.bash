@@ -93,7 +93,7 @@ _dasd() {
         _dasd_files
         ;;
     hash)
-        if [[ $word == -* ]]; then _dasd_words --json --verbose -h --help; return; fi
+        if [[ $word == -* ]]; then _dasd_words --sets --members --json --verbose -h --help; return; fi
         _dasd_files
         ;;
     vtoc)

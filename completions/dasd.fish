@@ -45,6 +45,8 @@ complete -c dasd -n '__fish_seen_subcommand_from compare' -l json -d 'prints one
 complete -c dasd -n '__fish_seen_subcommand_from compare' -l verbose -d 'tells more of a fault, also where standard error is no terminal'
 complete -c dasd -n '__fish_seen_subcommand_from compare' -s h -l help -d 'Print help'
 complete -c dasd -n '__fish_seen_subcommand_from compare' -F
+complete -c dasd -n '__fish_seen_subcommand_from hash' -l sets -d 'prints that of each data set too'
+complete -c dasd -n '__fish_seen_subcommand_from hash' -l members -d 'prints that of each data set and of each member too'
 complete -c dasd -n '__fish_seen_subcommand_from hash' -l json -d 'prints one object of JSON a line'
 complete -c dasd -n '__fish_seen_subcommand_from hash' -l verbose -d 'tells more of a fault, also where standard error is no terminal'
 complete -c dasd -n '__fish_seen_subcommand_from hash' -s h -l help -d 'Print help'

@@ -40,6 +40,7 @@ SUITES = [
     ["gate/play_archives"],
     ["gate/compare_contents"],
     ["gate/compare_extract"],
+    ["gate/compare_hashes"],
 ]
 # Keeps the command and the output of each run with --json.
 KEEPING = """#!/bin/sh
