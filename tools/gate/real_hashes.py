@@ -95,7 +95,7 @@ def data_set_that_ends_within_a_fault_is_told(s: Scratch) -> None:
     image.save()
     status, lines = hashed(s, "--members", "pack.ckd")
     same((status, lines), (1, [line(blocks_hash([ONE], is_whole=False), "data set that is not whole CARDS")]))
-    same(s.dasd("extract", "pack.ckd", "CARDS")[0], 1, "the status of extract")
+    same(s.dasd("extract", "pack.ckd", "CARDS", "--text"), fault("track 1 of the data set: unreadable record past end at 5", "ONE\n"))
 
 
 @row

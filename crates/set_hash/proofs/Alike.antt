@@ -1,5 +1,6 @@
 -- Messages of blocks are the same exactly where what the blocks say is.
-use Rattle.std.proofs.Common.{◌≡◌, ◌∙◌, ap, sym, refl, ℕ, ◌+◌, ◌*◌, ◌/◌, ◌%◌, ◌↔◌, Bool, true, false, List, [], ◌∷◌, ◌++◌, length, take, drop, map, slice_index, append_assoc, codes, arith, flat_map}
+use Rattle.std.proofs.Common.{◌≡◌, ◌∙◌, ap, sym, refl, ℕ, ◌+◌, ◌*◌, ◌/◌, ◌%◌, ◌↔◌, Bool, true}
+use Rattle.std.proofs.Common.{false, List, [], ◌∷◌, ◌++◌, length, take, drop, map, slice_index, append_assoc, codes, arith, flat_map}
 use Rattle.std.proofs.lemmas.List.{take_at, drop_at}
 use Rattle.ckd_track.specs.Track.{Record}
 use Rattle.dasd_extract.specs.Blocks.{keyed_bytes}
@@ -43,13 +44,12 @@ apart (r ∷ rs) (q ∷ qs) w u same =
     let high : length r.data_area / 256 ≡ length q.data_area / 256 = ap (λ l. slice_index l 2) same in
     let low : length r.data_area % 256 ≡ length q.data_area % 256 = ap (λ l. slice_index l 3) same in
     let body = sym (regroup r.key_area r.data_area (flat_map keyed_bytes rs) (ending w)) ∙ ap (drop 4) same
-        ∙ regroup q.key_area q.data_area (flat_map keyed_bytes qs) (ending u) in
+    ∙ regroup q.key_area q.data_area (flat_map keyed_bytes qs) (ending u) in
     let keys = alike r.key_area q.key_area _ _ key body in
     let both = alike r.data_area q.data_area _ _ (one_length _ _ high low) keys.1 in
-    let rest = apart rs qs w u both.1 in
-    (
+    let rest = apart rs qs w u both.1 in (
       ap (λ k. (k, r.data_area) ∷ map areas rs) keys.0 ∙ ap (λ d. (q.key_area, d) ∷ map areas rs) both.0
-      ∙ ap (λ l. areas q ∷ l) rest.0,
+          ∙ ap (λ l. areas q ∷ l) rest.0,
       rest.1,
     )
 
@@ -60,7 +60,7 @@ by_areas (r ∷ rs) = ap (λ l. keyed_bytes r ++ l) (by_areas rs)
 
 together : (blocks others : List Record) (w u : Bool) → AreSame blocks others w u → message_of blocks w ≡ message_of others u
 together blocks others w u same =
-    let bytes : flat_map keyed_bytes blocks ≡ flat_map keyed_bytes others = by_areas blocks ∙ ap (flat_map keyed) same.0 ∙ sym (by_areas others) in
+    let bytes = by_areas blocks ∙ ap (flat_map keyed) same.0 ∙ sym (by_areas others) in
     ap (λ l. codes "blocks" ++ (l ++ ending w)) bytes ∙ ap (λ b. codes "blocks" ++ (flat_map keyed_bytes others ++ ending b)) same.1
 
 pub message_is_what_blocks_say : MessageIsWhatBlocksSay

@@ -1,5 +1,6 @@
 -- Lines and tests that go on one element after another.
-use Rattle.std.proofs.Common.{◌≡◌, ◌∙◌, ap, sym, refl, ℕ, ◌+◌, ◌<◌, ◌≤◌, ◌&&◌, Bool, true, false, List, [], ◌++◌, length, take, get_or, append-nil, append_assoc, flat_map}
+use Rattle.std.proofs.Common.{◌≡◌, ◌∙◌, ap, sym, refl, ℕ, ◌+◌, ◌<◌, ◌≤◌, ◌&&◌, Bool}
+use Rattle.std.proofs.Common.{true, false, List, [], ◌++◌, length, take, get_or, append-nil, append_assoc, flat_map}
 use Rattle.std.specs.List.{list_all}
 use Rattle.std.proofs.lemmas.List.{flat_map_more, take_more, take_all}
 use Rattle.std.proofs.lemmas.List.Folds.{list_all_more}

@@ -47,9 +47,14 @@ member_text f name member digits whole =
     else item_line f.path (codes "member") (concat (name ∷ codes "(" ∷ member ∷ codes ")" ∷ [])) digits whole
 
 -- what is said where something is wrong with the label or the table of contents, so that data sets may be missing
-abbrev pub findings_line : Shown → List ℕ
-findings_line f =
-    if f.json then concat (
-    codes "{\"path\":" ∷ f.path ∷ codes ",\"name\":\"volume table of contents\",\"text\":\"has findings, which dasd vtoc prints\"}"
+abbrev pub findings_line : (path : List ℕ) → List ℕ
+findings_line path =
+    concat (codes "volume table of contents of " ∷ path_text path ∷ codes " has findings, which dasd vtoc prints" ∷ line_feed ∷ [])
+
+abbrev pub findings_object : (path : List ℕ) → List ℕ
+findings_object path = concat (
+    codes "{\"path\":" ∷ path ∷ codes ",\"name\":\"volume table of contents\",\"text\":\"has findings, which dasd vtoc prints\"}"
     ∷ line_feed ∷ [])
-    else concat (codes "volume table of contents of " ∷ path_text f.path ∷ codes " has findings, which dasd vtoc prints" ∷ line_feed ∷ [])
+
+abbrev pub findings_text : Shown → List ℕ
+findings_text f = if f.json then findings_object f.path else findings_line f.path

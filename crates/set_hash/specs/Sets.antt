@@ -15,7 +15,7 @@ use Rattle.dasd_contents.specs.Contents.{contents_of}
 use Rattle.dasd_contents.specs.Sets.{is_data_set, extents_behind}
 use Rattle.volume_hash.specs.Lines.{hash_text}
 use Rattle.volume_hash.specs.Message.{unreadable_in}
-use Rattle.set_hash.specs.Lines.{Shown, set_text, member_text, findings_line}
+use Rattle.set_hash.specs.Lines.{Shown, set_text, member_text, findings_text}
 use Rattle.set_hash.specs.Message.{beginning, blocks_hash, are_whole, is_partitioned, members_in, member_is_whole, library_hash, library_is_whole}
 
 -- what of it, where that is asked for
@@ -66,7 +66,7 @@ abbrev pub none_found : List Finding → Bool
 none_found findings = length findings == 0
 
 abbrev pub findings_lines : Shown → List Finding → List ℕ
-findings_lines f findings = if none_found findings then [] else findings_line f
+findings_lines f findings = if none_found findings then [] else findings_text f
 
 abbrev pub contents_lines : Shown → Geometry → (slots : List (List ℕ)) → List ℕ
 contents_lines f g slots =

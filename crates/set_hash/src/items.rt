@@ -3,7 +3,8 @@
 ghost use Rattle.std.specs.Prelude.{◌≡◌, [], ◌∷◌, OnOk, codes};
 ghost use Rattle.std.specs.List.{concat};
 ghost use Rattle.std.specs.Io.KnownBytes.{Appends};
-ghost use Rattle.set_hash.specs.Lines.{shown, bool_text, kind_text, item_line, set_object, set_text, member_object, member_text, findings_line};
+ghost use Rattle.set_hash.specs.Lines.{shown, bool_text, kind_text, item_line, set_object, set_text, member_object, member_text};
+ghost use Rattle.set_hash.specs.Lines.{findings_object, findings_line, findings_text};
 
 use std::io;
 use std::io::Write;
@@ -177,16 +178,30 @@ fn write_member_line<W: Write>(
 /// Writes that something is wrong with the label or the table of contents of a volume.
 pub(crate) fn write_findings<W: Write>(writer: &mut W, form: Form) -> io::Result<()>
     ensures { OnOk result (Appends (W.contents writer.old) (W.contents writer.new)
-        (findings_line (shown form.entry.path.now form.entry.json form.entry.sets form.entry.members))) }
+        (findings_text (shown form.entry.path.now form.entry.json form.entry.sets form.entry.members))) }
 {
-    let path = form.path;
     if form.json {
-        return writeln!(
-            writer,
-            "{{\"path\":{path},\"name\":\"volume table of contents\",\"text\":\"has findings, which dasd vtoc prints\"}}"
-        );
+        return write_findings_object(writer, form.path);
     }
+    write_findings_line(writer, form.path)
+}
+
+// The object of that.
+fn write_findings_object<W: Write>(writer: &mut W, path: &str) -> io::Result<()>
+    ensures { OnOk result (Appends (W.contents writer.old) (W.contents writer.new) (findings_object path.now)) }
+{
+    writeln!(
+        writer,
+        "{{\"path\":{path},\"name\":\"volume table of contents\",\"text\":\"has findings, which dasd vtoc prints\"}}"
+    )
+}
+
+// The line of that.
+fn write_findings_line<W: Write>(writer: &mut W, path: &str) -> io::Result<()>
+    ensures { OnOk result (Appends (W.contents writer.old) (W.contents writer.new) (findings_line path.now)) }
+{
     writer.write_all(b"volume table of contents of ")?;
     write_path(writer, path.as_bytes())?;
-    writer.write_all(b" has findings, which dasd vtoc prints\n")
+    writer.write_all(b" has findings, which dasd vtoc prints")?;
+    writer.write_all(b"\n")
 }

@@ -54,7 +54,11 @@ pub fn print_hashes<V: SlotReader, W: Write>(
 }
 
 // The lines of a volume's hash, and of those of its data sets and members that are asked for; and whether all of it is whole.
-fn report_of<V: SlotReader>(alloc: Global, volume: &mut V, form: Form) -> Result<Report, VolumeFault>
+fn report_of<V: SlotReader>(
+    alloc: Global,
+    volume: &mut V,
+    form: Form,
+) -> Result<Report, VolumeFault>
     ensures report { let f = shown form.entry.path.now form.entry.json form.entry.sets form.entry.members in
         IfOk result (IsReportOf f (V.volume volume.old)) }
     ensures fault { IfErr result (λ e. e ≢ VolumeFault.Write) }

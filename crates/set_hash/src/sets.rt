@@ -56,11 +56,15 @@ pub(crate) fn add_contents<V: SlotReader>(
         Ok(contents) => contents,
         Err(fault) => return Err(fault),
     };
-    if add_findings(report, form, contents.found.findings.as_slice()).is_err() {
+    let findings = contents.found.findings.as_slice();
+    if let Err(_) = add_findings(report, form, findings) {
         return Err(VolumeFault::OutOfMemory);
     }
     let blocks = contents.found.blocks.as_slice();
-    add_blocks(alloc, volume, report, Table { form, blocks })
+    match add_blocks(alloc, volume, report, Table { form, blocks }) {
+        Ok(()) => Ok(()),
+        Err(fault) => Err(fault),
+    }
 }
 
 // That something is wrong goes to the report, if it is.
