@@ -4,6 +4,7 @@ ghost use Rattle.std.specs.Prelude.{◌≡◌, [], ◌∷◌, OnOk, codes};
 ghost use Rattle.std.specs.List.{concat};
 ghost use Rattle.std.specs.Io.KnownBytes.{Appends};
 ghost use Rattle.set_hash.specs.Lines.{shown, bool_text, kind_text, item_line, set_object, set_text, member_object, member_text};
+ghost use Rattle.volume_hash.specs.Lines.{path_text};
 ghost use Rattle.set_hash.specs.Lines.{findings_object, findings_line, findings_text};
 
 use std::io;
@@ -201,7 +202,14 @@ fn write_findings_line<W: Write>(writer: &mut W, path: &str) -> io::Result<()>
     ensures { OnOk result (Appends (W.contents writer.old) (W.contents writer.new) (findings_line path.now)) }
 {
     writer.write_all(b"volume table of contents of ")?;
-    write_path(writer, path.as_bytes())?;
-    writer.write_all(b" has findings, which dasd vtoc prints")?;
-    writer.write_all(b"\n")
+    write_path_of(writer, path)?;
+    writer.write_all(b" has findings, which dasd vtoc prints\n")?;
+    Ok(())
+}
+
+// A path in a line.
+fn write_path_of<W: Write>(writer: &mut W, path: &str) -> io::Result<()>
+    ensures { OnOk result (Appends (W.contents writer.old) (W.contents writer.new) (path_text path.now)) }
+{
+    write_path(writer, path.as_bytes())
 }
