@@ -40,6 +40,7 @@ SUITES = [
     ["gate/play_archives"],
     ["gate/compare_contents"],
     ["gate/compare_extract"],
+    ["gate/compare_hashes"],
 ]
 # Keeps the command and the output of each run with --json.
 KEEPING = """#!/bin/sh
@@ -190,7 +191,7 @@ def play(dasd: Path, folder: Path, lines: Lines) -> None:
             ["list", "--json", *files],
             ["check", "--strict", "--json", *files],
             ["dump", "--json", *[f"./{it}" if "/" not in it else it for it in files], "0", "0-9"],
-            ["hash", "--json", *files],
+            ["hash", "--members", "--json", *files],
             ["vtoc", "--json", *files],
             ["extract", "--all", str(taken), "--text", "--json", *files],
             ["compare", "--json", "pack.ckd", joined],

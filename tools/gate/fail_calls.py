@@ -97,6 +97,7 @@ COMMANDS = [
     Command("dump", ["dump", "pack.ckd", "0", "2"]),
     Command("vtoc", ["vtoc", "pack.ckd"]),
     Command("hash", ["hash", "pack.ckd"]),
+    Command("hash --members", ["hash", "--members", "pack.ckd"]),
     Command("compare", ["compare", "one.ckd", "same.ckd"]),
     Command("extract", ["extract", "pack.ckd", "PAY.CARDS", "--text"]),
     Command("extract to a file", ["extract", "pack.ckd", "SYS1.MACLIB(BETA)", "--to", "beta"]),

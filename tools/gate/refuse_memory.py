@@ -77,6 +77,8 @@ JOBS = {
     "a number in words": Job(["explain", "csw", "000004080C400014"]),
     "the hash of a volume": Job(["hash", "old.ckd"]),
     "the same in an object": Job(["hash", "--json", "old.ckd"]),
+    "the hashes of data sets and members": Job(["hash", "--members", "old.ckd"]),
+    "the same in objects, of data sets": Job(["hash", "--sets", "--json", "old.ckd"]),
     "the data sets of a volume": Job(["vtoc", "old.ckd"]),
     "the same in objects": Job(["vtoc", "--json", "old.ckd"]),
     "a data set": Job(["extract", "old.ckd", "PAY.CARDS", "--text"]),

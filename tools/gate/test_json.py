@@ -28,6 +28,9 @@ RIGHT: list[tuple[str, dict[str, Any]]] = [
     ("vtoc", {"path": "a", "serial": "ABC123", "owner": ""}),
     ("vtoc", {"path": "a", "fault": "wrong length", "remarks": ["a: its length is 41471 bytes, and an image is 512 bytes and whole cylinders of 40960"]}),
     ("hash", {"path": "a", "fault": "wrong length", "remarks": []}),
+    ("hash", {"path": "a", "name": "PAY", "hash": "0123456789abcdef" * 4, "whole": True}),
+    ("hash", {"path": "a", "name": "PAY", "member": "NET", "hash": "0123456789abcdef" * 4, "whole": False}),
+    ("hash", {"path": "a", "name": "volume table of contents", "text": "has findings, which dasd vtoc prints"}),
 ]
 # A line, and what of it is another: None takes a member away.
 PLANTED: list[tuple[int, dict[str, Any]]] = [
@@ -68,6 +71,12 @@ PLANTED: list[tuple[int, dict[str, Any]]] = [
     (18, {"fault": ""}),
     (18, {"remarks": None}),
     (18, {"remarks": [1]}),
+    (20, {"whole": None}),
+    (20, {"whole": "true"}),
+    (20, {"unreadable": 0}),
+    (21, {"member": ""}),
+    (21, {"name": None}),
+    (22, {"name": "PAY"}),
     (18, {"serial": "ABC123"}),
 ]
 

@@ -1,5 +1,5 @@
 -- What is written of a block: its data, or its records as lines of text.
-use Rattle.std.specs.Prelude.{ℕ, zero, suc, Bool, ◌&&◌, ◌||◌, ◌==◌, nat_lt, nat_le, if◌then◌else◌, List, [], ◌∷◌, ◌++◌, length, flat_map, slice_range}
+use Rattle.std.specs.Prelude.{ℕ, zero, suc, ◌/◌, ◌%◌, Bool, ◌&&◌, ◌||◌, ◌==◌, nat_lt, nat_le, if◌then◌else◌, List, [], ◌∷◌, ◌++◌, length, flat_map, slice_range}
 use Rattle.std.specs.Prelude.{slice_index, encode_utf8, Option, Some, None, Result, Ok, Err}
 use Rattle.ckd_track.specs.Track.{Record}
 use Rattle.volume_labels.specs.Ebcdic.{character_of}
@@ -14,7 +14,7 @@ use Rattle.data_sets.specs.Records.{next_record}
 use Rattle.data_sets.specs.Lines.{without_blanks}
 use Rattle.dasd_extract.specs.declared.stops.Cause.TheVariants.{EndOfFile, NotDirectory, NoRecord, LongBlock}
 use Rattle.dasd_extract.specs.declared.blocks.Form.{Form}
-use Rattle.dasd_extract.specs.declared.blocks.Form.TheVariants.{Raw, Text, Directory}
+use Rattle.dasd_extract.specs.declared.blocks.Form.TheVariants.{Raw, Text, Directory, Keyed}
 use Rattle.dasd_extract.specs.Written.{Written, nothing, these_bytes, stopped, behind}
 
 -- a character that controls a terminal or a file is no text: it is a replacement character, so that each record is one line
@@ -67,6 +67,14 @@ abbrev pub directory_written : (track number : ℕ) → (key block : List ℕ) �
 directory_written track number key block =
     if (length key == 8) && (length block == 256) then these_bytes block else stopped track (NotDirectory number)
 
+-- the lengths of a block's areas as its count area has them: that of the key in a byte, that of the data in two
+abbrev pub lengths : Record → List ℕ
+lengths r = length r.key_area ∷ length r.data_area / 256 ∷ length r.data_area % 256 ∷ []
+
+-- a block with its lengths and its key: a byte 1, the lengths, the key and the data
+abbrev pub keyed_bytes : Record → List ℕ
+keyed_bytes r = 1 ∷ lengths r ++ (r.key_area ++ r.data_area)
+
 abbrev pub number_of : Record → ℕ
 number_of r = slice_index r.id 4
 
@@ -74,6 +82,7 @@ abbrev pub form_written : Form → (track : ℕ) → Record → Written
 form_written Raw track r = these_bytes r.data_area
 form_written (Text l) track r = records_written l track (number_of r) r.data_area
 form_written Directory track r = directory_written track (number_of r) r.key_area r.data_area
+form_written Keyed track r = these_bytes (keyed_bytes r)
 
 -- a record without data is an end of file
 abbrev pub block_written : Form → (track : ℕ) → Record → Written

@@ -1,10 +1,11 @@
 //! What is written of a block.
 
-ghost use Rattle.std.specs.Prelude.{◌≡◌, ◌<◌, ◌≤◌, length, slice_range, IfOk, OnOk};
+ghost use Rattle.std.specs.Prelude.{◌≡◌, ◌<◌, ◌≤◌, ◌∷◌, ◌++◌, length, slice_range, IfOk, OnOk};
 ghost use Rattle.std.specs.Io.KnownBytes.{Appends};
 ghost use Rattle.ckd_track.specs.Track.{record_in};
 ghost use Rattle.dasd_extract.specs.Written.{Writes, these_bytes};
-ghost use Rattle.dasd_extract.specs.Blocks.{line_of, piece_text, lines_written, records_written, directory_written, form_written, block_written, number_of};
+ghost use Rattle.dasd_extract.specs.Blocks.{line_of, piece_text, lines_written, records_written, directory_written, lengths, keyed_bytes, form_written, block_written};
+ghost use Rattle.dasd_extract.specs.Blocks.{number_of};
 
 use crate::stops::{Cause, Stop, stop_at};
 use crate::texts::write_text;
@@ -17,6 +18,12 @@ use std::io::Write;
 /// The length of a directory block's key, in bytes.
 const DIRECTORY_KEY: usize = 8;
 
+/// What stands before a block that is written with its lengths and its key.
+const BLOCK: [u8; 1] = [1];
+
+/// Where the lengths of a record stand in its count area.
+const LENGTHS: usize = 5;
+
 /// How blocks are written.
 #[derive(Clone, Copy)]
 pub enum Form {
@@ -27,6 +34,9 @@ pub enum Form {
     Text(Layout),
     /// Their data as it stands, of blocks of a directory alone: those with a key of 8 bytes and 256 bytes of data.
     Directory,
+    /// Each with its lengths and its key, so that the bytes of several blocks can be told apart: a byte 1, the length of the key in a byte
+    /// and that of the data in two, the high one first, the key, and the data.
+    Keyed,
 }
 
 // Writes a line without the blanks at its end.
@@ -120,6 +130,42 @@ fn write_raw<W: Write>(writer: &mut W, block: &[u8]) -> io::Result<Option<Stop>>
     Ok(None)
 }
 
+// The lengths of a block's key and data, as its count area has them.
+fn lengths_of<'a>(view: &TrackView<'a>, i: usize) -> &'a [u8]
+    requires { i < length view.now.records }
+    ensures { result.now ≡ lengths (record_in view.now i) }
+{
+    &view.count_of(i)[LENGTHS..]
+}
+
+// Writes the lengths of a block, behind a byte 1.
+fn write_lengths<W: Write>(writer: &mut W, view: &TrackView, i: usize) -> io::Result<()>
+    requires { i < length view.now.records }
+    ensures { OnOk result (Appends (W.contents writer.old) (W.contents writer.new) (1 ∷ lengths (record_in view.now i))) }
+{
+    writer.write_all(&BLOCK)?;
+    writer.write_all(lengths_of(view, i))
+}
+
+// Writes the key of a block, and its data.
+fn write_areas<W: Write>(writer: &mut W, view: &TrackView, i: usize) -> io::Result<()>
+    requires { i < length view.now.records }
+    ensures { let r = record_in view.now i in OnOk result (Appends (W.contents writer.old) (W.contents writer.new) (r.key_area ++ r.data_area)) }
+{
+    writer.write_all(view.key_of(i))?;
+    writer.write_all(view.data_of(i))
+}
+
+// Writes a block with its lengths and its key.
+fn write_keyed<W: Write>(writer: &mut W, view: &TrackView, i: usize) -> io::Result<Option<Stop>>
+    requires { i < length view.now.records }
+    ensures { IfOk result (Writes (these_bytes (keyed_bytes (record_in view.now i))) (W.contents writer.old) (W.contents writer.new)) }
+{
+    write_lengths(writer, view, i)?;
+    write_areas(writer, view, i)?;
+    Ok(None)
+}
+
 /// The number of a record in its count area.
 pub(crate) fn number_of(view: &TrackView, i: usize) -> u8
     requires { i < length view.now.records }
@@ -145,6 +191,7 @@ fn write_in_form<W: Write>(
         Form::Raw => write_raw(writer, block),
         Form::Text(layout) => write_records(writer, layout, track, number, block),
         Form::Directory => write_directory(writer, track, number, view.key_of(i), block),
+        Form::Keyed => write_keyed(writer, view, i),
     }
 }
 

@@ -7,7 +7,9 @@ use Rattle.dasd_archive.specs.Numbered.{LacksRecords, TellsOf}
 use Rattle.dasd_volumes.specs.Reading.{KnownVolume}
 use Rattle.dasd_volumes.specs.Volumes.{volume_text, check_text, NumberIn}
 use Rattle.dasd_words.specs.declared.requests.NewImage.{NewImage}
+use Rattle.dasd_words.specs.declared.requests.HashedVolume.{HashedVolume}
 use Rattle.dasd_words.specs.declared.requests.PrintedVolume.{PrintedVolume}
+use Rattle.set_hash.specs.Lines.{Shown, shown}
 use Rattle.dasd_words.specs.declared.requests.ListedPart.{ListedPart}
 use Rattle.dasd_words.specs.declared.requests.DumpedPart.{DumpedPart}
 use Rattle.dasd_words.specs.declared.requests.Request.{Request}
@@ -90,11 +92,15 @@ ListsPart result asked part opened_before opened before now =
 abbrev pub hashed_path : PrintedVolume → List ℕ
 hashed_path asked = if asked.json then quoted_paths (paths_of asked) else joined_paths (paths_of asked)
 
--- its hash is printed, and it has findings where there are tracks that can't be read
-abbrev pub HashesVolume : Result Ending ProgramFault → PrintedVolume → (opened_before opened : List SourceFile) → (before now : Stream) → Type 0
+-- for whom hashes are printed, and of what
+abbrev pub hashes_shown : HashedVolume → Shown
+hashes_shown asked = shown (hashed_path asked.volume) asked.volume.json asked.sets asked.members
+
+-- its hash is printed, and those that are asked for, and it has findings where something of that is not whole
+abbrev pub HashesVolume : Result Ending ProgramFault → HashedVolume → (opened_before opened : List SourceFile) → (before now : Stream) → Type 0
 HashesVolume result asked opened_before opened before now =
-    IsUnopened asked.as_far result (paths_of asked) opened_before opened before now
-    ⊎ OfVolume asked.as_far (paths_of asked) opened_before opened (λ v. HashesWhole result (hashed_path asked) asked.json v before now)
+    IsUnopened asked.volume.as_far result (paths_of asked.volume) opened_before opened before now
+    ⊎ OfVolume asked.volume.as_far (paths_of asked.volume) opened_before opened (λ v. HashesWhole result (hashes_shown asked) v before now)
 
 -- no file is written, and nothing is read of the reader
 abbrev pub Looks : (before now : Outside) → Type 0

@@ -12,8 +12,9 @@ use Rattle.dasd_archive.specs.declared.reports.Style.TheVariants.{Text, Json}
 use Rattle.dasd_archive.specs.declared.dumps.Range.{Range}
 use Rattle.dasd_archive.specs.declared.dumps.Part.{Part}
 use Rattle.dasd_archive.specs.Listing.{list_text}
-use Rattle.volume_hash.specs.Lines.{hash_text}
-use Rattle.volume_hash.specs.Message.{NumberOfUnreadable}
+use Rattle.set_hash.specs.Lines.{Shown}
+use Rattle.set_hash.specs.Prints.{TellsWhole}
+use Rattle.set_hash.specs.Sets.{hashes_text}
 use Rattle.dasd_words.specs.declared.requests.Numbers.{Numbers}
 use Rattle.dasd_words.specs.declared.requests.ListedPart.{ListedPart}
 use Rattle.dasd_words.specs.declared.requests.DumpedPart.{DumpedPart}
@@ -95,8 +96,12 @@ PrintsPart result HasPart text v before now =
     × PrintsWhole printing text v before now)
     ⊎ ((HasPart v.geometry → ⊥) × (result ≡ Err fault.NoTrack) × (now ≡ before))
 
--- the hash of a volume is printed, or nothing where there is no memory; and how many of its tracks can't be read is told
-abbrev pub HashesWhole : Result Ending ProgramFault → (path : List ℕ) → (json : Bool) → KnownVolume → (before now : Stream) → Type 0
-HashesWhole result path json v before now =
-    (hashing : Result ℕ VolumeFault) × (result ≡ printed_ending ending_of hashing) × IfOk hashing (NumberOfUnreadable v)
-    × IfErr hashing (λ e. e ≡ volume.OutOfMemory → now ≡ before) × PrintsWhole hashing (hash_text path json) v before now
+-- hashes have findings where something of what was hashed is not whole
+abbrev pub hash_ending : (whole : Bool) → Ending
+hash_ending whole = if whole then Done else Findings
+
+-- the hash of a volume and those that are asked for are printed, or nothing where there is no memory; and whether all is whole is told
+abbrev pub HashesWhole : Result Ending ProgramFault → Shown → KnownVolume → (before now : Stream) → Type 0
+HashesWhole result f v before now =
+    (hashing : Result Bool VolumeFault) × (result ≡ printed_ending hash_ending hashing) × IfOk hashing (TellsWhole f v)
+    × IfErr hashing (λ e. e ≡ volume.OutOfMemory → now ≡ before) × PrintsWhole hashing (hashes_text f) v before now

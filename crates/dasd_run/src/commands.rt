@@ -106,7 +106,7 @@ pub fn answer<F: Traces, R: Read, W: Write, P: Progress>(
         Request::CheckStrictly(asked) => check_strictly(alloc, files, writer, &asked),
         Request::Dump(volume, part) => dump_part(alloc, files, writer, &volume, part),
         Request::Compare(volumes) => compare_both(alloc, files, writer, &volumes),
-        Request::Hash(volume) => hash_volume(alloc, files, writer, &volume),
+        Request::Hash(asked) => hash_volume(alloc, files, writer, &asked),
         Request::ListContents(volume) => list_contents(alloc, files, writer, &volume),
         Request::Extract(asked) => extract_set(alloc, files, writer, &asked),
         Request::ExtractTracks(asked) => extract_tracks(alloc, files, writer, &asked),

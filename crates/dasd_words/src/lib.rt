@@ -26,7 +26,7 @@ pub use crate::refused::{
 };
 pub use crate::requests::{
     Asked, AskedTrace, ComparedVolumes, DeckRun, DumpedPart, ExtractedSet, ExtractedTracks,
-    ExtractedVolume, ListedPart, NewImage, Noted, Numbers, PrintedVolume, Request, SetName,
-    StrictCheck, TraceTarget, WordFault,
+    ExtractedVolume, HashedVolume, ListedPart, NewImage, Noted, Numbers, PrintedVolume, Request,
+    SetName, StrictCheck, TraceTarget, WordFault,
 };
 pub use crate::volumes::{Volume, VolumeSource};

@@ -46,8 +46,9 @@ pub fn object_path(alloc: Global, words: &[&str]) -> Option<String> {
         Request::ListPart(volume, _) | Request::Dump(volume, _) => {
             joined(alloc, volume.json, volume.paths.as_slice())
         }
-        Request::Hash(volume) | Request::ListContents(volume) => {
-            joined(alloc, volume.json, volume.paths.as_slice())
+        Request::ListContents(volume) => joined(alloc, volume.json, volume.paths.as_slice()),
+        Request::Hash(hashed) => {
+            joined(alloc, hashed.volume.json, hashed.volume.paths.as_slice())
         }
         Request::CheckStrictly(check) => {
             joined(alloc, check.volume.json, check.volume.paths.as_slice())

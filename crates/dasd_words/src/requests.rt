@@ -80,8 +80,8 @@ pub enum Request<'a> {
     Dump(PrintedVolume<'a>, DumpedPart),
     /// Print what differs of the volumes of two images.
     Compare(ComparedVolumes<'a>),
-    /// Print the hash of what a volume says.
-    Hash(PrintedVolume<'a>),
+    /// Print the hash of what a volume says, and those of its data sets and members that are asked for.
+    Hash(HashedVolume<'a>),
     /// Print what a volume holds: its label, its data sets, and what is wrong with them.
     ListContents(PrintedVolume<'a>),
     /// Take a data set, or a member of one, out of a volume.
@@ -122,6 +122,17 @@ pub struct PrintedVolume<'a> {
     pub json: bool,
     /// Whether the files are read as far as they go, where the last one has an odd length.
     pub as_far: bool,
+}
+
+/// The volume of an image whose hash is printed.
+#[derive(Drop)]
+pub struct HashedVolume<'a> {
+    /// The volume, and how its line is printed.
+    pub volume: PrintedVolume<'a>,
+    /// Whether its data sets have lines too.
+    pub sets: bool,
+    /// Whether its data sets and their members have lines too.
+    pub members: bool,
 }
 
 /// A strict check of the volume of an image.

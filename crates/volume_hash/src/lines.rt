@@ -1,17 +1,12 @@
 //! The line of a hash.
 
-ghost use Rattle.std.specs.Prelude.{◌≡◌, length, Some, IfOk, IfErr, OnOk, codes};
+ghost use Rattle.std.specs.Prelude.{◌≡◌, Some, IfOk, OnOk, codes};
 ghost use Rattle.std.specs.Io.KnownBytes.{Appends};
-ghost use Rattle.counted_io.specs.Streams.{seen_by, IsFlushed};
-ghost use Rattle.dasd_volumes.specs.Printing.{PrintsText, CountsWrites};
-ghost use Rattle.dasd_volumes.specs.Reading.{IsRead};
-ghost use Rattle.volume_hash.specs.Message.{NumberOfUnreadable};
-ghost use Rattle.volume_hash.specs.Lines.{escaped, path_text, volume_kind, volume_line, volume_object, line_or_object, hash_text};
+ghost use Rattle.hex.specs.Hex.{encode_lower};
+ghost use Rattle.volume_hash.specs.Lines.{escaped, path_text, volume_kind, volume_line, volume_object, line_or_object};
 
-use crate::volumes::hash_volume;
-use counted_io::{Counted, WriteFault, write_flushed};
-use dasd_volumes::{SlotReader, VolumeFault};
-use std::alloc::Global;
+use crate::volumes::VolumeHash;
+use std::alloc::{AllocError, Global};
 use std::io::Write;
 use std::{fmt, io};
 
@@ -24,39 +19,19 @@ pub struct Form<'a> {
     pub json: bool,
 }
 
-/// Prints the hash of what a volume says, and answers how many of its tracks can't be read. The line is made in memory, and written
-/// from there.
+/// The line of a volume's hash, or its object.
 ///
 /// # Errors
 ///
-/// There is no memory, and nothing is printed; a read of the volume failed, and nothing is printed; or a write failed, or the flush, and
-/// exactly then it is a write fault. What was printed are the first bytes of the line.
-pub fn print_hash<V: SlotReader, W: Write>(
-    alloc: Global,
-    volume: &mut V,
-    writer: &mut Counted<W>,
-    form: Form,
-) -> Result<u32, VolumeFault>
-    ensures number { IfOk result (NumberOfUnreadable (V.volume volume.old)) }
-    ensures lines { PrintsText result (hash_text form.entry.path.now form.entry.json) (V.volume volume.old)
-        (seen_by W.contents writer.old) (seen_by W.contents writer.new) }
-    ensures writes { CountsWrites result (seen_by W.contents writer.old) (seen_by W.contents writer.new) }
-    ensures none { IfErr result (λ e. e ≡ VolumeFault.OutOfMemory → writer.new ≡ writer.old) }
-    ensures unread { IfErr result (λ e. e ≡ VolumeFault.Store → writer.new ≡ writer.old) }
-    ensures volume { IsRead result (V.volume volume.old) (V.volume volume.new) (V.failures volume.old) (V.failures volume.new) }
-    ensures flushed { OnOk result (IsFlushed (seen_by W.contents writer.new)) }
+/// There is no memory for it.
+pub fn line_of(alloc: Global, form: Form, hash: VolumeHash) -> Result<Vec<u8>, AllocError>
+    ensures { IfOk result (λ line. line.items ≡ line_or_object form.entry.path.now form.entry.json (encode_lower hash.digest) hash.unreadable) }
 {
-    let hash = hash_volume(alloc, volume)?;
-    let Ok(digits) = hex::encode(alloc, hash.digest) else {
-        return Err(VolumeFault::OutOfMemory);
-    };
+    let digits = hex::encode(alloc, hash.digest)?;
     let mut line = Vec::new(alloc);
-    if write_hash(&mut line, form, digits.as_str(), hash.unreadable).is_err() {
-        return Err(VolumeFault::OutOfMemory);
-    }
-    match write_flushed(writer, line.as_slice()) {
-        Ok(()) => Ok(hash.unreadable),
-        Err(WriteFault) => Err(VolumeFault::Write),
+    match write_hash(&mut line, form, digits.as_str(), hash.unreadable) {
+        Ok(()) => Ok(line),
+        Err(_) => Err(AllocError),
     }
 }
 
@@ -114,8 +89,8 @@ impl fmt::Display for Kind {
     }
 }
 
-// A path, in which no byte ends the line.
-fn write_path<W: Write>(writer: &mut W, path: &[u8]) -> io::Result<()>
+/// Writes a path, in which no byte ends the line.
+pub fn write_path<W: Write>(writer: &mut W, path: &[u8]) -> io::Result<()>
     ensures { OnOk result (Appends (W.contents writer.old) (W.contents writer.new) (path_text path.now)) }
 {
     for byte in path {

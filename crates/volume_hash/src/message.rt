@@ -5,11 +5,12 @@ ghost use Rattle.sha2.specs.Sha256.{sha256};
 
 use ghost_data::Trace;
 use sha2::{Digest, Sha256};
+use std::io::{Result, Write};
 use std::marker::Model;
 
 /// A message, of which memory keeps what its hash needs alone. It is seen as its bytes.
 #[derive(Drop)]
-pub(crate) struct Message {
+pub struct Message {
     hasher: Sha256,
     bytes: Trace,
 }
@@ -27,7 +28,7 @@ impl Model for Message {
 
 impl Message {
     /// A message without bytes.
-    pub(crate) fn new() -> Message
+    pub fn new() -> Message
         ensures { result ≡ [] }
     {
         Message {
@@ -37,7 +38,7 @@ impl Message {
     }
 
     /// These bytes go to the end of the message.
-    pub(crate) fn add(&mut self, bytes: &[u8])
+    pub fn add(&mut self, bytes: &[u8])
         ensures { self.new ≡ self.old ++ bytes.now }
     {
         self.hasher.update(bytes);
@@ -45,10 +46,26 @@ impl Message {
     }
 
     /// The SHA-256 of the message.
-    pub(crate) fn digest(self) -> [u8; 32]
+    pub fn digest(self) -> [u8; 32]
         ensures { result ≡ sha256 self }
     {
         let Message { hasher, bytes: _ } = self;
         hasher.finalize()
+    }
+}
+
+/// What is written to a message goes to its end; no write of one fails.
+impl Write for Message {
+    ghost use Rattle.std.specs.Prelude.{Some};
+
+    ghost contents = { λ m. Some m };
+
+    fn write(&mut self, bytes: &[u8]) -> Result<usize> {
+        self.add(bytes);
+        Ok(bytes.len())
+    }
+
+    fn flush(&mut self) -> Result<()> {
+        Ok(())
     }
 }

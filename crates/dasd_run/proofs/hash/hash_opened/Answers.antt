@@ -5,7 +5,7 @@ use Rattle.dasd_run.proofs.hash.hash_opened.Goals as goal
 pub returns-in-Ok : goal.returns-in-Ok
 returns-in-Ok g c =
     let hashed = c.in-Ok.ensures in
-    (Ok c.in-Ok.unreadable, ap Ok c.ending_of.ensures, hashed.number, tt, (hashed.lines, hashed.writes, hashed.flushed))
+    (Ok c.in-Ok.is_whole, ap Ok c.ending_of.ensures, hashed.whole, tt, (hashed.lines, hashed.writes, hashed.flushed))
 
 pub returns-in-Err : goal.returns-in-Err
 returns-in-Err g c =

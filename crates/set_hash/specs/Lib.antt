@@ -1,0 +1,5 @@
+pub mod Message
+pub mod Lines
+pub mod Sets
+pub mod Prints
+pub mod Apart
