@@ -7,6 +7,7 @@ pub mod Saves
 pub mod Paths
 pub mod Printed
 pub mod Held
+pub mod Details
 pub mod Unloads
 pub mod Compared
 pub mod Strict
