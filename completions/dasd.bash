@@ -97,11 +97,11 @@ _dasd() {
         _dasd_files
         ;;
     vtoc)
-        if [[ $word == -* ]]; then _dasd_words --json --verbose -h --help; return; fi
+        if [[ $word == -* ]]; then _dasd_words --members --long --json --verbose -h --help; return; fi
         _dasd_files
         ;;
     extract)
-        if [[ $word == -* ]]; then _dasd_words --to --all --text --record-format --record-length --block-length --raw --json --verbose -h --help; return; fi
+        if [[ $word == -* ]]; then _dasd_words --to --all --text --record-format --record-length --block-length --raw --list --json --verbose -h --help; return; fi
         _dasd_files
         ;;
     explain)

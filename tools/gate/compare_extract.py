@@ -179,10 +179,11 @@ class Extraction:
         put = self.plan.partitioned[name].members
         others = {other: made for made in put.values() for other in made.aliases}
         objects = [json.loads(line) for line in self.extract(name, "--list", "--json")[2].splitlines()]
-        self.same(f"{name} listed", [it["member"] for it in objects], readings.members_by_dasdcat(self.image, name), "dasdcat")
+        names = {volumes.file_name(name, member): member for member in sizes}
+        listed = [names[f"{name}({it['member']})"] for it in objects]
+        self.same(f"{name} listed", listed, readings.members_by_dasdcat(self.image, name), "dasdcat")
         places = self.places_of(name)
-        for it in objects:
-            member = it["member"]
+        for it, member in zip(objects, listed):
             made = others.get(member) or put[member]
             wanted = (name, member in others, made.user.hex().upper(), sizes[member])
             self.same(f"{name}({member}) listed", (it["data_set"], it["alias"], it["user_data"], it["bytes"]), wanted, "what was put there")

@@ -1,5 +1,6 @@
 mod Built
 mod Held
+mod Details
 pub mod Paths
 pub mod Saving
 mod Told

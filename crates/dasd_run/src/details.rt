@@ -41,8 +41,9 @@ pub(crate) fn list_details<F: ImageFiles, W: Write>(
         Ok(path) => path,
         Err(fault) => return Err(fault),
     };
+    let json = path_if(asked.volume.json, path.as_str());
     let view = View {
-        json: path_if(asked.volume.json, path.as_str()),
+        json,
         members: asked.members,
         is_long: asked.is_long,
     };
@@ -103,9 +104,10 @@ pub(crate) fn list_library<F: ImageFiles, W: Write>(
         Ok(path) => path,
         Err(fault) => return Err(fault),
     };
+    let json = path_if(asked.volume.json, path.as_str());
     let wanted = NamedLibrary {
         name: asked.name,
-        json: path_if(asked.volume.json, path.as_str()),
+        json,
     };
     match open_volume(alloc, files, paths) {
         Ok(mut volume) => library_ending(print_library(alloc, &mut volume, writer, wanted)),

@@ -62,12 +62,20 @@ abbrev pub true_or_false : Bool → List ℕ
 true_or_false true = codes "true"
 true_or_false false = codes "false"
 
-unfoldable pub member_object : (path data_set : List ℕ) → Member → List ℕ
-member_object path data_set m = concat (
-    codes "{\"path\":" ∷ path ∷ codes ",\"data_set\":\"" ∷ data_set ∷ codes "\",\"member\":\"" ∷ m.name ∷ codes "\",\"alias\":"
-    ∷ true_or_false m.entry.is_alias ∷ codes ",\"track\":" ∷ decimal m.entry.address.track ∷ codes ",\"record\":"
+-- its names
+unfoldable pub name_members : (path data_set name : List ℕ) → List ℕ
+name_members path data_set name = concat (
+    codes "{\"path\":" ∷ path ∷ codes ",\"data_set\":\"" ∷ data_set ∷ codes "\",\"member\":\"" ∷ name ∷ codes "\"" ∷ [])
+
+-- what its entry says, and how many bytes its blocks have
+unfoldable pub entry_members : Member → List ℕ
+entry_members m = concat (
+    codes ",\"alias\":" ∷ true_or_false m.entry.is_alias ∷ codes ",\"track\":" ∷ decimal m.entry.address.track ∷ codes ",\"record\":"
     ∷ decimal m.entry.address.number ∷ codes ",\"user_data\":\"" ∷ bytes_text m.user ∷ codes "\",\"bytes\":" ∷ decimal m.bytes ∷ codes "}"
     ∷ line_feed ∷ [])
+
+abbrev pub member_object : (path data_set : List ℕ) → Member → List ℕ
+member_object path data_set m = name_members path data_set m.name ++ entry_members m
 
 -- one or the other
 abbrev pub text_for : (json : Option (List ℕ)) → Shown → Member → List ℕ

@@ -4,7 +4,7 @@ ghost use Rattle.std.specs.Prelude.{◌≡◌, ◌∷◌, [], ◌++◌, Some, On
 ghost use Rattle.std.specs.Option.{option_copied};
 ghost use Rattle.std.specs.Io.KnownBytes.{Appends};
 ghost use Rattle.library_members.specs.Report.{Adds, plain, wrong};
-ghost use Rattle.library_members.specs.Lines.{shown, listed_by, alias_word, true_or_false, heading, heading_lines, member_line, member_object, member_text, what};
+ghost use Rattle.library_members.specs.Lines.{shown, listed_by, alias_word, true_or_false, heading, heading_lines, member_line, name_members, entry_members, member_object, member_text, what};
 ghost use Rattle.library_members.specs.Lines.{finding_text, directory_text, wrong_text, is_end, end_lines};
 
 use crate::report::Report;
@@ -125,9 +125,32 @@ fn write_object<W: Write>(
 ) -> io::Result<()>
     ensures { OnOk result (Appends (W.contents writer.old) (W.contents writer.new) (member_object path.now data_set.now (listed_by listed.entry))) }
 {
+    write_names(writer, path, data_set, listed.name)?;
+    write_entry(writer, listed)
+}
+
+// How the object of a member begins.
+fn write_names<W: Write>(
+    writer: &mut W,
+    path: &str,
+    data_set: &str,
+    name: &str,
+) -> io::Result<()>
+    ensures { OnOk result (Appends (W.contents writer.old) (W.contents writer.new) (name_members path.now data_set.now name.now)) }
+{
+    write!(
+        writer,
+        "{{\"path\":{path},\"data_set\":\"{data_set}\",\"member\":\"{name}\""
+    )
+}
+
+// What the object of a member has behind its name.
+fn write_entry<W: Write>(writer: &mut W, listed: Listed) -> io::Result<()>
+    ensures { OnOk result (Appends (W.contents writer.old) (W.contents writer.new) (entry_members (listed_by listed.entry))) }
+{
     let Listed {
         entry,
-        name,
+        name: _,
         user,
         bytes,
     } = listed;
@@ -136,7 +159,7 @@ fn write_object<W: Write>(
     let digits = Hexadecimal(user);
     writeln!(
         writer,
-        "{{\"path\":{path},\"data_set\":\"{data_set}\",\"member\":\"{name}\",\"alias\":{alias},\"track\":{track},\"record\":{number},\"user_data\":\"{digits}\",\"bytes\":{bytes}}}"
+        ",\"alias\":{alias},\"track\":{track},\"record\":{number},\"user_data\":\"{digits}\",\"bytes\":{bytes}}}"
     )
 }
 

@@ -130,11 +130,12 @@ fn list_member<V: SlotReader>(
     let Ok(name) = safe_name(alloc, &entry.name) else {
         return Err(VolumeFault::OutOfMemory);
     };
+    let bytes = blocks.bytes.as_slice();
     let listed = Listed {
         entry,
         name: name.as_str(),
         user,
-        bytes: blocks.bytes.len(),
+        bytes: bytes.len(),
     };
     if let Err(fault) = add_member(report, library.form, listed) {
         return Err(fault);

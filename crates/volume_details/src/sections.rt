@@ -155,8 +155,8 @@ fn add_set<V: SlotReader>(
     view: View,
     described: Described,
 ) -> Result<(), VolumeFault>
-    ensures lines { OnOk result (AddsOf (V.volume volume.old) report.old report.new (described_lines (view.entry.members && is_partitioned described.entry.set.now.block) (shown_by view.entry)
-        (described_by described.entry))) }
+    ensures lines { OnOk result (AddsOf (V.volume volume.old) report.old report.new
+        (described_lines (view.entry.members && is_partitioned described.entry.set.now.block) (shown_by view.entry) (described_by described.entry))) }
     ensures fault { IfErr result (λ e. e ≢ VolumeFault.Write) }
     ensures volume { IsRead result (V.volume volume.old) (V.volume volume.new) (V.failures volume.old) (V.failures volume.new) }
 {

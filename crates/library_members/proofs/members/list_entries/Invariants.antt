@@ -12,7 +12,8 @@ invariant-loop g l =
     let extents = l.library.extents.now in record {
       lines : (slots : List (List ℕ)) → before.slots ≡ Some slots
           → AreLeft l.fn.report l.report (entries_lines s extents l.bytes before.geometry slots)
-          (lines_from s (λ e next. member_lines s extents e (user_data l.bytes e next) before.geometry slots) (length l.bytes - l.counter) l.bytes l.at);
+          (lines_from s (λ e next. member_lines s extents e (user_data l.bytes e next) before.geometry slots)
+          (length l.bytes - l.counter) l.bytes l.at);
       volume : g.V.SlotReader.volume l.volume ≡ before;
       failures : g.V.SlotReader.failures l.volume ≡ g.V.SlotReader.failures l.fn.volume;
     }
