@@ -48,12 +48,14 @@ library_shown json name = record { json = json; margin = codes "  "; name = name
 abbrev pub member_lines : (has_members : Bool) → Views → Said → Geometry → (slots : List (List ℕ)) → List Line
 member_lines has_members v s g slots = if has_members then library_lines (library_shown v.json s.name) s.extents g slots else []
 
+-- what stands above the members of a data set
+abbrev pub front_lines : Views → Said → List Line
+front_lines v s = name_lines v.json s.name ++ long_lines v s
+
 -- a data set of which there is something to show
 abbrev pub described_lines : (has_members : Bool) → Views → Said → Geometry → (slots : List (List ℕ)) → List Line
 described_lines has_members v s g slots =
-    if v.is_long || has_members
-    then name_lines v.json s.name ++ (long_lines v s ++ member_lines has_members v s g slots)
-    else []
+    if v.is_long || has_members then front_lines v s ++ member_lines has_members v s g slots else []
 
 -- what a format 1 block and those behind it say
 abbrev pub said_of : List Block → Block → Said

@@ -2,7 +2,7 @@
 //! format 1, DS1DSIND).
 
 ghost use Rattle.std.specs.Prelude.{◌≡◌};
-ghost use Rattle.volume_details.specs.Indicators.{indicators_of, is_last_volume, Protection, protection_of, type_text};
+ghost use Rattle.volume_details.specs.Indicators.{is_last_volume, protection_of, type_text};
 
 use dasd_contents::Block;
 

@@ -1,6 +1,6 @@
 //! Sections behind the table of a volume, one of a data set.
 
-ghost use Rattle.std.specs.Prelude.{◌≡◌, ◌≢◌, ◌&&◌, OnOk, IfOk, IfErr};
+ghost use Rattle.std.specs.Prelude.{◌≡◌, ◌≢◌, ◌&&◌, ◌||◌, OnOk, IfOk, IfErr};
 
 ghost use Rattle.std.specs.Option.{option_copied};
 ghost use Rattle.std.specs.Io.KnownBytes.{Appends};
@@ -11,7 +11,7 @@ ghost use Rattle.dasd_contents.specs.Sets.{is_data_set};
 ghost use Rattle.dasd_unload.specs.Asked.{is_partitioned};
 ghost use Rattle.library_members.specs.Report.{printed, Adds, AddsOf};
 ghost use Rattle.volume_details.specs.Long.{described_by};
-ghost use Rattle.volume_details.specs.Sections.{shown_by, name_line, name_lines, library_shown, described_lines, block_lines, sections, TellsWrong};
+ghost use Rattle.volume_details.specs.Sections.{shown_by, name_line, name_lines, front_lines, described_lines, block_lines, sections, TellsWrong};
 
 use crate::long::{Described, add_long};
 use crate::printing::print_report;
@@ -160,17 +160,12 @@ fn add_set<V: SlotReader>(
     ensures fault { IfErr result (λ e. e ≢ VolumeFault.Write) }
     ensures volume { IsRead result (V.volume volume.old) (V.volume volume.new) (V.failures volume.old) (V.failures volume.new) }
 {
-    let has_members = view.members && is_partitioned(&described.set.block);
-    if !view.is_long && !has_members {
+    let has_members = lists_members(view, &described.set.block);
+    if !is_shown(view, has_members) {
         return Ok(());
     }
-    if let Err(fault) = add_name(report, view.json, described.name) {
+    if let Err(fault) = add_front(report, view, described) {
         return Err(fault);
-    }
-    if view.is_long {
-        if let Err(fault) = add_long(report, view.json, described) {
-            return Err(fault);
-        }
     }
     if !has_members {
         return Ok(());
@@ -182,6 +177,34 @@ fn add_set<V: SlotReader>(
     };
     let extents = described.set.extents.as_slice();
     list_members(alloc, volume, report, Library { form, extents })
+}
+
+// Whether the members of a data set are listed.
+fn lists_members(view: View, block: &DataSetBlock) -> bool
+    ensures { result ≡ (view.entry.members && is_partitioned block.now) }
+{
+    view.members && is_partitioned(block)
+}
+
+// Whether there is something to show of a data set.
+fn is_shown(view: View, has_members: bool) -> bool
+    ensures { result ≡ (view.entry.is_long || has_members) }
+{
+    view.is_long || has_members
+}
+
+// What stands above the members of a data set: its name, and what the table leaves out.
+fn add_front(report: &mut Report, view: View, described: Described) -> Result<(), VolumeFault>
+    ensures lines { OnOk result (Adds report.old report.new (front_lines (shown_by view.entry) (described_by described.entry))) }
+    ensures fault { IfErr result (λ e. e ≡ VolumeFault.OutOfMemory) }
+{
+    if let Err(fault) = add_name(report, view.json, described.name) {
+        return Err(fault);
+    }
+    if !view.is_long {
+        return Ok(());
+    }
+    add_long(report, view.json, described)
 }
 
 // The name of a data set above its section, where sections are lines of text.
