@@ -40,13 +40,14 @@ module _ (shown : Views) (v : KnownVolume) where
     -- all was printed
     pub all_detailed : (w : Bool)
         → PrintsText {A = Bool} (Ok w) (λ g slots. printed (sections shown c.found.blocks.items g slots)) v b d
-        → TellsWrong (sections shown c.found.blocks.items) v w → NoneFailed b d → IsFlushed d → PrintsDetails (Ok (worse ending w)) shown v a d
+        → TellsWrong (sections shown c.found.blocks.items) v w → NoneFailed b d → IsFlushed d
+        → PrintsDetails (Ok (worse ending w)) shown v a d
     all_detailed w took wrong none flushed = (
       λ slots known.
           let h = held.0 slots known in
           let blocks = (is slots known).blocks in (
             takes_more a b d _ _ h.0
-            (subst (λ (l : List Block). Takes b d (printed (sections shown l v.geometry slots))) blocks (took slots known)),
+                (subst (λ (l : List Block). Takes b d (printed (sections shown l v.geometry slots))) blocks (took slots known)),
             ap (λ e. worse e w) h.1
                 ∙ ap (worse (held_ending v.geometry slots))
                 (wrong slots known ∙ ap (λ (l : List Block). some_wrong (sections shown l v.geometry slots)) blocks),

@@ -66,11 +66,7 @@ fn write_heading<W: Write>(writer: &mut W, margin: &str) -> io::Result<()>
 }
 
 /// The line of a member.
-pub(crate) fn add_member(
-    report: &mut Report,
-    form: Form,
-    listed: Listed,
-) -> Result<(), VolumeFault>
+pub(crate) fn add_member(report: &mut Report, form: Form, listed: Listed) -> Result<(), VolumeFault>
     ensures lines { OnOk result (Adds report.old report.new (plain (member_text (shown form.entry) (listed_by listed.entry)) ∷ [])) }
     ensures fault { IfErr result (λ e. e ≡ VolumeFault.OutOfMemory) }
 {
@@ -130,12 +126,7 @@ fn write_object<W: Write>(
 }
 
 // How the object of a member begins.
-fn write_names<W: Write>(
-    writer: &mut W,
-    path: &str,
-    data_set: &str,
-    name: &str,
-) -> io::Result<()>
+fn write_names<W: Write>(writer: &mut W, path: &str, data_set: &str, name: &str) -> io::Result<()>
     ensures { OnOk result (Appends (W.contents writer.old) (W.contents writer.new) (name_members path.now data_set.now name.now)) }
 {
     write!(

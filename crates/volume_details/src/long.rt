@@ -41,11 +41,7 @@ pub(crate) fn add_long(
 }
 
 // As lines, or as an object.
-fn write_long<W: Write>(
-    writer: &mut W,
-    json: Option<&str>,
-    described: Described,
-) -> io::Result<()>
+fn write_long<W: Write>(writer: &mut W, json: Option<&str>, described: Described) -> io::Result<()>
     ensures { OnOk result (Appends (W.contents writer.old) (W.contents writer.new) (long_text (option_copied json.entry) (described_by described.entry))) }
 {
     match json {

@@ -1,7 +1,6 @@
 //! Sections behind the table of a volume, one of a data set.
 
 ghost use Rattle.std.specs.Prelude.{◌≡◌, ◌≢◌, ◌&&◌, ◌||◌, OnOk, IfOk, IfErr};
-
 ghost use Rattle.std.specs.Option.{option_copied};
 ghost use Rattle.std.specs.Io.KnownBytes.{Appends};
 ghost use Rattle.counted_io.specs.Streams.{seen_by, IsFlushed};
@@ -95,7 +94,11 @@ fn add_sections<V: SlotReader>(
     ensures volume { IsRead result (V.volume volume.old) (V.volume volume.new) (V.failures volume.old) (V.failures volume.new) }
 {
     for block in blocks {
-        let row = Row { view, blocks, block };
+        let row = Row {
+            view,
+            blocks,
+            block,
+        };
         if let Err(fault) = add_block(alloc, volume, report, row) {
             return Err(fault);
         }

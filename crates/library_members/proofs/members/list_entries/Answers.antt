@@ -24,22 +24,22 @@ returns-in-Fault-clause-lines g c =
 pub loop-preserved : goal.loop-preserved
 loop-preserved g c = elim c.match-directory_step.branch [
   | in-Entry+in_default w ↦ record {
-      lines = λ slots known.
-          let added = rw (c.loop.invariant.volume, w.user_data-user.ensures) at w.in_default.ensures.lines in
-          rw (w.report-is, w.at-is)
-          (fewer_left _ _ _ _ _ _ _ (c.loop.invariant.lines slots known)
-          (this_step _ _ _ c.loop.counter c.loop.at _ (sym c.directory_step.ensures ∙ w.in-Entry.is) c.loop-test.true) (added slots known));
-      volume = search (rules, tests);
-      failures = search (rules, tests);
-    }
+    lines = λ slots known.
+        let added = rw (c.loop.invariant.volume, w.user_data-user.ensures) at w.in_default.ensures.lines in
+        rw (w.report-is, w.at-is)
+        (fewer_left _ _ _ _ _ _ _ (c.loop.invariant.lines slots known)
+        (this_step _ _ _ c.loop.counter c.loop.at _ (sym c.directory_step.ensures ∙ w.in-Entry.is) c.loop-test.true) (added slots known));
+    volume = search (rules, tests);
+    failures = search (rules, tests);
+  }
   | in-Skip w ↦ record {
-      lines = λ slots known.
-          rw (w.report-is, w.at-is)
-          (same_left _ _ _ _ _ (c.loop.invariant.lines slots known)
-          (this_step _ _ _ c.loop.counter c.loop.at _ (sym c.directory_step.ensures ∙ w.in-Skip.is) c.loop-test.true));
-      volume = search (rules, tests);
-      failures = search (rules, tests);
-    }
+    lines = λ slots known.
+        rw (w.report-is, w.at-is)
+        (same_left _ _ _ _ _ (c.loop.invariant.lines slots known)
+        (this_step _ _ _ c.loop.counter c.loop.at _ (sym c.directory_step.ensures ∙ w.in-Skip.is) c.loop-test.true));
+    volume = search (rules, tests);
+    failures = search (rules, tests);
+  }
 ]
 
 pub returns-clause-lines : goal.returns-clause-lines
