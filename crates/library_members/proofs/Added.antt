@@ -1,5 +1,5 @@
 -- Lines that were added to a report, some after others.
-use Rattle.std.proofs.Common.{◌≡◌, ◌∙◌, ℕ, zero, suc, ◌+◌, ◌-◌, ◌<◌, ◌≤◌, ◌||◌, List, [], ◌∷◌, ◌++◌, length, Some, None, ap, sym}
+use Rattle.std.proofs.Common.{◌≡◌, ◌∙◌, ℕ, suc, ◌+◌, ◌-◌, ◌<◌, ◌≤◌, ◌||◌, List, [], ◌∷◌, ◌++◌, length, Some, None, ap, sym}
 use Rattle.std.proofs.Common.{refl, subst, append_assoc, append-nil, arith, Option, Result, Ok, Err, OnOk}
 use Rattle.std.proofs.Math.Bool.{or-false, or_assoc}
 use Rattle.std.specs.Io.KnownBytes.{Appends}
