@@ -1,6 +1,6 @@
 mod Built
 mod Held
-mod Details
+mod Sectioned
 pub mod Paths
 pub mod Saving
 mod Told

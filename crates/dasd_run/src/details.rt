@@ -17,7 +17,7 @@ use dasd_unload::UnloadFault;
 use dasd_words::{DetailedVolume, ListedLibrary};
 use std::alloc::Global;
 use std::io::Write;
-use volume_details::{LibraryFault, NamedLibrary, View, print_library, print_sections};
+use volume_details::{LibraryFault, View, print_library, print_sections};
 
 /// Prints what the volume of these files holds, and behind it a section for each data set of which there is more to show; and says whether
 /// something is wrong with it.
@@ -104,13 +104,10 @@ pub(crate) fn list_library<F: ImageFiles, W: Write>(
         Ok(path) => path,
         Err(fault) => return Err(fault),
     };
+    let name = asked.name;
     let json = path_if(asked.volume.json, path.as_str());
-    let wanted = NamedLibrary {
-        name: asked.name,
-        json,
-    };
     match open_volume(alloc, files, paths) {
-        Ok(mut volume) => library_ending(print_library(alloc, &mut volume, writer, wanted)),
+        Ok(mut volume) => library_ending(print_library(alloc, &mut volume, writer, name, json)),
         Err(fault) => Err(ProgramFault::Job(fault)),
     }
 }

@@ -8,7 +8,7 @@ use Rattle.library_members.specs.Report.{Line, plain, printed, Adds, AddsOf}
 use Rattle.library_members.specs.Members.{library_lines}
 use Rattle.library_members.proofs.Added.{adds_none, adds_both}
 use Rattle.volume_details.specs.Long.{Said, long_text}
-use Rattle.volume_details.specs.Sections.{Views, name_lines, long_lines, front_lines, library_shown, described_lines}
+use Rattle.volume_details.specs.Sections.{Views, name_lines, front_lines, library_shown, described_lines}
 
 -- the lines of one element more
 pub one_more_section : {X : Type 0} (a b c : Report) (lines : X → List Line) (xs : List X) (i : ℕ) (d : X) → i < length xs

@@ -1,6 +1,6 @@
 -- The members of a library that is named.
-use Rattle.std.specs.Prelude.{◌≡◌, ◌≢◌, ◌⊎◌, ℕ, Bool, true, false, List, [], codes, Option, None, Result, Ok, Err, IfOk, IfErr, OnOk}
-use Rattle.counted_io.specs.Streams.{Stream, NoneFailed, IsFlushed}
+use Rattle.std.specs.Prelude.{◌≡◌, ◌≢◌, ◌⊎◌, ℕ, Bool, true, false, List, [], Option, None, Result, Ok, Err, IfOk, IfErr, OnOk}
+use Rattle.counted_io.specs.Streams.{Stream, IsFlushed}
 use Rattle.volume_labels.specs.declared.blocks.DataSetBlock.{DataSetBlock}
 use Rattle.data_sets.specs.Names.{safe_name_of}
 use Rattle.dasd_volumes.specs.declared.fault.VolumeFault.{VolumeFault}

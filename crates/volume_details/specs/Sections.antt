@@ -1,10 +1,8 @@
 -- Sections behind the table of a volume, one of a data set.
-use Rattle.std.specs.Prelude.{◌≡◌, ℕ, Bool, true, false, ◌&&◌, ◌||◌, if◌then◌else◌, List, [], ◌∷◌, ◌++◌, codes, Option, Some, None}
+use Rattle.std.specs.Prelude.{◌≡◌, ℕ, Bool, ◌&&◌, ◌||◌, if◌then◌else◌, List, [], ◌∷◌, ◌++◌, codes, Option, Some, None}
 use Rattle.std.specs.Option.{option_copied}
 use Rattle.std.specs.List.{concat, flat_map}
 use Rattle.ckd_track.specs.declared.geometries.Geometry.{Geometry}
-use Rattle.volume_labels.specs.declared.fields.Extent.{Extent}
-use Rattle.volume_labels.specs.declared.blocks.DataSetBlock.{DataSetBlock}
 use Rattle.volume_labels.specs.Labels.{data_set_block_of}
 use Rattle.data_sets.specs.Names.{safe_name_of}
 use Rattle.dasd_volumes.specs.Lines.{line_feed}
@@ -15,7 +13,6 @@ use Rattle.dasd_unload.specs.Asked.{is_partitioned}
 use Rattle.library_members.specs.Report.{Line, plain, some_wrong}
 use Rattle.library_members.specs.Lines.{Shown}
 use Rattle.library_members.specs.Members.{library_lines}
-use Rattle.volume_details.specs.declared.long.Described.{Described}
 use Rattle.volume_details.specs.declared.sections.View.{View}
 use Rattle.volume_details.specs.Long.{Said, long_text}
 use Rattle.volume_details.specs.Indicators.{is_last_volume, protection_of}

@@ -9,5 +9,5 @@ mod printing;
 mod sections;
 
 pub use crate::fault::LibraryFault;
-pub use crate::libraries::{NamedLibrary, print_library};
+pub use crate::libraries::print_library;
 pub use crate::sections::{View, print_sections};

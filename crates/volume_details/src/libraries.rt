@@ -23,17 +23,9 @@ use library_members::{Form, Library, Report, list_members};
 use std::alloc::Global;
 use std::io::Write;
 
-/// A library that is named.
-#[derive(Clone, Copy)]
-pub struct NamedLibrary<'a> {
-    /// Its name.
-    pub name: &'a str,
-    /// The paths of the volume, as a string of JSON with its quotes, where lines are objects of it.
-    pub json: Option<&'a str>,
-}
-
 /// Prints the members of the first data set that has a name, in the order of its directory, with where each begins, its user data and how
-/// many bytes its blocks have. It says whether something is wrong with members or with the directory.
+/// many bytes its blocks have; as objects of JSON, where there are the paths of the volume for them, as a string of it with its quotes. It
+/// says whether something is wrong with members or with the directory.
 ///
 /// # Errors
 ///
@@ -43,12 +35,13 @@ pub fn print_library<V: SlotReader, W: Write>(
     alloc: Global,
     volume: &mut V,
     writer: &mut Counted<W>,
-    wanted: NamedLibrary,
+    name: &str,
+    json: Option<&str>,
 ) -> Result<bool, LibraryFault>
-    ensures lists { ListsLibrary result wanted.entry.name.now (option_copied wanted.entry.json) (V.volume volume.old)
+    ensures lists { ListsLibrary result name.now (option_copied json.entry) (V.volume volume.old)
         (seen_by W.contents writer.old) (seen_by W.contents writer.new) }
 {
-    let set = match find_set(alloc, volume, wanted.name) {
+    let set = match find_set(alloc, volume, name) {
         Ok(Some(set)) => set,
         Ok(None) => return Err(LibraryFault::NoDataSet),
         Err(fault) => return Err(of_volume(fault)),
@@ -56,13 +49,13 @@ pub fn print_library<V: SlotReader, W: Write>(
     if !is_partitioned(&set.block) {
         return Err(LibraryFault::NotPartitioned);
     }
-    let Ok(name) = safe_name(alloc, &set.block.name) else {
+    let Ok(safe) = safe_name(alloc, &set.block.name) else {
         return Err(LibraryFault::OutOfMemory);
     };
     let form = Form {
-        json: wanted.json,
+        json,
         margin: "",
-        name: name.as_str(),
+        name: safe.as_str(),
     };
     let extents = set.extents.as_slice();
     match print_members(alloc, volume, writer, Library { form, extents }) {

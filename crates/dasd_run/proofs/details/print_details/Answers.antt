@@ -1,7 +1,7 @@
 use Rattle.std.specs.Option.{option_copied}
 use Rattle.volume_details.specs.Sections.{shown_by}
 use Rattle.dasd_run.proofs.Held.{all_held, some_held}
-use Rattle.dasd_run.proofs.Details.{none_detailed, table_begun, all_detailed, sections_begun}
+use Rattle.dasd_run.proofs.Sectioned.{none_detailed, table_begun, all_detailed, sections_begun}
 use Rattle.dasd_run.proofs.details.print_details.Goals as goal
 
 pub returns-in-Err : goal.returns-in-Err
