@@ -165,6 +165,8 @@ COPIES: dict[str, Changes] = {
     "free-tracks.ckd": [(block(2, -40), b"\0\x0a\0\0\1" + b"\0\x3c\0\0\1" + bytes(30))],
     "lengths.ckd": [(slot(0, 1) + 21 + 7 * 148 + 5, b"\x2b\0\x61")],
     "keys.ckd": [(block(2, -44), b"\7")],
+    "passwords.ckd": [(block(3, 49), b"\x10"), (block(4, 49), b"\x14"), (block(5, 49), b"\x80")],
+    "directory.ckd": [(slot(2, 0) + 21 + 8 + 8, b"\0\1")],
 }
 
 
@@ -193,6 +195,8 @@ def play(dasd: Path, folder: Path, lines: Lines) -> None:
             ["dump", "--json", *[f"./{it}" if "/" not in it else it for it in files], "0", "0-9"],
             ["hash", "--members", "--json", *files],
             ["vtoc", "--json", *files],
+            ["vtoc", "--members", "--long", "--json", *files],
+            ["extract", "--list", "--json", *files, "SYS1.MACLIB"],
             ["extract", "--all", str(taken), "--text", "--json", *files],
             ["compare", "--json", "pack.ckd", joined],
             ["compare", "--json", "--tracks", "pack.ckd", joined],

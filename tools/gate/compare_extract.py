@@ -7,9 +7,10 @@ source, load modules and records of variable length. The program is the word, or
 package hercules. Each difference is a line; the last line is 'N compared, M differ', and the status 1 where M is not 0.
 
 Each data set and each member is taken out to standard output, to a file with --to, and as text; and each volume by --all, raw, as text and
-with lines of JSON, whose files must be those that were put there, under their names, and no others. Beside what was put there stand:
+with lines of JSON, whose files must be those that were put there, under their names, and no others. The members of each partitioned data set
+are listed too, with --list and by `dasd vtoc --members`. Beside what was put there stand:
 
-- `dasdcat`, for each member: its bytes, and the names of a directory;
+- `dasdcat`, for each member: its bytes, and the names of a directory, in their order;
 - `dasdpdsu`, for each member of cards: its bytes; and with ascii, as text;
 - `dasdcat` with the flag c, for each member of cards: as text;
 - `dasdseq`, for each sequential data set of records of fixed length: its records; and with -ascii, as text.
@@ -36,7 +37,8 @@ import sys
 import tempfile
 from dataclasses import dataclass
 
-from tools.common import hercules_readings as readings
+from tools.common import hercules_readings as readings, volume_layouts as layouts
+from tools.common.images import Image
 from tools.common.record_forms import cut, records_of, text_of
 from tools.gate import real_packs as packs
 from tools.gate.real_extracts import raw as cards
@@ -159,6 +161,7 @@ class Extraction:
         """The members of a partitioned data set, beside dasdcat and dasdpdsu."""
         pieces = {it.name.removeprefix(f"{name}(")[:-1]: it for it in self.pieces if it.name.startswith(f"{name}(")}
         self.same(f"{name} members", sorted(pieces), sorted(readings.members_by_dasdcat(self.image, name)), "dasdcat")
+        self.compare_listed(name, {member: len(piece.raw()) for member, piece in pieces.items()})
         is_cards = self.plan.forms[name][1:3] == ["FB", str(CARD)]
         unloaded = readings.members_by_dasdpdsu(self.image, name) if is_cards else {}
         unloaded_text = readings.members_by_dasdpdsu(self.image, name, "ascii") if is_cards else {}
@@ -170,6 +173,37 @@ class Extraction:
                 self.same(piece.name, raw, unloaded.get(member), "dasdpdsu")
                 self.same(f"{piece.name} text", text, unloaded_text.get(member), "dasdpdsu ascii")
                 self.same(f"{piece.name} text", text, readings.member_by_dasdcat(self.image, name, member, ":c"), "dasdcat :c")
+
+    def compare_listed(self, name: str, sizes: dict[str, int]) -> None:
+        """What is listed of the members of a partitioned data set: in lines and in objects, by --list and by `dasd vtoc --members`."""
+        put = self.plan.partitioned[name].members
+        others = {other: made for made in put.values() for other in made.aliases}
+        objects = [json.loads(line) for line in self.extract(name, "--list", "--json")[2].splitlines()]
+        names = {volumes.file_name(name, member): member for member in sizes}
+        listed = [names[f"{name}({it['member']})"] for it in objects]
+        self.same(f"{name} listed", listed, readings.members_by_dasdcat(self.image, name), "dasdcat")
+        places = self.places_of(name)
+        for it, member in zip(objects, listed):
+            made = others.get(member) or put[member]
+            wanted = (name, member in others, made.user.hex().upper(), sizes[member])
+            self.same(f"{name}({member}) listed", (it["data_set"], it["alias"], it["user_data"], it["bytes"]), wanted, "what was put there")
+            first = (made.blocks or [b""])[0]
+            self.same(f"{name}({member}) place", places.get((it["track"], it["record"])), first, "what was put there")
+        lines = [
+            f"{it['track']:04X}{it['record']:02X} {'yes' if it['alias'] else 'no ':3}   {len(it['user_data']) // 2:4} {it['bytes']:8} {it['member']}"
+            for it in objects
+        ]
+        self.same(f"{name} lines", self.extract(name, "--list")[2].decode().splitlines()[1:], lines, "its objects")
+        behind = readings.run(self.dasd, "vtoc", "--members", "--json", self.image).stdout.splitlines()
+        of_table = [it for it in map(json.loads, behind) if it.get("data_set") == name]
+        self.same(f"{name} behind the table", of_table, objects, "--list")
+
+    def places_of(self, name: str) -> dict[tuple[int, int], bytes]:
+        """The blocks of a data set, by relative track and the number of the record."""
+        image = Image(self.image)
+        runs = layouts.runs_of(image, layouts.find_blocks(image)[name])
+        tracks = [track for first, last in runs for track in range(first, last + 1)]
+        return {(i, it.identifier[4]): it.data for i, track in enumerate(tracks) for it in image.records(track)}
 
     def compare_all(self, options: tuple[str, ...]) -> None:
         """All that is on the volume, taken out into a folder."""

@@ -24,6 +24,7 @@ use Rattle.dasd_run.specs.declared.commands.Ending.TheVariants.{Done}
 use Rattle.dasd_run.specs.declared.fault.ProgramFault.{ProgramFault}
 use Rattle.dasd_run.specs.declared.fault.ProgramFault.TheVariants as fault
 use Rattle.dasd_run.specs.Compared.{ComparesFiles}
+use Rattle.dasd_run.specs.Details.{ListsDetails, ListsMembers}
 use Rattle.dasd_run.specs.Held.{ListsContents}
 use Rattle.dasd_run.specs.Outside.{Outside}
 use Rattle.dasd_run.specs.Paths.{joined_paths, quoted_paths}
@@ -135,6 +136,10 @@ Answers (request.Disassemble path) result before now = WithText PrintsWords resu
 Answers (request.Run asked) result before now = RunsOrStops result asked before now
 Answers (request.ListContents asked) result before now =
     ListsContents result asked before.opened now.opened before.printed now.printed × Looks before now
+Answers (request.ListDetails asked) result before now =
+    ListsDetails result asked before.opened now.opened before.printed now.printed × Looks before now
+Answers (request.ListMembers asked) result before now =
+    ListsMembers result asked before.opened now.opened before.printed now.printed × Looks before now
 Answers (request.Extract asked) result before now =
     ExtractsSet result asked before.opened now.opened (left_of before) (left_of now) × (now.read ≡ before.read)
 Answers (request.ExtractTracks asked) result before now =

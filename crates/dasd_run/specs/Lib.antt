@@ -8,6 +8,7 @@ pub mod Paths
 pub mod Printed
 pub mod Reaches
 pub mod Held
+pub mod Details
 pub mod Unloads
 pub mod Compared
 pub mod Strict

@@ -11,6 +11,7 @@ ghost use Rattle.dasd_run.specs.Saves.{Concludes, Ends, unsaved_ending};
 
 use crate::archive::{compare_both, dump_part};
 use crate::decks::{read_deck, run_deck, tell_fault};
+use crate::details::{list_details, list_library};
 use crate::explain::explain;
 use crate::fault::ProgramFault;
 use crate::hash::hash_volume;
@@ -108,6 +109,8 @@ pub fn answer<F: Traces, R: Read, W: Write, P: Progress>(
         Request::Compare(volumes) => compare_both(alloc, files, writer, &volumes),
         Request::Hash(asked) => hash_volume(alloc, files, writer, &asked),
         Request::ListContents(volume) => list_contents(alloc, files, writer, &volume),
+        Request::ListDetails(asked) => list_details(alloc, files, writer, &asked),
+        Request::ListMembers(asked) => list_library(alloc, files, writer, &asked),
         Request::Extract(asked) => extract_set(alloc, files, writer, &asked),
         Request::ExtractTracks(asked) => extract_tracks(alloc, files, writer, &asked),
         Request::ExtractAll(asked) => extract_volume(alloc, files, writer, &asked),

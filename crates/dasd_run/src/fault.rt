@@ -47,6 +47,9 @@ pub enum ProgramFault {
     /// The tracks of the volume have no such record.
     #[error("no such record")]
     NoRecord,
+    /// The data set whose members are asked for has none.
+    #[error("not a partitioned data set")]
+    NotPartitioned,
     /// The file of a trace can't be opened.
     #[error("trace file not opened")]
     TraceNotOpened,

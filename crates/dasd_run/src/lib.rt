@@ -5,6 +5,7 @@
 mod archive;
 mod commands;
 mod decks;
+mod details;
 mod explain;
 mod fault;
 mod hash;

@@ -72,8 +72,8 @@ fn print_contents<V: SlotReader, W: Write>(
     }
 }
 
-// Prints what a volume says of itself, in lines, or in objects where they have its paths.
-fn write_contents<W: Write>(
+/// Prints what a volume says of itself, in lines, or in objects where they have its paths.
+pub(crate) fn write_contents<W: Write>(
     alloc: Global,
     writer: &mut Counted<W>,
     json: Option<&str>,
@@ -93,8 +93,8 @@ fn write_contents<W: Write>(
     }
 }
 
-// How the program ends, by what is wrong with a volume.
-fn ending_of(contents: &Contents) -> Ending
+/// How the program ends, by what is wrong with a volume.
+pub(crate) fn ending_of(contents: &Contents) -> Ending
     ensures { result ≡ ending_of (length contents.now.found.findings.items) }
 {
     match contents.found.findings.as_slice().len() {
@@ -103,8 +103,11 @@ fn ending_of(contents: &Contents) -> Ending
     }
 }
 
-// What a volume says of itself, with all that is wrong.
-fn checked_contents<V: SlotReader>(alloc: Global, volume: &mut V) -> Result<Contents, ProgramFault>
+/// What a volume says of itself, with all that is wrong.
+pub(crate) fn checked_contents<V: SlotReader>(
+    alloc: Global,
+    volume: &mut V,
+) -> Result<Contents, ProgramFault>
     ensures says { IfOk result (SaysAll (V.volume volume.old)) }
     ensures kept { V.volume volume.new ≡ V.volume volume.old }
     ensures fault { IfErr result (λ e. e ≢ ProgramFault.Job JobFault.Write) }

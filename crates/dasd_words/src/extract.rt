@@ -5,7 +5,8 @@ use crate::listings::read_paths;
 use crate::options::{AS_FAR, ArgKind, ArgRow, CommandRow, FILE, JSON, Value, WORDS};
 use crate::record_words::{BLOCK_LENGTH, FORMAT, RECORD_LENGTH, read_given};
 use crate::requests::{
-    ExtractedSet, ExtractedTracks, ExtractedVolume, Request, SetName, WordFault,
+    ExtractedSet, ExtractedTracks, ExtractedVolume, ListedLibrary, PrintedVolume, Request, SetName,
+    WordFault,
 };
 use clap::ArgMatches;
 use std::alloc::Global;
@@ -20,7 +21,12 @@ const RAW_MEMBER: &str = "error: --raw takes the tracks of a data set, and of no
 
 const RAW_TEXT: &str = "error: --raw goes with neither --text nor --all\n";
 
-const ALL_JSON: &str = "error: --json goes with --all\n";
+const ALL_JSON: &str = "error: --json goes with --all and with --list\n";
+
+const LIST_ALONE: &str = "error: --list goes with --json alone\n";
+
+const LIST_MEMBER: &str =
+    "error: --list prints the members of a data set, and takes the name of none\n";
 
 /// The command, with its words.
 pub(crate) const COMMAND: CommandRow = CommandRow {
@@ -65,6 +71,11 @@ pub(crate) const COMMAND: CommandRow = CommandRow {
             help: "writes the tracks of a data set as they stand in the image: all bytes of each, in order",
             kind: ArgKind::Flag,
         },
+        ArgRow {
+            id: "list",
+            help: "prints the members of a partitioned data set: where each begins, and how much it has",
+            kind: ArgKind::Flag,
+        },
         AS_FAR,
         JSON,
     ],
@@ -75,6 +86,9 @@ pub(crate) fn read<'a>(alloc: Global, options: &ArgMatches<'a>) -> Result<Reques
     let Some(words) = options.get_strs(PATHS_AND_NAME) else {
         return Err(wrong(alloc, NO_PATH));
     };
+    if options.get_flag("list") {
+        return read_list(alloc, options, words);
+    }
     let is_text = options.get_flag("text");
     let json = options.get_flag("json");
     let is_raw = options.get_flag("raw");
@@ -110,6 +124,36 @@ pub(crate) fn read<'a>(alloc: Global, options: &ArgMatches<'a>) -> Result<Reques
         return read_raw(alloc, set);
     }
     Ok(Request::Extract(set))
+}
+
+// The members of a data set.
+fn read_list<'a>(
+    alloc: Global,
+    options: &ArgMatches<'a>,
+    words: &[&'a str],
+) -> Result<Request<'a>, WordFault> {
+    if options.get_flag("text")
+        || options.get_flag("raw")
+        || options.get_str("all").is_some()
+        || options.get_str("to").is_some()
+        || read_given(alloc, options)?.is_some()
+    {
+        return Err(wrong(alloc, LIST_ALONE));
+    }
+    let Some((paths, name)) = split_words(words) else {
+        return Err(wrong(alloc, NO_NAME));
+    };
+    if name.member.is_some() {
+        return Err(wrong(alloc, LIST_MEMBER));
+    }
+    Ok(Request::ListMembers(ListedLibrary {
+        volume: PrintedVolume {
+            paths: read_paths(alloc, paths)?,
+            json: options.get_flag("json"),
+            as_far: options.get_flag("as-far-as-it-goes"),
+        },
+        name: name.data_set,
+    }))
 }
 
 // The tracks of a data set, which is no member.

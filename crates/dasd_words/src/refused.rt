@@ -1,7 +1,7 @@
 //! What is said of words that a command refuses, or that it can't do.
 
 use crate::commands::{match_words, read_words};
-use crate::requests::Request;
+use crate::requests::{PrintedVolume, Request};
 use crate::volumes::read_volume;
 use std::alloc::Global;
 
@@ -43,16 +43,12 @@ pub fn taken_address(alloc: Global, words: &[&str]) -> Option<u8> {
 pub fn object_path(alloc: Global, words: &[&str]) -> Option<String> {
     let asked = read_words(alloc, words).ok()?;
     match asked.request {
-        Request::ListPart(volume, _) | Request::Dump(volume, _) => {
-            joined(alloc, volume.json, volume.paths.as_slice())
-        }
-        Request::ListContents(volume) => joined(alloc, volume.json, volume.paths.as_slice()),
-        Request::Hash(hashed) => {
-            joined(alloc, hashed.volume.json, hashed.volume.paths.as_slice())
-        }
-        Request::CheckStrictly(check) => {
-            joined(alloc, check.volume.json, check.volume.paths.as_slice())
-        }
+        Request::ListPart(volume, _) | Request::Dump(volume, _) => joined_of(alloc, &volume),
+        Request::ListContents(volume) => joined_of(alloc, &volume),
+        Request::Hash(hashed) => joined_of(alloc, &hashed.volume),
+        Request::CheckStrictly(check) => joined_of(alloc, &check.volume),
+        Request::ListDetails(details) => joined_of(alloc, &details.volume),
+        Request::ListMembers(library) => joined_of(alloc, &library.volume),
         Request::Compare(volumes) => joined(alloc, volumes.json, volumes.one.as_slice()),
         Request::ExtractAll(volume) => joined(alloc, volume.json, volume.paths.as_slice()),
         _ => None,
@@ -67,6 +63,11 @@ pub fn is_comparison(words: &[&str]) -> bool {
         }
     }
     false
+}
+
+// The paths of a volume, where objects are asked for.
+fn joined_of(alloc: Global, volume: &PrintedVolume) -> Option<String> {
+    joined(alloc, volume.json, volume.paths.as_slice())
 }
 
 // These paths with plus signs between, where objects are asked for.

@@ -84,6 +84,10 @@ pub enum Request<'a> {
     Hash(HashedVolume<'a>),
     /// Print what a volume holds: its label, its data sets, and what is wrong with them.
     ListContents(PrintedVolume<'a>),
+    /// Print what a volume holds, and more of its data sets.
+    ListDetails(DetailedVolume<'a>),
+    /// Print the members of a partitioned data set.
+    ListMembers(ListedLibrary<'a>),
     /// Take a data set, or a member of one, out of a volume.
     Extract(ExtractedSet<'a>),
     /// Take the tracks of a data set out of a volume, as they stand.
@@ -133,6 +137,26 @@ pub struct HashedVolume<'a> {
     pub sets: bool,
     /// Whether its data sets and their members have lines too.
     pub members: bool,
+}
+
+/// A volume of which it is printed what it holds, and more of its data sets.
+#[derive(Drop)]
+pub struct DetailedVolume<'a> {
+    /// The volume.
+    pub volume: PrintedVolume<'a>,
+    /// Whether members of partitioned data sets are listed.
+    pub members: bool,
+    /// Whether it is told what the line of the table leaves out of a data set.
+    pub is_long: bool,
+}
+
+/// A partitioned data set whose members are listed.
+#[derive(Drop)]
+pub struct ListedLibrary<'a> {
+    /// The volume.
+    pub volume: PrintedVolume<'a>,
+    /// The name of the data set.
+    pub name: &'a str,
 }
 
 /// A strict check of the volume of an image.

@@ -1,0 +1,69 @@
+-- What a volume holds, as it is printed with its sections.
+use Rattle.std.proofs.Common.{◌≡◌, ◌≢◌, ◌∙◌, ◌+◌, inl, inr, refl, ap, subst, ℕ, Bool, List, [], ◌++◌, Result, Ok, Err}
+use Rattle.counted_io.specs.Streams.{Stream, Takes, TakesFront, NoneFailed, IsFlushed}
+use Rattle.counted_io.proofs.Written.{takes_nothing, takes_more}
+use Rattle.dasd_volumes.specs.declared.fault.VolumeFault.{VolumeFault}
+use Rattle.dasd_volumes.specs.declared.fault.VolumeFault.TheVariants as volume
+use Rattle.dasd_volumes.specs.Printing.{PrintsText, CountsWrites}
+use Rattle.dasd_volumes.specs.Reading.{KnownVolume}
+use Rattle.dasd_volumes.proofs.Fronts.{begins_with_all, begins_before, front_more, front_behind}
+use Rattle.dasd_contents.specs.declared.blocks.Block.{Block}
+use Rattle.dasd_contents.specs.declared.reading.Contents.{Contents}
+use Rattle.library_members.specs.Report.{printed, some_wrong}
+use Rattle.volume_details.specs.Sections.{Views, sections, TellsWrong}
+use Rattle.dasd_jobs.specs.declared.faults.JobFault.TheVariants as job
+use Rattle.dasd_run.specs.declared.commands.Ending.{Ending}
+use Rattle.dasd_run.specs.declared.fault.ProgramFault.{ProgramFault}
+use Rattle.dasd_run.specs.declared.fault.ProgramFault.TheVariants as fault
+use Rattle.dasd_run.specs.Faults.{printing_fault}
+use Rattle.dasd_run.specs.Held.{SaysAll, held_ending, CountsFault, PrintsHeld}
+use Rattle.dasd_run.specs.Details.{held_sections, worse, PrintsDetails}
+
+-- a fault of the sections, behind a table of which no write failed
+counts_behind : (f : VolumeFault) (a b d : Stream) → NoneFailed a b → CountsWrites {A = Bool} (Err f) b d
+    → CountsFault (printing_fault f) a d
+counts_behind volume.OutOfMemory a b d none k = inl (λ e. absurd cc, k ∙ none)
+counts_behind volume.Store a b d none k = inl (λ e. absurd cc, k ∙ none)
+counts_behind volume.Write a b d none k = inr (refl, k ∙ ap (λ n. n + 1) none)
+
+module _ (shown : Views) (v : KnownVolume) where
+  -- nothing was printed, with another fault than that of a write
+  pub none_detailed : (f : ProgramFault) (a : Stream) → f ≢ fault.Job job.Write → PrintsDetails (Err f) shown v a a
+  none_detailed f a other = (λ slots known. record { front = []; rest = _; whole = refl; taken = takes_nothing a }, inl (other, refl))
+
+  -- the first bytes of the table were printed
+  pub table_begun : (f : ProgramFault) (a b : Stream) → PrintsHeld (Err f) shown.json v a b → PrintsDetails (Err f) shown v a b
+  table_begun f a b held = (λ slots known. front_more a b _ _ (begins_before _ _ _ (begins_with_all _)) (held.0 slots known), held.1)
+
+  module _ (c : Contents) (is : SaysAll v c) (ending : Ending) (a b d : Stream)
+      (held : PrintsHeld (Ok ending) shown.json v a b) where
+    -- all was printed
+    pub all_detailed : (w : Bool)
+        → PrintsText {A = Bool} (Ok w) (λ g slots. printed (sections shown c.found.blocks.items g slots)) v b d
+        → TellsWrong (sections shown c.found.blocks.items) v w → NoneFailed b d → IsFlushed d
+        → PrintsDetails (Ok (worse ending w)) shown v a d
+    all_detailed w took wrong none flushed = (
+      λ slots known.
+          let h = held.0 slots known in
+          let blocks = (is slots known).blocks in (
+            takes_more a b d _ _ h.0
+                (subst (λ (l : List Block). Takes b d (printed (sections shown l v.geometry slots))) blocks (took slots known)),
+            ap (λ e. worse e w) h.1
+                ∙ ap (worse (held_ending v.geometry slots))
+                (wrong slots known ∙ ap (λ (l : List Block). some_wrong (sections shown l v.geometry slots)) blocks),
+          ),
+      none ∙ held.1,
+      flushed,
+    )
+
+    -- the table was, and the first bytes of the sections
+    pub sections_begun : (f : VolumeFault)
+        → PrintsText {A = Bool} (Err f) (λ g slots. printed (sections shown c.found.blocks.items g slots)) v b d
+        → CountsWrites {A = Bool} (Err f) b d → PrintsDetails (Err (printing_fault f)) shown v a d
+    sections_begun f took counted = (
+      λ slots known.
+          front_behind a b d _ _ (held.0 slots known).0
+          (subst (λ (l : List Block). TakesFront b d (printed (sections shown l v.geometry slots))) (is slots known).blocks
+          (took slots known)),
+      counts_behind f a b d held.1 counted,
+    )

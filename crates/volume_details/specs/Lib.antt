@@ -1,0 +1,4 @@
+pub mod Indicators
+pub mod Libraries
+pub mod Long
+pub mod Sections
