@@ -10,5 +10,6 @@ pub mod Held
 pub mod Unloads
 pub mod Compared
 pub mod Strict
+pub mod Loads
 pub mod Words
 pub mod Answers

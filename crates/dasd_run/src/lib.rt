@@ -9,6 +9,7 @@ mod explain;
 mod fault;
 mod hash;
 mod list;
+mod loads;
 mod printed_paths;
 mod remarks;
 mod runs;

@@ -2,6 +2,7 @@ pub mod Mnemonics
 pub mod Numbers
 pub mod Fields
 pub mod Constants
+pub mod Files
 pub mod Statements
 pub mod Symbols
 pub mod Parts

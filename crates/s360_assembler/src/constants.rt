@@ -143,8 +143,8 @@ fn halfword_bytes(digits: &[u8]) -> Option<Bytes>
     Some(row_of(&bytes))
 }
 
-// The letter of a unit, and what stands in its apostrophes.
-fn letter_and_text(unit: &[u8]) -> Option<(u8, &[u8])>
+/// The letter of a unit, and what stands in its apostrophes.
+pub(crate) fn letter_and_text(unit: &[u8]) -> Option<(u8, &[u8])>
     ensures { option_map (λ parts. (parts.0, parts.1.now)) result ≡ letter_and_text unit.now }
 {
     match unit {

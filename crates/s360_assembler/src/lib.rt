@@ -6,6 +6,7 @@ mod constants;
 mod deck;
 mod fault;
 mod fields;
+mod files;
 pub mod laws;
 mod mnemonics;
 mod numbers;
@@ -15,5 +16,6 @@ mod symbols;
 
 pub use crate::assembling::assemble;
 pub use crate::fault::{AssemblyFault, Cause};
+pub use crate::files::{LoadedFile, files_named};
 pub use crate::mnemonics::{code_named, word_of};
 pub use crate::parts::word_bytes;
