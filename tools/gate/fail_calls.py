@@ -103,6 +103,7 @@ COMMANDS = [
     Command("extract --all", ["extract", "--all", "out", "pack.ckd"]),
     Command("explain", ["explain", "csw", "00000428", "0E000320"]),
     Command("assemble", ["assemble"], b" ORG X'48'\n DC A(START)\nSTART TIC START\n SIO 190\n"),
+    Command("assemble with a file", ["assemble"], b" LOAD C'core'\n SHOW 0 4\n"),
     Command("disassemble", ["disassemble"], deck_for("190")),
 ]
 
@@ -145,6 +146,7 @@ def fill(folder: Path) -> None:
     with open(folder / "pack.ckd", "r+b") as pack:  # a reserved byte of the header, which a strict check tells
         pack.seek(20)
         pack.write(b"\1")
+    (folder / "core").write_bytes(bytes(range(200)))
     (folder / "out").mkdir()
 
 

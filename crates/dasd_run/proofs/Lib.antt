@@ -1,5 +1,6 @@
 mod Built
 mod Held
+mod Loading
 pub mod Paths
 pub mod Saving
 mod Told

@@ -72,7 +72,7 @@ fn load_and_print<F: ImageFiles, W: Write>(
     text: &[u8],
 ) -> Result<Ending, ProgramFault>
     ensures kept { F.written files.new ≡ F.written files.old }
-    ensures { AssemblesText result (option_map (λ path. path.now) path.entry) text.now
+    ensures assembles { AssemblesText result (option_map (λ path. path.now) path.entry) text.now
         (F.opened files.old) (F.opened files.new)
         (seen_by W.contents writer.old) (seen_by W.contents writer.new) }
 {

@@ -1,6 +1,7 @@
 -- Files whose bytes a text puts into storage: LOAD and a name in apostrophes, C'..'.
 use Rattle.std.specs.Prelude.{ℕ, List, [], ◌∷◌, ◌++◌, length, slice_get, Bool, ◌&&◌, not, ◌==◌, nat_lt, nat_le, Option, Some, None, is_some}
-use Rattle.std.specs.Prelude.{option_and_then, position, list_any, codes, if◌then◌else◌}
+use Rattle.std.specs.Prelude.{option_and_then, position, codes, if◌then◌else◌}
+use Rattle.std.specs.List.{list_any}
 use Rattle.std.specs.Str.{bytes_eq}
 use Rattle.s360_deck.specs.Deck.{lines_of, without_return}
 use Rattle.s360_assembler.specs.declared.fields.Quoting.TheVariants.{Outside}

@@ -1,4 +1,3 @@
-pub mod Mnemonics
 pub mod Numbers
 pub mod Fields
 pub mod Constants
@@ -7,4 +6,3 @@ pub mod Statements
 pub mod Symbols
 pub mod Parts
 pub mod Assembled
-pub mod Laws

@@ -1,6 +1,6 @@
 //! Files whose bytes a text puts into storage.
 
-ghost use Rattle.std.specs.Prelude.{◌≡◌, option_map, list_any, position, IfOk, map};
+ghost use Rattle.std.specs.Prelude.{◌≡◌, option_map, position, IfOk, map};
 ghost use Rattle.std.specs.Str.{bytes_eq};
 ghost use Rattle.s360_assembler.specs.Files.{file_name_of, name_loaded, with_name, files_named, has_name, bytes_at};
 
@@ -46,17 +46,6 @@ fn name_loaded(line: &[u8]) -> Option<&[u8]>
     file_name_of(fields.operands)
 }
 
-// Whether a name is one of these.
-fn is_among(names: &[Vec<u8>], name: &[u8]) -> bool
-    ensures { result ≡ list_any (λ n. bytes_eq n.items name.now) names.now }
-{
-    names.iter().any(
-        |other: &Vec<u8>| -> bool
-            ensures { result ≡ bytes_eq other.now.items name.now }
-        { other.as_slice() == name },
-    )
-}
-
 // One more name, if there is one and it is none of these.
 fn add_name(
     alloc: Global,
@@ -69,7 +58,12 @@ fn add_name(
     let Some(name) = name else {
         return Ok(());
     };
-    if is_among(names.as_slice(), name) {
+    let is_there = names.iter().any(
+        |other: &Vec<u8>| -> bool
+            ensures { result ≡ bytes_eq other.now.items name.entry.now }
+        { other.as_slice() == name },
+    );
+    if is_there {
         return Ok(());
     }
     let copy = name.to_vec(alloc)?;
@@ -102,7 +96,7 @@ pub(crate) fn place_named(files: &[LoadedFile], name: &[u8]) -> Option<usize>
 {
     files.iter().position(
         |file: &LoadedFile| -> bool
-            ensures { result ≡ has_name name.now file.now }
+            ensures { result ≡ has_name name.entry.now file.now }
         { file.name.as_slice() == name },
     )
 }

@@ -12,10 +12,10 @@ use crate::constants::{Boundary, area_of, boundary_of_unit, constant_of, unit_of
 use crate::fault::{Cause, Mistake};
 use crate::fields::{Fields, fields_of, position_of};
 use crate::files::{LoadedFile, bytes_at, file_name_of, place_named};
-use crate::mnemonics::code_named;
 use crate::numbers::{Address, address_of, flags_of, number_to};
 use arrayvec::ArrayVec;
 use s360_deck::{EventName, event_name, number};
+use s360_mnemonics::code_named;
 
 /// The most bytes of a line.
 const LINE_LENGTH: usize = 512;
