@@ -1,5 +1,6 @@
 -- Files that a text loads, one after another.
-use Rattle.std.proofs.Common.{◌≡◌, ◌∙◌, ◌+◌, ◌<◌, ◌≤◌, ◌⊎◌, ℕ, zero, suc, List, [], ◌∷◌, ◌++◌, take, length, get_or, map, inl, inr, ap, sym, subst, refl, arith}
+use Rattle.std.proofs.Common.{◌≡◌, ◌∙◌, ◌+◌, ◌<◌, ◌≤◌, ◌⊎◌, ℕ, zero, suc, List, [], ◌∷◌, ◌++◌, take, length, get_or, map, inl, inr}
+use Rattle.std.proofs.Common.{ap, sym, subst, refl, arith}
 use Rattle.std.proofs.lemmas.List.{take_all, map_more}
 use Rattle.std.specs.Global.{Vec}
 use Rattle.dasd_jobs.specs.Sources.{SourceFile, ReadsFront}
@@ -15,13 +16,28 @@ read_more : (names : List (List ℕ)) (loaded : List LoadedFile) (name : List �
     → LoadsFiles names loaded before between → file.name.items ≡ name → ReadsFront name 524289 file.bytes.items between now
     → LoadsFiles (names ++ name ∷ []) (loaded ++ file ∷ []) before now
 read_more [] loaded name file before between now so_far named read =
-    inr (file, [], now, ap (λ (l : List LoadedFile). l ++ file ∷ []) so_far.0, named,
-    subst (λ (b : List SourceFile). ReadsFront name 524289 file.bytes.items b now) so_far.1 read, refl, refl)
+    inr (
+      file,
+      [],
+      now,
+      ap (λ (l : List LoadedFile). l ++ file ∷ []) so_far.0,
+      named,
+      subst (λ (b : List SourceFile). ReadsFront name 524289 file.bytes.items b now) so_far.1 read,
+      refl,
+      refl,
+    )
 read_more (n ∷ names) loaded name file before between now (inl rest) named read =
     inl (read_more names loaded name file before between now rest named read)
 read_more (n ∷ names) loaded name file before between now (inr r) named read =
-    inr (r.0, r.1 ++ file ∷ [], r.2, ap (λ (l : List LoadedFile). l ++ file ∷ []) r.3, r.4, r.5,
-    read_more names r.1 name file r.2 between now r.6 named read)
+    inr (
+      r.0,
+      r.1 ++ file ∷ [],
+      r.2,
+      ap (λ (l : List LoadedFile). l ++ file ∷ []) r.3,
+      r.4,
+      r.5,
+      read_more names r.1 name file r.2 between now r.6 named read,
+    )
 
 -- one file more is left out
 leave_more : (names : List (List ℕ)) (loaded : List LoadedFile) (name : List ℕ) (before now : List SourceFile)

@@ -1,5 +1,5 @@
 -- The bytes of a file in storage, and the names of files: one piece more, and one line more.
-use Rattle.std.proofs.Common.{◌≡◌, ℕ, zero, suc, ◌+◌, ◌-◌, ◌<◌, List, ◌∷◌, take, drop, Result, Ok, Err, ap, sym, absurd, arith}
+use Rattle.std.proofs.Common.{◌≡◌, ℕ, zero, suc, ◌+◌, ◌-◌, ◌<◌, List, ◌∷◌, take, drop, Result, Ok, Err, ap, sym, arith}
 use Rattle.s360_deck.specs.Deck.{lines_of, without_return}
 use Rattle.s360_assembler.specs.declared.fault.Cause.{Cause}
 use Rattle.s360_assembler.specs.Files.{name_loaded, with_name, names_behind}
@@ -11,7 +11,7 @@ deck_in d (Err why) = d
 
 -- a piece that is added
 pub next_piece : (left : ℕ) (d now : DeckState) (at : ℕ) (rest : List ℕ) (all : DeckState) → 0 < left
-    → Ok (with_bytes d at (take 128 rest)) ≡ Ok now → with_pieces left d at rest ≡ all
+    → ◌≡◌ {A = Result DeckState Cause} (Ok (with_bytes d at (take 128 rest))) (Ok now) → with_pieces left d at rest ≡ all
     → with_pieces (left - 1) now (at + 128) (drop 128 rest) ≡ all
 next_piece zero d now at rest all some made is = absurd (omega (arith, some))
 next_piece (suc left) d now at rest all some made is = rw (sym (ap (deck_in d) made)) is

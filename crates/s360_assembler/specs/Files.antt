@@ -1,7 +1,6 @@
 -- Files whose bytes a text puts into storage: LOAD and a name in apostrophes, C'..'.
 use Rattle.std.specs.Prelude.{ℕ, List, [], ◌∷◌, ◌++◌, length, slice_get, Bool, ◌&&◌, not, ◌==◌, nat_lt, nat_le, Option, Some, None, is_some}
 use Rattle.std.specs.Prelude.{option_and_then, position, codes, if◌then◌else◌}
-use Rattle.std.specs.List.{list_any}
 use Rattle.std.specs.Str.{bytes_eq}
 use Rattle.s360_deck.specs.Deck.{lines_of, without_return}
 use Rattle.s360_assembler.specs.declared.fields.Quoting.TheVariants.{Outside}
@@ -25,17 +24,17 @@ abbrev pub name_loaded : (line : List ℕ) → Option (List ℕ)
 name_loaded line =
     if nat_le (length line) 512 && bytes_eq (operation_of line) (codes "LOAD") then file_name_of (operands_of line) else None
 
--- these names, and one more, if there is one and it is none of them
+-- these names, and one more, if there is one
 abbrev pub with_name : List (List ℕ) → Option (List ℕ) → List (List ℕ)
 with_name names None = names
-with_name names (Some name) = if list_any (λ n. bytes_eq n name) names then names else names ++ name ∷ []
+with_name names (Some name) = names ++ name ∷ []
 
 -- these names, and those that these lines name
 abbrev pub names_behind : List (List ℕ) → List (List ℕ) → List (List ℕ)
 names_behind names [] = names
 names_behind names (line ∷ lines) = names_behind (with_name names (name_loaded (without_return line))) lines
 
--- The names of the files that a text loads, each once, in the order of its lines.
+-- The names of the files that a text loads, in the order of its lines, each as often as it stands there.
 abbrev pub files_named : List ℕ → List (List ℕ)
 files_named text = names_behind [] (lines_of (raised Outside text))
 

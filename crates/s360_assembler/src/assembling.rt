@@ -106,13 +106,7 @@ fn deck_of(alloc: Global, known: &Known, text: &[u8]) -> Result<Vec<u8>, Assembl
     let mut rest = text;
     while !rest.is_empty() {
         let (line, behind) = split_at_line_feed(rest);
-        match write_line(
-            alloc,
-            known,
-            &mut deck,
-            here,
-            without_carriage_return(line),
-        ) {
+        match write_line(alloc, known, &mut deck, here, without_carriage_return(line)) {
             Ok(next) => here = next,
             Err(mistake) => return Err(told(number, mistake)),
         }
@@ -136,11 +130,7 @@ fn deck_of(alloc: Global, known: &Known, text: &[u8]) -> Result<Vec<u8>, Assembl
 ///
 /// The first faulty line of the first pass, which looks for labels; or else of the second, which makes the deck: with its column and
 /// what is wrong. Or the deck gets more bytes than a deck may have; or there is no memory.
-pub fn assemble(
-    alloc: Global,
-    files: &[LoadedFile],
-    text: &[u8],
-) -> Result<Vec<u8>, AssemblyFault>
+pub fn assemble(alloc: Global, files: &[LoadedFile], text: &[u8]) -> Result<Vec<u8>, AssemblyFault>
     ensures { IsAssembled (assembled files.now text.now) result }
 {
     let Ok(capitals) = raised(alloc, text) else {

@@ -119,9 +119,9 @@ fn split_piece(bytes: &[u8]) -> (&[u8], &[u8])
     ensures behind { result.1.now ≡ drop 128 bytes.now }
 {
     if bytes.len() <= STORE_LENGTH {
-        return (bytes, &bytes[bytes.len()..]);
+        return (bytes, &[]);
     }
-    (&bytes[..STORE_LENGTH], &bytes[STORE_LENGTH..])
+    bytes.split_at(STORE_LENGTH)
 }
 
 // Bytes in storage, 128 at a time.
@@ -152,26 +152,14 @@ fn add_file(deck: &mut Deck, at: u32, bytes: &[u8]) -> Result<(), Cause>
     add_pieces(deck, at, bytes)
 }
 
-// Whether a line is one of a deck.
-fn is_event(alloc: Global, line: &[u8]) -> Result<bool, Cause>
-    ensures ok { IfOk result (λ is. is ≡ is_ok (events_of line.now)) }
-    ensures err { IfErr result (λ why. why ≡ Cause.OutOfMemory) }
-{
-    match parse(alloc, line) {
-        Ok(_) => Ok(true),
-        Err(DeckFault::OutOfMemory) => Err(Cause::OutOfMemory),
-        Err(DeckFault::Unknown(_) | DeckFault::Operand(_) | DeckFault::LineTooLong(_)) => Ok(false),
-    }
-}
-
-// The line of an event.
+// The line of an event, if it is one of a deck.
 fn add_line(alloc: Global, deck: &mut Deck, line: &[u8]) -> Result<(), Cause>
     ensures { Makes result (with_event (seen deck.old) line.now) (seen deck.new) }
 {
-    match is_event(alloc, line) {
-        Ok(true) => {}
-        Ok(false) => return Err(Cause::Event),
-        Err(cause) => return Err(cause),
+    match parse(alloc, line) {
+        Ok(_) => {}
+        Err(DeckFault::OutOfMemory) => return Err(Cause::OutOfMemory),
+        Err(_) => return Err(Cause::Event),
     }
     close(deck)?;
     add(&mut deck.text, line)?;

@@ -1,7 +1,6 @@
 //! Files whose bytes a text puts into storage.
 
 ghost use Rattle.std.specs.Prelude.{◌≡◌, option_map, position, IfOk, map};
-ghost use Rattle.std.specs.Str.{bytes_eq};
 ghost use Rattle.s360_assembler.specs.Files.{file_name_of, name_loaded, with_name, files_named, has_name, bytes_at};
 
 use crate::constants::letter_and_text;
@@ -46,32 +45,19 @@ fn name_loaded(line: &[u8]) -> Option<&[u8]>
     file_name_of(fields.operands)
 }
 
-// One more name, if there is one and it is none of these.
-fn add_name(
-    alloc: Global,
-    names: &mut Vec<Vec<u8>>,
-    name: Option<&[u8]>,
-) -> Result<(), AllocError>
+// One more name, if there is one.
+fn add_name(alloc: Global, names: &mut Vec<Vec<u8>>, name: Option<&[u8]>) -> Result<(), AllocError>
     ensures { IfOk result (λ _. map (λ n. n.items) names.new.items
-        ≡ with_name (map (λ n. n.items) names.old.items) (option_map (λ n. n.now) name)) }
+        ≡ with_name (map (λ n. n.items) names.old.items) (option_map (λ n. n.now) name.entry)) }
 {
-    let Some(name) = name else {
-        return Ok(());
-    };
-    let is_there = names.iter().any(
-        |other: &Vec<u8>| -> bool
-            ensures { result ≡ bytes_eq other.now.items name.entry.now }
-        { other.as_slice() == name },
-    );
-    if is_there {
-        return Ok(());
+    if let Some(name) = name {
+        let copy = name.to_vec(alloc)?;
+        names.push(copy)?;
     }
-    let copy = name.to_vec(alloc)?;
-    names.push(copy)?;
     Ok(())
 }
 
-/// The names of the files that a text loads, each once, in the order of its lines.
+/// The names of the files that a text loads, in the order of its lines, each as often as it stands there.
 ///
 /// # Errors
 ///
@@ -84,7 +70,11 @@ pub fn files_named(alloc: Global, text: &[u8]) -> Result<Vec<Vec<u8>>, AllocErro
     let mut rest = capitals.as_slice();
     while !rest.is_empty() {
         let (line, behind) = split_at_line_feed(rest);
-        add_name(alloc, &mut names, name_loaded(without_carriage_return(line)))?;
+        add_name(
+            alloc,
+            &mut names,
+            name_loaded(without_carriage_return(line)),
+        )?;
         rest = behind;
     }
     Ok(names)
