@@ -1,5 +1,5 @@
 -- The files that a text loads: which of them are read, and why they are too many.
-use Rattle.std.specs.Prelude.{◌≡◌, ◌⊎◌, ◌<◌, ℕ, List, [], ◌∷◌, length, take, map, sum, Option, Some, None, Result, Ok, Err}
+use Rattle.std.specs.Prelude.{◌≡◌, ◌⊎◌, ◌<◌, ℕ, ◌+◌, List, [], ◌∷◌, ◌++◌, length, take, map, sum, Option, Some, None, Result, Ok, Err}
 use Rattle.std.specs.Global.{Vec}
 use Rattle.dasd_jobs.specs.Sources.{SourceFile, ReadsFront}
 use Rattle.s360_assembler.specs.declared.fault.AssemblyFault.{AssemblyFault}
@@ -24,6 +24,23 @@ ReadsNamed (Err f) name before now = (f ≡ assembly.OutOfMemory) × (now ≡ be
 -- the bytes of all these files
 abbrev pub bytes_of : List LoadedFile → ℕ
 bytes_of loaded = sum (map (λ f. length f.bytes.items) loaded)
+
+-- these files, and one more, if there is one
+abbrev pub with_loaded : List LoadedFile → Option LoadedFile → List LoadedFile
+with_loaded loaded None = loaded
+with_loaded loaded (Some file) = loaded ++ file ∷ []
+
+-- its bytes
+abbrev pub size_loaded : Option LoadedFile → ℕ
+size_loaded None = 0
+size_loaded (Some file) = length file.bytes.items
+
+-- A file, if there is one, was added to those before, and so many bytes more may be loaded; or it has more than were left, or there is no
+-- memory.
+abbrev pub AddsLoaded : Result ℕ AssemblyFault → Option LoadedFile → (left : ℕ) → (before now : List LoadedFile) → Type 0
+AddsLoaded (Ok more) file left before now = (now ≡ with_loaded before file) × (more + size_loaded file ≡ left)
+AddsLoaded (Err f) file left before now =
+    (f ≡ assembly.OutOfMemory) ⊎ ((f ≡ assembly.TooLong) × (left < size_loaded file))
 
 -- Why files are not loaded: those that were read have more than 524,288 bytes together, so that the deck would be too long; or there is no memory.
 abbrev pub NotLoaded : AssemblyFault → (loaded : List LoadedFile) → Type 0

@@ -1,7 +1,7 @@
 //! The files that a text in words loads.
 
 ghost use Rattle.std.specs.Prelude.{◌≡◌, map};
-ghost use Rattle.dasd_run.specs.Loads.{ReadsNamed, Loads};
+ghost use Rattle.dasd_run.specs.Loads.{ReadsNamed, AddsLoaded, Loads};
 
 use dasd_jobs::{FileFault, ImageFiles};
 use s360_assembler::{AssemblyFault, LoadedFile};
@@ -32,6 +32,27 @@ fn read_named<F: ImageFiles>(
     }
 }
 
+// Adds a file, if there is one, and answers how many bytes more may be loaded.
+fn add_loaded(
+    loaded: &mut Vec<LoadedFile>,
+    left: usize,
+    file: Option<LoadedFile>,
+) -> Result<usize, AssemblyFault>
+    ensures { AddsLoaded result file left loaded.old.items loaded.new.items }
+{
+    let Some(file) = file else {
+        return Ok(left);
+    };
+    let size = file.bytes.len();
+    if size > left {
+        return Err(AssemblyFault::TooLong);
+    }
+    match loaded.push(file) {
+        Ok(()) => Ok(left - size),
+        Err(_) => Err(AssemblyFault::OutOfMemory),
+    }
+}
+
 /// The files of these names, as far as they can be read.
 ///
 /// # Errors
@@ -48,16 +69,8 @@ pub(crate) fn load_files<F: ImageFiles>(
     let mut loaded = Vec::new(alloc);
     let mut left = MOST_BYTES;
     for i in 0..names.len() {
-        if let Some(file) = read_named(alloc, files, names[i].as_slice())? {
-            let size = file.bytes.len();
-            if loaded.push(file).is_err() {
-                return Err(AssemblyFault::OutOfMemory);
-            }
-            if size > left {
-                return Err(AssemblyFault::TooLong);
-            }
-            left -= size;
-        }
+        let file = read_named(alloc, files, names[i].as_slice())?;
+        left = add_loaded(&mut loaded, left, file)?;
     }
     Ok(loaded)
 }
