@@ -25,8 +25,7 @@ read_more [] loaded name file before between now so_far named read =
       ap (λ (l : List LoadedFile). l ++ file ∷ []) so_far.0,
       named,
       subst (λ (b : List SourceFile). ReadsFront name 524289 file.bytes.items b now) so_far.1 read,
-      refl,
-      refl,
+      (refl, refl),
     )
 read_more (n ∷ names) loaded name file before between now (inl rest) named read =
     inl (read_more names loaded name file before between now rest named read)
@@ -92,10 +91,15 @@ module _ (names : List (Vec ℕ)) (before : List SourceFile) where
       first (n ∷ ns) zero = refl
       first (n ∷ ns) (suc k) = ap (λ (l : List (List ℕ)). n.items ∷ l) (first ns k)
 
+regrouped : (a b c : ℕ) → a + (b + c) ≡ a + b + c
+regrouped a b c = omega arith
+
 -- the bytes of one more
 more_bytes : (loaded : List LoadedFile) (file : LoadedFile) → bytes_of (loaded ++ file ∷ []) ≡ bytes_of loaded + length file.bytes.items
 more_bytes [] file = omega arith
-more_bytes (f ∷ loaded) file = omega (arith, more_bytes loaded file)
+more_bytes (f ∷ loaded) file =
+    ap (λ (n : ℕ). length f.bytes.items + n) (more_bytes loaded file)
+    ∙ regrouped (length f.bytes.items) (bytes_of loaded) (length file.bytes.items)
 
 pub more_loaded : (loaded : List LoadedFile) (file : Option LoadedFile) → bytes_of (with_loaded loaded file) ≡ bytes_of loaded + size_loaded file
 more_loaded loaded None = omega arith
