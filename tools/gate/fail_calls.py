@@ -57,6 +57,8 @@ ERRORS = {
     "fchown": ["EPERM"],
     "mkdir": ["EACCES"],
 }
+# What a fault of a read is called: that of a command's own file, that of a volume, and that of a file which a text loads.
+READ_FAULTS = ("read fault", "no file of this name could be read")
 # The signals by which a command is ended: that of `kill -9`; where it writes files, also those of `kill`, of Ctrl-C, and of a terminal that is gone.
 KILLED = "killed by "
 KILL = ["KILL"]
@@ -104,6 +106,7 @@ COMMANDS = [
     Command("extract --all", ["extract", "--all", "out", "pack.ckd"]),
     Command("explain", ["explain", "csw", "00000428", "0E000320"]),
     Command("assemble", ["assemble"], b" ORG X'48'\n DC A(START)\nSTART TIC START\n SIO 190\n"),
+    Command("assemble with a file", ["assemble"], b" LOAD C'core'\n SHOW 0 4\n"),
     Command("disassemble", ["disassemble"], deck_for("190")),
 ]
 
@@ -146,6 +149,7 @@ def fill(folder: Path) -> None:
     with open(folder / "pack.ckd", "r+b") as pack:  # a reserved byte of the header, which a strict check tells
         pack.seek(20)
         pack.write(b"\1")
+    (folder / "core").write_bytes(bytes(range(200)))
     (folder / "out").mkdir()
 
 
@@ -228,7 +232,7 @@ def untold(failure: Failure, came: Came) -> str | None:
     if on and failure.call == "write":
         return None
     first, *more = came.told.decode(errors="replace").splitlines() or [""]
-    if not first.startswith("dasd: ") or on and "read fault" not in first:
+    if not first.startswith("dasd: ") or on and not any(it in first for it in READ_FAULTS):
         return f"status {came.status}, and no fault{' of a read' if on else ''} is told"
     why = f": {os.strerror(getattr(errno, error))}"
     if failure.call == "pread64":

@@ -1,14 +1,18 @@
 // @ts-check
-// The deck: written with help, and shown with its answers once it was run. What is wrong in a line, the forms of events, and what a channel
-// command word means are the words of `dasd`.
+// The deck: written with help, as a deck or in words, and shown with its answers once it was run. What is wrong in a line, the forms of events,
+// what a channel command word means, and a text in the other language are the words of `dasd`.
 
 import { button, find, linesOf, make } from './dom.mjs';
+import { FaultMark } from './fault_mark.mjs';
 import { WordBuilder } from './word_builder.mjs';
 
 /** @typedef {{number: number, text: string, event: number | null}} DeckLine a line of a deck, and which event it is, if any */
+/** @typedef {'deck' | 'words'} Language */
+/** @typedef {import('./words.mjs').Turned} Turned */
 /**
  * @typedef {{explain: (kind: string, digits: string) => Promise<string>, fault: (line: string) => Promise<string>, forms: () => Promise<string>,
- *   go: (event: number) => void, run: () => void}} Hooks */
+ *   assemble: (text: string) => Promise<Turned>, disassemble: (deck: string) => Promise<Turned>, go: (event: number) => void,
+ *   run: () => void}} Hooks */
 
 const PATIENCE = 180;
 /** What stands there to begin with. */
@@ -23,6 +27,8 @@ SHOW 600 32
 SHOW 620 32
 `;
 const MOST_WORDS = 12;
+/** What a field is to those who hear it. */
+const NAMES = { deck: 'The deck, an event a line', words: 'The deck in words, a statement a line' };
 
 /**
  * The lines of a deck, with the events that stand in them.
@@ -52,7 +58,6 @@ export class DeckEditor {
       spellcheck: 'false',
       autocapitalize: 'off',
       autocomplete: 'off',
-      'aria-label': 'The deck, an event a line',
       'aria-describedby': 'deck-help',
       wrap: 'off'
     }));
@@ -61,8 +66,14 @@ export class DeckEditor {
     /** @type {Map<number, string>} what is wrong, by the numbers of lines */
     this.faults = new Map();
     this.asked = 0;
-    const builder = new WordBuilder({ explain: hooks.explain, insert: digits => this.#insert(digits) });
-    find('editor').replaceChildren(make('div', { class: 'field' }, this.gutter, this.field), this.help, builder.root);
+    /** @type {Language} */
+    this.language = 'deck';
+    /** @type {{from: string, to: string} | null} the text that was turned last, and what it became */
+    this.turned = null;
+    this.mark = new FaultMark(this.field);
+    this.builder = new WordBuilder({ explain: hooks.explain, insert: digits => this.#insert(digits) }).root;
+    const paper = make('div', { class: 'paper' }, this.mark.root, this.field);
+    find('editor').replaceChildren(make('div', { class: 'field' }, this.gutter, paper), this.help, this.builder);
     this.#listen();
     this.write(FIRST);
   }
@@ -75,9 +86,12 @@ export class DeckEditor {
       later = setTimeout(() => this.#look(), PATIENCE);
     };
     this.field.addEventListener('input', () => {
+      this.mark.show(null);
       this.#number();
       soon();
     });
+    find('as-deck').addEventListener('click', () => this.turn('deck'));
+    find('as-words').addEventListener('click', () => this.turn('words'));
     this.field.addEventListener('scroll', () => { this.gutter.scrollTop = this.field.scrollTop; });
     for (const it of ['keyup', 'click', 'focus']) this.field.addEventListener(it, soon);
     this.field.addEventListener('keydown', event => {
@@ -93,13 +107,45 @@ export class DeckEditor {
 
   get text() { return this.field.value; }
 
-  /** @param {string} text */
-  write(text) {
+  /**
+   * @param {string} text
+   * @param {Language} [language]
+   */
+  write(text, language = 'deck') {
     this.field.value = text;
+    this.language = language;
+    this.field.setAttribute('aria-label', NAMES[language]);
+    this.builder.hidden = language === 'words';
+    find('as-deck').setAttribute('aria-pressed', String(language === 'deck'));
+    find('as-words').setAttribute('aria-pressed', String(language === 'words'));
     this.faults.clear();
+    this.mark.show(null);
     this.#number();
     this.#look();
     this.edit();
+  }
+
+  /** The deck that is written, or what is wrong with its words. */
+  async deck() { return this.language === 'words' ? this.hooks.assemble(this.text) : { text: this.text, fault: null }; }
+
+  /**
+   * Puts what is written into the other language. A text that is wrong stays, and its fault is told. One that was turned, and is turned back
+   * unchanged, is what it was, with its labels and remarks.
+   * @param {Language} language
+   */
+  async turn(language) {
+    if (language === this.language) return;
+    const from = this.text, kept = this.turned?.to === from ? this.turned.from : null;
+    const { text, fault } = kept !== null ? { text: kept, fault: null } :
+      await (language === 'words' ? this.hooks.disassemble(from) : this.hooks.assemble(from));
+    if (this.text !== from) return;
+    if (fault) {
+      this.edit();
+      this.#tell(fault);
+      return;
+    }
+    this.write(text, language);
+    this.turned = { from, to: text };
   }
 
   /** Shows the deck to be written, and not its answers. */
@@ -130,8 +176,27 @@ export class DeckEditor {
     this.field.dispatchEvent(new Event('input'));
   }
 
+  /**
+   * Marks what is wrong with a text, and tells it.
+   * @param {import('./words.mjs').WordsFault | null} fault
+   */
+  #tell(fault) {
+    this.faults = new Map(fault && fault.number !== null ? [[fault.number, fault.text]] : []);
+    this.#number();
+    this.mark.show(fault);
+    this.help.replaceChildren(fault ? make('p', { class: 'bad' }, faultLine(fault)) : make('p', { class: 'soft' },
+      'A statement a line: a label or a blank, an operation, its operands, as LOOP SIDEQ ID,CC,5. Ctrl and Enter assemble and run it.'));
+  }
+
+  // What is wrong with the words that are written.
+  async #lookAtWords() {
+    const asked = ++this.asked, { fault } = await this.hooks.assemble(this.field.value);
+    if (asked === this.asked) this.#tell(fault);
+  }
+
   // What is wrong in each line, and what helps with the one that the cursor is in.
   async #look() {
+    if (this.language === 'words') return this.#lookAtWords();
     const asked = ++this.asked, lines = linesOf(this.field.value);
     const told = await Promise.all(lines.map(it => (isEvent(it) ? this.hooks.fault(it) : '')));
     if (asked !== this.asked) return;
@@ -231,6 +296,15 @@ export class DeckEditor {
       for (const said of /** @type {NodeListOf<HTMLElement>} */ (it.querySelectorAll('.said'))) said.hidden = event >= next;
     }
   }
+}
+
+/**
+ * A fault of words as a line.
+ * @param {import('./words.mjs').WordsFault} fault
+ */
+export function faultLine({ number, column, text }) {
+  if (number === null) return text;
+  return `Line ${number + 1}${column === null ? '' : `, column ${column + 1}`}: ${text}`;
 }
 
 /**

@@ -1,7 +1,7 @@
 // @ts-check
 // The view of a deck: written, run over its drives, and stepped through; with the trace, and the machine's panel at each moment.
 
-import { DeckEditor, deckLines } from './deck_editor.mjs';
+import { DeckEditor, deckLines, faultLine } from './deck_editor.mjs';
 import { find } from './dom.mjs';
 import { Panel } from './panel.mjs';
 import { Timeline } from './timeline.mjs';
@@ -38,6 +38,8 @@ export class DeckView {
     this.drives = drives;
     this.hooks = hooks;
     this.storage = 65536;
+    /** The deck that was run last. */
+    this.ran = '';
     /** @type {Played | null} */
     this.played = null;
     /** @type {Timeline | null} */
@@ -56,6 +58,8 @@ export class DeckView {
       explain,
       fault: line => this.#text(`line ${line}`, async () => (await engine.ask('deckFault', line))?.text ?? ''),
       forms: () => this.#text('forms', () => engine.ask('forms')),
+      assemble: text => engine.ask('assemble', text),
+      disassemble: deck => engine.ask('disassemble', deck),
       go: event => this.time && this.go(this.time.numberOf({ event: event + 1, unit: 0 })),
       run: () => this.run()
     });
@@ -113,9 +117,11 @@ export class DeckView {
   /** Runs the deck to its end, over the volumes as they are. */
   async run() {
     await this.hooks.ready();
-    const text = this.editor.text, drives = this.drives.all.map(it => ({ address: it.address, volume: it.volume.number }));
+    const drives = this.drives.all.map(it => ({ address: it.address, volume: it.volume.number }));
     find('run').setAttribute('aria-busy', 'true');
     try {
+      const { text, fault } = await this.editor.deck();
+      if (fault) throw new Error(faultLine(fault));
       const played = await this.engine.ask('play', { text, storage: this.storage, drives });
       this.forget();
       await this.#ran(played, text);
@@ -133,6 +139,7 @@ export class DeckView {
    */
   async #ran(played, text) {
     this.played = played;
+    this.ran = text;
     this.time = new Timeline(played.events.map(it => it.units),
       played.trace.map(it => ({ text: it.text, event: it.at.event, unit: it.at.unit, isWord: it.kind === 'word' })));
     this.editor.ran(deckLines(text, played.events), played.events.map(it => it.answer), event => this.#beside(event));
@@ -148,7 +155,7 @@ export class DeckView {
   /** @param {number} event */
   #beside(event) {
     const { example, played } = this;
-    if (!example || !played || example.deck !== this.editor.text) return [];
+    if (!example || !played || example.deck !== this.ran) return [];
     const must = example.answers[event], other = example.hercules?.[event], came = played.events[event].answer;
     return [
       ...(must && must !== came ? [{ text: `must be ${must}`, kind: 'wrong' }] : []),

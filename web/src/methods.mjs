@@ -7,6 +7,7 @@ import { Subsystem } from './library.mjs';
 import { Program, textOf } from './program.mjs';
 import { Stepper } from './stepper.mjs';
 import { Volumes } from './volume.mjs';
+import { assemble, disassemble } from './words.mjs';
 
 /** @typedef {import('./volume.mjs').Files} Files */
 /** @typedef {import('./volume.mjs').Look} Look */
@@ -123,6 +124,18 @@ export class Methods {
    */
   deckFault(text) { return faultOf(this.#program, text); }
 
+  /**
+   * The deck of a text in words, or what is wrong with it.
+   * @param {string} text
+   */
+  assemble(text) { return assemble(this.#program, text); }
+
+  /**
+   * A deck in words, or what is wrong with it.
+   * @param {string} deck
+   */
+  disassemble(deck) { return disassemble(this.#program, deck); }
+
   /** The forms of a deck's events, as `dasd run --help` has them. */
   forms() { return textOf(this.#program.run(['run', '--help']).output); }
 
@@ -191,5 +204,5 @@ export class Methods {
 /** What may be asked for by name. */
 export const METHODS = new Set([
   'version', 'open', 'format', 'close', 'files', 'dump', 'members', 'extract', 'archive', 'search', 'compare', 'explain',
-  'deckFault', 'forms', 'play', 'step', 'next', 'left', 'forget',
+  'deckFault', 'assemble', 'disassemble', 'forms', 'play', 'step', 'next', 'left', 'forget',
 ]);

@@ -47,6 +47,7 @@ CHECKS: dict[str, Callable[[Tried], None]] = {
     "archive": lambda it: volume.check_archive(it.browser, it.checks, it.downloads),
     "large": lambda it: volume.check_large(it.browser, it.native, it.checks),
     "help": lambda it: deck.check_help(it.browser, it.checks),
+    "words": lambda it: deck.check_words(it.browser, it.native, it.checks),
     "examples": lambda it: deck.check_examples(it.browser, it.checks, it.examples["examples"]),
     "steps": lambda it: deck.check_steps(it.browser, it.native, it.checks, it.examples),
     "trace": lambda it: deck.check_trace(it.browser, it.checks),

@@ -114,6 +114,64 @@ def check_builder(browser: Browser, checks: Checks) -> None:
     )
 
 
+WORDED = "STORE 48 00000400\nSTORE 400 1600060000000010\nSIO 190\nRUN\nINT\n"
+WRONG_WORDS = "         ORG X'400'\n         SEAK 0,CC,6\n"
+
+
+def check_words(browser: Browser, native: Native, checks: Checks) -> None:
+    """A deck in words: turned both ways, as dasd has it; a fault is marked at its line and column; and it is run."""
+    example(browser)
+    write(browser, WORDED)
+    browser.click("#as-words")
+    browser.until("page.deck.editor.language === 'words'", 30)
+    words = browser.ask("document.getElementById('text').value")
+    checks.same("a deck is put into words, in dasd's own", words, native.run("disassemble", deck=WORDED).stdout.decode())
+    checks.that("and the switch says so", browser.ask("document.getElementById('as-words').getAttribute('aria-pressed')") == "true")
+    checks.that("words run, and the deck stands with its answers", run(browser), browser.text("#trace"))
+    answers = browser.ask("page.deck.played?.events.map(it => it.answer)")
+    checks.same("with the same answers", answers, ["STORE OK", "STORE OK", "SIO 190 CC 0", "RUN 17", "INT 190 00000408 0C000000"])
+    browser.click("#edit")
+    checks.same("edited, they are words again", browser.ask("document.getElementById('text').value"), words)
+    browser.click("#as-deck")
+    browser.until("page.deck.editor.language === 'deck'", 30)
+    checks.same("turned back unchanged, it is the deck that it was", browser.ask("document.getElementById('text').value"), WORDED)
+    check_wrong_words(browser, native, checks)
+
+
+def check_wrong_words(browser: Browser, native: Native, checks: Checks) -> None:
+    """Words that are wrong."""
+    browser.ask("page.deck.editor.write(arguments[0], 'words')", WRONG_WORDS)
+    said = native.run("assemble", deck=WRONG_WORDS).stderr.decode().splitlines()[0].partition(": line 2, column 10: ")[2]
+    checks.that(
+        "what is wrong is told with its line and column, in dasd's words",
+        browser.until("document.getElementById('deck-help').textContent.includes('Line 2, column 10: ')", 30)
+        and said != ""
+        and said in browser.text("#deck-help"),
+        browser.text("#deck-help"),
+    )
+    checks.same("its line is marked", browser.texts("#editor .gutter .wrong"), ["2"])
+    checks.same("and its word", browser.texts("#editor .echo mark"), ["SEAK"])
+    apart = browser.ask(
+        "(([mark, line, field]) => [mark.top - line.top, mark.left - field.left - 10 - 9 * mark.width / 4])(['#editor .echo mark',"
+        " '#editor .gutter .wrong', '#text'].map(it => document.querySelector(it).getBoundingClientRect()))"
+    )
+    checks.that("which the mark is right below", all(abs(it) < 6 for it in apart), apart)
+    browser.click("#as-deck")
+    time.sleep(0.5)
+    checks.same("such words are not turned, and stay", browser.ask("document.getElementById('text').value"), WRONG_WORDS)
+    browser.click("#run")
+    checks.that(
+        "nor run", browser.until("document.getElementById('trace').textContent.includes('Line 2, column 10')", 20), browser.text("#trace")
+    )
+    write(browser, "CHANNEL 2\nINT\n")
+    browser.click("#as-words")
+    checks.that(
+        "a deck with lines that are the page's alone is not put into words, and says where",
+        browser.until("document.getElementById('deck-help').textContent.includes('Line 1: unknown event')", 20),
+        browser.text("#deck-help"),
+    )
+
+
 def check_examples(browser: Browser, checks: Checks, all_examples: list[dict[str, Any]]) -> None:
     """Examples of the pages, vectors, and decks in which Hercules differs: their answers come, and Hercules' stand beside."""
     kinds = {kind: [at for at, it in enumerate(all_examples) if it["kind"] == kind] for kind in ["page", "hercules", "vector"]}

@@ -1,6 +1,7 @@
 mod Built
 mod Held
 mod Sectioned
+mod Loading
 pub mod Paths
 pub mod Saving
 mod Told

@@ -33,7 +33,7 @@ use Rattle.dasd_run.specs.Reaches.{EndsOver}
 use Rattle.dasd_run.specs.Runs.{RunsOrStops}
 use Rattle.dasd_run.specs.Strict.{ChecksStrictly}
 use Rattle.dasd_run.specs.Unloads.{ExtractsSet, ExtractsTracks, ExtractsVolume}
-use Rattle.dasd_run.specs.Words.{PrintsDeck, PrintsWords, WithText}
+use Rattle.dasd_run.specs.Words.{AssemblesText, PrintsWords, WithText}
 
 -- how the program ends with a job over files: so, where the job is done; and else its fault is the program's
 abbrev pub ended : {A : Type 0} → (A → Ending) → Result A JobFault → Result Ending ProgramFault
@@ -131,7 +131,7 @@ Answers (request.Compare asked) result before now =
 Answers (request.Hash asked) result before now =
     HashesVolume result asked before.opened now.opened before.printed now.printed × Looks before now
 Answers (request.Explain noted) result before now = OnOk result (IsFlushed now.printed) × (now.opened ≡ before.opened) × Looks before now
-Answers (request.Assemble path) result before now = WithText PrintsDeck result (option_map (λ path. path.now) path) before now
+Answers (request.Assemble path) result before now = WithText AssemblesText result (option_map (λ path. path.now) path) before now
 Answers (request.Disassemble path) result before now = WithText PrintsWords result (option_map (λ path. path.now) path) before now
 Answers (request.Run asked) result before now = RunsOrStops result asked before now
 Answers (request.ListContents asked) result before now =

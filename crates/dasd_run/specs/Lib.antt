@@ -12,5 +12,6 @@ pub mod Details
 pub mod Unloads
 pub mod Compared
 pub mod Strict
+pub mod Loads
 pub mod Words
 pub mod Answers

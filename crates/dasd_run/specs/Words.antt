@@ -1,5 +1,5 @@
 -- Channel programs in words: what is printed of a text that is assembled, and of a deck that is put into words.
-use Rattle.std.specs.Prelude.{◌≡◌, ◌⊎◌, ◌<◌, ℕ, List, length, codes, Option, Some, None, Result, Ok, Err}
+use Rattle.std.specs.Prelude.{◌≡◌, ◌⊎◌, ◌<◌, ℕ, List, [], length, take, codes, Option, Some, None, Result, Ok, Err}
 use Rattle.counted_io.specs.Streams.{Stream}
 use Rattle.s360_deck.specs.declared.runs.RunFault.TheVariants as run
 use Rattle.s360_assembler.specs.Assembled.{assembled}
@@ -10,7 +10,11 @@ use Rattle.s360_disassembler.specs.declared.words.DisassemblyFault.{DisassemblyF
 use Rattle.dasd_run.specs.declared.commands.Ending.{Ending}
 use Rattle.dasd_run.specs.declared.fault.ProgramFault.{ProgramFault}
 use Rattle.dasd_run.specs.declared.fault.ProgramFault.TheVariants as fault
+use Rattle.dasd_jobs.specs.Sources.{SourceFile}
+use Rattle.s360_assembler.specs.Files.{files_named}
+use Rattle.s360_assembler.specs.declared.files.LoadedFile.{LoadedFile}
 use Rattle.dasd_run.specs.Decks.{ReadsDeck, IsUnread}
+use Rattle.dasd_run.specs.Loads.{LoadsFiles, NotLoaded}
 use Rattle.dasd_run.specs.Outside.{Outside}
 use Rattle.dasd_run.specs.Runs.{Tells}
 
@@ -19,25 +23,45 @@ abbrev pub source_name : (path : Option (List ℕ)) → List ℕ
 source_name (Some path) = path
 source_name None = codes "standard input"
 
+-- what is printed of a text, and which files are opened for it
+abbrev pub Printing : Type 1
+Printing = Result Ending ProgramFault → (path : Option (List ℕ)) → (text : List ℕ) → (opened_before opened : List SourceFile)
+    → (before printed : Stream) → Type 0
+
 -- the fault of a text, as the program tells it
 abbrev pub IsAssemblyFault : ProgramFault → (path : Option (List ℕ)) → AssemblyFault → Type 0
 IsAssemblyFault (fault.Assembly source told) path f = (source.bytes.items ≡ source_name path) × (told ≡ f) × (f ≡ assembly.OutOfMemory → ⊥)
 IsAssemblyFault fault.OutOfMemory path f = Unit {0}
 IsAssemblyFault told path f = ⊥
 
--- Why a text is not assembled: it is longer than a deck may be; or its own name is told, and the fault that the definitions find; or there
--- is no memory.
-abbrev pub NotAssembled : ProgramFault → (path : Option (List ℕ)) → (text : List ℕ) → Type 0
-NotAssembled (fault.Run run.Read) path text = 1048576 < length text
-NotAssembled (fault.Assembly source f) path text = (source.bytes.items ≡ source_name path) × (assembled text ≡ Err f)
-NotAssembled fault.OutOfMemory path text = Unit {0}
-NotAssembled f path text = ⊥
+-- Why a text with these files is not assembled: its own name is told, and the fault that the definitions find; or there is no memory.
+abbrev pub NotAssembled : ProgramFault → (path : Option (List ℕ)) → (loaded : List LoadedFile) → (text : List ℕ) → Type 0
+NotAssembled (fault.Assembly source f) path loaded text = (source.bytes.items ≡ source_name path) × (assembled loaded text ≡ Err f)
+NotAssembled fault.OutOfMemory path loaded text = Unit {0}
+NotAssembled f path loaded text = ⊥
 
--- The deck of a text is printed; or the text is not assembled, and nothing is printed.
-abbrev pub PrintsDeck : Result Ending ProgramFault → (path : Option (List ℕ)) → (text : List ℕ) → (before printed : Stream) → Type 0
-PrintsDeck result path text before printed =
-    ((deck : List ℕ) × (assembled text ≡ Ok deck) × Tells result deck before printed)
-    ⊎ ((f : ProgramFault) × (result ≡ Err f) × NotAssembled f path text × (printed ≡ before))
+-- The deck of a text with these files is printed; or it is not assembled, and nothing is printed.
+abbrev pub PrintsDeck : Result Ending ProgramFault → (path : Option (List ℕ)) → (loaded : List LoadedFile) → (text : List ℕ)
+    → (before printed : Stream) → Type 0
+PrintsDeck result path loaded text before printed =
+    ((deck : List ℕ) × (assembled loaded text ≡ Ok deck) × Tells result deck before printed)
+    ⊎ ((f : ProgramFault) × (result ≡ Err f) × NotAssembled f path loaded text × (printed ≡ before))
+
+-- Why the files of a text are not loaded: the text is longer than a deck may be, and none was opened; or so it is told under its own name; or
+-- there is no memory.
+abbrev pub TellsNotLoaded : ProgramFault → (path : Option (List ℕ)) → (loaded : List LoadedFile) → (text : List ℕ) → Type 0
+TellsNotLoaded (fault.Run run.Read) path loaded text = (1048576 < length text) × (loaded ≡ [])
+TellsNotLoaded (fault.Assembly source f) path loaded text = (source.bytes.items ≡ source_name path) × NotLoaded f loaded
+TellsNotLoaded fault.OutOfMemory path loaded text = Unit {0}
+TellsNotLoaded f path loaded text = ⊥
+
+-- The files that a text names were loaded, and its deck is printed, or not; or only the first of them were, and nothing is printed. No other
+-- file was opened.
+abbrev pub AssemblesText : Printing
+AssemblesText result path text opened_before opened before printed =
+    ((loaded : List LoadedFile) × LoadsFiles (files_named text) loaded opened_before opened × PrintsDeck result path loaded text before printed)
+    ⊎ ((f : ProgramFault) × (number : ℕ) × (loaded : List LoadedFile) × (result ≡ Err f)
+    × LoadsFiles (take number (files_named text)) loaded opened_before opened × TellsNotLoaded f path loaded text × (printed ≡ before))
 
 -- the fault of a deck, as the program tells it
 abbrev pub IsDisassemblyFault : ProgramFault → (path : Option (List ℕ)) → DisassemblyFault → Type 0
@@ -52,21 +76,23 @@ NotInWords (fault.Disassembly source f) path deck = (source.bytes.items ≡ sour
 NotInWords fault.OutOfMemory path deck = Unit {0}
 NotInWords f path deck = ⊥
 
--- The words of a deck are printed; or it is not put into words, and nothing is printed.
-abbrev pub PrintsWords : Result Ending ProgramFault → (path : Option (List ℕ)) → (deck : List ℕ) → (before printed : Stream) → Type 0
-PrintsWords result path deck before printed =
+-- the words of a deck are printed; or it is not put into words, and nothing is printed
+abbrev pub PrintsOwnWords : Result Ending ProgramFault → (path : Option (List ℕ)) → (deck : List ℕ) → (before printed : Stream) → Type 0
+PrintsOwnWords result path deck before printed =
     ((words : List ℕ) × AreWordsOf deck words × Tells result words before printed)
     ⊎ ((f : ProgramFault) × (result ≡ Err f) × NotInWords f path deck × (printed ≡ before))
 
--- what is printed of a text
-abbrev pub Printing : Type 1
-Printing = Result Ending ProgramFault → (path : Option (List ℕ)) → (text : List ℕ) → (before printed : Stream) → Type 0
+-- The same, and no file is opened.
+abbrev pub PrintsWords : Printing
+PrintsWords result path deck opened_before opened before printed =
+    PrintsOwnWords result path deck before printed × (opened ≡ opened_before)
 
 -- A text is read, of the file at a path or of the reader, and this is printed of it; or it is not read, and nothing is printed. No file is
 -- written.
 abbrev pub WithText : Printing → Result Ending ProgramFault → (path : Option (List ℕ)) → (before now : Outside) → Type 0
 WithText prints result path before now =
-    (((text : List ℕ) × ReadsDeck path before.read now.read text before.opened now.opened × prints result path text before.printed now.printed)
+    (((text : List ℕ) × (between : List SourceFile) × ReadsDeck path before.read now.read text before.opened between
+    × prints result path text between now.opened before.printed now.printed)
     ⊎ ((f : ProgramFault) × (result ≡ Err f) × IsUnread f path before.read now.read
     × (now.opened ≡ before.opened) × (now.printed ≡ before.printed)))
     × (now.written ≡ before.written)

@@ -10,6 +10,7 @@ mod explain;
 mod fault;
 mod hash;
 mod list;
+mod loads;
 mod printed_paths;
 mod reaches;
 mod remarks;

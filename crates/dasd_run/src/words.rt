@@ -2,14 +2,15 @@
 
 ghost use Rattle.std.specs.Prelude.{◌≡◌, option_map, IfSome};
 ghost use Rattle.counted_io.specs.Streams.{seen_by};
-ghost use Rattle.dasd_run.specs.Words.{source_name, IsAssemblyFault, IsDisassemblyFault, PrintsDeck, PrintsWords, WithText};
+ghost use Rattle.dasd_run.specs.Words.{source_name, IsAssemblyFault, IsDisassemblyFault, PrintsDeck, AssemblesText, PrintsOwnWords, PrintsWords, WithText};
 
 use crate::commands::{Ending, tell};
 use crate::decks::read_deck;
 use crate::fault::ProgramFault;
+use crate::loads::load_files;
 use counted_io::Counted;
 use dasd_jobs::ImageFiles;
-use s360_assembler::{AssemblyFault, assemble};
+use s360_assembler::{AssemblyFault, LoadedFile, assemble, files_named};
 use s360_deck::RunFault;
 use s360_disassembler::{DisassemblyFault, disassemble};
 use std::alloc::Global;
@@ -45,21 +46,44 @@ fn of_disassembly(alloc: Global, path: Option<&str>, fault: DisassemblyFault) ->
     }
 }
 
-// Prints the deck of a text.
+// Prints the deck of a text that may load these files.
 fn print_deck<W: Write>(
     alloc: Global,
     writer: &mut Counted<W>,
     path: Option<&str>,
+    loaded: &[LoadedFile],
     text: &[u8],
 ) -> Result<Ending, ProgramFault>
-    ensures { PrintsDeck result (option_map (λ path. path.now) path.entry) text.now
+    ensures { PrintsDeck result (option_map (λ path. path.now) path.entry) loaded.now text.now
+        (seen_by W.contents writer.old) (seen_by W.contents writer.new) }
+{
+    match assemble(alloc, loaded, text) {
+        Ok(deck) => tell(writer, deck.as_slice()),
+        Err(fault) => Err(of_assembly(alloc, path, fault)),
+    }
+}
+
+// Loads the files that a text names, and prints its deck.
+fn load_and_print<F: ImageFiles, W: Write>(
+    alloc: Global,
+    files: &mut F,
+    writer: &mut Counted<W>,
+    path: Option<&str>,
+    text: &[u8],
+) -> Result<Ending, ProgramFault>
+    ensures kept { F.written files.new ≡ F.written files.old }
+    ensures assembles { AssemblesText result (option_map (λ path. path.now) path.entry) text.now
+        (F.opened files.old) (F.opened files.new)
         (seen_by W.contents writer.old) (seen_by W.contents writer.new) }
 {
     if text.len() > MOST_BYTES {
         return Err(ProgramFault::Run(RunFault::Read));
     }
-    match assemble(alloc, text) {
-        Ok(deck) => tell(writer, deck.as_slice()),
+    let Ok(names) = files_named(alloc, text) else {
+        return Err(ProgramFault::OutOfMemory);
+    };
+    match load_files(alloc, files, names.as_slice()) {
+        Ok(loaded) => print_deck(alloc, writer, path, loaded.as_slice(), text),
         Err(fault) => Err(of_assembly(alloc, path, fault)),
     }
 }
@@ -71,7 +95,7 @@ fn print_words<W: Write>(
     path: Option<&str>,
     deck: &[u8],
 ) -> Result<Ending, ProgramFault>
-    ensures { PrintsWords result (option_map (λ path. path.now) path.entry) deck.now
+    ensures { PrintsOwnWords result (option_map (λ path. path.now) path.entry) deck.now
         (seen_by W.contents writer.old) (seen_by W.contents writer.new) }
 {
     if deck.len() > MOST_BYTES {
@@ -83,11 +107,11 @@ fn print_words<W: Write>(
     }
 }
 
-/// Prints the deck of a text in words, of the file at this path or of the reader.
+/// Prints the deck of a text in words, of the file at this path or of the reader, and of the files that it loads.
 ///
 /// # Errors
 ///
-/// It can't be read, it is wrong, or there is no memory: nothing is printed. A write fault comes exactly where a write failed, or the
+/// It can't be read, it is wrong, its files have more bytes than a deck may have, or there is no memory: nothing is printed. A write fault comes exactly where a write failed, or the
 /// flush.
 pub(crate) fn assemble_text<F: ImageFiles, R: Read, W: Write>(
     alloc: Global,
@@ -96,7 +120,7 @@ pub(crate) fn assemble_text<F: ImageFiles, R: Read, W: Write>(
     writer: &mut Counted<W>,
     path: Option<&str>,
 ) -> Result<Ending, ProgramFault>
-    ensures { WithText PrintsDeck result (option_map (λ path. path.now) path.entry)
+    ensures { WithText AssemblesText result (option_map (λ path. path.now) path.entry)
         (record {
           read = seen_by R.remaining reader.old;
           printed = seen_by W.contents writer.old;
@@ -111,7 +135,7 @@ pub(crate) fn assemble_text<F: ImageFiles, R: Read, W: Write>(
         }) }
 {
     match read_deck(alloc, files, reader, path) {
-        Ok(text) => print_deck(alloc, writer, path, text.as_slice()),
+        Ok(text) => load_and_print(alloc, files, writer, path, text.as_slice()),
         Err(fault) => Err(ProgramFault::Run(fault)),
     }
 }

@@ -1,4 +1,5 @@
 mod Flags
 mod Passes
+mod Pieces
 mod Positions
 mod Rows

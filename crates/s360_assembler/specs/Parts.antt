@@ -1,18 +1,20 @@
 -- What statements make of a deck.
-use Rattle.std.specs.Prelude.{◌≡◌, ◌⊎◌, ℕ, ◌+◌, List, [], ◌∷◌, ◌++◌, length, drop, ◌&&◌, ◌==◌, nat_lt, nat_le, Result, Ok, Err, is_ok}
+use Rattle.std.specs.Prelude.{◌≡◌, ◌⊎◌, ℕ, zero, suc, ◌+◌, ◌/◌, List, [], ◌∷◌, ◌++◌, length, take, drop, ◌&&◌, ◌==◌, nat_lt, nat_le, Result, Ok, Err, is_ok}
 use Rattle.std.specs.Prelude.{codes, if◌then◌else◌}
 use Rattle.byteorder.specs.Endian.{big_bytes}
 use Rattle.text_lines.specs.Text.{hexadecimal, bytes_text}
 use Rattle.s360_deck.specs.Deck.{events_of}
 use Rattle.s360_assembler.specs.declared.deck.Deck.{Deck}
+use Rattle.s360_assembler.specs.declared.files.LoadedFile.{LoadedFile}
 use Rattle.s360_assembler.specs.declared.fault.Cause.{Cause}
 use Rattle.s360_assembler.specs.declared.fault.Cause.TheVariants as cause
 use Rattle.s360_assembler.specs.declared.statements.Statement.{Statement}
-use Rattle.s360_assembler.specs.declared.statements.Statement.TheVariants.{Origin, Constant, Pointer, Word, Event, EventAt}
+use Rattle.s360_assembler.specs.declared.statements.Statement.TheVariants.{Origin, Constant, Pointer, Word, Load, Event, EventAt}
 use Rattle.s360_assembler.specs.declared.symbols.Symbol.{Symbol}
 use Rattle.s360_assembler.specs.declared.parts.Part.{Part}
 use Rattle.s360_assembler.specs.declared.parts.Part.TheVariants as part
 use Rattle.s360_assembler.specs.Fields.{operation_of, operation_at, remark_of}
+use Rattle.s360_assembler.specs.Files.{bytes_at}
 use Rattle.s360_assembler.specs.Symbols.{value_of, place_of}
 
 -- the eight bytes of a channel command word, of which the sixth is zero
@@ -54,12 +56,22 @@ with_bytes d at bytes =
       next = at + length bytes;
     })
 
+-- bytes in storage, 128 at a time, in so many pieces
+abbrev pub with_pieces : (pieces : ℕ) → DeckState → (at : ℕ) → (bytes : List ℕ) → DeckState
+with_pieces zero d at bytes = d
+with_pieces (suc pieces) d at bytes = with_pieces pieces (with_bytes d at (take 128 bytes)) (at + 128) (drop 128 bytes)
+
+-- the bytes of a file in storage, of which none is past FFFFFF
+abbrev pub with_file : DeckState → (at : ℕ) → (bytes : List ℕ) → Result DeckState Cause
+with_file d at bytes =
+    if nat_le (at + length bytes) 16777216 then Ok (with_pieces ((length bytes + 127) / 128) d at bytes) else Err cause.Outside
+
 -- the line of an event more
 abbrev pub with_line : DeckState → List ℕ → DeckState
 with_line d line = record { text = (closed d).text ++ line ++ 10 ∷ []; stored = 0; next = d.next }
 
 -- What a statement makes of a deck: an event stands there as it is written, from its name on, and an address of this language in
--- six hexadecimal digits; an origin ends the STORE before; all else puts bytes into storage, if it has some.
+-- six hexadecimal digits; an origin ends the STORE before; a file puts its bytes into storage; and so does all else that has some.
 abbrev pub part_of : List Symbol → (here : ℕ) → (line : List ℕ) → Statement → Result Part Cause
 part_of symbols here line Event = Ok (part.Line (record { items = drop (operation_at line) line }))
 part_of symbols here line (EventAt address) =
@@ -67,6 +79,7 @@ part_of symbols here line (EventAt address) =
       items = operation_of line ++ codes " " ++ hexadecimal 6 value ++ remark_of line;
     })))
 part_of symbols here line (Origin address) = Ok part.End
+part_of symbols here line (Load place size) = Ok (part.File here place)
 part_of symbols here line s =
     on_value (stored_of symbols (place_of here s) s) (λ bytes. Ok (part.Bytes (place_of here s) (record { items = bytes })))
 
@@ -75,10 +88,11 @@ abbrev pub with_event : DeckState → List ℕ → Result DeckState Cause
 with_event d line = if is_ok (events_of line) then Ok (with_line d line) else Err cause.Event
 
 -- what a statement makes of a deck more
-abbrev pub with_part : DeckState → Part → Result DeckState Cause
-with_part d (part.Line line) = with_event d line.items
-with_part d part.End = Ok (closed d)
-with_part d (part.Bytes at bytes) = Ok (with_bytes d at bytes.items)
+abbrev pub with_part : List LoadedFile → DeckState → Part → Result DeckState Cause
+with_part files d (part.Line line) = with_event d line.items
+with_part files d part.End = Ok (closed d)
+with_part files d (part.Bytes at bytes) = Ok (with_bytes d at bytes.items)
+with_part files d (part.File at place) = with_file d at (bytes_at files place)
 
 -- a deck in the making is seen as this
 abbrev pub seen : Deck → DeckState

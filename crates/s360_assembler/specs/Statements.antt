@@ -1,6 +1,6 @@
 -- Statements: what a line says.
 use Rattle.std.specs.Prelude.{ℕ, ◌+◌, ◌-◌, ◌%◌, List, [], length, take, drop, slice_index_or, Bool, ◌&&◌, ◌||◌, ◌==◌, nat_lt, nat_le}
-use Rattle.std.specs.Prelude.{Option, Some, None, Result, Ok, Err, is_some, codes, if◌then◌else◌, true, false, not}
+use Rattle.std.specs.Prelude.{Option, Some, None, Result, Ok, Err, is_some, position, codes, if◌then◌else◌, true, false, not}
 use Rattle.std.specs.List.{before_first, after_first}
 use Rattle.std.specs.Str.{bytes_eq}
 use Rattle.s360_deck.specs.Deck.{name_of, is_comment}
@@ -8,14 +8,16 @@ use Rattle.s360_deck.specs.Digits.{storage_address_of}
 use Rattle.s360_deck.specs.declared.spelling.EventName.{EventName}
 use Rattle.s360_deck.specs.declared.spelling.EventName.TheVariants as name
 use Rattle.s360_assembler.specs.declared.fault.Cause.{Cause}
+use Rattle.s360_assembler.specs.declared.files.LoadedFile.{LoadedFile}
 use Rattle.s360_assembler.specs.declared.fault.Cause.TheVariants as cause
 use Rattle.s360_assembler.specs.declared.fault.Mistake.{Mistake}
 use Rattle.s360_assembler.specs.declared.statements.Statement.{Statement}
 use Rattle.s360_assembler.specs.declared.statements.Statement.TheVariants as statement
-use Rattle.s360_assembler.specs.Mnemonics.{code_named}
+use Rattle.s360_mnemonics.specs.Mnemonics.{code_named}
 use Rattle.s360_assembler.specs.Numbers.{number_to, address_of, flags_of}
 use Rattle.s360_assembler.specs.Fields.{is_byte, label_of, operation_of, operation_at, operands_of, operands_at}
 use Rattle.s360_assembler.specs.Constants.{constant_of, unit_of, boundary_of_unit, area_of}
+use Rattle.s360_assembler.specs.Files.{file_name_of, has_name, bytes_at}
 
 -- what is wrong at a byte of a line, the first of which is byte 0
 abbrev pub mistake : (at : ℕ) → Cause → Result Statement Mistake
@@ -86,6 +88,13 @@ area_statement at text =
 abbrev pub origin_statement : (at : ℕ) → List ℕ → Result Statement Mistake
 origin_statement at text = on_operand at cause.Address (address_of text) (λ address. Ok (statement.Origin address))
 
+-- the bytes of the file of this name, which is one of those that are given
+abbrev pub load_statement : List LoadedFile → (at : ℕ) → List ℕ → Result Statement Mistake
+load_statement files at text =
+    on_operand at cause.FileName (file_name_of text) (λ name.
+    on_operand at cause.Unread (position (has_name name) files) (λ place.
+    Ok (statement.Load place (length (bytes_at files place)))))
+
 -- Events.
 
 -- the events that have an address of storage
@@ -110,18 +119,19 @@ command_statement None operation_at at text = mistake operation_at cause.Operati
 command_statement (Some code) operation_at at text = word_statement code at text
 
 -- a line whose operation is no event's name
-abbrev pub storage_statement : (operation : List ℕ) → (operation_at at : ℕ) → List ℕ → Result Statement Mistake
-storage_statement operation operation_at at text =
+abbrev pub storage_statement : List LoadedFile → (operation : List ℕ) → (operation_at at : ℕ) → List ℕ → Result Statement Mistake
+storage_statement files operation operation_at at text =
     if bytes_eq operation (codes "DC") then constant_statement at text
     else (if bytes_eq operation (codes "DS") then area_statement at text
     else (if bytes_eq operation (codes "CCW") then any_word_statement at text
     else (if bytes_eq operation (codes "ORG") then origin_statement at text
-    else command_statement (code_named operation) operation_at at text)))
+    else (if bytes_eq operation (codes "LOAD") then load_statement files at text
+    else command_statement (code_named operation) operation_at at text))))
 
 -- an event, if the operation is the name of one; or else what stands in storage
-abbrev pub named_statement : Option EventName → (operation : List ℕ) → (operation_at at : ℕ) → List ℕ → Result Statement Mistake
-named_statement (Some n) operation operation_at at text = event_statement n at text
-named_statement None operation operation_at at text = storage_statement operation operation_at at text
+abbrev pub named_statement : List LoadedFile → Option EventName → (operation : List ℕ) → (operation_at at : ℕ) → List ℕ → Result Statement Mistake
+named_statement files (Some n) operation operation_at at text = event_statement n at text
+named_statement files None operation operation_at at text = storage_statement files operation operation_at at text
 
 -- the label of a line that is no comment
 abbrev pub label_in : List ℕ → List ℕ
@@ -133,9 +143,9 @@ says_nothing line =
     is_comment (label_of line)
     || (length (label_of line) == 0 && (length (operation_of line) == 0 || is_comment (operation_of line)))
 
--- What a line says; or what is wrong with it: it is too long, or its operation or an operand is.
-abbrev pub statement_of : List ℕ → Result Statement Mistake
-statement_of line =
+-- What a line says, where these files may be loaded; or what is wrong with it: it is too long, or its operation or an operand is.
+abbrev pub statement_of : List LoadedFile → (line : List ℕ) → Result Statement Mistake
+statement_of files line =
     if nat_lt 512 (length line) then mistake 0 cause.LongLine
     else (if says_nothing line then Ok statement.Nothing
-    else named_statement (name_of (operation_of line)) (operation_of line) (operation_at line) (operands_at line) (operands_of line))
+    else named_statement files (name_of (operation_of line)) (operation_of line) (operation_at line) (operands_at line) (operands_of line))

@@ -7,11 +7,12 @@ use Rattle.s360_assembler.specs.declared.fault.Cause.TheVariants as cause
 use Rattle.s360_assembler.specs.declared.constants.Boundary.{Boundary}
 use Rattle.s360_assembler.specs.declared.constants.Boundary.TheVariants.{Byte, Fullword, Doubleword}
 use Rattle.s360_assembler.specs.declared.fault.Mistake.{Mistake}
+use Rattle.s360_assembler.specs.declared.files.LoadedFile.{LoadedFile}
 use Rattle.s360_assembler.specs.declared.numbers.Address.{Address}
 use Rattle.s360_assembler.specs.declared.numbers.Base.{Base}
 use Rattle.s360_assembler.specs.declared.numbers.Base.TheVariants as base
 use Rattle.s360_assembler.specs.declared.statements.Statement.{Statement}
-use Rattle.s360_assembler.specs.declared.statements.Statement.TheVariants.{Origin, Reserve, Constant, Pointer, Word}
+use Rattle.s360_assembler.specs.declared.statements.Statement.TheVariants.{Origin, Reserve, Constant, Pointer, Word, Load}
 use Rattle.s360_assembler.specs.declared.symbols.Symbol.{Symbol}
 use Rattle.s360_assembler.specs.Numbers.{is_symbol, padded}
 use Rattle.s360_assembler.specs.Fields.{operands_at}
@@ -55,6 +56,7 @@ size_of (Reserve boundary bytes) = bytes
 size_of (Constant boundary bytes) = length bytes.items
 size_of (Pointer address) = 4
 size_of (Word word) = 8
+size_of (Load place size) = size
 size_of s = 0
 
 -- the first place of a boundary from here on
@@ -101,14 +103,14 @@ and_then (Ok value) behind = behind value
 and_then (Err m) behind = Err m
 
 -- the symbols behind a line that stands at this location, and the location behind it
-abbrev pub noted : List Symbol → (here : ℕ) → (line : List ℕ) → Result (List Symbol × ℕ) Mistake
-noted symbols here line =
-    and_then (statement_of line) (λ s.
+abbrev pub noted : List LoadedFile → List Symbol → (here : ℕ) → (line : List ℕ) → Result (List Symbol × ℕ) Mistake
+noted files symbols here line =
+    and_then (statement_of files line) (λ s.
     and_then (at_byte 0 (defined symbols (label_in line) (place_of here s))) (λ more.
     and_then (at_byte (operands_at line) (location_behind more here s)) (λ next.
     Ok (more, next))))
 
 -- a line was noted so; where memory ran out, this says nothing
-abbrev pub Notes : Result ℕ Mistake → (before now : List Symbol) → (here : ℕ) → (line : List ℕ) → Type 0
-Notes (Ok next) before now here line = noted before here line ≡ Ok (now, next)
-Notes (Err m) before now here line = (m.cause ≡ cause.OutOfMemory) ⊎ (noted before here line ≡ Err m)
+abbrev pub Notes : Result ℕ Mistake → List LoadedFile → (before now : List Symbol) → (here : ℕ) → (line : List ℕ) → Type 0
+Notes (Ok next) files before now here line = noted files before here line ≡ Ok (now, next)
+Notes (Err m) files before now here line = (m.cause ≡ cause.OutOfMemory) ⊎ (noted files before here line ≡ Err m)

@@ -8,6 +8,7 @@ ghost use Rattle.s360_assembler.specs.Assembled.{told, symbols_behind, deck_behi
 use crate::deck::{Deck, add_part, close};
 use crate::fault::{AssemblyFault, Cause, Mistake};
 use crate::fields::{fields_of, raised};
+use crate::files::LoadedFile;
 use crate::parts::part_of;
 use crate::statements::statement_of;
 use crate::symbols::{Symbol, location_behind, note_line};
@@ -17,19 +18,31 @@ use std::alloc::Global;
 /// The most bytes of a deck.
 const DECK_LENGTH: usize = 1_048_576;
 
+/// What the second pass knows: the files that may be loaded, and the symbols.
+#[derive(Clone, Copy)]
+struct Known<'a> {
+    files: &'a [LoadedFile],
+    symbols: &'a [Symbol],
+}
+
 // The fault of a line.
 fn told(number: usize, mistake: Mistake) -> AssemblyFault
     ensures { result ≡ told number mistake }
 {
     match mistake.cause {
         Cause::OutOfMemory => AssemblyFault::OutOfMemory,
+        Cause::TooLong => AssemblyFault::TooLong,
         cause => AssemblyFault::At(number, mistake.column, cause),
     }
 }
 
 // The symbols of a text's lines.
-fn symbols_of(alloc: Global, text: &[u8]) -> Result<Vec<Symbol>, AssemblyFault>
-    ensures { HasSymbols (symbols_behind [] 0 1 (lines_of text.now)) result }
+fn symbols_of(
+    alloc: Global,
+    files: &[LoadedFile],
+    text: &[u8],
+) -> Result<Vec<Symbol>, AssemblyFault>
+    ensures { HasSymbols (symbols_behind files.now [] 0 1 (lines_of text.now)) result }
 {
     let mut symbols = Vec::new(alloc);
     let mut here = 0;
@@ -37,7 +50,7 @@ fn symbols_of(alloc: Global, text: &[u8]) -> Result<Vec<Symbol>, AssemblyFault>
     let mut rest = text;
     while !rest.is_empty() {
         let (line, behind) = split_at_line_feed(rest);
-        match note_line(&mut symbols, here, without_carriage_return(line)) {
+        match note_line(files, &mut symbols, here, without_carriage_return(line)) {
             Ok(next) => here = next,
             Err(mistake) => return Err(told(number, mistake)),
         }
@@ -50,34 +63,38 @@ fn symbols_of(alloc: Global, text: &[u8]) -> Result<Vec<Symbol>, AssemblyFault>
 // What a line that may stand from here on makes of a deck, and the location behind it.
 fn write_line(
     alloc: Global,
-    symbols: &[Symbol],
+    known: &Known,
     deck: &mut Deck,
     here: u32,
     line: &[u8],
 ) -> Result<u32, Mistake>
     requires { here ≤ 16777216 }
-    ensures writes { Writes result symbols.now (seen deck.old) (seen deck.new) here line.now }
+    ensures writes { Writes result known.now.files.now known.now.symbols.now (seen deck.old) (seen deck.new) here line.now }
     ensures bound { IfOk result (λ location. location ≤ 16777216) }
 {
-    let statement = statement_of(line)?;
+    let statement = statement_of(known.files, line)?;
     let column = fields_of(line).operands_at + 1;
-    let next = match location_behind(symbols, here, &statement) {
+    let next = match location_behind(known.symbols, here, &statement) {
         Ok(next) => next,
         Err(cause) => return Err(Mistake { column, cause }),
     };
-    let part = match part_of(symbols, here, line, statement) {
+    let part = match part_of(known.symbols, here, line, statement) {
         Ok(part) => part,
         Err(cause) => return Err(Mistake { column, cause }),
     };
-    match add_part(alloc, deck, part) {
+    match add_part(alloc, known.files, deck, part) {
+        Ok(()) if deck.text.len() > DECK_LENGTH => Err(Mistake {
+            column,
+            cause: Cause::TooLong,
+        }),
         Ok(()) => Ok(next),
         Err(cause) => Err(Mistake { column, cause }),
     }
 }
 
 // The deck of a text's lines.
-fn deck_of(alloc: Global, symbols: &[Symbol], text: &[u8]) -> Result<Vec<u8>, AssemblyFault>
-    ensures { IsAssembled (deck_behind symbols.now new_deck 0 1 (lines_of text.now)) result }
+fn deck_of(alloc: Global, known: &Known, text: &[u8]) -> Result<Vec<u8>, AssemblyFault>
+    ensures { IsAssembled (deck_behind known.now.files.now known.now.symbols.now new_deck 0 1 (lines_of text.now)) result }
 {
     let mut deck = Deck {
         text: Vec::new(alloc),
@@ -89,13 +106,7 @@ fn deck_of(alloc: Global, symbols: &[Symbol], text: &[u8]) -> Result<Vec<u8>, As
     let mut rest = text;
     while !rest.is_empty() {
         let (line, behind) = split_at_line_feed(rest);
-        match write_line(
-            alloc,
-            symbols,
-            &mut deck,
-            here,
-            without_carriage_return(line),
-        ) {
+        match write_line(alloc, known, &mut deck, here, without_carriage_return(line)) {
             Ok(next) => here = next,
             Err(mistake) => return Err(told(number, mistake)),
         }
@@ -113,20 +124,24 @@ fn deck_of(alloc: Global, symbols: &[Symbol], text: &[u8]) -> Result<Vec<u8>, As
     Ok(text)
 }
 
-/// The deck of a text in words.
+/// The deck of a text in words, which may load these files.
 ///
 /// # Errors
 ///
 /// The first faulty line of the first pass, which looks for labels; or else of the second, which makes the deck: with its column and
-/// what is wrong. Or the deck has more bytes than a deck may have; or there is no memory.
-pub fn assemble(alloc: Global, text: &[u8]) -> Result<Vec<u8>, AssemblyFault>
-    ensures { IsAssembled (assembled text.now) result }
+/// what is wrong. Or the deck gets more bytes than a deck may have; or there is no memory.
+pub fn assemble(alloc: Global, files: &[LoadedFile], text: &[u8]) -> Result<Vec<u8>, AssemblyFault>
+    ensures { IsAssembled (assembled files.now text.now) result }
 {
     let Ok(capitals) = raised(alloc, text) else {
         return Err(AssemblyFault::OutOfMemory);
     };
-    let symbols = symbols_of(alloc, capitals.as_slice())?;
-    let deck = deck_of(alloc, symbols.as_slice(), capitals.as_slice())?;
+    let symbols = symbols_of(alloc, files, capitals.as_slice())?;
+    let known = Known {
+        files,
+        symbols: symbols.as_slice(),
+    };
+    let deck = deck_of(alloc, &known, capitals.as_slice())?;
     if deck.len() > DECK_LENGTH {
         return Err(AssemblyFault::TooLong);
     }

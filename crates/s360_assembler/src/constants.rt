@@ -2,7 +2,7 @@
 
 ghost use Rattle.std.specs.Prelude.{◌≡◌, ◌≤◌, ◌<◌, option_map, length, position, IfSome};
 ghost use Rattle.s360_assembler.specs.Constants.{ebcdic_of, ebcdic_text, is_no_digit, digits_length, times_of, unit_of, decimal_bytes};
-ghost use Rattle.s360_assembler.specs.Constants.{bytes_of_kind, letter_and_text, bytes_of_unit, repeated, constant_of, bytes_between};
+ghost use Rattle.s360_assembler.specs.Constants.{bytes_of_kind, letter_and_text, repeated, constant_of, bytes_between};
 ghost use Rattle.s360_assembler.specs.Constants.{boundary_of_kind, boundary_of_unit, length_of_unit, area_of};
 
 use arrayvec::ArrayVec;
@@ -143,22 +143,14 @@ fn halfword_bytes(digits: &[u8]) -> Option<Bytes>
     Some(row_of(&bytes))
 }
 
-// The letter of a unit, and what stands in its apostrophes.
-fn letter_and_text(unit: &[u8]) -> Option<(u8, &[u8])>
+/// The letter of a unit, and what stands in its apostrophes.
+pub(crate) fn letter_and_text(unit: &[u8]) -> Option<(u8, &[u8])>
     ensures { option_map (λ parts. (parts.0, parts.1.now)) result ≡ letter_and_text unit.now }
 {
     match unit {
         [letter, b'\'', text @ .., b'\''] => Some((*letter, text)),
         _ => None,
     }
-}
-
-// What a unit is.
-fn bytes_of_unit(unit: &[u8]) -> Option<Bytes>
-    ensures { option_map (λ v. v.items) result ≡ bytes_of_unit unit.now }
-{
-    let (letter, text) = letter_and_text(unit)?;
-    bytes_of_kind(letter, text)
 }
 
 // What a text in apostrophes is behind this letter.
@@ -198,7 +190,8 @@ pub(crate) fn constant_of(text: &[u8]) -> Option<Bytes>
     ensures { option_map (λ v. v.items) result ≡ constant_of text.now }
 {
     let times = times_of(text)?;
-    let bytes = bytes_of_unit(unit_of(text))?;
+    let (letter, inner) = letter_and_text(unit_of(text))?;
+    let bytes = bytes_of_kind(letter, inner)?;
     repeated(times, bytes.as_slice())
 }
 

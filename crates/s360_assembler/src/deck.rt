@@ -1,11 +1,12 @@
 //! A deck in the making.
 
-ghost use Rattle.std.specs.Prelude.{◌≡◌, ◌≤◌, ◌+◌, ◌++◌, codes, length, is_ok, Ok, IfOk, IfErr, OnOk};
+ghost use Rattle.std.specs.Prelude.{◌≡◌, ◌≤◌, ◌+◌, ◌/◌, ◌++◌, codes, take, drop, length, is_ok, Ok, IfOk, IfErr, OnOk};
 ghost use Rattle.text_lines.specs.Text.{hexadecimal, bytes_text};
 ghost use Rattle.s360_deck.specs.Deck.{events_of};
-ghost use Rattle.s360_assembler.specs.Parts.{closed, with_bytes, with_event, with_part, seen, Makes};
+ghost use Rattle.s360_assembler.specs.Parts.{closed, with_bytes, with_pieces, with_file, with_event, with_part, seen, Makes};
 
 use crate::fault::Cause;
+use crate::files::{LoadedFile, bytes_at};
 use crate::parts::Part;
 use arrayvec::{ArrayString, ArrayVec};
 use s360_deck::{DeckFault, parse};
@@ -14,6 +15,9 @@ use text_lines::{put_bytes, put_hexadecimal};
 
 /// The most bytes of a `STORE`.
 const STORE_LENGTH: usize = 128;
+
+/// The bytes of the largest storage.
+const STORAGE: usize = 16_777_216;
 
 /// A deck so far.
 #[derive(Drop)]
@@ -108,26 +112,54 @@ fn add_bytes(deck: &mut Deck, at: u32, bytes: &[u8]) -> Result<(), Cause>
     go_on(deck, bytes)
 }
 
-// Whether a line is one of a deck.
-fn is_event(alloc: Global, line: &[u8]) -> Result<bool, Cause>
-    ensures ok { IfOk result (λ is. is ≡ is_ok (events_of line.now)) }
-    ensures err { IfErr result (λ why. why ≡ Cause.OutOfMemory) }
+// A piece of at most 128 bytes, and what stands behind it.
+fn split_piece(bytes: &[u8]) -> (&[u8], &[u8])
+    ensures piece { result.0.now ≡ take 128 bytes.now }
+    ensures short { length result.0.now ≤ 128 }
+    ensures behind { result.1.now ≡ drop 128 bytes.now }
 {
-    match parse(alloc, line) {
-        Ok(_) => Ok(true),
-        Err(DeckFault::OutOfMemory) => Err(Cause::OutOfMemory),
-        Err(DeckFault::Unknown(_) | DeckFault::Operand(_) | DeckFault::LineTooLong(_)) => Ok(false),
+    if bytes.len() <= STORE_LENGTH {
+        return (bytes, &[]);
     }
+    bytes.split_at(STORE_LENGTH)
 }
 
-// The line of an event.
+// Bytes in storage, 128 at a time.
+fn add_pieces(deck: &mut Deck, at: u32, bytes: &[u8]) -> Result<(), Cause>
+    requires { at + length bytes.now ≤ 16777216 }
+    ensures { Makes result (Ok (with_pieces ((length bytes.now + 127) / 128) (seen deck.old) at bytes.now)) (seen deck.new) }
+{
+    let mut rest = bytes;
+    let mut place = at;
+    let mut left = (bytes.len() + 127) / 128;
+    while left > 0 {
+        let (piece, behind) = split_piece(rest);
+        add_bytes(deck, place, piece)?;
+        place += 128;
+        rest = behind;
+        left -= 1;
+    }
+    Ok(())
+}
+
+// The bytes of a file in storage.
+fn add_file(deck: &mut Deck, at: u32, bytes: &[u8]) -> Result<(), Cause>
+    ensures { Makes result (with_file (seen deck.old) at bytes.now) (seen deck.new) }
+{
+    if bytes.len() > STORAGE || at as usize + bytes.len() > STORAGE {
+        return Err(Cause::Outside);
+    }
+    add_pieces(deck, at, bytes)
+}
+
+// The line of an event, if it is one of a deck.
 fn add_line(alloc: Global, deck: &mut Deck, line: &[u8]) -> Result<(), Cause>
     ensures { Makes result (with_event (seen deck.old) line.now) (seen deck.new) }
 {
-    match is_event(alloc, line) {
-        Ok(true) => {}
-        Ok(false) => return Err(Cause::Event),
-        Err(cause) => return Err(cause),
+    match parse(alloc, line) {
+        Ok(_) => {}
+        Err(DeckFault::OutOfMemory) => return Err(Cause::OutOfMemory),
+        Err(_) => return Err(Cause::Event),
     }
     close(deck)?;
     add(&mut deck.text, line)?;
@@ -138,13 +170,19 @@ fn add_line(alloc: Global, deck: &mut Deck, line: &[u8]) -> Result<(), Cause>
 ///
 /// # Errors
 ///
-/// The line of an event is none of a deck; or there is no memory.
-pub(crate) fn add_part(alloc: Global, deck: &mut Deck, part: Part) -> Result<(), Cause>
-    ensures { Makes result (with_part (seen deck.old) part) (seen deck.new) }
+/// The line of an event is none of a deck; or a file goes past the end of the largest storage; or there is no memory.
+pub(crate) fn add_part(
+    alloc: Global,
+    files: &[LoadedFile],
+    deck: &mut Deck,
+    part: Part,
+) -> Result<(), Cause>
+    ensures { Makes result (with_part files.now (seen deck.old) part) (seen deck.new) }
 {
     match part {
         Part::Line(line) => add_line(alloc, deck, line.as_slice()),
         Part::End => close(deck),
         Part::Bytes(at, bytes) => add_bytes(deck, at, bytes.as_slice()),
+        Part::File(at, file) => add_file(deck, at, bytes_at(files, file)),
     }
 }

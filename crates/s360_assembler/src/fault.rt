@@ -18,7 +18,7 @@ pub enum Cause {
     #[error("a line before has this label")]
     Twice,
     /// Its operation is none.
-    #[error("no such operation: it is a mnemonic, such as SEEK, SIDEQ or TIC, or CCW, DC, DS, ORG, or an event, such as SIO")]
+    #[error("no such operation: it is a mnemonic, such as SEEK, SIDEQ or TIC, or CCW, DC, DS, LOAD, ORG, or an event, such as SIO")]
     Operation,
     /// An address is none.
     #[error("an address is a number, or a label or *, as BUFFER, BUFFER+8 or *-8")]
@@ -38,6 +38,12 @@ pub enum Cause {
     /// An area is none.
     #[error("an area is a number and X, C, H, F or D, as 80X, or a length, as CL80")]
     Area,
+    /// The name of a file is none.
+    #[error("the name of a file is C'..', a byte or more, no apostrophe among them")]
+    FileName,
+    /// A file was not read.
+    #[error("no file of this name could be read")]
+    Unread,
     /// An address names a label that is nowhere, or for an origin nowhere before.
     #[error("no line has this label, or for ORG none before")]
     Undefined,
@@ -47,6 +53,9 @@ pub enum Cause {
     /// An event is none of a deck.
     #[error("the operands are not those of this event in a deck")]
     Event,
+    /// The deck would have more bytes than a deck may have.
+    #[error("the deck has more than 1,048,576 bytes")]
+    TooLong,
 }
 
 /// What is wrong with a line.

@@ -6,8 +6,7 @@ mod constants;
 mod deck;
 mod fault;
 mod fields;
-pub mod laws;
-mod mnemonics;
+mod files;
 mod numbers;
 mod parts;
 mod statements;
@@ -15,5 +14,5 @@ mod symbols;
 
 pub use crate::assembling::assemble;
 pub use crate::fault::{AssemblyFault, Cause};
-pub use crate::mnemonics::{code_named, word_of};
+pub use crate::files::{LoadedFile, files_named};
 pub use crate::parts::word_bytes;

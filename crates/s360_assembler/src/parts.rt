@@ -26,6 +26,8 @@ pub enum Part {
     End,
     /// From this place on these bytes stand in storage, if there are some.
     Bytes(u32, ArrayVec<u8, 128>),
+    /// From this place on the bytes of a file stand in storage: the one at this place of those that are given.
+    File(u32, usize),
 }
 
 /// The eight bytes of a channel command word whose address is below 2 to the 24; the sixth is zero.
@@ -133,6 +135,7 @@ pub(crate) fn part_of(
             Err(cause) => Err(cause),
         },
         Statement::Origin(_) => Ok(Part::End),
+        Statement::Load(file, _) => Ok(Part::File(here, file)),
         stored => match stored_of(symbols, place, stored) {
             Ok(bytes) => Ok(Part::Bytes(place, bytes)),
             Err(cause) => Err(cause),

@@ -3,7 +3,7 @@
 ghost use Rattle.std.specs.Prelude.{◌≡◌, ◌≤◌, ◌==◌, ◌&&◌, ◌||◌, length, option_map, OnOk};
 ghost use Rattle.std.specs.List.{before_first, after_first};
 ghost use Rattle.s360_assembler.specs.Statements.{mistake, count_of, is_comma, word_statement, any_word_statement, pointer_in};
-ghost use Rattle.s360_assembler.specs.Statements.{constant_statement};
+ghost use Rattle.s360_assembler.specs.Statements.{constant_statement, load_statement};
 ghost use Rattle.s360_assembler.specs.Statements.{area_statement, origin_statement, event_statement, storage_statement};
 ghost use Rattle.s360_assembler.specs.Statements.{named_statement, label_in, statement_of};
 ghost use Rattle.s360_deck.specs.Deck.{name_of, is_comment};
@@ -11,10 +11,11 @@ ghost use Rattle.s360_deck.specs.Deck.{name_of, is_comment};
 use crate::constants::{Boundary, area_of, boundary_of_unit, constant_of, unit_of};
 use crate::fault::{Cause, Mistake};
 use crate::fields::{Fields, fields_of, position_of};
-use crate::mnemonics::code_named;
+use crate::files::{LoadedFile, bytes_at, file_name_of, place_named};
 use crate::numbers::{Address, address_of, flags_of, number_to};
 use arrayvec::ArrayVec;
 use s360_deck::{EventName, event_name, number};
+use s360_mnemonics::code_named;
 
 /// The most bytes of a line.
 const LINE_LENGTH: usize = 512;
@@ -47,6 +48,8 @@ pub enum Statement {
     Pointer(Address),
     /// A channel command word stands in storage.
     Word(Word),
+    /// The bytes of the file at this place of those that are given stand in storage, and so many they are.
+    Load(usize, usize),
     /// An event happens that is written as in a deck.
     Event,
     /// An event happens, with this address of storage.
@@ -172,6 +175,20 @@ fn origin_statement(at: usize, text: &[u8]) -> Result<Statement, Mistake>
     }
 }
 
+// The bytes of the file of this name.
+fn load_statement(files: &[LoadedFile], at: usize, text: &[u8]) -> Result<Statement, Mistake>
+    requires { at ≤ 512 }
+    ensures { result ≡ load_statement files.now at text.now }
+{
+    let Some(name) = file_name_of(text) else {
+        return wrong(at, Cause::FileName);
+    };
+    match place_named(files, name) {
+        Some(place) => Ok(Statement::Load(place, bytes_at(files, place).len())),
+        None => wrong(at, Cause::Unread),
+    }
+}
+
 // An event.
 fn event_statement(name: EventName, at: usize, text: &[u8]) -> Result<Statement, Mistake>
     requires { at ≤ 512 }
@@ -188,25 +205,25 @@ fn event_statement(name: EventName, at: usize, text: &[u8]) -> Result<Statement,
 }
 
 // What an operation says of its operands.
-fn named_statement(fields: &Fields) -> Result<Statement, Mistake>
+fn named_statement(files: &[LoadedFile], fields: &Fields) -> Result<Statement, Mistake>
     requires place { fields.now.operands_at ≤ 512 }
     requires operation { fields.now.operation_at ≤ 512 }
     requires short { length fields.now.operands.now ≤ 512 }
-    ensures { result ≡ named_statement (name_of fields.now.operation.now) fields.now.operation.now
+    ensures { result ≡ named_statement files.now (name_of fields.now.operation.now) fields.now.operation.now
         fields.now.operation_at fields.now.operands_at fields.now.operands.now }
 {
     match event_name(fields.operation) {
         Some(name) => event_statement(name, fields.operands_at, fields.operands),
-        None => storage_statement(fields),
+        None => storage_statement(files, fields),
     }
 }
 
 // What an operation says of its operands that is no event.
-fn storage_statement(fields: &Fields) -> Result<Statement, Mistake>
+fn storage_statement(files: &[LoadedFile], fields: &Fields) -> Result<Statement, Mistake>
     requires place { fields.now.operands_at ≤ 512 }
     requires operation { fields.now.operation_at ≤ 512 }
     requires short { length fields.now.operands.now ≤ 512 }
-    ensures { result ≡ storage_statement fields.now.operation.now
+    ensures { result ≡ storage_statement files.now fields.now.operation.now
         fields.now.operation_at fields.now.operands_at fields.now.operands.now }
 {
     let (operation, at) = (fields.operation, fields.operands_at);
@@ -221,6 +238,9 @@ fn storage_statement(fields: &Fields) -> Result<Statement, Mistake>
     }
     if operation == &b"ORG"[..] {
         return origin_statement(at, fields.operands);
+    }
+    if operation == &b"LOAD"[..] {
+        return load_statement(files, at, fields.operands);
     }
     match code_named(operation) {
         Some(code) => word_statement(code, at, fields.operands),
@@ -258,13 +278,13 @@ pub(crate) fn label_in(line: &[u8]) -> &[u8]
     }
 }
 
-/// What a line says.
+/// What a line says, where these files may be loaded.
 ///
 /// # Errors
 ///
 /// It is too long, has no such operation, or an operand is wrong.
-pub(crate) fn statement_of(line: &[u8]) -> Result<Statement, Mistake>
-    ensures value { result ≡ statement_of line.now }
+pub(crate) fn statement_of(files: &[LoadedFile], line: &[u8]) -> Result<Statement, Mistake>
+    ensures value { result ≡ statement_of files.now line.now }
     ensures short { OnOk result (length line.now ≤ 512) }
 {
     if line.len() > LINE_LENGTH {
@@ -274,5 +294,5 @@ pub(crate) fn statement_of(line: &[u8]) -> Result<Statement, Mistake>
     if says_nothing(fields.label, fields.operation) {
         return Ok(Statement::Nothing);
     }
-    named_statement(&fields)
+    named_statement(files, &fields)
 }

@@ -8,6 +8,7 @@ ghost use Rattle.s360_assembler.specs.Symbols.{location_behind, Defines, Notes};
 use crate::constants::Boundary;
 use crate::fault::{Cause, Mistake};
 use crate::fields::fields_of;
+use crate::files::LoadedFile;
 use crate::numbers::{Address, Base, is_symbol, padded};
 use crate::statements::{Statement, label_in, statement_of};
 
@@ -81,14 +82,15 @@ fn boundary_of(statement: &Statement) -> Boundary
 }
 
 // The bytes that a statement takes.
-fn size_of(statement: &Statement) -> u32
+fn size_of(statement: &Statement) -> u64
     ensures { result ≡ size_of statement.now }
 {
     match statement {
-        Statement::Reserve(_, bytes) => *bytes,
-        Statement::Constant(_, bytes) => bytes.len() as u32,
+        Statement::Reserve(_, bytes) => u64::from(*bytes),
+        Statement::Constant(_, bytes) => bytes.len() as u64,
         Statement::Pointer(_) => 4,
         Statement::Word(_) => 8,
+        Statement::Load(_, size) => *size as u64,
         _ => 0,
     }
 }
@@ -138,11 +140,12 @@ fn end_of(here: u32, statement: &Statement) -> Result<u32, Cause>
     ensures value { result ≡ end_of here statement.now }
     ensures bound { IfOk result (λ location. location ≤ 16777216) }
 {
-    let end = u64::from(place_of(here, statement)) + u64::from(size_of(statement));
-    if end > u64::from(STORAGE) {
+    let place = u64::from(place_of(here, statement));
+    let size = size_of(statement);
+    if size > u64::from(STORAGE) || place + size > u64::from(STORAGE) {
         return Err(Cause::Outside);
     }
-    Ok(end as u32)
+    Ok((place + size) as u32)
 }
 
 // A label more, if there is one.
@@ -170,12 +173,17 @@ fn define(symbols: &mut Vec<Symbol>, label: &[u8], address: u32) -> Result<(), C
 /// # Errors
 ///
 /// The line is wrong, its label is defined already, it goes past the end of the largest storage, or there is no memory.
-pub(crate) fn note_line(symbols: &mut Vec<Symbol>, here: u32, line: &[u8]) -> Result<u32, Mistake>
+pub(crate) fn note_line(
+    files: &[LoadedFile],
+    symbols: &mut Vec<Symbol>,
+    here: u32,
+    line: &[u8],
+) -> Result<u32, Mistake>
     requires { here ≤ 16777216 }
-    ensures notes { Notes result symbols.old.items symbols.new.items here line.now }
+    ensures notes { Notes result files.now symbols.old.items symbols.new.items here line.now }
     ensures bound { IfOk result (λ location. location ≤ 16777216) }
 {
-    let statement = match statement_of(line) {
+    let statement = match statement_of(files, line) {
         Ok(statement) => statement,
         Err(mistake) => return Err(mistake),
     };

@@ -1,5 +1,5 @@
 -- A deck in words.
-use Rattle.std.specs.Prelude.{◌≡◌, List, ℕ, Result, Ok, Err}
+use Rattle.std.specs.Prelude.{◌≡◌, List, [], ℕ, Result, Ok, Err}
 use Rattle.std.specs.Global.{Vec}
 use Rattle.s360_events.specs.declared.events.Event.{Event}
 use Rattle.s360_deck.specs.Deck.{events_of}
@@ -10,7 +10,7 @@ use Rattle.s360_disassembler.specs.declared.words.DisassemblyFault.TheVariants a
 -- assembled, these words are a deck of these events
 pub record AreWordsOfEvents (events : List Event) (words : List ℕ) : Type 0 where
   pub deck : List ℕ
-  pub is_deck : assembled words ≡ Ok deck
+  pub is_deck : assembled [] words ≡ Ok deck
   pub are_events : events_of deck ≡ Ok events
 
 -- The words of a deck: assembled, they are a deck of the same events.

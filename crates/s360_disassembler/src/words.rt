@@ -191,7 +191,7 @@ fn events_of(alloc: Global, deck: &[u8]) -> Result<Vec<Event>, DisassemblyFault>
 fn are_words_of(alloc: Global, words: &[u8], events: &[Event]) -> Result<bool, AllocError>
     ensures { IfOk result (λ are. are ≡ true → AreWordsOfEvents events.now words.now) }
 {
-    let again = match assemble(alloc, words) {
+    let again = match assemble(alloc, &[], words) {
         Ok(again) => again,
         Err(AssemblyFault::OutOfMemory) => return Err(AllocError),
         Err(_) => return Ok(false),

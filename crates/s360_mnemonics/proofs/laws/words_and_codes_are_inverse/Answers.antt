@@ -1,8 +1,8 @@
 use Rattle.std.proofs.Common.{◌≡◌, ℕ, List, [], ◌∷◌, Bool, true, false, Option, Some, None, find, cond, ap, subst, refl}
 use Rattle.std.proofs.lemmas.Bool.Decides.{Decides-or}
 use Rattle.std.proofs.lemmas.Slice.Eq.{bytes_eq-Decides}
-use Rattle.s360_assembler.specs.Mnemonics.{word_of, quoted_name_of, names, worded_codes}
-use Rattle.s360_assembler.proofs.laws.words_and_codes_are_inverse.Goals as goal
+use Rattle.s360_mnemonics.specs.Mnemonics.{word_of, quoted_name_of, names, worded_codes}
+use Rattle.s360_mnemonics.proofs.laws.words_and_codes_are_inverse.Goals as goal
 
 value : Option ℕ → ℕ
 value (Some n) = n

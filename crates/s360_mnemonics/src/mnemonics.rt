@@ -1,7 +1,7 @@
 //! The words of commands.
 
 ghost use Rattle.std.specs.Prelude.{◌≡◌, ◌≤◌, length};
-ghost use Rattle.s360_assembler.specs.Mnemonics.{mnemonic, word_of, names, quoted_name_of, is_multi_track, code_named, worded_codes};
+ghost use Rattle.s360_mnemonics.specs.Mnemonics.{mnemonic, word_of, names, quoted_name_of, is_multi_track, code_named, worded_codes};
 
 use arrayvec::{ArrayString, ArrayVec};
 use ckd_sense::Command;

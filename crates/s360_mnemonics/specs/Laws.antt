@@ -1,7 +1,7 @@
 -- The words of commands and their codes.
 use Rattle.std.specs.Prelude.{◌≡◌, ◌⊎◌, ℕ, List, Some}
 use Rattle.std.specs.List.{AllByRecursion}
-use Rattle.s360_assembler.specs.Mnemonics.{word_of, quoted_name_of, code_named, worded_codes}
+use Rattle.s360_mnemonics.specs.Mnemonics.{word_of, quoted_name_of, code_named, worded_codes}
 
 -- Each code that has a word is the code of its word, and of its long name: so no two codes have one.
 abbrev pub EachCodeHasItsWord : Type 0
