@@ -15,6 +15,6 @@ returns-in-Ok-open_volume-clause-lists g c = inr (
       c.as_str.ensures.value
           ∙ c.in-Ok.ensures.text,
       c.as_slice-paths.ensures.value,
-    ) at c.print_library.ensures;
+    ) at c.print_library.ensures.lists;
   },
 )

@@ -1,5 +1,7 @@
+use Rattle.std.proofs.Common.{refl, length}
 use Rattle.std.specs.Option.{option_copied}
 use Rattle.volume_details.specs.Sections.{shown_by}
+use Rattle.dasd_run.specs.Printed.{ending_of}
 use Rattle.dasd_run.proofs.Held.{all_held, some_held}
 use Rattle.dasd_run.proofs.Sectioned.{none_detailed, table_begun, all_detailed, sections_begun}
 use Rattle.dasd_run.proofs.details.print_details.Goals as goal
@@ -32,6 +34,7 @@ returns g c =
     let p = c.in-Err-print_sections.ensures in
     rw c.of_printing-in-Err-print_sections.ensures
     (sections_begun (shown_by c.args.view) v c.in-Ok.contents c.in-Ok.ensures.says _ _ _ _
-    (all_held (option_copied c.args.view.json) v c.in-Ok.contents c.in-Ok.ensures.says _ _ _ _
+    (all_held (option_copied c.args.view.json) v c.in-Ok.contents c.in-Ok.ensures.says _ _
+    (ending_of (length c.in-Ok.contents.found.findings.items)) refl
     (rw c.geometry-geometry.ensures.geometry at c.in_default.ensures.text) c.in_default.ensures.writes c.in_default.ensures.flushed)
     c.in-Err-print_sections.fault (rw (c.in-Ok.ensures.kept) at p.lines) p.writes)
