@@ -14,9 +14,13 @@ returns-in_err-file-clause-loads g c =
     let i = c.loop-i.i in
     let loaded = c.loop-i.loaded.items in
     let read = c.in_err-file.ensures.reads in
-    rw (p.1, p.2) (i, loaded,
-    subst (λ (l : List SourceFile). LoadsFiles (take i (names_in names)) loaded before l) (sym read.1)
-    (first_of names before i loaded (g.F.ImageFiles.opened c.loop-i.files) c.loop-i.invariant.loads), no_memory _ loaded read.0)
+    rw (p.1, p.2) (
+      i,
+      loaded,
+      subst (λ (l : List SourceFile). LoadsFiles (take i (names_in names)) loaded before l) (sym read.1)
+          (first_of names before i loaded (g.F.ImageFiles.opened c.loop-i.files) c.loop-i.invariant.loads),
+      no_memory _ loaded read.0,
+    )
 
 pub returns-in_err-left-clause-loads : goal.returns-in_err-left-clause-loads
 returns-in_err-left-clause-loads g c =
@@ -29,9 +33,13 @@ returns-in_err-left-clause-loads g c =
     let loaded = c.loop-i.loaded.items in
     let file = c.in_ok-file.file in
     let next = next_file names before i c.index-names-i.result loaded file between now c.loop-i-test.true c.index-names-i.is
-        c.loop-i.invariant.loads (rw c.as_slice.ensures.value at c.in_ok-file.ensures.reads) in
-    rw (p.1, p.2) (i + 1, with_loaded loaded file, first_of names before (i + 1) (with_loaded loaded file) now next,
-    not_loaded _ loaded file c.loop-i.left c.loop-i.invariant.total c.in_err-left.ensures)
+    c.loop-i.invariant.loads (rw c.as_slice.ensures.value at c.in_ok-file.ensures.reads) in
+    rw (p.1, p.2) (
+      i + 1,
+      with_loaded loaded file,
+      first_of names before (i + 1) (with_loaded loaded file) now next,
+      not_loaded _ loaded file c.loop-i.left c.loop-i.invariant.total c.in_err-left.ensures,
+    )
 
 pub loop-i-preserved : goal.loop-i-preserved
 loop-i-preserved g c =
@@ -43,7 +51,7 @@ loop-i-preserved g c =
     let loaded = c.loop-i.loaded.items in
     let file = c.in_ok-file.file in
     let next = next_file names before i c.index-names-i.result loaded file between now c.loop-i-test.true c.index-names-i.is
-        c.loop-i.invariant.loads (rw c.as_slice.ensures.value at c.in_ok-file.ensures.reads) in
+    c.loop-i.invariant.loads (rw c.as_slice.ensures.value at c.in_ok-file.ensures.reads) in
     record {
       kept = c.in_ok-file.ensures.kept ∙ c.loop-i.invariant.kept;
       loads = subst (λ (l : List LoadedFile). LoadsFiles (names_in (take (i + 1) names)) l before now) (sym c.in_ok-left.ensures.0) next;
