@@ -1,5 +1,6 @@
 -- Files that a text loads, one after another.
-use Rattle.std.proofs.Common.{◌≡◌, ◌∙◌, ◌+◌, ◌<◌, ◌≤◌, ◌⊎◌, ℕ, zero, suc, List, [], ◌∷◌, ◌++◌, take, length, get_or, map, inl, inr, Option, Some, None, Ok}
+use Rattle.std.proofs.Common.{◌≡◌, ◌∙◌, ◌+◌, ◌<◌, ◌≤◌, ◌⊎◌, ℕ, zero, suc, List, [], ◌∷◌, ◌++◌, take, length, get_or, map}
+use Rattle.std.proofs.Common.{inl, inr, Option, Some, None, Ok}
 use Rattle.std.proofs.Common.{ap, sym, subst, refl, arith}
 use Rattle.std.proofs.lemmas.List.{take_all, map_more}
 use Rattle.std.specs.Global.{Vec}
@@ -101,7 +102,8 @@ more_bytes (f ∷ loaded) file =
     ap (λ (n : ℕ). length f.bytes.items + n) (more_bytes loaded file)
     ∙ regrouped (length f.bytes.items) (bytes_of loaded) (length file.bytes.items)
 
-pub more_loaded : (loaded : List LoadedFile) (file : Option LoadedFile) → bytes_of (with_loaded loaded file) ≡ bytes_of loaded + size_loaded file
+pub more_loaded : (loaded : List LoadedFile) (file : Option LoadedFile)
+    → bytes_of (with_loaded loaded file) ≡ bytes_of loaded + size_loaded file
 more_loaded loaded None = omega arith
 more_loaded loaded (Some file) = more_bytes loaded file
 

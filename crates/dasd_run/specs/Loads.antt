@@ -1,5 +1,5 @@
 -- The files that a text loads: which of them are read, and why they are too many.
-use Rattle.std.specs.Prelude.{◌≡◌, ◌⊎◌, ◌<◌, ℕ, ◌+◌, List, [], ◌∷◌, ◌++◌, length, take, map, sum, Option, Some, None, Result, Ok, Err}
+use Rattle.std.specs.Prelude.{◌≡◌, ◌⊎◌, ◌<◌, ℕ, ◌+◌, List, [], ◌∷◌, ◌++◌, length, take, Option, Some, None, Result, Ok, Err}
 use Rattle.std.specs.Global.{Vec}
 use Rattle.dasd_jobs.specs.Sources.{SourceFile, ReadsFront}
 use Rattle.s360_assembler.specs.declared.fault.AssemblyFault.{AssemblyFault}
@@ -23,7 +23,8 @@ ReadsNamed (Err f) name before now = (f ≡ assembly.OutOfMemory) × (now ≡ be
 
 -- the bytes of all these files
 abbrev pub bytes_of : List LoadedFile → ℕ
-bytes_of loaded = sum (map (λ f. length f.bytes.items) loaded)
+bytes_of [] = 0
+bytes_of (file ∷ loaded) = length file.bytes.items + bytes_of loaded
 
 -- these files, and one more, if there is one
 abbrev pub with_loaded : List LoadedFile → Option LoadedFile → List LoadedFile
