@@ -21,5 +21,5 @@ pub returns-clause-lines : goal.returns-clause-lines
 returns-clause-lines g c =
     let members = rw (c.as_slice-extents.ensures.value) at c.list_members.ensures.lines in
     rw (← c.lists_members-has_members.ensures)
-    (with_members (shown_by c.args.view) (described_by c.args.described) _ _ _ (g.V.SlotReader.volume c.args.volume.now) _ c.list_members.result
-    (sym c.is_shown.ensures ∙ c.if-not-is_shown.false) c.if-not-has_members.false c.in_default.ensures.lines members)
+    (with_members (shown_by c.args.view) (described_by c.args.described) _ _ _ (g.V.SlotReader.volume c.args.volume.now) _
+    c.list_members.result (sym c.is_shown.ensures ∙ c.if-not-is_shown.false) c.if-not-has_members.false c.in_default.ensures.lines members)
