@@ -5,7 +5,6 @@ ghost use Rattle.counted_io.specs.Streams.{seen_by, IsFlushed};
 
 use crate::commands::Ending;
 use crate::fault::ProgramFault;
-use arrayvec::ArrayVec;
 use counted_io::Counted;
 use dasd_jobs::JobFault;
 use dasd_words::Noted;
@@ -19,7 +18,7 @@ fn lines_of(noted: Noted) -> Lines {
         Noted::Csw(bytes) => of_csw(Csw::from_bytes(bytes)),
         Noted::Ending(bytes) => of_second_half(bytes),
         Noted::Status(bytes) => of_stored(bytes),
-        Noted::Sense(bytes) => of_sense_bytes(bytes),
+        Noted::Sense(bytes) => of_sense(bytes.as_slice()),
         Noted::Ccw(bytes) => of_ccw(Ccw::from_bytes(bytes)),
         Noted::Line(pasted) => of_pasted(pasted),
     }
@@ -37,11 +36,6 @@ fn of_stored(bytes: [u8; 2]) -> Lines {
     let [unit, channel] = bytes;
     let csw = Csw::from_bytes([0, 0, 0, 0, unit, channel, 0, 0]);
     of_status(csw.unit, csw.channel)
-}
-
-// The lines of sense bytes.
-fn of_sense_bytes(bytes: ArrayVec<u8, 8>) -> Lines {
-    of_sense(bytes.as_slice())
 }
 
 /// Prints what a number means.
