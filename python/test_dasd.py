@@ -66,12 +66,10 @@ class Calls(unittest.TestCase):
             disks.storage[0x100:0x108] = READ_R0
             self.assertEqual((disks.program(1), disks.registers(1), disks.sio(0x190)), (None, None, 0))
             self.assertEqual(disks.step(1, 3), 3)  # three of its bytes
-            word = {"code": 0x16, "flags": 0x20, "address": 0x200, "count": 16, "place": 0x203, "left": 13}
-            shown = dasd.Program(device=0x90, phase=dasd.Phase.MOVES, last=0x100, next=0x108, key=0, asked=False, **word)
-            self.assertEqual(disks.program(1), shown)
-            turn = {"area": dasd.Area.INDEX, "passed": 0, "lap": 0}
-            left = {"credit": dasd.Credit.NONE, "credited": 0, "sense": bytes(6)}
-            self.assertEqual(disks.registers(1), dasd.Registers(cylinder=0, head=0, mask=0, mask_set=False, **turn, **left))
+            word = (0x16, 0x20, 0x200, 16, 0x203)  # code, flags, address, wanted, place
+            self.assertEqual(disks.program(1), dasd.Program(0x90, dasd.Phase.MOVES, 0x100, 0x108, *word, left=13, key=0, asked=False))
+            none_passed = dasd.Registers(0, 0, dasd.Area.INDEX, 0, 0, 0, False, dasd.Credit.NONE, 0, bytes(6))
+            self.assertEqual(disks.registers(1), none_passed)
             self.refused("NO_CHANNEL", disks.program, 2)
             self.refused("NO_CHANNEL", disks.registers, 2)
             disks.run_on(1, 1000)

@@ -34,10 +34,8 @@ static const row rows[] = {
 
 /* Where a word is to be fetched its fields are zeros; else they are those of the word at work. */
 static int shows_word(const dasd_program *p) {
-    if (p->phase == DASD_FETCHES)
-        return p->code == 0 && p->flags == 0 && p->address == 0 && p->count == 0;
-    if (p->last == SEARCH)
-        return p->code == 0x31 && p->flags == 0x40 && p->address == 0x200 && p->count == 5;
+    if (p->phase == DASD_FETCHES) return p->code == 0 && p->flags == 0 && p->address == 0 && p->count == 0;
+    if (p->last == SEARCH) return p->code == 0x31 && p->flags == 0x40 && p->address == 0x200 && p->count == 5;
     return p->code == 0x06 && p->flags == 0x20 && p->address == 0x210 && p->count == 3;
 }
 
@@ -64,7 +62,9 @@ static void nothing_is_shown(dasd *d, uint8_t channel, int32_t fault) {
     before_p = p;
     before_r = r;
     CHECK(dasd_show_program(d, channel, &p) == fault && memcmp(&p, &before_p, sizeof p) == 0);
-    CHECK(dasd_show_registers(d, channel, &r) == fault && memcmp(&r, &before_r, sizeof r) == 0);
+    CHECK(dasd_show_registers(d, channel, &r) == fault && r.passed == before_r.passed && r.credited == before_r.credited);
+    CHECK(r.cylinder == before_r.cylinder && r.head == before_r.head && memcmp(r.sense, before_r.sense, sizeof r.sense) == 0);
+    CHECK(r.area == before_r.area && r.lap == before_r.lap && r.mask == before_r.mask && r.credit == before_r.credit);
 }
 
 static void started(dasd *d) {
@@ -91,7 +91,6 @@ int main(void) {
     CHECK(dasd_step(&d, 1, 5, &done) == DASD_DONE && done == 1);
     nothing_is_shown(&d, 1, DASD_NO_PROGRAM);
     CHECK(dasd_free(&d) == DASD_DONE);
-    if (failures == 0)
-        puts("watched.c: all checks passed");
+    if (failures == 0) puts("watched.c: all checks passed");
     return failures != 0;
 }

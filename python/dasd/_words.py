@@ -204,7 +204,7 @@ class Phase(enum.IntEnum):
 
 class Program(NamedTuple):
     """A channel program that runs, as it is between two units. The word at work is the one whose command has begun and has not ended, or
-    that its data are chained to; where a word is to be fetched that begins a command, `code`, `flags`, `address`, `count` and `place` are 0."""
+    that its data are chained to; where a word is to be fetched that begins a command, `code`, `flags`, `address`, `wanted` and `place` are 0."""
 
     #: the low byte of its drive's address
     device: int
@@ -220,8 +220,8 @@ class Program(NamedTuple):
     flags: int
     #: its data address
     address: int
-    #: its count
-    count: int
+    #: how many bytes it asks for, its count
+    wanted: int
     #: where its next byte goes or comes from
     place: int
     #: the count left in the last good word

@@ -57,6 +57,9 @@ done
 exec "{dasd}" "$@"
 """
 
+# How each is read: as it is, and as far as its files go.
+READINGS: tuple[list[str], ...] = ([], ["--as-far-as-it-goes"])
+
 
 class Lines:
     """The lines that were looked at, how many are wrong, and what of the schema was met."""
@@ -201,8 +204,8 @@ def play(dasd: Path, folder: Path, lines: Lines) -> None:
             ["compare", "--json", "pack.ckd", joined],
             ["compare", "--json", "--tracks", "pack.ckd", joined],
         ):
-            for option in ([], ["--as-far-as-it-goes"]):
-                done = subprocess.run([dasd, *words, *option], cwd=folder, stdin=subprocess.DEVNULL, capture_output=True, text=True, check=False)
+            for options in READINGS:
+                done = subprocess.run([dasd, *words, *options], cwd=folder, stdin=subprocess.DEVNULL, capture_output=True, text=True, check=False)
                 lines.look(words[0], done.stdout)
                 lines.look_at_fault(words[0], done.stdout, done.stderr)
 
