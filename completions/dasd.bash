@@ -93,15 +93,15 @@ _dasd() {
         _dasd_files
         ;;
     hash)
-        if [[ $word == -* ]]; then _dasd_words --as-far-as-it-goes --json --verbose -h --help; return; fi
+        if [[ $word == -* ]]; then _dasd_words --sets --members --as-far-as-it-goes --json --verbose -h --help; return; fi
         _dasd_files
         ;;
     vtoc)
-        if [[ $word == -* ]]; then _dasd_words --as-far-as-it-goes --json --verbose -h --help; return; fi
+        if [[ $word == -* ]]; then _dasd_words --members --long --as-far-as-it-goes --json --verbose -h --help; return; fi
         _dasd_files
         ;;
     extract)
-        if [[ $word == -* ]]; then _dasd_words --to --all --text --record-format --record-length --block-length --raw --as-far-as-it-goes --json --verbose -h --help; return; fi
+        if [[ $word == -* ]]; then _dasd_words --to --all --text --record-format --record-length --block-length --raw --list --as-far-as-it-goes --json --verbose -h --help; return; fi
         _dasd_files
         ;;
     explain)

@@ -49,11 +49,15 @@ complete -c dasd -n '__fish_seen_subcommand_from compare' -l json -d 'prints one
 complete -c dasd -n '__fish_seen_subcommand_from compare' -l verbose -d 'tells more of a fault, also where standard error is no terminal'
 complete -c dasd -n '__fish_seen_subcommand_from compare' -s h -l help -d 'Print help'
 complete -c dasd -n '__fish_seen_subcommand_from compare' -F
+complete -c dasd -n '__fish_seen_subcommand_from hash' -l sets -d 'prints that of each data set too'
+complete -c dasd -n '__fish_seen_subcommand_from hash' -l members -d 'prints that of each data set and of each member too'
 complete -c dasd -n '__fish_seen_subcommand_from hash' -l as-far-as-it-goes -d 'reads a volume also where its only or last file is too short or too long, and tells what it lacks'
 complete -c dasd -n '__fish_seen_subcommand_from hash' -l json -d 'prints one object of JSON a line'
 complete -c dasd -n '__fish_seen_subcommand_from hash' -l verbose -d 'tells more of a fault, also where standard error is no terminal'
 complete -c dasd -n '__fish_seen_subcommand_from hash' -s h -l help -d 'Print help'
 complete -c dasd -n '__fish_seen_subcommand_from hash' -F
+complete -c dasd -n '__fish_seen_subcommand_from vtoc' -l members -d 'prints the members of each partitioned data set too, behind the table'
+complete -c dasd -n '__fish_seen_subcommand_from vtoc' -l long -d 'prints more of each data set, behind the table: its extents, volumes, keys and password'
 complete -c dasd -n '__fish_seen_subcommand_from vtoc' -l as-far-as-it-goes -d 'reads a volume also where its only or last file is too short or too long, and tells what it lacks'
 complete -c dasd -n '__fish_seen_subcommand_from vtoc' -l json -d 'prints one object of JSON a line'
 complete -c dasd -n '__fish_seen_subcommand_from vtoc' -l verbose -d 'tells more of a fault, also where standard error is no terminal'
@@ -66,6 +70,7 @@ complete -c dasd -n '__fish_seen_subcommand_from extract' -l record-format -x -d
 complete -c dasd -n '__fish_seen_subcommand_from extract' -l record-length -x -d 'with --record-format, the length of records in bytes; FB and FBS need it where the label has none'
 complete -c dasd -n '__fish_seen_subcommand_from extract' -l block-length -x -d 'with --record-format, the length of the longest block in bytes; one that is longer ends the data set, and is told'
 complete -c dasd -n '__fish_seen_subcommand_from extract' -l raw -d 'writes the tracks of a data set as they stand in the image: all bytes of each, in order'
+complete -c dasd -n '__fish_seen_subcommand_from extract' -l list -d 'prints the members of a partitioned data set: where each begins, and how much it has'
 complete -c dasd -n '__fish_seen_subcommand_from extract' -l as-far-as-it-goes -d 'reads a volume also where its only or last file is too short or too long, and tells what it lacks'
 complete -c dasd -n '__fish_seen_subcommand_from extract' -l json -d 'prints one object of JSON a line'
 complete -c dasd -n '__fish_seen_subcommand_from extract' -l verbose -d 'tells more of a fault, also where standard error is no terminal'
