@@ -203,5 +203,5 @@ def words_of_an_extraction_that_are_wrong(s: Scratch) -> None:
     name = "error: no name of a data set behind the paths, as SYS1.MACLIB(OPEN) or PAYROLL\n"
     for words in [("pack.ckd",), ("pack.ckd", "LIB("), ("pack.ckd", "(ALPHA)"), ("pack.ckd", "LIB()")]:
         same(s.dasd("extract", *words), (2, "", name), " ".join(words))
-    same(s.dasd("extract", "pack.ckd", "PAY.CARDS", "--json"), (2, "", "error: --json goes with --all\n"))
+    same(s.dasd("extract", "pack.ckd", "PAY.CARDS", "--json"), (2, "", "error: --json goes with --all and with --list\n"))
     same(s.dasd("extract", "pack.ckd", "--all", "out", "--to", "file")[0], 2)

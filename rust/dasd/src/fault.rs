@@ -124,7 +124,8 @@ mod tests {
     fn each_fault_has_the_text_of_the_header() {
         let header = Path::new(env!("CARGO_MANIFEST_DIR")).join("../../c/dasd.h");
         let Ok(header) = std::fs::read_to_string(header) else { return }; // a published crate has none
-        let faults: Vec<_> = header.lines().filter_map(told).collect();
+        let behind = header.split_once("enum dasd_fault {").expect("the header has its faults").1;
+        let faults: Vec<_> = behind.lines().take_while(|line| *line != "};").filter_map(told).collect();
         assert!(faults.len() >= 30);
         for (code, text) in faults {
             assert_eq!((Fault::of(code).code(), Fault::of(code).to_string().as_str()), (code, text));
