@@ -1,25 +1,27 @@
-//! A read all of whose bytes pass at once: they are found before anything is changed, and nothing half done is kept.
+//! A read whose bytes pass at once: they are found before anything is changed, and nothing half done is kept.
 
 ghost use Rattle.std.specs.Prelude.{◌≡◌, List, ℕ, IfSome, is_some, true};
-ghost use Rattle.ckd_command.specs.declared.begin.Opened.{Opened};
 ghost use Rattle.ckd_command.specs.declared.registers.Mark.{Mark as MarkValue};
 ghost use Rattle.ckd_command.specs.declared.tables.Aim.TheVariants.{Next as Aims};
 ghost use Rattle.ckd_command.specs.Commands.{IsAtTrack};
 ghost use Rattle.ckd_command.specs.Drive.{is_written};
-ghost use Rattle.ckd_command.specs.Tables.{aim};
+ghost use Rattle.ckd_command.specs.declared.tables.Action.TheVariants.{Read};
+ghost use Rattle.ckd_command.specs.Tables.{aim, action_of};
 ghost use Rattle.ckd_drive.specs.declared.answers.Stage.TheVariants as stage;
 ghost use Rattle.ckd_drive.specs.Invariant.{state_of};
 ghost use Rattle.ckd_drive.specs.Jobs.{parts_held, lends};
-ghost use Rattle.ckd_drive.specs.Work.{Idle, GivesWhole, gives_at_once, is_lent_whole, whole_ending, state_behind};
+ghost use Rattle.ckd_drive.specs.Work.{Idle, GivesWhole, gives_at_once, whole_ending, state_behind};
 
 use crate::answers::{Stage, WholeRead};
 use crate::drive::Drive;
 use crate::job::Job;
 use ckd_command::{CHANNEL_AND_DEVICE_END, DriveEnding, tables};
 use ckd_image::ImageStore;
-use ckd_position::{Area, Kind, Next, Part, Position};
+use ckd_position::{Kind, Next, Position};
 use ckd_sense::Command;
-use ckd_sense::Command::{ReadCountKeyAndData, ReadData};
+use ckd_sense::Command::{
+    ReadCount, ReadCountKeyAndData, ReadData, ReadHomeAddress, ReadIpl, ReadKeyAndData, ReadR0,
+};
 use s360_words::UnitStatus;
 
 // Channel end, device end and unit exception.
@@ -32,7 +34,7 @@ impl<S: ImageStore> Job<S> {
         requires arm { IsAtTrack self.now.cache.image.geometry self.now.registers }
         requires command { command ≡ self.now.opened.command }
         requires aim { aim command ≡ Aims kind }
-        requires lent { is_lent_whole command ≡ true }
+        requires reads { action_of command ≡ Read }
         ensures gives { (m : MarkValue) → IfSome result (λ x. GivesWhole (state_of (parts_held self.now m stage.Looking))
             x.0.now x.1) }
         ensures lends { (m : MarkValue) → is_some result ≡ lends self.now m }
@@ -43,22 +45,34 @@ impl<S: ImageStore> Job<S> {
         if !buffer.is_readable() {
             return None;
         }
-        let Next::Found(area) = buffer.next_area(self.registers.position, kind) else {
+        let Next::Found(found) = buffer.next_area(self.registers.position, kind) else {
             return None;
         };
         let extent = tables::extent(command);
-        let Area::Of(Part::Data, record) = tables::area_left(extent, area) else {
-            return None;
-        };
-        if !tables::ends_with_data(extent) {
-            return None;
-        }
-        let (window, no_data) = buffer.part(extent, area);
+        let (window, no_data) = buffer.part(extent, found);
         let bytes = &buffer.bytes()[window.start..window.start + window.len];
-        Some((bytes, WholeRead { record, no_data }))
+        let read = WholeRead {
+            area: tables::area_left(extent, found),
+            no_data: tables::ends_with_data(extent) && no_data,
+        };
+        Some((bytes, read))
     }
 
-    // The same, of the command that looks for its area: the commonest reads, by themselves.
+    // The same, of a read that is not a common one.
+    #[inline(never)]
+    fn whole_elsewhere(&self, command: Command, kind: Kind) -> Option<(&[u8], WholeRead)>
+        requires arm { IsAtTrack self.now.cache.image.geometry self.now.registers }
+        requires command { command ≡ self.now.opened.command }
+        requires aim { aim command ≡ Aims kind }
+        requires reads { action_of command ≡ Read }
+        ensures gives { (m : MarkValue) → IfSome result (λ x. GivesWhole (state_of (parts_held self.now m stage.Looking))
+            x.0.now x.1) }
+        ensures lends { (m : MarkValue) → is_some result ≡ lends self.now m }
+    {
+        self.whole_of(command, kind)
+    }
+
+    // The same, of the command that looks for its area: the commonest reads by themselves.
     #[inline(always)]
     fn whole(&self) -> Option<(&[u8], WholeRead)>
         requires { IsAtTrack self.now.cache.image.geometry self.now.registers }
@@ -69,6 +83,11 @@ impl<S: ImageStore> Job<S> {
         match self.opened.command {
             ReadData => self.whole_of(ReadData, Kind::Data),
             ReadCountKeyAndData => self.whole_of(ReadCountKeyAndData, Kind::LaterCount),
+            ReadKeyAndData => self.whole_elsewhere(ReadKeyAndData, Kind::KeyAndData),
+            ReadCount => self.whole_elsewhere(ReadCount, Kind::LaterCount),
+            ReadR0 => self.whole_elsewhere(ReadR0, Kind::FirstCount),
+            ReadHomeAddress => self.whole_elsewhere(ReadHomeAddress, Kind::HomeAddress),
+            ReadIpl => self.whole_elsewhere(ReadIpl, Kind::FirstData),
             _ => None,
         }
     }
@@ -78,9 +97,9 @@ impl<S: ImageStore> Drive<S> {
     /// All bytes of the command at hand, if it is a read that looks for its area, and finds it with its next look on the
     /// track that is at hand already; and how it then ends. Nothing changes.
     ///
-    /// There are none where the command is another than Read Data and Read Count, Key and Data (component descriptions, the
-    /// sections of these names), the commonest reads, nor where that look would not find the area. Where it would, there are
-    /// bytes exactly if the track is at hand, as one that was written, and is not saved, always is.
+    /// There are none where the command is no read of an area (component descriptions, 'Read Commands'), nor where that look
+    /// would not find the area. Where it would, there are bytes exactly if the track is at hand, as one that was written, and is
+    /// not saved, always is.
     #[inline(always)]
     pub fn whole_read(&self) -> Option<(&[u8], WholeRead)>
         ensures gives { IfSome result (λ x. GivesWhole self.now x.0.now x.1) }
@@ -93,15 +112,15 @@ impl<S: ImageStore> Drive<S> {
         }
     }
 
-    /// Ends a read whose bytes `whole_read` lent, once all of them have passed: by a look, `pass` of them all, and `end`
-    /// it would come to the same. Answers the unit status; the arm does not move.
+    /// Ends a read whose bytes `whole_read` lent, once they have passed, or the first of them: by a look, `pass` of so many, and
+    /// `end` it would come to the same. Answers the unit status; the arm does not move.
     #[inline(always)]
     pub fn end_whole(&mut self, read: WholeRead) -> DriveEnding
         requires { (bytes : List ℕ) × GivesWhole self.old bytes read }
         ensures ended { self.new ≡ record self.old { state = state_behind self.old.state read; work = Idle } }
         ensures ending { result ≡ whole_ending read }
     {
-        self.job.registers.position = Position::At(Area::Of(Part::Data, read.record));
+        self.job.registers.position = Position::At(read.area);
         self.stage = Stage::Idle;
         let unit = if read.no_data {
             END_WITH_UNIT_EXCEPTION

@@ -97,9 +97,9 @@ module _ (d : DriveState) (bytes : List ℕ) (read : WholeRead) (w : GivesWhole 
   passed_ends e now saved e_is now_is = rw (e_is, now_is) (record {
     saved = saved;
     state = sym (ap (λ f. with_image (after_end f passed_drive) d.image) none
-        ∙ ap (λ (c : Closed). record d { state = c.state; work = Idle }) w.ends);
-    ending = sym (ap (λ f. ending_of (closed_of f passed_drive passed_drive.work)) none ∙ ap ending_of w.ends);
-    calls = calls_none false (end_saves passed_drive) passed_drive ended_drive refl w.keeps;
+        ∙ ap (λ (c : Closed). record d { state = c.state; work = Idle }) (w.ends bytes));
+    ending = sym (ap (λ f. ending_of (closed_of f passed_drive passed_drive.work)) none ∙ ap ending_of (w.ends bytes));
+    calls = calls_none false (end_saves passed_drive) passed_drive ended_drive refl (w.keeps bytes 0);
     reports = record { failed = inl refl; good = λ _ h. h };
   })
     where
