@@ -1,38 +1,70 @@
-use Rattle.std.proofs.Common.{◌≡◌, ◌∙◌, ◌+◌, ◌<◌, ap, arith, length, List, refl, rules, take, ℕ}
+use Rattle.std.proofs.Common.{◌≡◌, ◌∙◌, ◌+◌, ◌<◌, ◌≤◌, ap, arith, false, length, length-take-le, List, refl, rules, sym, take, ℕ}
 use Rattle.std.specs.Prelude.{IsTrue}
 use Rattle.s360_words.specs.Storage.{Storage, may_store, stored}
+use Rattle.s360_words.specs.Words.{suppresses_length}
 use Rattle.s360_program.specs.Stands.{phase_in}
 use Rattle.s360_program.specs.Steps.{run_of, Looked}
 use Rattle.s360_program.specs.declared.run.Step.TheVariants as step
-use Rattle.s360_program.proofs.Wholes.{stores_all, takes_all}
+use Rattle.s360_program.proofs.Wholes.{stores_all, takes_all, same_told, other_told}
 use Rattle.s360_program.proofs.Looking.{look_fails, look_passes, look_fits, ready_left, ready_first, looking_within}
 use Rattle.s360_program.proofs.Quiet.{fails_quiet, looks_quiet}
 use Rattle.s360_program.proofs.Stepping.{kept, quietly, finds}
 use Rattle.s360_program.proofs.Transferring.{over_once}
 use Rattle.s360_program.proofs.run.Run.look.Goals as goal
 
--- all bytes of a read that passes whole were stored
-all_stored : (s s2 : Storage) (a n : ℕ) (bytes : List ℕ) → n ≡ length bytes → s2 ≡ stored s a (take n bytes) → s2 ≡ stored s a bytes
-all_stored s s2 a n bytes all is = is ∙ ap (stored s a) (takes_all bytes n all)
+-- the bytes of a read that pass were stored, all of them
+all_stored : (s s2 : Storage) (key a n m : ℕ) (given : List ℕ) → m ≤ length given → n ≤ length (take m given)
+    → ((i : ℕ) → i < m → IsTrue (may_store s key (a + i))) → (n < length (take m given) → may_store s key (a + n) ≡ false)
+    → s2 ≡ stored s a (take n (take m given)) → s2 ≡ stored s a (take m given)
+all_stored s s2 key a n m given has few may next is =
+    let long : length (take m given) ≡ m = length-take-le m given has in
+    let all : n ≡ m = stores_all s key a n m (omega (arith, few, long)) may (λ h. next (omega (arith, h, long))) in
+    is ∙ ap (stored s a) (takes_all (take m given) n (all ∙ sym long))
+
+pub returns-then-has-from : goal.returns-then-has-from
+returns-then-has-from g c =
+    let holds = g.M.MainStorage.holds in
+    let a = c.args in
+    let r = a.self.now in
+    let s = holds a.storage.now in
+    let x = c.in-Some in
+    let p = x.ensures in
+    let n = c.store in
+    let t = c.finish in
+    let is = all_stored s (holds n.new.self) r.key r.ccw.address n.result x.n x.given.now p.has n.ensures.bound p.may n.ensures.next
+    n.ensures.change in
+    record {
+      step = record {
+        steps = rw is (t.ensures.steps a.most s x.given.now p
+            (same_told (suppresses_length r.ccw) x.n r.place.residual (length x.given.now) p.counts p.has p.spent
+            (omega (arith, c.if-has-from.true))));
+        storage = n.ensures.keeps;
+        quiet = t.ensures.quiet s;
+      };
+      found = tt;
+      place = search rules;
+      calls = search rules;
+    }
 
 pub returns-in-Some : goal.returns-in-Some
 returns-in-Some g c =
     let holds = g.M.MainStorage.holds in
     let a = c.args in
+    let r = a.self.now in
+    let s = holds a.storage.now in
     let x = c.in-Some in
     let p = x.ensures in
     let n = c.store in
-    let t = c.finish in
-    let may : (i : ℕ) → i < length x.bytes.now → IsTrue (may_store (holds a.storage.now) a.self.now.key (a.self.now.ccw.address + i)) =
-    λ i h. p.may i (omega (arith, h, p.counts)) in
-    let all : n.result ≡ length x.bytes.now = stores_all (holds a.storage.now) a.self.now.key a.self.now.ccw.address n.result
-    (length x.bytes.now) n.ensures.bound may n.ensures.next in
-    let is = all_stored (holds a.storage.now) (holds n.new.self) a.self.now.ccw.address n.result x.bytes.now all n.ensures.change in
+    let t = c.finish-2 in
+    let is = all_stored s (holds n.new.self) r.key r.ccw.address n.result x.n x.given.now p.has n.ensures.bound p.may n.ensures.next
+    n.ensures.change in
     record {
       step = record {
-        steps = rw is (t.ensures.steps a.most (holds a.storage.now) x.bytes.now p);
+        steps = rw is (t.ensures.steps a.most s x.given.now p
+            (rw c.suppresses_length.ensures (other_told (suppresses_length r.ccw) x.n r.place.residual (length x.given.now) p.counts p.has
+            p.spent (λ e. c.if-has-from.false (omega (arith, e))))));
         storage = n.ensures.keeps;
-        quiet = t.ensures.quiet (holds a.storage.now);
+        quiet = t.ensures.quiet s;
       };
       found = tt;
       place = search rules;
