@@ -51,46 +51,16 @@ stores_all s key a n m le may next = reaches n m le (λ less. never (may_store s
     never true h e = cc
     never false h e = cc
 
--- Whether the length is told as incorrect, by what the drive has and what its word counts.
-
-is_spent : (r n : ℕ) → n ≡ r → r - n ≡ 0
-is_spent r n e = omega (arith, e)
-
-one_differs : (x y : ℕ) → (x ≡ 0) ⊎ (y ≡ 0) → 0 < x + y → differs x y ≡ true
-one_differs x y e some = grind (arith, nat_tests)
-
-module _ (b : Bool) (n r has : ℕ) (counts : n ≤ r) (few : n ≤ has) (spent : (n ≡ r) ⊎ (n ≡ has)) where
-  both_spent : has ≡ r → (r - n ≡ 0) × (has - n ≡ 0)
-  both_spent same = by spent
-    where
-      by : (n ≡ r) ⊎ (n ≡ has) → (r - n ≡ 0) × (has - n ≡ 0)
-      by (inl e) = (omega (arith, e), omega (arith, e, same))
-      by (inr e) = (omega (arith, e, same), omega (arith, e))
-
-  pub same_told : has ≡ r → false ≡ (not b && differs (r - n) (has - n))
-  same_told same = rw ((both_spent same).0, (both_spent same).1) (by b)
-    where
-      by : (b : Bool) → false ≡ (not b && differs 0 0)
-      by true = refl
-      by false = refl
-
-  one_spent : (n ≡ r) ⊎ (n ≡ has) → (r - n ≡ 0) ⊎ (has - n ≡ 0)
-  one_spent (inl e) = inl (is_spent r n e)
-  one_spent (inr e) = inr (is_spent has n e)
-
-  pub other_told : (has ≡ r → ⊥) → not b ≡ (not b && differs (r - n) (has - n))
-  other_told other = rw (one_differs (r - n) (has - n) (one_spent spent) (some (has - n + (r - n)) refl)) (by b)
-    where
-      some : (k : ℕ) → has - n + (r - n) ≡ k → 0 < (r - n) + (has - n)
-      some k e = by_sum (nat_lt 0 k) refl
-        where
-          by_sum : (t : Bool) → nat_lt 0 k ≡ t → 0 < (r - n) + (has - n)
-          by_sum true h = grind (arith, nat_tests)
-          by_sum false h = absurd (other (grind (arith, nat_tests)))
-
-      by : (b : Bool) → not b ≡ (not b && true)
-      by true = refl
-      by false = refl
+-- nothing of a length is told as incorrect where the drive has just as many bytes as the word counts
+pub same_told : (b : Bool) (n has : ℕ) → has ≡ n → false ≡ (not b && differs (n - n) (has - n))
+same_told b n has same =
+    let none : n - n ≡ 0 = omega arith in
+    let behind : has - n ≡ 0 = omega (arith, same) in
+    rw (none, behind) (by b)
+  where
+    by : (b : Bool) → false ≡ (not b && differs 0 0)
+    by true = refl
+    by false = refl
 
 -- The drive once the area is found, once some bytes passed, and once the read ended.
 
@@ -191,7 +161,7 @@ module _ (r : Run) (most : ℕ) (s : Storage) (d : DriveState) (given : List ℕ
   says : (x : DriveState) → gives_now x.work ≡ true → HasFound x → Flows (record { gives = gives_now x.work; left = left_of x.work }) x x
   says x gives has = again x has (λ z. inl gives)
 
-  walked : WalksBy r.key (phase_in (run_of (in_bytes r)) s found) most n moved_run behind_them passed
+  walked : WalksBy r.key (phase_in (run_of (in_bytes r)) s found) most n moved_run behind_them found passed
   walked = moves_on (in_bytes r) most n n n s behind_them found found passed
       (record { gives = gives_now found.work; left = left_of found.work }) fits_found refl
       (says found p.gives.gives fits_found.stands.fits)

@@ -238,15 +238,18 @@ impl Run {
         ensures place { M.place storage.new ≡ M.place storage.old }
         ensures calls { CallsAtMost 2 drive.old drive.new }
     {
-        if let Some((given, n, read)) = self.whole_read(most, storage, drive) {
-            let has = given.len();
-            let _ = storage.store(self.ccw.address, &given[..usize::from(n)], self.key);
-            // the commonest by itself, which then asks nothing of its length
-            if has == usize::from(self.place.residual) {
-                return Some(self.finish(n, false, read, drive));
+        if let Some((bytes, read)) = self.whole_read(most, storage, drive) {
+            let _ = storage.store(self.ccw.address, bytes, self.key);
+            return Some(self.finish(self.place.residual, false, read, drive));
+        }
+        // asked first, since writes, searches and controls have odd codes
+        if self.ccw.code % 2 == 0 {
+            if let Some((given, n, read)) = self.whole_elsewhere(most, storage, drive) {
+                let left = given.len() - usize::from(n);
+                let incorrect = is_incorrect(self.ccw, self.place.residual - n, left);
+                let _ = storage.store(self.ccw.address, &given[..usize::from(n)], self.key);
+                return Some(self.finish(n, incorrect, read, drive));
             }
-            let incorrect = !self.ccw.suppresses_length();
-            return Some(self.finish(n, incorrect, read, drive));
         }
         match drive.look() {
             Look::Failed => {

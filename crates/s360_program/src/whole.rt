@@ -16,12 +16,42 @@ use crate::moving::admits_all;
 use crate::run::{Comes, Run, Step};
 use ckd_drive::{Drive, WholeRead};
 use ckd_image::ImageStore;
+use ckd_sense::Command;
 
 impl Run {
-    /// All bytes that the drive has for the command that looks for its area, how many of them pass, and how it ends, where it is
-    /// a read whose bytes pass at once: they are at hand, those that pass may be stored, and units enough are asked for.
+    /// All bytes of the command that looks for its area, and how it ends, where it is one of the commonest reads and they pass at
+    /// once: they are at hand, and are as many as its word counts, and all of them may be stored.
+    // By itself, so that what it asks is known as the crate is compiled, and nothing of its length is asked again.
     #[inline(always)]
     pub(crate) fn whole_read<'a, S: ImageStore, M: MainStorage>(
+        &self,
+        most: u32,
+        storage: &M,
+        drive: &'a Drive<S>,
+    ) -> Option<(&'a [u8], WholeRead)>
+        requires key { self.now.key < 16 }
+        requires some { 0 < self.now.place.residual }
+        ensures passes { IfSome result (λ x. PassesWhole self.now most (M.holds storage.now) drive.now x.0.now self.now.place.residual x.1) }
+        ensures all { IfSome result (λ x. length x.0.now ≡ self.now.place.residual) }
+    {
+        let (ccw, count) = (self.ccw, self.place.residual);
+        if ccw.code % 2 != 0 || most <= u32::from(count) || ccw.chains_data() || ccw.skips() {
+            return None;
+        }
+        let (Command::ReadData | Command::ReadCountKeyAndData) = drive.command()?.command else {
+            return None;
+        };
+        let (bytes, read) = drive.whole_read()?;
+        if bytes.len() != usize::from(count) || !admits_all(storage, ccw.address, count, self.key) {
+            return None;
+        }
+        Some((bytes, read))
+    }
+
+    /// All bytes that the drive has for the command that looks for its area, how many of them pass, and how it ends, where it is
+    /// any read and they pass at once: as many as its word counts, or all.
+    #[inline(never)]
+    pub(crate) fn whole_elsewhere<'a, S: ImageStore, M: MainStorage>(
         &self,
         most: u32,
         storage: &M,
@@ -31,8 +61,7 @@ impl Run {
         ensures { IfSome result (λ x. PassesWhole self.now most (M.holds storage.now) drive.now x.0.now x.1 x.2) }
     {
         let (ccw, count) = (self.ccw, self.place.residual);
-        // asked first, since writes, searches and controls, whose codes are odd, would ask the rest for nothing
-        if ccw.code % 2 != 0 || most <= u32::from(count) || ccw.chains_data() || ccw.skips() {
+        if most <= u32::from(count) || ccw.chains_data() || ccw.skips() {
             return None;
         }
         let (given, read) = drive.whole_read()?;

@@ -5,7 +5,7 @@ use Rattle.s360_words.specs.Words.{suppresses_length}
 use Rattle.s360_program.specs.Stands.{phase_in}
 use Rattle.s360_program.specs.Steps.{run_of, Looked}
 use Rattle.s360_program.specs.declared.run.Step.TheVariants as step
-use Rattle.s360_program.proofs.Wholes.{stores_all, takes_all, same_told, other_told}
+use Rattle.s360_program.proofs.Wholes.{stores_all, takes_all, same_told}
 use Rattle.s360_program.proofs.Looking.{look_fails, look_passes, look_fits, ready_left, ready_first, looking_within}
 use Rattle.s360_program.proofs.Quiet.{fails_quiet, looks_quiet}
 use Rattle.s360_program.proofs.Stepping.{kept, quietly, finds}
@@ -21,30 +21,8 @@ all_stored s s2 key a n m given has few may next is =
     let all : n ≡ m = stores_all s key a n m (omega (arith, few, long)) may (λ h. next (omega (arith, h, long))) in
     is ∙ ap (stored s a) (takes_all (take m given) n (all ∙ sym long))
 
-pub returns-then-has-from : goal.returns-then-has-from
-returns-then-has-from g c =
-    let holds = g.M.MainStorage.holds in
-    let a = c.args in
-    let r = a.self.now in
-    let s = holds a.storage.now in
-    let x = c.in-Some in
-    let p = x.ensures in
-    let n = c.store in
-    let t = c.finish in
-    let is = all_stored s (holds n.new.self) r.key r.ccw.address n.result x.n x.given.now p.has n.ensures.bound p.may n.ensures.next
-    n.ensures.change in
-    record {
-      step = record {
-        steps = rw is (t.ensures.steps a.most s x.given.now p
-            (same_told (suppresses_length r.ccw) x.n r.place.residual (length x.given.now) p.counts p.has p.spent
-            (omega (arith, c.if-has-from.true))));
-        storage = n.ensures.keeps;
-        quiet = t.ensures.quiet s;
-      };
-      found = tt;
-      place = search rules;
-      calls = search rules;
-    }
+pub whole_read-requires-clause-some : goal.whole_read-requires-clause-some
+whole_read-requires-clause-some g c = (looking_within c.args.self.now c.args.drive.now c.requires.fits c.requires.stage).2
 
 pub returns-in-Some : goal.returns-in-Some
 returns-in-Some g c =
@@ -53,16 +31,41 @@ returns-in-Some g c =
     let r = a.self.now in
     let s = holds a.storage.now in
     let x = c.in-Some in
-    let p = x.ensures in
+    let p = x.ensures.passes in
     let n = c.store in
-    let t = c.finish-2 in
-    let is = all_stored s (holds n.new.self) r.key r.ccw.address n.result x.n x.given.now p.has n.ensures.bound p.may n.ensures.next
-    n.ensures.change in
+    let t = c.finish in
+    let all : n.result ≡ r.place.residual = stores_all s r.key r.ccw.address n.result r.place.residual
+    (omega (arith, n.ensures.bound, x.ensures.all)) p.may (λ h. n.ensures.next (omega (arith, h, x.ensures.all))) in
+    let is : holds n.new.self ≡ stored s r.ccw.address (take r.place.residual x.bytes.now) =
+    n.ensures.change ∙ ap (λ k. stored s r.ccw.address (take k x.bytes.now)) all in
     record {
       step = record {
-        steps = rw is (t.ensures.steps a.most s x.given.now p
-            (rw c.suppresses_length.ensures (other_told (suppresses_length r.ccw) x.n r.place.residual (length x.given.now) p.counts p.has
-            p.spent (λ e. c.if-has-from.false (omega (arith, e))))));
+        steps = rw is (t.ensures.steps a.most s x.bytes.now p
+            (same_told (suppresses_length r.ccw) r.place.residual (length x.bytes.now) x.ensures.all));
+        storage = n.ensures.keeps;
+        quiet = t.ensures.quiet s;
+      };
+      found = tt;
+      place = search rules;
+      calls = search rules;
+    }
+
+pub returns-in-Some-whole_elsewhere : goal.returns-in-Some-whole_elsewhere
+returns-in-Some-whole_elsewhere g c =
+    let holds = g.M.MainStorage.holds in
+    let a = c.args in
+    let r = a.self.now in
+    let s = holds a.storage.now in
+    let x = c.in-Some-whole_elsewhere in
+    let p = x.ensures in
+    let n = c.store-in-Some-whole_elsewhere in
+    let t = c.finish-in-Some-whole_elsewhere in
+    let is = all_stored s (holds n.new.self) r.key r.ccw.address n.result x.n x.given.now p.has
+    (rw c.from-in-Some-whole_elsewhere.ensures at n.ensures.bound) p.may (rw c.from-in-Some-whole_elsewhere.ensures at n.ensures.next)
+    (rw c.from-in-Some-whole_elsewhere.ensures at n.ensures.change) in
+    record {
+      step = record {
+        steps = rw is (t.ensures.steps a.most s x.given.now p (search rules));
         storage = n.ensures.keeps;
         quiet = t.ensures.quiet s;
       };
