@@ -12,6 +12,8 @@ use Rattle.ckd_command.specs.Answers.{Beginning, ToCylinderZero, Sight, NextHead
 use Rattle.ckd_command.specs.declared.close.DriveEnding.{DriveEnding}
 use Rattle.ckd_command.specs.declared.begin.Opened.{Opened}
 use Rattle.ckd_command.specs.Tables.{aim, action_of, is_giving, is_search}
+use Rattle.ckd_sense.specs.declared.commands.Command.{Command}
+use Rattle.ckd_sense.specs.declared.commands.Command.TheVariants.{ReadData, ReadCountKeyAndData}
 use Rattle.ckd_position.specs.declared.areas.Area.{Area}
 use Rattle.ckd_position.specs.declared.areas.Position.TheVariants.{At}
 use Rattle.ckd_command.specs.Commands.{ending_status, unit_exception_status, in_motion_status, unit_check_status, beginning, sight, closing}
@@ -336,6 +338,21 @@ gives_at_once_of d w = false
 -- whether the command at hand is a read that is lent whole where its track is at hand
 abbrev pub gives_at_once : DriveState → Bool
 gives_at_once d = gives_at_once_of d d.work
+
+-- the commonest reads, which are lent by a call of their own: Read Data, and Read Count, Key and Data
+abbrev pub is_lent_whole : Command → Bool
+is_lent_whole ReadData = true
+is_lent_whole ReadCountKeyAndData = true
+is_lent_whole _ = false
+
+-- whether a command this far is one of these, and finds its area with its next look
+abbrev pub gives_common_of : DriveState → Work → Bool
+gives_common_of d (Looking o) = is_lent_whole o.command && is_ready (look None (open_at d o))
+gives_common_of d w = false
+
+-- whether the command at hand is one of the commonest reads, and is lent whole where its track is at hand
+abbrev pub gives_common : DriveState → Bool
+gives_common d = gives_common_of d d.work
 
 -- A command that looks for its area finds it on the track under the arm with its next look, which saves nothing; it gives
 -- just these bytes, and however many of them have passed it ends so, and saves nothing.

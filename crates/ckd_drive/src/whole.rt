@@ -9,8 +9,8 @@ ghost use Rattle.ckd_command.specs.declared.tables.Action.TheVariants.{Read};
 ghost use Rattle.ckd_command.specs.Tables.{aim, action_of};
 ghost use Rattle.ckd_drive.specs.declared.answers.Stage.TheVariants as stage;
 ghost use Rattle.ckd_drive.specs.Invariant.{state_of};
-ghost use Rattle.ckd_drive.specs.Jobs.{parts_held, lends};
-ghost use Rattle.ckd_drive.specs.Work.{Idle, GivesWhole, gives_at_once, whole_ending, state_behind};
+ghost use Rattle.ckd_drive.specs.Jobs.{parts_held, lends, lends_common};
+ghost use Rattle.ckd_drive.specs.Work.{Idle, GivesWhole, gives_at_once, gives_common, whole_ending, state_behind};
 
 use crate::answers::{Stage, WholeRead};
 use crate::drive::Drive;
@@ -58,21 +58,22 @@ impl<S: ImageStore> Job<S> {
         Some((bytes, read))
     }
 
-    // The same, of a read that is not a common one.
-    #[inline(never)]
-    fn whole_elsewhere(&self, command: Command, kind: Kind) -> Option<(&[u8], WholeRead)>
-        requires arm { IsAtTrack self.now.cache.image.geometry self.now.registers }
-        requires command { command ≡ self.now.opened.command }
-        requires aim { aim command ≡ Aims kind }
-        requires reads { action_of command ≡ Read }
+    // The same, of the command that looks for its area, if it is one of the commonest reads.
+    #[inline(always)]
+    fn common(&self) -> Option<(&[u8], WholeRead)>
+        requires { IsAtTrack self.now.cache.image.geometry self.now.registers }
         ensures gives { (m : MarkValue) → IfSome result (λ x. GivesWhole (state_of (parts_held self.now m stage.Looking))
             x.0.now x.1) }
-        ensures lends { (m : MarkValue) → is_some result ≡ lends self.now m }
+        ensures lends { (m : MarkValue) → is_some result ≡ lends_common self.now m }
     {
-        self.whole_of(command, kind)
+        match self.opened.command {
+            ReadData => self.whole_of(ReadData, Kind::Data),
+            ReadCountKeyAndData => self.whole_of(ReadCountKeyAndData, Kind::LaterCount),
+            _ => None,
+        }
     }
 
-    // The same, of the command that looks for its area: the commonest reads by themselves.
+    // The same, if it is any read.
     #[inline(always)]
     fn whole(&self) -> Option<(&[u8], WholeRead)>
         requires { IsAtTrack self.now.cache.image.geometry self.now.registers }
@@ -83,11 +84,11 @@ impl<S: ImageStore> Job<S> {
         match self.opened.command {
             ReadData => self.whole_of(ReadData, Kind::Data),
             ReadCountKeyAndData => self.whole_of(ReadCountKeyAndData, Kind::LaterCount),
-            ReadKeyAndData => self.whole_elsewhere(ReadKeyAndData, Kind::KeyAndData),
-            ReadCount => self.whole_elsewhere(ReadCount, Kind::LaterCount),
-            ReadR0 => self.whole_elsewhere(ReadR0, Kind::FirstCount),
-            ReadHomeAddress => self.whole_elsewhere(ReadHomeAddress, Kind::HomeAddress),
-            ReadIpl => self.whole_elsewhere(ReadIpl, Kind::FirstData),
+            ReadKeyAndData => self.whole_of(ReadKeyAndData, Kind::KeyAndData),
+            ReadCount => self.whole_of(ReadCount, Kind::LaterCount),
+            ReadR0 => self.whole_of(ReadR0, Kind::FirstCount),
+            ReadHomeAddress => self.whole_of(ReadHomeAddress, Kind::HomeAddress),
+            ReadIpl => self.whole_of(ReadIpl, Kind::FirstData),
             _ => None,
         }
     }
@@ -97,11 +98,25 @@ impl<S: ImageStore> Drive<S> {
     /// All bytes of the command at hand, if it is a read that looks for its area, and finds it with its next look on the
     /// track that is at hand already; and how it then ends. Nothing changes.
     ///
-    /// There are none where the command is no read of an area (component descriptions, 'Read Commands'), nor where that look
-    /// would not find the area. Where it would, there are bytes exactly if the track is at hand, as one that was written, and is
-    /// not saved, always is.
+    /// There are none where the command is another than Read Data and Read Count, Key and Data (component descriptions, the
+    /// sections of these names), the commonest reads, nor where that look would not find the area. Where it would, there are
+    /// bytes exactly if the track is at hand, as one that was written, and is not saved, always is.
     #[inline(always)]
     pub fn whole_read(&self) -> Option<(&[u8], WholeRead)>
+        ensures gives { IfSome result (λ x. GivesWhole self.now x.0.now x.1) }
+        ensures only { is_some result ≡ true → gives_common self.now ≡ true }
+        ensures written { is_written self.now.state ≡ true → is_some result ≡ gives_common self.now }
+    {
+        match self.stage {
+            Stage::Looking => self.job.common(),
+            _ => None,
+        }
+    }
+
+    /// The same, whatever read it is: there are none where the command is no read of an area (component descriptions, 'Read
+    /// Commands'), nor where that look would not find the area. For one of the commonest, `whole_read` is the quicker call.
+    #[inline(always)]
+    pub fn read_at_once(&self) -> Option<(&[u8], WholeRead)>
         ensures gives { IfSome result (λ x. GivesWhole self.now x.0.now x.1) }
         ensures only { is_some result ≡ true → gives_at_once self.now ≡ true }
         ensures written { is_written self.now.state ≡ true → is_some result ≡ gives_at_once self.now }
@@ -112,8 +127,8 @@ impl<S: ImageStore> Drive<S> {
         }
     }
 
-    /// Ends a read whose bytes `whole_read` lent, once they have passed, or the first of them: by a look, `pass` of so many, and
-    /// `end` it would come to the same. Answers the unit status; the arm does not move.
+    /// Ends a read whose bytes `whole_read` or `read_at_once` lent, once they have passed, or the first of them: by a look, `pass` of
+    /// so many, and `end` it would come to the same. Answers the unit status; the arm does not move.
     #[inline(always)]
     pub fn end_whole(&mut self, read: WholeRead) -> DriveEnding
         requires { (bytes : List ℕ) × GivesWhole self.old bytes read }

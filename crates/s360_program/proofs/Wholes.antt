@@ -32,7 +32,7 @@ take_all [] = refl
 take_all (x ∷ xs) = ap (λ ys. x ∷ ys) (take_all xs)
 
 -- of as many bytes as there are, all
-pub takes_all : (xs : List ℕ) (n : ℕ) → n ≡ length xs → take n xs ≡ xs
+takes_all : (xs : List ℕ) (n : ℕ) → n ≡ length xs → take n xs ≡ xs
 takes_all xs n e = ap (λ k. take k xs) e ∙ take_all xs
 
 reaches : (n m : ℕ) → n ≤ m → (n < m → ⊥) → n ≡ m
@@ -50,6 +50,15 @@ stores_all s key a n m le may next = reaches n m le (λ less. never (may_store s
     never : (b : Bool) → IsTrue b → b ≡ false → ⊥
     never true h e = cc
     never false h e = cc
+
+-- the bytes of a read that pass were stored, all of them
+pub all_stored : (s s2 : Storage) (key a n m : ℕ) (given : List ℕ) → m ≤ length given → n ≤ length (take m given)
+    → ((i : ℕ) → i < m → IsTrue (may_store s key (a + i))) → (n < length (take m given) → may_store s key (a + n) ≡ false)
+    → s2 ≡ stored s a (take n (take m given)) → s2 ≡ stored s a (take m given)
+all_stored s s2 key a n m given has few may next is =
+    let long : length (take m given) ≡ m = length-take-le m given has in
+    let all : n ≡ m = stores_all s key a n m (omega (arith, few, long)) may (λ h. next (omega (arith, h, long))) in
+    is ∙ ap (stored s a) (takes_all (take m given) n (all ∙ sym long))
 
 -- nothing of a length is told as incorrect where the drive has just as many bytes as the word counts
 pub same_told : (b : Bool) (n has : ℕ) → has ≡ n → false ≡ (not b && differs (n - n) (has - n))

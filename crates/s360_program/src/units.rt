@@ -238,18 +238,8 @@ impl Run {
         ensures place { M.place storage.new ≡ M.place storage.old }
         ensures calls { CallsAtMost 2 drive.old drive.new }
     {
-        if let Some((bytes, read)) = self.whole_read(most, storage, drive) {
-            let _ = storage.store(self.ccw.address, bytes, self.key);
-            return Some(self.finish(self.place.residual, false, read, drive));
-        }
-        // asked first, since writes, searches and controls have odd codes
-        if self.ccw.code % 2 == 0 {
-            if let Some((given, n, read)) = self.whole_elsewhere(most, storage, drive) {
-                let left = given.len() - usize::from(n);
-                let incorrect = is_incorrect(self.ccw, self.place.residual - n, left);
-                let _ = storage.store(self.ccw.address, &given[..usize::from(n)], self.key);
-                return Some(self.finish(n, incorrect, read, drive));
-            }
+        if let Some(step) = self.pass_whole(most, storage, drive) {
+            return Some(step);
         }
         match drive.look() {
             Look::Failed => {
@@ -423,7 +413,7 @@ fn has_moved<S: ImageStore>(drive: &Drive<S>) -> bool
 }
 
 // Whether the count and the bytes that are left differ, and the word does not suppress telling it.
-fn is_incorrect(ccw: Ccw, residual: u16, left: usize) -> bool
+pub(crate) fn is_incorrect(ccw: Ccw, residual: u16, left: usize) -> bool
     ensures { result ≡ (not (suppresses_length ccw) && differs residual left) }
 {
     !ccw.suppresses_length() && (residual == 0) != (left == 0)

@@ -1,70 +1,81 @@
 //! A read whose bytes pass at once, and its end: as many as its word counts, or all that the drive has (Principles of Operation,
 //! Input/Output Operations: 'Incorrect Length').
 
-ghost use Rattle.std.specs.Prelude.{ℕ, ◌≡◌, ◌≤◌, ◌<◌, ◌-◌, ◌&&◌, not, take, length, List, IfSome};
+ghost use Rattle.std.specs.Prelude.{ℕ, ◌≡◌, ◌≤◌, ◌<◌, ◌-◌, ◌&&◌, not, false, take, length, List, IfSome, IfNone};
 ghost use Rattle.s360_words.specs.Storage.{Storage as StorageState, stored};
-ghost use Rattle.s360_words.specs.Words.{suppresses_length};
+ghost use Rattle.s360_words.specs.Words.{chains_data, skips, suppresses_length};
 ghost use Rattle.ckd_drive.specs.Work.{GivesWhole};
 ghost use Rattle.s360_program.specs.Advances.{CallsAtMost, NeedNoStore};
 ghost use Rattle.s360_program.specs.Stands.{phase_in};
-ghost use Rattle.s360_program.specs.Steps.{run_of, count_of, differs, Fits, PassesWhole, Steps};
+ghost use Rattle.s360_program.specs.Steps.{run_of, count_of, differs, Fits, IsStep, PassesWhole, Steps};
 
 use crate::conditions::{ChannelCondition, chains};
 use crate::endings::end_program;
 use crate::main_storage::MainStorage;
 use crate::moving::admits_all;
+use crate::units::is_incorrect;
 use crate::run::{Comes, Run, Step};
 use ckd_drive::{Drive, WholeRead};
 use ckd_image::ImageStore;
 use ckd_sense::Command;
 
 impl Run {
-    /// All bytes of the command that looks for its area, and how it ends, where it is one of the commonest reads and they pass at
-    /// once: they are at hand, and are as many as its word counts, and all of them may be stored.
-    // By itself, so that what it asks is known as the crate is compiled, and nothing of its length is asked again.
+    /// A read that looks for its area and whose bytes pass at once, and its end. None where they do not: where a further area follows,
+    /// they are skipped, or too few units are asked for; where they are not at hand; or where one of them may not be stored. Nothing
+    /// has changed then.
     #[inline(always)]
-    pub(crate) fn whole_read<'a, S: ImageStore, M: MainStorage>(
-        &self,
+    pub(crate) fn pass_whole<S: ImageStore, M: MainStorage>(
+        &mut self,
         most: u32,
-        storage: &M,
-        drive: &'a Drive<S>,
-    ) -> Option<(&'a [u8], WholeRead)>
-        requires key { self.now.key < 16 }
-        requires some { 0 < self.now.place.residual }
-        ensures passes { IfSome result (λ x. PassesWhole self.now most (M.holds storage.now) drive.now x.0.now self.now.place.residual x.1) }
-        ensures all { IfSome result (λ x. length x.0.now ≡ self.now.place.residual) }
+        storage: &mut M,
+        drive: &mut Drive<S>,
+    ) -> Option<Step>
+        requires fits { Fits self.old drive.old }
+        requires stage { self.old.comes ≡ Comes.Look }
+        ensures step { IfSome result (λ a. IsStep self.old (M.holds storage.old) drive.old most a self.new (M.holds storage.new) drive.new) }
+        ensures none { IfNone result ((self.new ≡ self.old) × (M.holds storage.new ≡ M.holds storage.old) × (drive.new ≡ drive.old)) }
+        ensures place { M.place storage.new ≡ M.place storage.old }
+        ensures calls { CallsAtMost 1 drive.old drive.new }
     {
         let (ccw, count) = (self.ccw, self.place.residual);
+        // asked first, since writes, searches and controls, whose codes are odd, would ask the rest for nothing
         if ccw.code % 2 != 0 || most <= u32::from(count) || ccw.chains_data() || ccw.skips() {
             return None;
         }
-        let (Command::ReadData | Command::ReadCountKeyAndData) = drive.command()?.command else {
-            return None;
-        };
-        let (bytes, read) = drive.whole_read()?;
-        if bytes.len() != usize::from(count) || !admits_all(storage, ccw.address, count, self.key) {
+        // the commonest reads, with just as many bytes as their words count, by themselves
+        if let Some((bytes, read)) = drive.whole_read() {
+            if bytes.len() == usize::from(count)
+                && admits_all(storage, ccw.address, count, self.key)
+            {
+                let _ = storage.store(ccw.address, bytes, self.key);
+                return Some(self.finish(count, false, read, drive));
+            }
+        } else if let Command::ReadData | Command::ReadCountKeyAndData = drive.command()?.command {
+            // of these the other call has no bytes either
             return None;
         }
-        Some((bytes, read))
+        self.other_read(storage, drive)
     }
 
-    /// All bytes that the drive has for the command that looks for its area, how many of them pass, and how it ends, where it is
-    /// any read and they pass at once: as many as its word counts, or all.
+    // The same, of any read, and of any length: as many bytes pass as the word counts, or as the drive has.
     #[inline(never)]
-    pub(crate) fn whole_elsewhere<'a, S: ImageStore, M: MainStorage>(
-        &self,
-        most: u32,
-        storage: &M,
-        drive: &'a Drive<S>,
-    ) -> Option<(&'a [u8], u16, WholeRead)>
-        requires { self.now.key < 16 }
-        ensures { IfSome result (λ x. PassesWhole self.now most (M.holds storage.now) drive.now x.0.now x.1 x.2) }
+    fn other_read<S: ImageStore, M: MainStorage>(
+        &mut self,
+        storage: &mut M,
+        drive: &mut Drive<S>,
+    ) -> Option<Step>
+        requires fits { Fits self.old drive.old }
+        requires stage { self.old.comes ≡ Comes.Look }
+        requires unchained { chains_data self.old.ccw ≡ false }
+        requires stores { skips self.old.ccw ≡ false }
+        ensures step { (most : ℕ) → self.old.place.residual < most
+            → IfSome result (λ a. IsStep self.old (M.holds storage.old) drive.old most a self.new (M.holds storage.new) drive.new) }
+        ensures none { IfNone result ((self.new ≡ self.old) × (M.holds storage.new ≡ M.holds storage.old) × (drive.new ≡ drive.old)) }
+        ensures place { M.place storage.new ≡ M.place storage.old }
+        ensures calls { CallsAtMost 1 drive.old drive.new }
     {
+        let (given, read) = drive.read_at_once()?;
         let (ccw, count) = (self.ccw, self.place.residual);
-        if most <= u32::from(count) || ccw.chains_data() || ccw.skips() {
-            return None;
-        }
-        let (given, read) = drive.whole_read()?;
         let n = if given.len() < usize::from(count) {
             given.len() as u16
         } else {
@@ -73,12 +84,14 @@ impl Run {
         if n == 0 || !admits_all(storage, ccw.address, n, self.key) {
             return None;
         }
-        Some((given, n, read))
+        let incorrect = is_incorrect(ccw, count - n, given.len() - usize::from(n));
+        let _ = storage.store(ccw.address, &given[..usize::from(n)], self.key);
+        Some(self.finish(n, incorrect, read, drive))
     }
 
-    /// The end of a read so many of whose bytes were stored; whether its length is incorrect is known.
+    // The end of a read so many of whose bytes were stored; whether its length is incorrect is known.
     #[inline(always)]
-    pub(crate) fn finish<S: ImageStore>(
+    fn finish<S: ImageStore>(
         &mut self,
         passed: u16,
         incorrect: bool,
