@@ -1,9 +1,12 @@
-use Rattle.std.proofs.Common.{◌≡◌, arith, refl, rules, subst, sym}
-use Rattle.ckd_drive.specs.Work.{DriveState, Over, CallsStore, Reports, after_look, failed_ending, fault_met, look_loads, look_saves, with_image}
+use Rattle.std.proofs.Common.{◌≡◌, arith, refl, rules, subst, sym, ℕ}
+use Rattle.s360_words.specs.Storage.{Storage}
+use Rattle.ckd_drive.specs.Work.{DriveState, Over, CallsStore, Reports, after_look, failed_ending, fault_met, look_loads, look_saves}
+use Rattle.ckd_drive.specs.Work.{with_image}
 use Rattle.s360_program.specs.Stands.{phase_in}
-use Rattle.s360_program.specs.Steps.{run_of, Fits, Looked}
+use Rattle.s360_program.specs.Steps.{run_of, in_bytes, Fits, IsStep, Looked}
 use Rattle.s360_program.specs.declared.run.Comes.TheVariants as comes
 use Rattle.s360_program.specs.declared.run.Run.{Run}
+use Rattle.s360_program.specs.declared.run.Step.{Step}
 use Rattle.s360_program.specs.declared.run.Step.TheVariants as step
 use Rattle.s360_program.proofs.Looking.{look_fails, look_passes, look_fits, ready_left, ready_first, looking_within}
 use Rattle.s360_program.proofs.Quiet.{fails_quiet, looks_quiet}
@@ -23,6 +26,10 @@ looked_from r d d1 d2 same fits at state calls reports = subst (λ (x : DriveSta
   reports = reports;
 })
 
+-- what is said of a run and of a storage is said of those that are the same
+said_of : (P : Run → Storage → Type 0) {r1 r : Run} {s1 s : Storage} → r1 ≡ r → s1 ≡ s → P r1 s1 → P r s
+said_of P {r1} {r} {s1} {s} same_run same_storage is = subst (λ (x : Run). P x s) same_run (subst (λ (x : Storage). P r1 x) same_storage is)
+
 pub returns-in-Failed : goal.returns-in-Failed
 returns-in-Failed g c =
     let holds = g.M.MainStorage.holds in
@@ -32,7 +39,8 @@ returns-in-Failed g c =
     let same = c.in_default.ensures.none in
     let l = c.in-Failed.ensures in
     let p = c.end_program in
-    let k = looked_from r d c.pass_whole.new.drive c.look.new.self same.2 c.requires.fits c.requires.stage l.state l.calls l.reported in
+    let k = looked_from r d c.pass_whole.new.drive c.look.new.self same.2 c.requires.fits c.requires.stage l.state l.calls
+    l.reported in
     record {
       step = rw same.1 (quietly r p.new.run s s d p.new.drive c.args.most (step.Over 1) k.fits (kept s)
           (fails_quiet r d c.look.new.self p.new.drive k p.ensures.calls)
@@ -51,7 +59,8 @@ returns-in-Passed g c =
     let d = c.args.drive.now in
     let same = c.in_default.ensures.none in
     let l = c.in-Passed.ensures in
-    let k = looked_from r d c.pass_whole.new.drive c.look.new.self same.2 c.requires.fits c.requires.stage l.state l.calls l.reported in
+    let k = looked_from r d c.pass_whole.new.drive c.look.new.self same.2 c.requires.fits c.requires.stage l.state l.calls
+    l.reported in
     record {
       step = rw (same.0, same.1) (quietly r r s s d c.look.new.self c.args.most (step.Units 1) k.fits (kept s)
           (looks_quiet r d c.look.new.self k) (look_passes r s d c.look.new.self k c.args.most c.requires.some l.answer));
@@ -68,7 +77,8 @@ complete-requires g c =
     let d = c.args.drive.now in
     let same = c.in_default.ensures.none in
     let l = c.in-Ready.ensures in
-    let k = looked_from r d c.pass_whole.new.drive c.look.new.self same.2 c.requires.fits c.requires.stage l.state l.calls l.reported in
+    let k = looked_from r d c.pass_whole.new.drive c.look.new.self same.2 c.requires.fits c.requires.stage l.state l.calls
+    l.reported in
     record {
       fits = rw same.0 (look_fits r s d c.look.new.self k c.in-Ready.left l.answer);
       some = rw same.0 (looking_within r d k.fits k.at).2;
@@ -90,11 +100,9 @@ returns-then-not-chains_data g c =
           (looked_from r c.args.drive.now c.pass_whole.new.drive c.look.new.self same.2 c.requires.fits c.requires.stage l.state l.calls
           l.reported) l.answer
           t.ensures.loads
-          (record {
-            steps = rw (same.0, same.1) at (t.ensures.steps c.args.most (omega arith));
-            storage = rw same.1 at t.ensures.storage;
-            quiet = rw (same.0, same.1) at t.ensures.quiet;
-          });
+          (said_of (λ (x : Run) (y : Storage). IsStep (in_bytes x) y c.look.new.self c.args.most t.result t.new.self (holds t.new.storage)
+          t.new.drive) same.0 same.1
+          (record { steps = t.ensures.steps c.args.most (omega arith); storage = t.ensures.storage; quiet = t.ensures.quiet }));
       found = tt;
       place = search rules;
       calls = rw (← same.2) (search rules);

@@ -32,7 +32,8 @@ returns-then-admits_all-clause-step g c =
     let is : holds n.new.self ≡ stored s r.ccw.address (take r.place.residual x.bytes.now) =
     n.ensures.change ∙ ap (λ k. stored s r.ccw.address (take k x.bytes.now)) every in
     record {
-      steps = rw is (t.ensures.steps a.most s x.bytes.now p (same_told (suppresses_length r.ccw) r.place.residual (length x.bytes.now) all));
+      steps = rw is (t.ensures.steps a.most s x.bytes.now p
+          (same_told (suppresses_length r.ccw) r.place.residual (length x.bytes.now) all));
       storage = n.ensures.keeps;
       quiet = t.ensures.quiet s;
     }
