@@ -9,6 +9,7 @@ use Rattle.ckd_track.specs.Model.{heads_of}
 use Rattle.ckd_track.specs.Geometry.{track_at}
 use Rattle.ckd_track.specs.Track.{Record, Track, track_of, record_in}
 use Rattle.ckd_track.specs.Changes.{end_offset}
+use Rattle.quantities.specs.Quantities.{quantity_text}
 use Rattle.dasd_volumes.specs.Lines.{bytes_text, address_text, fault_text, line_feed}
 use Rattle.counted_io.specs.Streams.{Stream}
 use Rattle.dasd_volumes.specs.declared.fault.VolumeFault.{VolumeFault}
@@ -115,7 +116,7 @@ changed_in g slots other_slots = of_each (λ cylinder. changed_on cylinder g slo
 
 -- how many tracks differ
 abbrev pub number_line : Style → (path other : List ℕ) → ℕ → List ℕ
-number_line Text path other n = concat (decimal n ∷ codes " tracks differ" ∷ line_feed ∷ [])
+number_line Text path other n = concat (quantity_text n (codes "track differs") (codes "tracks differ") ∷ line_feed ∷ [])
 number_line Json path other n = concat (
     codes "{\"path\":" ∷ path ∷ codes ",\"other\":" ∷ other ∷ codes ",\"tracks_differ\":" ∷ decimal n ∷ codes "}" ∷ line_feed ∷ [])
 

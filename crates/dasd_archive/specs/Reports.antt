@@ -4,6 +4,7 @@ use Rattle.std.specs.Prelude.{count_by, codes, Option, Result, Ok, Err}
 use Rattle.std.specs.List.{concat}
 use Rattle.std.specs.Fmt.{decimal}
 use Rattle.std.specs.Io.KnownBytes.{Appends}
+use Rattle.quantities.specs.Quantities.{quantity_text}
 use Rattle.counted_io.specs.Streams.{Stream, Takes, TakesFront}
 use Rattle.dasd_volumes.specs.declared.fault.VolumeFault.{VolumeFault}
 use Rattle.dasd_archive.specs.declared.findings.Severity.{Severity}
@@ -56,8 +57,9 @@ abbrev pub finding_lines : FindingStyle → (path : List ℕ) → List Finding �
 finding_lines style path findings = flat_map (shown_line style path) findings
 
 abbrev pub tally_line : Style → (path : List ℕ) → Tally → List ℕ
-tally_line Text path t =
-    concat (decimal t.errors ∷ codes " errors, " ∷ decimal t.warnings ∷ codes " warnings, " ∷ decimal t.notes ∷ codes " notes" ∷ line_feed ∷ [])
+tally_line Text path t = concat (
+    quantity_text t.errors (codes "error") (codes "errors") ∷ codes ", " ∷ quantity_text t.warnings (codes "warning") (codes "warnings") ∷ codes ", "
+    ∷ quantity_text t.notes (codes "note") (codes "notes") ∷ line_feed ∷ [])
 tally_line Json path t = concat (
     codes "{\"path\":" ∷ path ∷ codes ",\"errors\":" ∷ decimal t.errors ∷ codes ",\"warnings\":" ∷ decimal t.warnings
     ∷ codes ",\"notes\":" ∷ decimal t.notes ∷ codes "}" ∷ line_feed ∷ [])

@@ -19,6 +19,7 @@ use dasd_volumes::{SlotReader, TrackAddress, VolumeFault};
 use std::alloc::Global;
 use std::io;
 use std::io::Write;
+use quantities::Quantity;
 
 /// How the lines of a comparison are written: their style, the paths of the two volumes as strings of JSON with their quotes,
 /// and whether each difference has a line.
@@ -118,7 +119,10 @@ fn write_number<W: Write>(writer: &mut W, form: &Comparison, differing: u32) -> 
     let path = form.path;
     let other = form.other;
     match form.style {
-        Style::Text => writeln!(writer, "{differing} tracks differ"),
+        Style::Text => {
+            let tracks = Quantity::new(differing as u64, "track differs", "tracks differ");
+            writeln!(writer, "{tracks}")
+        }
         Style::Json => writeln!(
             writer,
             "{{\"path\":{path},\"other\":{other},\"tracks_differ\":{differing}}}"

@@ -8,6 +8,7 @@ ghost use Rattle.dasd_archive.specs.Reports.{one_more, shown_line, tally_line, t
 use crate::findings::{Finding, Members, Severity};
 use std::io;
 use std::io::Write;
+use quantities::Quantity;
 
 /// For whom lines are written.
 #[derive(Clone, Copy)]
@@ -147,13 +148,20 @@ pub(crate) fn write_tally<W: Write>(
         notes,
     } = tally;
     match form.style.style {
-        Style::Text => writeln!(
-            writer,
-            "{errors} errors, {warnings} warnings, {notes} notes"
-        ),
+        Style::Text => write_totals(writer, tally),
         Style::Json => writeln!(
             writer,
             "{{\"path\":{path},\"errors\":{errors},\"warnings\":{warnings},\"notes\":{notes}}}"
         ),
     }
+}
+
+// The same in words.
+fn write_totals<W: Write>(writer: &mut W, tally: Tally) -> io::Result<()>
+    ensures { OnOk result (Appends (W.contents writer.old) (W.contents writer.new) (tally_line Style.Text [] tally)) }
+{
+    let errors = Quantity::new(tally.errors, "error", "errors");
+    let warnings = Quantity::new(tally.warnings, "warning", "warnings");
+    let notes = Quantity::new(tally.notes, "note", "notes");
+    writeln!(writer, "{errors}, {warnings}, {notes}")
 }

@@ -14,6 +14,7 @@ use byteorder::{ByteOrder, LittleEndian};
 use ckd_track::Geometry;
 use dasd_volumes::TrackAddress;
 use std::fmt;
+use quantities::Quantity;
 
 /// How far files go that hold a volume: how many tracks of it they lack, which are its last ones, and how many bytes they have behind its
 /// slots.
@@ -122,16 +123,15 @@ impl fmt::Display for Remark<'_> {
     fn fmt<W: fmt::Write>(&self, f: &mut fmt::Formatter<W>) -> fmt::Result {
         match self {
             Remark::Lacks(path, number, from) => {
-                write!(
-                    f,
-                    "{path}: {number} tracks are not in the file, from {from} on"
-                )
+                let number = u64::from(*number);
+                let tracks = Quantity::new(number, "track is", "tracks are");
+                write!(f, "{path}: {tracks} not in the file, from {from} on")
             }
             Remark::LeavesOut(path, number) => {
-                write!(
-                    f,
-                    "{path}: {number} bytes behind the last whole track are left out"
-                )
+                let one = "byte behind the last whole track is left out";
+                let many = "bytes behind the last whole track are left out";
+                let bytes = Quantity::new(*number, one, many);
+                write!(f, "{path}: {bytes}")
             }
         }
     }

@@ -7,6 +7,7 @@ use crate::headers::{HEADER, is_header};
 use byteorder::{ByteOrder, LittleEndian};
 use ckd_image::MountFault;
 use std::fmt;
+use quantities::Quantity;
 
 /// The header of a file, and the file's length. Of a file that is shorter than a header it has zeros.
 #[derive(Clone, Copy)]
@@ -84,27 +85,28 @@ impl fmt::Display for Reason {
                 "its drive or track size is not that of the first file"
             ),
             Reason::Highest(highest, behind) => {
-                write!(
-                    f,
-                    "its highest cylinder is {highest}, and {behind} more follow"
-                )
+                let files = Quantity::new(*behind as u64, "more follows", "more follow");
+                write!(f, "its highest cylinder is {highest}, and {files}")
             }
             Reason::NoneFollows(highest) => {
                 write!(f, "its highest cylinder is {highest}, and no file follows")
             }
             Reason::NoHeader(len) => {
-                write!(f, "its length is {len} bytes, and its header has {HEADER}")
+                let bytes = Quantity::new(*len, "byte", "bytes");
+                write!(f, "its length is {bytes}, and its header has {HEADER}")
             }
             Reason::OtherLength(len, wanted) => {
+                let bytes = Quantity::new(*len, "byte", "bytes");
                 write!(
                     f,
-                    "its length is {len} bytes, and its cylinders take {wanted}"
+                    "its length is {bytes}, and its cylinders take {wanted}"
                 )
             }
             Reason::Length(len, cylinder) => {
+                let bytes = Quantity::new(*len, "byte", "bytes");
                 write!(
                     f,
-                    "its length is {len} bytes, and an image is {HEADER} bytes and whole cylinders of {cylinder}"
+                    "its length is {bytes}, and an image is {HEADER} bytes and whole cylinders of {cylinder}"
                 )
             }
         }

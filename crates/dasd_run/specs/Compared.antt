@@ -3,6 +3,7 @@ use Rattle.std.specs.Prelude.{◌≡◌, ◌≢◌, ◌⊎◌, ℕ, Bool, List, 
 use Rattle.std.specs.List.{concat}
 use Rattle.std.specs.Fmt.{decimal}
 use Rattle.counted_io.specs.Streams.{Stream, IsFlushed}
+use Rattle.quantities.specs.Quantities.{quantity_text}
 use Rattle.ckd_track.specs.declared.geometries.Geometry.{Geometry}
 use Rattle.dasd_volumes.specs.declared.fault.VolumeFault.{VolumeFault}
 use Rattle.dasd_volumes.specs.Lines.{model_number_of, line_feed}
@@ -22,7 +23,9 @@ use Rattle.dasd_run.specs.Printed.{style_of, ending_of, printed_ending, IsUnopen
 
 -- a geometry in words
 abbrev pub shape_text : Geometry → List ℕ
-shape_text g = concat (decimal (model_number_of g.model) ∷ codes " " ∷ decimal g.cylinders ∷ codes " cylinders slot " ∷ decimal g.track_size ∷ [])
+shape_text g = concat (
+    decimal (model_number_of g.model) ∷ codes " " ∷ quantity_text g.cylinders (codes "cylinder") (codes "cylinders") ∷ codes " slot "
+    ∷ decimal g.track_size ∷ [])
 
 -- the line of two geometries that differ
 abbrev pub geometries_line : Style → (path other : List ℕ) → (one beside : Geometry) → List ℕ

@@ -24,6 +24,7 @@ use dasd_words::{ComparedVolumes, DumpedPart, Numbers, PrintedVolume};
 use std::alloc::Global;
 use std::io::Write;
 use std::{fmt, io};
+use quantities::Quantity;
 
 /// For whom lines are printed.
 pub(crate) fn style(json: bool) -> Style
@@ -257,9 +258,9 @@ impl fmt::Display for Shape {
 
     fn fmt<W: fmt::Write>(&self, f: &mut fmt::Formatter<W>) -> fmt::Result {
         let model = model_number(self.0.model);
-        let cylinders = self.0.cylinders;
+        let cylinders = Quantity::new(self.0.cylinders as u64, "cylinder", "cylinders");
         let size = self.0.track_size;
-        write!(f, "{model} {cylinders} cylinders slot {size}")
+        write!(f, "{model} {cylinders} slot {size}")
     }
 }
 

@@ -4,6 +4,7 @@ use Rattle.std.specs.Prelude.{Ok, Err}
 use Rattle.std.specs.List.{concat}
 use Rattle.std.specs.Fmt.{decimal}
 use Rattle.counted_io.specs.Streams.{Stream, Takes, TakesFront, NoneFailed, OneFailed}
+use Rattle.quantities.specs.Quantities.{quantity_text}
 use Rattle.data_sets.specs.declared.directories.DirectoryFault.{DirectoryFault}
 use Rattle.data_sets.specs.declared.directories.DirectoryFault.TheVariants.{UsedBytes, EntryPastUsed}
 use Rattle.dasd_volumes.specs.Lines.{line_feed}
@@ -27,7 +28,7 @@ pub data Line : Type 0 where
 
 -- in words, or as an object of JSON with the paths of the volume
 abbrev pub line_text : (json : Option (List ℕ)) → Line → List ℕ
-line_text None (FileLine name bytes) = concat (name ∷ codes " " ∷ decimal bytes ∷ codes " bytes" ∷ line_feed ∷ [])
+line_text None (FileLine name bytes) = concat (name ∷ codes " " ∷ quantity_text bytes (codes "byte") (codes "bytes") ∷ line_feed ∷ [])
 line_text None (FindingLine name text) = concat (name ∷ codes ": " ∷ text ∷ line_feed ∷ [])
 line_text (Some path) (FileLine name bytes) =
     concat (codes "{\"path\":" ∷ path ∷ codes ",\"name\":\"" ∷ name ∷ codes "\",\"bytes\":" ∷ decimal bytes ∷ codes "}" ∷ line_feed ∷ [])
@@ -51,7 +52,8 @@ no_line = record { files = 0; findings = 0 }
 
 -- the last line
 abbrev pub total_text : (json : Option (List ℕ)) → Tally → List ℕ
-total_text None t = concat (decimal t.files ∷ codes " files, " ∷ decimal t.findings ∷ codes " findings" ∷ line_feed ∷ [])
+total_text None t = concat (
+    quantity_text t.files (codes "file") (codes "files") ∷ codes ", " ∷ quantity_text t.findings (codes "finding") (codes "findings") ∷ line_feed ∷ [])
 total_text (Some path) t =
     concat (codes "{\"path\":" ∷ path ∷ codes ",\"files\":" ∷ decimal t.files ∷ codes ",\"findings\":" ∷ decimal t.findings ∷ codes "}" ∷ line_feed ∷ [])
 

@@ -18,6 +18,7 @@ use data_sets::DirectoryFault;
 use std::alloc::Global;
 use std::io::Write;
 use std::{fmt, io};
+use quantities::Quantity;
 
 /// Of what a line is: of what has this name. Where lines are objects of JSON, they have the paths of the volume, as a string of it.
 #[derive(Clone, Copy)]
@@ -255,7 +256,10 @@ fn write_file<W: Write>(writer: &mut W, named: Named, bytes: u64) -> io::Result<
 {
     let name = named.name;
     match named.json {
-        None => writeln!(writer, "{name} {bytes} bytes"),
+        None => {
+            let bytes = Quantity::new(bytes, "byte", "bytes");
+            writeln!(writer, "{name} {bytes}")
+        }
         Some(path) => writeln!(
             writer,
             "{{\"path\":{path},\"name\":\"{name}\",\"bytes\":{bytes}}}"
@@ -284,7 +288,11 @@ fn write_total<W: Write>(writer: &mut W, json: Option<&str>, tally: Tally) -> io
 {
     let Tally { files, findings } = tally;
     match json {
-        None => writeln!(writer, "{files} files, {findings} findings"),
+        None => {
+            let files = Quantity::new(files as u64, "file", "files");
+            let findings = Quantity::new(findings as u64, "finding", "findings");
+            writeln!(writer, "{files}, {findings}")
+        }
         Some(path) => writeln!(
             writer,
             "{{\"path\":{path},\"files\":{files},\"findings\":{findings}}}"

@@ -4,6 +4,7 @@ use Rattle.std.specs.List.{concat, flat_map}
 use Rattle.std.specs.Fmt.{decimal}
 use Rattle.hex.specs.Hex.{encode_lower}
 use Rattle.ckd_track.specs.declared.geometries.Geometry.{Geometry}
+use Rattle.quantities.specs.Quantities.{quantity_text}
 use Rattle.dasd_volumes.specs.Lines.{line_feed}
 use Rattle.volume_hash.specs.Message.{volume_hash, unreadable_in}
 
@@ -17,7 +18,8 @@ path_text path = flat_map escaped path
 -- what was hashed
 abbrev pub volume_kind : (unreadable : ℕ) → List ℕ
 volume_kind unreadable =
-    if unreadable == 0 then codes "volume" else concat (codes "volume with " ∷ decimal unreadable ∷ codes " unreadable tracks" ∷ [])
+    if unreadable == 0 then codes "volume"
+    else concat (codes "volume with " ∷ quantity_text unreadable (codes "unreadable track") (codes "unreadable tracks") ∷ [])
 
 -- the hash in hexadecimal digits, two blanks, what was hashed, and the path of the volume
 abbrev pub volume_line : (path digits : List ℕ) → (unreadable : ℕ) → List ℕ

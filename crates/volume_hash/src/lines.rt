@@ -9,6 +9,7 @@ use crate::volumes::VolumeHash;
 use std::alloc::{AllocError, Global};
 use std::io::Write;
 use std::{fmt, io};
+use quantities::Quantity;
 
 /// How the hash of a volume is printed.
 #[derive(Clone, Copy)]
@@ -84,7 +85,8 @@ impl fmt::Display for Kind {
         if unreadable == 0 {
             f.write_str("volume")
         } else {
-            write!(f, "volume with {unreadable} unreadable tracks")
+            let tracks = Quantity::new(unreadable as u64, "unreadable track", "unreadable tracks");
+            write!(f, "volume with {tracks}")
         }
     }
 }
