@@ -15,11 +15,12 @@ escaped byte = if byte == 10 then codes "\\n" else (if byte == 13 then codes "\\
 abbrev pub path_text : (path : List ℕ) → List ℕ
 path_text path = flat_map escaped path
 
--- what was hashed
+-- what was hashed: a volume, with its tracks that can't be read, if it has some
+unfoldable pub unreadable_kind : (unreadable : ℕ) → List ℕ
+unreadable_kind unreadable = concat (codes "volume with " ∷ quantity_text unreadable (codes "unreadable track") (codes "unreadable tracks") ∷ [])
+
 abbrev pub volume_kind : (unreadable : ℕ) → List ℕ
-volume_kind unreadable =
-    if unreadable == 0 then codes "volume"
-    else concat (codes "volume with " ∷ quantity_text unreadable (codes "unreadable track") (codes "unreadable tracks") ∷ [])
+volume_kind unreadable = if unreadable == 0 then codes "volume" else unreadable_kind unreadable
 
 -- the hash in hexadecimal digits, two blanks, what was hashed, and the path of the volume
 abbrev pub volume_line : (path digits : List ℕ) → (unreadable : ℕ) → List ℕ
