@@ -7,8 +7,8 @@ use Rattle.volume_labels.specs.declared.fields.Date.{Date}
 use Rattle.volume_labels.specs.Ebcdic.{shown}
 use Rattle.dasd_volumes.specs.Lines.{hexadecimal}
 use Rattle.dasd_volumes.proofs.Formats.{padded_hexadecimal}
-use Rattle.dasd_contents.specs.declared.findings.Problem.{Problem}
-use Rattle.dasd_contents.specs.declared.findings.Problem.TheVariants.{OtherNumber, UnknownFormat}
+use Rattle.volume_contents.specs.declared.findings.Problem.{Problem}
+use Rattle.volume_contents.specs.declared.findings.Problem.TheVariants.{OtherNumber, UnknownFormat}
 use Rattle.dasd_contents.specs.Words.{three_digits, is_date, day_text, in_text, text_of, problem_text}
 
 -- `{n:03}`

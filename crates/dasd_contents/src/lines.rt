@@ -1,35 +1,25 @@
 //! What a volume holds, in lines for people.
 
-ghost use Rattle.std.specs.Prelude.{◌≡◌, ◌≢◌, ◌≤◌, ◌-◌, ◌^◌, ◌++◌, false, min, sum_by, length, replicate, OnOk, OnErr, IfOk, IfErr};
+ghost use Rattle.std.specs.Prelude.{◌≡◌, ◌≢◌, ◌≤◌, false, replicate, OnOk, OnErr, IfErr};
 ghost use Rattle.std.specs.List.{flat_map};
 ghost use Rattle.std.specs.Io.KnownBytes.{Appends};
 ghost use Rattle.counted_io.specs.Streams.{seen_by, Takes, TakesFront, IsFlushed};
 ghost use Rattle.dasd_volumes.specs.Printing.{CountsWrites};
-ghost use Rattle.dasd_contents.specs.Sets.{is_data_set, number_of_free};
 ghost use Rattle.dasd_contents.specs.Words.{format_text};
-ghost use Rattle.dasd_contents.specs.Lines.{tracks_in, tracks_owned, tracks_used, tracks_free, at_left, label_line, label_alone, heading, name_columns};
+ghost use Rattle.dasd_contents.specs.Lines.{at_left, label_line, label_alone, heading, name_columns};
 ghost use Rattle.dasd_contents.specs.Lines.{number_columns, set_line, block_line, free_line, finding_line, volume_lines, contents_lines};
 
-use crate::blocks::Block;
-use crate::checks::number_of_free;
-use crate::findings::Finding;
-use crate::reading::Contents;
-use crate::runs::is_on;
-use crate::sets::{DataSet, data_set_of, free_tracks};
-use crate::words::{Bounds, Day, Format, Organisation, Owner, Place, Text, format_width};
+use crate::words::{Bounds, Day, Format, Organisation, Owner, Place, Text, Wrong, format_width};
 use ckd_track::Geometry;
 use counted_io::{Counted, WriteFault, write_flushed};
 use dasd_volumes::VolumeFault;
-use data_sets::tracks_of_extent;
 use std::alloc::Global;
 use std::io;
 use std::io::Write;
-use volume_labels::{
-    BlockKind, ContentsBlock, DataSetBlock, Extent, FreeTracks, RelativeAddress, VolumeLabel,
+use volume_contents::{
+    Block, Contents, DataSet, Finding, data_set_of, is_data_set, tracks_free, tracks_owned, tracks_used,
 };
-
-/// The type of an extent for user labels, whose tracks are none of the data set's.
-const USER_LABELS: u8 = 0x40;
+use volume_labels::{ContentsBlock, DataSetBlock, VolumeLabel};
 
 /// The width of a record format, in characters.
 const FORMAT_WIDTH: usize = 5;
@@ -195,13 +185,6 @@ fn write_block<W: Write>(
     }
 }
 
-/// Whether a control block is one of format 1.
-pub(crate) fn is_data_set(kind: BlockKind) -> bool
-    ensures { result ≡ is_data_set kind }
-{
-    kind == BlockKind::DataSet
-}
-
 // The line of a data set.
 fn write_set<W: Write>(writer: &mut W, geometry: Geometry, set: &DataSet) -> io::Result<()>
     ensures { OnOk result (Appends (W.contents writer.old) (W.contents writer.new) (set_line geometry set.now.block set.now.extents.items)) }
@@ -265,67 +248,6 @@ fn write_numbers<W: Write>(writer: &mut W, geometry: Geometry, set: &DataSet) ->
     )
 }
 
-/// How many tracks these extents of a data set have that are on the volume, without those for user labels.
-pub(crate) fn tracks_owned(geometry: Geometry, extents: &[Extent]) -> u64
-    ensures { result ≡ tracks_owned geometry extents.now }
-{
-    let mut tracks: u64 = 0;
-    for extent in extents {
-        tracks = tracks.saturating_add(tracks_in(geometry, *extent));
-    }
-    tracks
-}
-
-// How many tracks of an extent are its data set's.
-fn tracks_in(geometry: Geometry, extent: Extent) -> u64
-    ensures { result ≡ tracks_in geometry extent }
-{
-    if extent.kind == USER_LABELS || !is_on(geometry, extent) {
-        return 0;
-    }
-    u64::from(tracks_of_extent(geometry.model.heads() as u8, extent))
-}
-
-/// How many tracks of a data set are used, by the address of its last block.
-pub(crate) fn tracks_used(last: RelativeAddress) -> u32
-    ensures { result ≡ tracks_used last }
-{
-    if last.track == 0 && last.number == 0 {
-        return 0;
-    }
-    u32::from(last.track) + 1
-}
-
-/// How many tracks the control blocks say are free.
-///
-/// # Errors
-///
-/// There is no memory for them.
-pub(crate) fn tracks_free(
-    alloc: Global,
-    geometry: Geometry,
-    blocks: &[Block],
-) -> Result<u64, VolumeFault>
-    ensures value { IfOk result (λ tracks. tracks ≡ tracks_free geometry blocks.now) }
-    ensures fault { IfErr result (λ e. e ≡ VolumeFault.OutOfMemory) }
-{
-    let Ok(free) = free_tracks(alloc, blocks) else {
-        return Err(VolumeFault::OutOfMemory);
-    };
-    Ok(tracks_of_pieces(geometry, free.pieces.as_slice()))
-}
-
-// How many tracks some pieces of free tracks have.
-fn tracks_of_pieces(geometry: Geometry, pieces: &[FreeTracks]) -> u64
-    ensures { result ≡ min (sum_by (number_of_free geometry) pieces.now) (2 ^ 64 - 1) }
-{
-    let mut tracks: u64 = 0;
-    for piece in pieces {
-        tracks = tracks.saturating_add(u64::from(number_of_free(geometry, *piece)));
-    }
-    tracks
-}
-
 // The line of free tracks.
 fn write_free<W: Write>(
     alloc: Global,
@@ -360,6 +282,6 @@ fn write_finding<W: Write>(writer: &mut W, finding: &Finding) -> io::Result<()>
     ensures { OnOk result (Appends (W.contents writer.old) (W.contents writer.new) (finding_line finding.now)) }
 {
     let place = Place(finding.place);
-    let problem = finding.problem;
+    let problem = Wrong(finding.problem);
     writeln!(writer, "finding {place} {problem}")
 }

@@ -9,12 +9,7 @@ ghost use Rattle.dasd_contents.specs.Objects.{quoted_text, four_text, day_or_nul
 ghost use Rattle.dasd_contents.specs.Objects.{number_members, comma_before, listed_extent, extents_text, listed_type, types_text, set_object, block_object};
 ghost use Rattle.dasd_contents.specs.Objects.{finding_members, finding_object, volume_objects, contents_objects};
 
-use crate::blocks::Block;
-use crate::findings::Finding;
-use crate::lines::{is_data_set, tracks_free, tracks_owned, tracks_used};
-use crate::reading::Contents;
-use crate::sets::{DataSet, data_set_of};
-use crate::words::{Day, Format, Organisation, Text, is_date, kind_of};
+use crate::words::{Day, Format, Organisation, Text, Wrong, is_date, kind_of};
 use ckd_track::Geometry;
 use counted_io::{Counted, WriteFault, write_flushed};
 use dasd_volumes::VolumeFault;
@@ -22,6 +17,9 @@ use data_sets::without_blanks;
 use std::alloc::Global;
 use std::io::Write;
 use std::{fmt, io};
+use volume_contents::{
+    Block, Contents, DataSet, Finding, data_set_of, is_data_set, tracks_free, tracks_owned, tracks_used,
+};
 use volume_labels::{ContentsBlock, DataSetBlock, Date, Extent, VolumeLabel};
 
 /// Prints the volume label, each data set, the free tracks, and what is wrong, each as an object of JSON with the volume's
@@ -393,6 +391,6 @@ fn write_problem<W: Write>(writer: &mut W, finding: &Finding) -> io::Result<()>
     writeln!(
         writer,
         ",\"cylinder\":{},\"head\":{},\"record\":{},\"kind\":\"{kind}\",\"text\":\"{}\"}}",
-        place.track.cylinder, place.track.head, place.number, finding.problem
+        place.track.cylinder, place.track.head, place.number, Wrong(finding.problem)
     )
 }

@@ -6,11 +6,10 @@ ghost use Rattle.std.specs.Fmt.{WritesOnOk, decimal};
 ghost use Rattle.dasd_contents.specs.Words.{owner_text, track_text, place_text, extent_text, piece_text, in_text, text_of, is_date, day_text, organisation_of};
 ghost use Rattle.dasd_contents.specs.Words.{unmovable, organisation_text, form_of, where_set, format_text, chain_text, problem_text, kind_text};
 
-use crate::chains::ChainFault;
-use crate::findings::Problem;
 use dasd_volumes::{Reason, TrackAddress as Address};
 use data_sets::without_blanks;
 use std::fmt;
+use volume_contents::{ChainFault, Problem};
 use volume_labels::{Date, Extent, FreeTracks, RecordAddress, TrackAddress, shown_character};
 
 /// A track: cylinder and head.
@@ -245,11 +244,15 @@ impl fmt::Display for Piece {
     }
 }
 
-impl fmt::Display for ChainFault {
-    ghost output = { λ c. Some (chain_text c) };
+/// Why a chain of control blocks is not followed further.
+#[derive(Clone, Copy)]
+pub struct Broken(pub ChainFault);
+
+impl fmt::Display for Broken {
+    ghost output = { λ c. Some (chain_text c.0) };
 
     fn fmt<W: fmt::Write>(&self, f: &mut fmt::Formatter<W>) -> fmt::Result {
-        match *self {
+        match self.0 {
             ChainFault::Missing(at) => write_at(f, "next control block ", at, " is none"),
             ChainFault::OtherFormat(at) => {
                 write_at(f, "next control block ", at, " has another format")
@@ -297,11 +300,15 @@ pub(crate) fn kind_of(problem: &Problem) -> &'static str
     }
 }
 
-impl fmt::Display for Problem {
-    ghost output = { λ p. Some (problem_text p) };
+/// What is wrong.
+#[derive(Clone, Copy)]
+pub(crate) struct Wrong(pub(crate) Problem);
+
+impl fmt::Display for Wrong {
+    ghost output = { λ w. Some (problem_text w.0) };
 
     fn fmt<W: fmt::Write>(&self, f: &mut fmt::Formatter<W>) -> fmt::Result {
-        match *self {
+        match self.0 {
             Problem::NoLabel => f.write_str("no volume label"),
             Problem::NoContents(at) => write_at(f, "no volume table of contents at ", at, ""),
             Problem::BadContents(extent) => {
@@ -313,7 +320,7 @@ impl fmt::Display for Problem {
                 write!(f, "control block of unknown format {format:02X}")
             }
             Problem::OtherKey => f.write_str("control block has a key of another format"),
-            Problem::Chain(fault) => write!(f, "{fault}"),
+            Problem::Chain(fault) => write!(f, "{}", Broken(fault)),
             Problem::OtherNumber(found, said) => write!(f, "{found} extents, and not {said}"),
             Problem::BadExtent(extent) => write_extent(f, extent, " is no run of tracks"),
             Problem::ExtentOutside(extent) => {

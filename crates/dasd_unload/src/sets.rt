@@ -11,7 +11,7 @@ ghost use Rattle.dasd_unload.specs.Causes.{WhyNoStart, WhyNot, UnloadsOrTells};
 
 use crate::fault::{NO_MEMORY, UnloadFault, of_reading, of_volume};
 use counted_io::{Counted, WriteFault, flush_all};
-use dasd_contents::{DataSet, find, read_contents};
+use volume_contents::{DataSet, find, read_contents};
 use dasd_extract::{
     Cause, Form, Source, Stop, data_set_name, extract, find_member, member_name, read_members,
 };

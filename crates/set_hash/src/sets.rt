@@ -2,7 +2,7 @@
 
 ghost use Rattle.std.specs.Prelude.{◌≡◌, ◌≢◌, ◌&&◌, ◌++◌, IfErr, OnOk};
 ghost use Rattle.dasd_volumes.specs.Reading.{IsRead};
-ghost use Rattle.dasd_contents.specs.Sets.{is_data_set};
+ghost use Rattle.volume_contents.specs.Sets.{is_data_set};
 ghost use Rattle.set_hash.specs.Lines.{shown};
 ghost use Rattle.set_hash.specs.Message.{is_partitioned, are_whole, beginning};
 ghost use Rattle.set_hash.specs.Prints.{Adds};
@@ -12,7 +12,7 @@ ghost use Rattle.set_hash.specs.Sets.{blocks_are_whole, contents_lines, contents
 use crate::blocks::hash_blocks;
 use crate::items::{Form, Report, write_findings};
 use crate::libraries::{Named, add_library, add_set};
-use dasd_contents::{Block, DataSet, Finding, data_set_of, read_contents};
+use volume_contents::{Block, DataSet, Finding, data_set_of, read_contents};
 use dasd_volumes::{SlotReader, VolumeFault};
 use data_sets::safe_name;
 use std::alloc::{AllocError, Global};

@@ -15,7 +15,7 @@ use crate::fault::{LibraryFault, of_volume};
 use crate::printing::print_report;
 use crate::sections::is_partitioned;
 use counted_io::Counted;
-use dasd_contents::{DataSet, find, read_contents};
+use volume_contents::{DataSet, find, read_contents};
 use dasd_extract::data_set_name;
 use dasd_volumes::{SlotReader, VolumeFault};
 use data_sets::safe_name;
