@@ -60,14 +60,11 @@ fn make_lines<W: Write>(
     writer: &mut W,
     geometry: Geometry,
     contents: &Contents,
-) -> Result<(), VolumeFault>
-    ensures lines { OnOk result (Appends (W.contents writer.old) (W.contents writer.new) (contents_lines geometry contents.now)) }
+) -> io::Result<()>
+    ensures { OnOk result (Appends (W.contents writer.old) (W.contents writer.new) (contents_lines geometry contents.now)) }
 {
     write_volume(alloc, writer, geometry, contents)?;
-    match write_findings(writer, contents.found.findings.as_slice()) {
-        Ok(()) => Ok(()),
-        Err(_) => Err(VolumeFault::Write),
-    }
+    write_findings(writer, contents.found.findings.as_slice())
 }
 
 // The lines of a volume that has a label.
@@ -76,10 +73,9 @@ fn write_volume<W: Write>(
     writer: &mut W,
     geometry: Geometry,
     contents: &Contents,
-) -> Result<(), VolumeFault>
-    ensures lines { OnOk result (Appends (W.contents writer.old) (W.contents writer.new)
+) -> io::Result<()>
+    ensures { OnOk result (Appends (W.contents writer.old) (W.contents writer.new)
         (volume_lines geometry contents.now.found.blocks.items contents.now.label contents.now.table)) }
-    ensures fault { IfErr result (λ e. e ≢ VolumeFault.Store) }
 {
     let Some(label) = contents.label else {
         return Ok(());
@@ -88,12 +84,8 @@ fn write_volume<W: Write>(
         return write_alone(writer, &label);
     };
     let blocks = contents.found.blocks.as_slice();
-    let Ok(()) = write_label(writer, &label, &table) else {
-        return Err(VolumeFault::Write);
-    };
-    let Ok(()) = write_heading(writer) else {
-        return Err(VolumeFault::Write);
-    };
+    write_label(writer, &label, &table)?;
+    write_heading(writer)?;
     write_sets(alloc, writer, geometry, blocks)?;
     write_free(alloc, writer, geometry, blocks, &table)
 }
@@ -113,16 +105,12 @@ fn write_label<W: Write>(
 }
 
 // The line of a label without a table.
-fn write_alone<W: Write>(writer: &mut W, label: &VolumeLabel) -> Result<(), VolumeFault>
-    ensures lines { OnOk result (Appends (W.contents writer.old) (W.contents writer.new) (label_alone label.now)) }
-    ensures fault { IfErr result (λ e. e ≢ VolumeFault.Store) }
+fn write_alone<W: Write>(writer: &mut W, label: &VolumeLabel) -> io::Result<()>
+    ensures { OnOk result (Appends (W.contents writer.old) (W.contents writer.new) (label_alone label.now)) }
 {
     let serial = text(&label.serial);
     let owner = Owner(&label.owner);
-    match writeln!(writer, "{serial}  owner {owner}  no VTOC") {
-        Ok(()) => Ok(()),
-        Err(_) => Err(VolumeFault::Write),
-    }
+    writeln!(writer, "{serial}  owner {owner}  no VTOC")
 }
 
 // The line above the columns.
@@ -152,9 +140,8 @@ fn write_sets<W: Write>(
     writer: &mut W,
     geometry: Geometry,
     blocks: &[Block],
-) -> Result<(), VolumeFault>
-    ensures lines { OnOk result (Appends (W.contents writer.old) (W.contents writer.new) (flat_map (block_line geometry blocks.now) blocks.now)) }
-    ensures fault { IfErr result (λ e. e ≢ VolumeFault.Store) }
+) -> io::Result<()>
+    ensures { OnOk result (Appends (W.contents writer.old) (W.contents writer.new) (flat_map (block_line geometry blocks.now) blocks.now)) }
 {
     for block in blocks {
         write_block(alloc, writer, geometry, blocks, block)?;
@@ -169,20 +156,14 @@ fn write_block<W: Write>(
     geometry: Geometry,
     blocks: &[Block],
     block: &Block,
-) -> Result<(), VolumeFault>
-    ensures lines { OnOk result (Appends (W.contents writer.old) (W.contents writer.new) (block_line geometry blocks.now block.now)) }
-    ensures fault { IfErr result (λ e. e ≢ VolumeFault.Store) }
+) -> io::Result<()>
+    ensures { OnOk result (Appends (W.contents writer.old) (W.contents writer.new) (block_line geometry blocks.now block.now)) }
 {
     if !is_data_set(block.kind) {
         return Ok(());
     }
-    let Ok(set) = data_set_of(alloc, blocks, block) else {
-        return Err(VolumeFault::OutOfMemory);
-    };
-    match write_set(writer, geometry, &set) {
-        Ok(()) => Ok(()),
-        Err(_) => Err(VolumeFault::Write),
-    }
+    let set = data_set_of(alloc, blocks, block)?;
+    write_set(writer, geometry, &set)
 }
 
 // The line of a data set.
@@ -255,16 +236,12 @@ fn write_free<W: Write>(
     geometry: Geometry,
     blocks: &[Block],
     table: &ContentsBlock,
-) -> Result<(), VolumeFault>
-    ensures lines { OnOk result (Appends (W.contents writer.old) (W.contents writer.new) (free_line geometry blocks.now table.now)) }
-    ensures fault { IfErr result (λ e. e ≢ VolumeFault.Store) }
+) -> io::Result<()>
+    ensures { OnOk result (Appends (W.contents writer.old) (W.contents writer.new) (free_line geometry blocks.now table.now)) }
 {
     let tracks = tracks_free(alloc, geometry, blocks)?;
     let free_blocks = table.free_blocks;
-    match writeln!(writer, "free {tracks} tracks, {free_blocks} control blocks") {
-        Ok(()) => Ok(()),
-        Err(_) => Err(VolumeFault::Write),
-    }
+    writeln!(writer, "free {tracks} tracks, {free_blocks} control blocks")
 }
 
 // The lines of what is wrong.

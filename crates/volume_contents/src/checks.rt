@@ -1,6 +1,6 @@
 //! What is wrong with data sets, their extents and free tracks.
 
-ghost use Rattle.std.specs.Prelude.{◌≡◌, ◌<◌, ◌++◌, length, IfOk, OnOk, OnErr};
+ghost use Rattle.std.specs.Prelude.{◌≡◌, ◌++◌, length, OnOk, OnErr};
 ghost use Rattle.ckd_track.specs.Geometry.{tracks_of};
 ghost use Rattle.volume_contents.specs.Checks.{is_for_labels, is_number, found_at, chain_findings, number_findings, extent_findings, claimed_behind};
 ghost use Rattle.volume_contents.specs.Checks.{block_findings, claimed_by_block, sets_findings, claimed_by_sets, free_claim_of, claimed_by_free, piece_findings};

@@ -1,6 +1,6 @@
 //! How many tracks of a volume are a data set's, how many of them are used, and how many are free.
 
-ghost use Rattle.std.specs.Prelude.{◌≡◌, ◌-◌, ◌^◌, min, sum_by, IfOk};
+ghost use Rattle.std.specs.Prelude.{◌≡◌, ◌<◌, ◌-◌, ◌^◌, min, sum_by, IfOk};
 ghost use Rattle.volume_contents.specs.Sets.{number_of_free};
 ghost use Rattle.volume_contents.specs.Tracks.{tracks_in, tracks_owned, tracks_used, tracks_free};
 
@@ -8,9 +8,8 @@ use crate::blocks::Block;
 use crate::runs::is_on;
 use crate::sets::free_tracks;
 use ckd_track::Geometry;
-use dasd_volumes::VolumeFault;
 use data_sets::tracks_of_extent;
-use std::alloc::Global;
+use std::alloc::{AllocError, Global};
 use volume_labels::{Extent, FreeTracks, RelativeAddress};
 
 /// The type of an extent for user labels, whose tracks are none of the data set's.
@@ -56,13 +55,10 @@ pub fn tracks_free(
     alloc: Global,
     geometry: Geometry,
     blocks: &[Block],
-) -> Result<u64, VolumeFault>
-    ensures value { IfOk result (λ tracks. tracks ≡ tracks_free geometry blocks.now) }
-    ensures fault { IfErr result (λ e. e ≡ VolumeFault.OutOfMemory) }
+) -> Result<u64, AllocError>
+    ensures { IfOk result (λ tracks. tracks ≡ tracks_free geometry blocks.now) }
 {
-    let Ok(free) = free_tracks(alloc, blocks) else {
-        return Err(VolumeFault::OutOfMemory);
-    };
+    let free = free_tracks(alloc, blocks)?;
     Ok(tracks_of_pieces(geometry, free.pieces.as_slice()))
 }
 
