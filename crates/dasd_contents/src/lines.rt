@@ -17,7 +17,8 @@ use std::alloc::Global;
 use std::io;
 use std::io::Write;
 use volume_contents::{
-    Block, Contents, DataSet, Finding, data_set_of, is_data_set, tracks_free, tracks_owned, tracks_used,
+    Block, Contents, DataSet, Finding, data_set_of, is_data_set, tracks_free, tracks_owned,
+    tracks_used,
 };
 use volume_labels::{ContentsBlock, DataSetBlock, VolumeLabel};
 

@@ -18,7 +18,8 @@ use std::alloc::Global;
 use std::io::Write;
 use std::{fmt, io};
 use volume_contents::{
-    Block, Contents, DataSet, Finding, data_set_of, is_data_set, tracks_free, tracks_owned, tracks_used,
+    Block, Contents, DataSet, Finding, data_set_of, is_data_set, tracks_free, tracks_owned,
+    tracks_used,
 };
 use volume_labels::{ContentsBlock, DataSetBlock, Date, Extent, VolumeLabel};
 
@@ -367,6 +368,9 @@ fn write_problem<W: Write>(writer: &mut W, finding: &Finding) -> io::Result<()>
     writeln!(
         writer,
         ",\"cylinder\":{},\"head\":{},\"record\":{},\"kind\":\"{kind}\",\"text\":\"{}\"}}",
-        place.track.cylinder, place.track.head, place.number, Wrong(finding.problem)
+        place.track.cylinder,
+        place.track.head,
+        place.number,
+        Wrong(finding.problem)
     )
 }

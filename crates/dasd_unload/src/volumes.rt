@@ -15,12 +15,12 @@ use crate::fault::{NO_MEMORY, UnloadFault, of_reading};
 use crate::report::{Named, Report, Wrong};
 use crate::sets::{form_of, is_partitioned, unload_to, whole};
 use counted_io::Counted;
-use volume_contents::{Block, DataSet, data_set_of, read_contents};
 use dasd_extract::{Form, Source, member_of, read_members};
 use dasd_jobs::{ImageFiles, JobFault, SlotReader, open_volume};
 use data_sets::{DirectoryEntry, safe_name};
 use std::alloc::Global;
 use std::io::Write;
+use volume_contents::{Block, DataSet, data_set_of, read_contents};
 use volume_labels::BlockKind;
 
 /// A volume all of whose data sets are to be unloaded.

@@ -12,10 +12,10 @@ ghost use Rattle.set_hash.specs.Sets.{blocks_are_whole, contents_lines, contents
 use crate::blocks::hash_blocks;
 use crate::items::{Form, Report, write_findings};
 use crate::libraries::{Named, add_library, add_set};
-use volume_contents::{Block, DataSet, Finding, data_set_of, read_contents};
 use dasd_volumes::{SlotReader, VolumeFault};
 use data_sets::safe_name;
 use std::alloc::{AllocError, Global};
+use volume_contents::{Block, DataSet, Finding, data_set_of, read_contents};
 use volume_labels::{BlockKind, DataSetBlock, RelativeAddress};
 
 /// The bit of a data set's organisation that says that it is partitioned (IBM System/360 Operating System, System Control Blocks,

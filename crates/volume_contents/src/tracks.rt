@@ -51,11 +51,7 @@ pub fn tracks_used(last: RelativeAddress) -> u32
 /// # Errors
 ///
 /// There is no memory for them.
-pub fn tracks_free(
-    alloc: Global,
-    geometry: Geometry,
-    blocks: &[Block],
-) -> Result<u64, AllocError>
+pub fn tracks_free(alloc: Global, geometry: Geometry, blocks: &[Block]) -> Result<u64, AllocError>
     ensures { IfOk result (λ tracks. tracks ≡ tracks_free geometry blocks.now) }
 {
     let free = free_tracks(alloc, blocks)?;
