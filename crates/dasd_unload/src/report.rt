@@ -18,6 +18,7 @@ use data_sets::DirectoryFault;
 use std::alloc::Global;
 use std::io::Write;
 use std::{fmt, io};
+use volume_contents::ChainFault;
 
 /// Of what a line is: of what has this name. Where lines are objects of JSON, they have the paths of the volume, as a string of it.
 #[derive(Clone, Copy)]

@@ -175,10 +175,10 @@ fn table_of(blocks: &[Block], address: RecordAddress) -> Option<ContentsBlock>
     ensures { result ≡ table_in address blocks.now }
 {
     let block = blocks[find_block(blocks, address)?];
-    if block.kind != BlockKind::Contents {
-        return None;
+    match block.kind {
+        BlockKind::Contents => Some(contents_block(&block.bytes)),
+        _ => None,
     }
-    Some(contents_block(&block.bytes))
 }
 
 // The control blocks of the tracks that a format 4 block says.

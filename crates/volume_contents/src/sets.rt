@@ -103,7 +103,7 @@ fn push_extent(extents: &mut Vec<Extent>, extent: Extent) -> Result<(), AllocErr
 pub fn is_data_set(kind: BlockKind) -> bool
     ensures { result ≡ is_data_set kind }
 {
-    kind == BlockKind::DataSet
+    matches!(kind, BlockKind::DataSet)
 }
 
 // Whether a block is that of a data set with this name, which has blanks behind it or not.
@@ -181,7 +181,7 @@ fn first_free(blocks: &[Block]) -> Option<usize>
 fn is_free_space(kind: BlockKind) -> bool
     ensures { result ≡ is_free_space kind }
 {
-    kind == BlockKind::FreeSpace
+    matches!(kind, BlockKind::FreeSpace)
 }
 
 // Appends those that are free tracks.
