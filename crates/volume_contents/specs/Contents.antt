@@ -110,9 +110,13 @@ abbrev pub said_of_table : VolumeLabel → Geometry → (slots : List (List ℕ)
 said_of_table l g slots None = no_table l
 said_of_table l g slots (Some t) = said_with l t g slots
 
+-- what a volume with this label says
+abbrev pub said_behind : VolumeLabel → Geometry → (slots : List (List ℕ)) → Said
+said_behind l g slots = said_of_table l g slots (table_on l.contents g slots)
+
 abbrev pub said_of_label : Geometry → (slots : List (List ℕ)) → Option VolumeLabel → Said
 said_of_label g slots None = no_label
-said_of_label g slots (Some l) = said_of_table l g slots (table_on l.contents g slots)
+said_of_label g slots (Some l) = said_behind l g slots
 
 -- what a volume of these slots says of itself
 abbrev pub contents_of : Geometry → (slots : List (List ℕ)) → Said

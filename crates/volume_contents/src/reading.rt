@@ -6,7 +6,7 @@ ghost use Rattle.ckd_track.specs.Track.{track_of};
 ghost use Rattle.ckd_image.specs.Store.{Counts};
 ghost use Rattle.dasd_volumes.specs.Reading.{IsRead, IsSlotOf};
 ghost use Rattle.volume_contents.specs.Runs.{exists_on};
-ghost use Rattle.volume_contents.specs.Contents.{label_in, label_on, table_in, table_on, bad_extent, label_place, said_with, IsContents, SaysOf, SaysOfSlots};
+ghost use Rattle.volume_contents.specs.Contents.{label_in, label_on, table_in, table_on, bad_extent, label_place, said_with, said_behind, IsContents, SaysOf, SaysOfSlots};
 ghost use Rattle.volume_contents.specs.Contents.{IsOfSlots, AddsOfSlots, AddsOfTrack};
 
 use crate::blocks::{Block, add_finding, find_block, read_track};
@@ -61,11 +61,25 @@ pub fn read_contents<V: SlotReader>(alloc: Global, volume: &mut V) -> Result<Con
         return Err(VolumeFault::OutOfMemory);
     };
     let slot = slot.as_mut_slice();
-    let label = match read_label(volume, slot) {
-        Ok(Some(label)) => label,
-        Ok(None) => return without_table(alloc, None, Problem::NoLabel),
-        Err(fault) => return Err(fault),
-    };
+    match read_label(volume, slot) {
+        Ok(Some(label)) => read_labelled(alloc, volume, slot, label),
+        Ok(None) => without_table(alloc, None, Problem::NoLabel),
+        Err(fault) => Err(fault),
+    }
+}
+
+// What there is of a volume that has this label, by way of the slot.
+fn read_labelled<V: SlotReader>(
+    alloc: Global,
+    volume: &mut V,
+    slot: &mut [u8],
+    label: VolumeLabel,
+) -> Result<Contents, VolumeFault>
+    requires size { length slot.old ≡ (V.volume volume.old).geometry.track_size }
+    ensures contents { IfOk result (SaysOfSlots (V.volume volume.old) (said_behind label)) }
+    ensures fault { IfErr result (λ e. e ≢ VolumeFault.Write) }
+    ensures volume { IsRead result (V.volume volume.old) (V.volume volume.new) (V.failures volume.old) (V.failures volume.new) }
+{
     match read_table(alloc, volume, slot, label.contents) {
         Ok(Some(table)) => read_blocks(alloc, volume, slot, label, table),
         Ok(None) => without_table(alloc, Some(label), Problem::NoContents(label.contents)),
