@@ -1,15 +1,14 @@
 //! How an emulator's author uses the channel. A day of a small machine: volumes are made in memory; records are written and read by
 //! channel programs; a program asks for an interruption and is changed while it runs; an arm arrives while another drive works; a
-//! write is halted in its middle; a pack is changed; and the images come back. Then stores that fail, two channels over one storage, a channel over
-//! an emulator's own memory, and a drive without a channel.
+//! write is halted in its middle; a pack is changed; and the images come back. Then stores that fail, two channels over one storage, and a channel
+//! over an emulator's own memory.
 //!
-//! Of channels only `docs/CALLING.md` was read for it, and nothing of them is proved by hand: no call of a channel asks for anything
-//! that has to be shown, and those of a selector only that the storage has its size.
+//! Only `docs/CALLING.md` was read for it, and nothing here is proved by hand: no call of a channel asks for anything that has to be
+//! shown, and those of a selector only that the storage has its size.
 #![tactic(auto)]
 
 mod arms;
 mod console;
-mod drive_alone;
 mod failures;
 mod halts;
 mod interruptions;
@@ -31,8 +30,7 @@ fn main(rt: HostRuntime) -> Result<()> {
     failures::fail_at_the_end(&rt)?;
     failures::fail_at_a_reset(&rt)?;
     pair::read_and_write_at_once(&rt)?;
-    own_memory::lend_it(&rt)?;
-    drive_alone::use_it(&rt)
+    own_memory::lend_it(&rt)
 }
 
 /// The day of the small machine, which has two drives.

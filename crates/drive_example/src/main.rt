@@ -1,13 +1,14 @@
-//! A drive without a channel: a volume is made in memory and mounted; a record is written, found by its identifier, read and
-//! updated; a write is halted in its middle; and the image comes back. Each call goes by `phase` alone, which says what may be
-//! called next, so that nothing has to be proved about it.
+//! How an emulator's author uses a drive: a volume is made in memory and mounted; a record is written, found by its identifier,
+//! read and updated; a write is halted in its middle; and the image comes back. Each call goes by `phase` alone, which says what
+//! may be called next, so that nothing has to be proved about it.
+#![tactic(auto)]
 
-use anyhow::{Context, Result};
 use ckd_drive::{Begun, Drive, Phase};
 use ckd_image::{Image, MemoryStore, image_len};
 use ckd_track::DriveModel;
 use s360_words::UnitStatus;
 use std::alloc::Global;
+use std::process::ExitCode;
 
 const SEEK: u8 = 0x07;
 
@@ -113,45 +114,37 @@ fn unmount(mut drive: Drive<MemoryStore>) -> Option<Image<MemoryStore>> {
     }
 }
 
-/// The calls of a day, and the image back.
-pub(crate) fn use_it(rt: &HostRuntime) -> Result<()> {
-    let mut drive = mount(rt.alloc()).context("no drive")?;
-    write_one(rt, &mut drive)?;
-    update_it(rt, &mut drive)?;
+fn main(rt: HostRuntime) -> ExitCode {
+    let Some(mut drive) = mount(rt.alloc()) else {
+        return ExitCode::FAILURE;
+    };
+    drive_through(&rt, &mut drive);
     let image = unmount(drive);
-    println!(rt; "image back: {}", image.is_some())?;
-    Ok(())
+    let _ = println!(rt; "image back: {}", image.is_some());
+    ExitCode::SUCCESS
 }
 
-/// A record is written behind record 0 of cylinder 1.
-fn write_one(rt: &HostRuntime, drive: &mut Drive<MemoryStore>) -> Result<()> {
+/// The calls of a day.
+fn drive_through(rt: &HostRuntime, drive: &mut Drive<MemoryStore>) {
     if drive.phase() == Phase::Idle {
         drive.begin_program();
     }
     let seek = told(command(drive, SEEK, &mut [0, 0, 0, 1, 0, 0]));
-    println!(rt; "seek to cylinder 1: {seek}")?;
+    let _ = println!(rt; "seek to cylinder 1: {seek}");
     let mask = told(command(drive, SET_FILE_MASK, &mut [0xC0]));
-    println!(rt; "file mask: {mask}")?;
+    let _ = println!(rt; "file mask: {mask}");
     let found = search(drive, [0, 1, 0, 0, 0]);
     let mut record = [0, 1, 0, 0, 1, 0, 0, 4, 11, 12, 13, 14];
     let written = told(command(drive, WRITE_COUNT_KEY_AND_DATA, &mut record));
-    println!(rt; "record 0 found: {found}, record 1 written: {written}")?;
-    Ok(())
-}
-
-/// It is read, updated, and read again.
-fn update_it(rt: &HostRuntime, drive: &mut Drive<MemoryStore>) -> Result<()> {
-    read(rt, drive)?;
-    let found = search(drive, [0, 1, 0, 0, 1]);
-    let halted = told(command(drive, WRITE_DATA, &mut [21, 22]));
-    println!(rt; "record 1 found: {found}, an update halted behind two bytes: {halted}")?;
-    read(rt, drive)
-}
-
-fn read(rt: &HostRuntime, drive: &mut Drive<MemoryStore>) -> Result<()> {
+    let _ = println!(rt; "record 0 found: {found}, record 1 written: {written}");
     let found = search(drive, [0, 1, 0, 0, 1]);
     let mut data = [0; 4];
     let read = told(command(drive, READ_DATA, &mut data));
-    println!(rt; "record 1 found: {found}, read: {read} {data:?}")?;
-    Ok(())
+    let _ = println!(rt; "record 1 found: {found}, read: {read} {data:?}");
+    let found = search(drive, [0, 1, 0, 0, 1]);
+    let halted = told(command(drive, WRITE_DATA, &mut [21, 22]));
+    let _ = println!(rt; "record 1 found: {found}, an update halted behind two bytes: {halted}");
+    let found = search(drive, [0, 1, 0, 0, 1]);
+    let read = told(command(drive, READ_DATA, &mut data));
+    let _ = println!(rt; "record 1 found: {found}, read: {read} {data:?}");
 }

@@ -1,5 +1,5 @@
 use Rattle.std.proofs.Common.{◌≡◌, ◌≤◌, length}
-use Rattle.channel_example.proofs.drive_alone.command.Given as goal
+use Rattle.drive_example.proofs.command.Given as goal
 
 -- so many of the bytes have passed, and there are as many of them as there were
 abbrev pub invariant-loop : goal.invariant-loop
