@@ -5,6 +5,7 @@ ghost use Rattle.std.specs.List.{flat_map};
 ghost use Rattle.std.specs.Option.{option_copied};
 ghost use Rattle.std.specs.String.{string_bytes};
 ghost use Rattle.counted_io.specs.Streams.{seen_by, IsFlushed};
+ghost use Rattle.volume_contents.specs.Sets.{is_data_set};
 ghost use Rattle.dasd_extract.specs.Walk.{wanted};
 ghost use Rattle.dasd_unload.specs.Unloads.{AddsIn, IsFileName, outcome, file_name, is_of_job};
 ghost use Rattle.dasd_unload.specs.Volumes.{plan, plan_of, Unload, path_in, block_steps, partitioned_steps, set_steps, volume_steps, DoesOfVolume};
@@ -19,7 +20,8 @@ use dasd_jobs::{ImageFiles, JobFault, SlotReader, open_volume};
 use data_sets::{DirectoryEntry, safe_name};
 use std::alloc::Global;
 use std::io::Write;
-use volume_contents::{Block, DataSet, data_set_of, is_data_set, read_contents};
+use volume_contents::{Block, DataSet, data_set_of, read_contents};
+use volume_labels::BlockKind;
 
 /// A volume all of whose data sets are to be unloaded.
 #[derive(Clone, Copy)]
@@ -214,7 +216,7 @@ fn unload_block<F: ImageFiles, V: SlotReader, W: Write>(
     ensures fault { IfErr result (λ e. is_of_job e ≡ true) }
 {
     let Row { table, block } = row;
-    if !is_data_set(block.kind) {
+    if !is_data_set(block) {
         return Ok(());
     }
     let target = table.target;
@@ -223,6 +225,13 @@ fn unload_block<F: ImageFiles, V: SlotReader, W: Write>(
     };
     let listed = Listed { target, set: &set };
     unload_one(files, volume, writer, report, listed)
+}
+
+// Whether a control block is one of format 1.
+fn is_data_set(block: &Block) -> bool
+    ensures { result ≡ is_data_set block.now.kind }
+{
+    block.kind == BlockKind::DataSet
 }
 
 // Unloads a data set, or its members.

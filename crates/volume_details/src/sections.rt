@@ -6,6 +6,7 @@ ghost use Rattle.std.specs.Io.KnownBytes.{Appends};
 ghost use Rattle.counted_io.specs.Streams.{seen_by, IsFlushed};
 ghost use Rattle.dasd_volumes.specs.Printing.{PrintsText, CountsWrites};
 ghost use Rattle.dasd_volumes.specs.Reading.{IsRead};
+ghost use Rattle.volume_contents.specs.Sets.{is_data_set};
 ghost use Rattle.dasd_unload.specs.Asked.{is_partitioned};
 ghost use Rattle.library_members.specs.Report.{printed, Adds, AddsOf};
 ghost use Rattle.volume_details.specs.Long.{described_by};
@@ -20,8 +21,8 @@ use library_members::{Form, Library, Report, list_members};
 use std::alloc::Global;
 use std::io;
 use std::io::Write;
-use volume_contents::{Block, Contents, DataSet, data_set_of, is_data_set};
-use volume_labels::DataSetBlock;
+use volume_contents::{Block, Contents, DataSet, data_set_of};
+use volume_labels::{BlockKind, DataSetBlock};
 
 /// The bit of a data set's organisation that says that it is partitioned (IBM System/360 Operating System, System Control Blocks,
 /// 'Data Set Control Block', format 1, DS1DSORG).
@@ -140,6 +141,13 @@ fn add_block<V: SlotReader>(
         set: &set,
     };
     add_set(alloc, volume, report, row.view, described)
+}
+
+// Whether a control block is one of format 1.
+fn is_data_set(kind: BlockKind) -> bool
+    ensures { result ≡ is_data_set kind }
+{
+    kind == BlockKind::DataSet
 }
 
 // The section of a data set: its name, what the table leaves out, and its members.
