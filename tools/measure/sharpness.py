@@ -77,7 +77,7 @@ SUITES = {
     "rows/tables": played("tables", "s360_words ckd_position ckd_sense", "tables"),
     "rows/memory": played("memory", "", "memory"),
     "rows/dasd": played("dasd", "dasd_volumes dasd_jobs dasd_run", "dasd", DASD),
-    "rows/extracts": played("extracts dasd", "dasd_extract dasd_contents data_sets volume_labels", "", DASD),
+    "rows/extracts": played("extracts dasd", "dasd_extract volume_contents dasd_contents data_sets volume_labels", "", DASD),
     "rows/hashes": played("hashes", "volume_hash set_hash", "", DASD),
     "rows/files": played("dasd hostile_checks", FILES, "real_files", DASD),
     "rows/hostile": played("hostile_slots images tracks", "ckd_track ckd_image", ""),

@@ -1,15 +1,14 @@
 -- What the holes of a format write.
-use Rattle.std.proofs.Common.{ℕ, ◌+◌, ◌-◌, ◌<◌, ◌^◌, ◌≡◌, List, [], ◌++◌, Bool, true, false, length, take, get_or, refl, codes}
+use Rattle.std.proofs.Common.{ℕ, ◌+◌, ◌-◌, ◌<◌, ◌^◌, ◌≡◌, List, [], ◌∷◌, ◌++◌, Bool, true, false, length, take, get_or, refl, codes}
 use Rattle.std.proofs.Math.Nat.{sub-zero}
 use Rattle.std.proofs.lemmas.List.{append-nil, flat_map_more, take_more}
+use Rattle.std.specs.List.{concat}
 use Rattle.std.specs.Fmt.{digits, decimal, padded_integral, format_spec, char_count}
 use Rattle.volume_labels.specs.declared.fields.Date.{Date}
 use Rattle.volume_labels.specs.Ebcdic.{shown}
 use Rattle.dasd_volumes.specs.Lines.{hexadecimal}
 use Rattle.dasd_volumes.proofs.Formats.{padded_hexadecimal}
-use Rattle.dasd_contents.specs.declared.findings.Problem.{Problem}
-use Rattle.dasd_contents.specs.declared.findings.Problem.TheVariants.{OtherNumber, UnknownFormat}
-use Rattle.dasd_contents.specs.Words.{three_digits, is_date, day_text, in_text, text_of, problem_text}
+use Rattle.dasd_contents.specs.Words.{three_digits, is_date, day_text, in_text, text_of}
 
 -- `{n:03}`
 pub zeros_before : (n : ℕ) → padded_integral (format_spec 32 0 4 3 (2 ^ 64 - 1)) false [] (decimal n) ≡ three_digits n
@@ -21,15 +20,15 @@ pub year_and_day : (wide : Bool) (d : Date) (year : ℕ) → is_date d ≡ true 
     → decimal year ++ (codes "-" ++ padded_integral (format_spec 32 0 4 3 (2 ^ 64 - 1)) false [] (decimal d.day)) ≡ day_text wide d
 year_and_day wide d year there is = rw (is, there, zeros_before d.day, append-nil (three_digits d.day)) refl
 
--- the problems whose words end with a number
-pub other_number : (p : Problem) (found said : ℕ) → p ≡ OtherNumber found said
-    → decimal found ++ (codes " extents, and not " ++ decimal said) ≡ problem_text p
-other_number p found said is = rw (is, append-nil (decimal said)) refl
+-- words that end with a number
+pub other_number : (found said : ℕ)
+    → decimal found ++ (codes " extents, and not " ++ decimal said) ≡ concat (decimal found ∷ codes " extents, and not " ∷ decimal said ∷ [])
+other_number found said = rw (append-nil (decimal said)) refl
 
-pub unknown_format : (p : Problem) (format : ℕ) → p ≡ UnknownFormat format
+pub unknown_format : (format : ℕ)
     → codes "control block of unknown format " ++ padded_integral (format_spec 32 0 4 2 (2 ^ 64 - 1)) false [] (digits 16 true format)
-    ≡ problem_text p
-unknown_format p format is = rw (is, padded_hexadecimal 2 format, append-nil (hexadecimal 2 format)) refl
+    ≡ concat (codes "control block of unknown format " ∷ hexadecimal 2 format ∷ [])
+unknown_format format = rw (padded_hexadecimal 2 format, append-nil (hexadecimal 2 format)) refl
 
 -- one character more
 pub one_more_shown : (quoted : Bool) (bytes : List ℕ) (k : ℕ) → k < length bytes

@@ -1,10 +1,3 @@
-pub mod Blocks
-pub mod Runs
-pub mod Contents
-pub mod Chains
-pub mod Sets
-pub mod Claims
 pub mod Words
 pub mod Lines
 pub mod Objects
-pub mod Checks

@@ -1,40 +1,21 @@
 -- The lines of `dasd vtoc`.
-use Rattle.std.specs.Prelude.{ℕ, ◌+◌, ◌-◌, ◌^◌, ◌==◌, min, true, false, not, ◌||◌, ◌&&◌, if◌then◌else◌, List, [], ◌∷◌, ◌++◌, length, replicate, sum_by, codes}
+use Rattle.std.specs.Prelude.{ℕ, ◌-◌, true, false, if◌then◌else◌, List, [], ◌∷◌, ◌++◌, length, replicate, codes}
 use Rattle.std.specs.Prelude.{Option, Some, None}
 use Rattle.std.specs.List.{concat, flat_map}
 use Rattle.std.specs.Fmt.{decimal}
 use Rattle.ckd_track.specs.declared.geometries.Geometry.{Geometry}
-use Rattle.ckd_track.specs.Model.{heads_of}
 use Rattle.volume_labels.specs.declared.fields.Extent.{Extent}
-use Rattle.volume_labels.specs.declared.fields.RelativeAddress.{RelativeAddress}
 use Rattle.volume_labels.specs.declared.labels.VolumeLabel.{VolumeLabel}
 use Rattle.volume_labels.specs.declared.blocks.DataSetBlock.{DataSetBlock}
 use Rattle.volume_labels.specs.declared.blocks.ContentsBlock.{ContentsBlock}
 use Rattle.volume_labels.specs.Labels.{data_set_block_of}
-use Rattle.data_sets.specs.Addresses.{tracks_of_extent}
 use Rattle.dasd_volumes.specs.Lines.{line_feed}
-use Rattle.dasd_contents.specs.declared.blocks.Block.{Block}
-use Rattle.dasd_contents.specs.declared.reading.Contents.{Contents}
-use Rattle.dasd_contents.specs.declared.findings.Finding.{Finding}
-use Rattle.dasd_contents.specs.Runs.{is_on}
-use Rattle.dasd_contents.specs.Sets.{is_data_set, extents_behind, pieces_behind, number_of_free}
+use Rattle.volume_contents.specs.declared.blocks.Block.{Block}
+use Rattle.volume_contents.specs.declared.reading.Contents.{Contents}
+use Rattle.volume_contents.specs.declared.findings.Finding.{Finding}
+use Rattle.volume_contents.specs.Sets.{is_data_set, extents_behind}
+use Rattle.volume_contents.specs.Tracks.{tracks_owned, tracks_used, tracks_free}
 use Rattle.dasd_contents.specs.Words.{place_text, extent_text, text_of, owner_text, day_text, organisation_text, format_text, problem_text}
-
--- Numbers of tracks, which stop at the greatest of 64 bits.
-
--- how many tracks of an extent are its data set's: none where it holds user labels, and none where it is not all on the volume
-abbrev pub tracks_in : Geometry → Extent → ℕ
-tracks_in g e = if (e.kind == 0x40) || not (is_on g e) then 0 else tracks_of_extent (heads_of g.model) e
-
-abbrev pub tracks_owned : Geometry → List Extent → ℕ
-tracks_owned g extents = min (sum_by (tracks_in g) extents) (2 ^ 64 - 1)
-
--- a data set's tracks up to its last block
-abbrev pub tracks_used : (last : RelativeAddress) → ℕ
-tracks_used last = if (last.track == 0) && (last.number == 0) then 0 else last.track + 1
-
-abbrev pub tracks_free : Geometry → List Block → ℕ
-tracks_free g blocks = min (sum_by (number_of_free g) (pieces_behind blocks)) (2 ^ 64 - 1)
 
 -- Columns: a text, and blanks behind it or before it up to a width.
 

@@ -12,12 +12,12 @@ use Rattle.volume_labels.specs.Labels.{data_set_block_of}
 use Rattle.data_sets.specs.Lines.{without_blanks}
 use Rattle.dasd_volumes.specs.Lines.{line_feed}
 use Rattle.dasd_volumes.specs.Volumes.{of_each}
-use Rattle.dasd_contents.specs.declared.blocks.Block.{Block}
-use Rattle.dasd_contents.specs.declared.reading.Contents.{Contents}
-use Rattle.dasd_contents.specs.declared.findings.Finding.{Finding}
-use Rattle.dasd_contents.specs.Sets.{is_data_set, extents_behind}
+use Rattle.volume_contents.specs.declared.blocks.Block.{Block}
+use Rattle.volume_contents.specs.declared.reading.Contents.{Contents}
+use Rattle.volume_contents.specs.declared.findings.Finding.{Finding}
+use Rattle.volume_contents.specs.Sets.{is_data_set, extents_behind}
 use Rattle.dasd_contents.specs.Words.{text_of, is_date, day_text, organisation_text, format_text, kind_text, problem_text}
-use Rattle.dasd_contents.specs.Lines.{tracks_owned, tracks_used, tracks_free}
+use Rattle.volume_contents.specs.Tracks.{tracks_owned, tracks_used, tracks_free}
 
 -- text that stands within quotes, without the blanks behind it
 abbrev pub quoted_text : List ℕ → List ℕ

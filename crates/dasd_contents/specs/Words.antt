@@ -11,11 +11,11 @@ use Rattle.volume_labels.specs.declared.fields.Date.{Date}
 use Rattle.volume_labels.specs.Ebcdic.{shown}
 use Rattle.data_sets.specs.Lines.{without_blanks}
 use Rattle.dasd_volumes.specs.Lines.{address_text, fault_text, hexadecimal}
-use Rattle.dasd_contents.specs.declared.chains.ChainFault.{ChainFault}
-use Rattle.dasd_contents.specs.declared.chains.ChainFault.TheVariants.{Missing, OtherFormat, Endless}
-use Rattle.dasd_contents.specs.declared.findings.Problem.{Problem}
-use Rattle.dasd_contents.specs.declared.findings.Problem.TheVariants.{NoLabel, NoContents, BadContents, Unreadable, NoBlock, UnknownFormat, OtherKey, Chain}
-use Rattle.dasd_contents.specs.declared.findings.Problem.TheVariants.{OtherNumber, BadExtent, ExtentOutside, Overlap, FreeOutside, FreeInUse}
+use Rattle.volume_contents.specs.declared.chains.ChainFault.{ChainFault}
+use Rattle.volume_contents.specs.declared.chains.ChainFault.TheVariants.{Missing, OtherFormat, Endless}
+use Rattle.volume_contents.specs.declared.findings.Problem.{Problem}
+use Rattle.volume_contents.specs.declared.findings.Problem.TheVariants.{NoLabel, NoContents, BadContents, Unreadable, NoBlock, UnknownFormat, OtherKey, Chain}
+use Rattle.volume_contents.specs.declared.findings.Problem.TheVariants.{OtherNumber, BadExtent, ExtentOutside, Overlap, FreeOutside, FreeInUse}
 
 -- Places.
 

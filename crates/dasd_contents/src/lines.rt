@@ -1,35 +1,26 @@
 //! What a volume holds, in lines for people.
 
-ghost use Rattle.std.specs.Prelude.{◌≡◌, ◌≢◌, ◌≤◌, ◌-◌, ◌^◌, ◌++◌, false, min, sum_by, length, replicate, OnOk, OnErr, IfOk, IfErr};
+ghost use Rattle.std.specs.Prelude.{◌≡◌, ◌≢◌, ◌≤◌, false, replicate, OnOk, OnErr, IfErr};
 ghost use Rattle.std.specs.List.{flat_map};
 ghost use Rattle.std.specs.Io.KnownBytes.{Appends};
 ghost use Rattle.counted_io.specs.Streams.{seen_by, Takes, TakesFront, IsFlushed};
 ghost use Rattle.dasd_volumes.specs.Printing.{CountsWrites};
-ghost use Rattle.dasd_contents.specs.Sets.{is_data_set, number_of_free};
 ghost use Rattle.dasd_contents.specs.Words.{format_text};
-ghost use Rattle.dasd_contents.specs.Lines.{tracks_in, tracks_owned, tracks_used, tracks_free, at_left, label_line, label_alone, heading, name_columns};
+ghost use Rattle.dasd_contents.specs.Lines.{at_left, label_line, label_alone, heading, name_columns};
 ghost use Rattle.dasd_contents.specs.Lines.{number_columns, set_line, block_line, free_line, finding_line, volume_lines, contents_lines};
 
-use crate::blocks::Block;
-use crate::checks::number_of_free;
-use crate::findings::Finding;
-use crate::reading::Contents;
-use crate::runs::is_on;
-use crate::sets::{DataSet, data_set_of, free_tracks};
-use crate::words::{Bounds, Day, Format, Organisation, Owner, Place, Text, format_width};
+use crate::words::{Bounds, Day, Format, Organisation, Owner, Place, Text, Wrong, format_width};
 use ckd_track::Geometry;
 use counted_io::{Counted, WriteFault, write_flushed};
 use dasd_volumes::VolumeFault;
-use data_sets::tracks_of_extent;
 use std::alloc::Global;
 use std::io;
 use std::io::Write;
-use volume_labels::{
-    BlockKind, ContentsBlock, DataSetBlock, Extent, FreeTracks, RelativeAddress, VolumeLabel,
+use volume_contents::{
+    Block, Contents, DataSet, Finding, data_set_of, is_data_set, tracks_free, tracks_owned,
+    tracks_used,
 };
-
-/// The type of an extent for user labels, whose tracks are none of the data set's.
-const USER_LABELS: u8 = 0x40;
+use volume_labels::{ContentsBlock, DataSetBlock, VolumeLabel};
 
 /// The width of a record format, in characters.
 const FORMAT_WIDTH: usize = 5;
@@ -70,14 +61,11 @@ fn make_lines<W: Write>(
     writer: &mut W,
     geometry: Geometry,
     contents: &Contents,
-) -> Result<(), VolumeFault>
-    ensures lines { OnOk result (Appends (W.contents writer.old) (W.contents writer.new) (contents_lines geometry contents.now)) }
+) -> io::Result<()>
+    ensures { OnOk result (Appends (W.contents writer.old) (W.contents writer.new) (contents_lines geometry contents.now)) }
 {
     write_volume(alloc, writer, geometry, contents)?;
-    match write_findings(writer, contents.found.findings.as_slice()) {
-        Ok(()) => Ok(()),
-        Err(_) => Err(VolumeFault::Write),
-    }
+    write_findings(writer, contents.found.findings.as_slice())
 }
 
 // The lines of a volume that has a label.
@@ -86,10 +74,9 @@ fn write_volume<W: Write>(
     writer: &mut W,
     geometry: Geometry,
     contents: &Contents,
-) -> Result<(), VolumeFault>
-    ensures lines { OnOk result (Appends (W.contents writer.old) (W.contents writer.new)
+) -> io::Result<()>
+    ensures { OnOk result (Appends (W.contents writer.old) (W.contents writer.new)
         (volume_lines geometry contents.now.found.blocks.items contents.now.label contents.now.table)) }
-    ensures fault { IfErr result (λ e. e ≢ VolumeFault.Store) }
 {
     let Some(label) = contents.label else {
         return Ok(());
@@ -98,12 +85,8 @@ fn write_volume<W: Write>(
         return write_alone(writer, &label);
     };
     let blocks = contents.found.blocks.as_slice();
-    let Ok(()) = write_label(writer, &label, &table) else {
-        return Err(VolumeFault::Write);
-    };
-    let Ok(()) = write_heading(writer) else {
-        return Err(VolumeFault::Write);
-    };
+    write_label(writer, &label, &table)?;
+    write_heading(writer)?;
     write_sets(alloc, writer, geometry, blocks)?;
     write_free(alloc, writer, geometry, blocks, &table)
 }
@@ -123,16 +106,12 @@ fn write_label<W: Write>(
 }
 
 // The line of a label without a table.
-fn write_alone<W: Write>(writer: &mut W, label: &VolumeLabel) -> Result<(), VolumeFault>
-    ensures lines { OnOk result (Appends (W.contents writer.old) (W.contents writer.new) (label_alone label.now)) }
-    ensures fault { IfErr result (λ e. e ≢ VolumeFault.Store) }
+fn write_alone<W: Write>(writer: &mut W, label: &VolumeLabel) -> io::Result<()>
+    ensures { OnOk result (Appends (W.contents writer.old) (W.contents writer.new) (label_alone label.now)) }
 {
     let serial = text(&label.serial);
     let owner = Owner(&label.owner);
-    match writeln!(writer, "{serial}  owner {owner}  no VTOC") {
-        Ok(()) => Ok(()),
-        Err(_) => Err(VolumeFault::Write),
-    }
+    writeln!(writer, "{serial}  owner {owner}  no VTOC")
 }
 
 // The line above the columns.
@@ -162,9 +141,8 @@ fn write_sets<W: Write>(
     writer: &mut W,
     geometry: Geometry,
     blocks: &[Block],
-) -> Result<(), VolumeFault>
-    ensures lines { OnOk result (Appends (W.contents writer.old) (W.contents writer.new) (flat_map (block_line geometry blocks.now) blocks.now)) }
-    ensures fault { IfErr result (λ e. e ≢ VolumeFault.Store) }
+) -> io::Result<()>
+    ensures { OnOk result (Appends (W.contents writer.old) (W.contents writer.new) (flat_map (block_line geometry blocks.now) blocks.now)) }
 {
     for block in blocks {
         write_block(alloc, writer, geometry, blocks, block)?;
@@ -179,27 +157,14 @@ fn write_block<W: Write>(
     geometry: Geometry,
     blocks: &[Block],
     block: &Block,
-) -> Result<(), VolumeFault>
-    ensures lines { OnOk result (Appends (W.contents writer.old) (W.contents writer.new) (block_line geometry blocks.now block.now)) }
-    ensures fault { IfErr result (λ e. e ≢ VolumeFault.Store) }
+) -> io::Result<()>
+    ensures { OnOk result (Appends (W.contents writer.old) (W.contents writer.new) (block_line geometry blocks.now block.now)) }
 {
     if !is_data_set(block.kind) {
         return Ok(());
     }
-    let Ok(set) = data_set_of(alloc, blocks, block) else {
-        return Err(VolumeFault::OutOfMemory);
-    };
-    match write_set(writer, geometry, &set) {
-        Ok(()) => Ok(()),
-        Err(_) => Err(VolumeFault::Write),
-    }
-}
-
-/// Whether a control block is one of format 1.
-pub(crate) fn is_data_set(kind: BlockKind) -> bool
-    ensures { result ≡ is_data_set kind }
-{
-    kind == BlockKind::DataSet
+    let set = data_set_of(alloc, blocks, block)?;
+    write_set(writer, geometry, &set)
 }
 
 // The line of a data set.
@@ -265,67 +230,6 @@ fn write_numbers<W: Write>(writer: &mut W, geometry: Geometry, set: &DataSet) ->
     )
 }
 
-/// How many tracks these extents of a data set have that are on the volume, without those for user labels.
-pub(crate) fn tracks_owned(geometry: Geometry, extents: &[Extent]) -> u64
-    ensures { result ≡ tracks_owned geometry extents.now }
-{
-    let mut tracks: u64 = 0;
-    for extent in extents {
-        tracks = tracks.saturating_add(tracks_in(geometry, *extent));
-    }
-    tracks
-}
-
-// How many tracks of an extent are its data set's.
-fn tracks_in(geometry: Geometry, extent: Extent) -> u64
-    ensures { result ≡ tracks_in geometry extent }
-{
-    if extent.kind == USER_LABELS || !is_on(geometry, extent) {
-        return 0;
-    }
-    u64::from(tracks_of_extent(geometry.model.heads() as u8, extent))
-}
-
-/// How many tracks of a data set are used, by the address of its last block.
-pub(crate) fn tracks_used(last: RelativeAddress) -> u32
-    ensures { result ≡ tracks_used last }
-{
-    if last.track == 0 && last.number == 0 {
-        return 0;
-    }
-    u32::from(last.track) + 1
-}
-
-/// How many tracks the control blocks say are free.
-///
-/// # Errors
-///
-/// There is no memory for them.
-pub(crate) fn tracks_free(
-    alloc: Global,
-    geometry: Geometry,
-    blocks: &[Block],
-) -> Result<u64, VolumeFault>
-    ensures value { IfOk result (λ tracks. tracks ≡ tracks_free geometry blocks.now) }
-    ensures fault { IfErr result (λ e. e ≡ VolumeFault.OutOfMemory) }
-{
-    let Ok(free) = free_tracks(alloc, blocks) else {
-        return Err(VolumeFault::OutOfMemory);
-    };
-    Ok(tracks_of_pieces(geometry, free.pieces.as_slice()))
-}
-
-// How many tracks some pieces of free tracks have.
-fn tracks_of_pieces(geometry: Geometry, pieces: &[FreeTracks]) -> u64
-    ensures { result ≡ min (sum_by (number_of_free geometry) pieces.now) (2 ^ 64 - 1) }
-{
-    let mut tracks: u64 = 0;
-    for piece in pieces {
-        tracks = tracks.saturating_add(u64::from(number_of_free(geometry, *piece)));
-    }
-    tracks
-}
-
 // The line of free tracks.
 fn write_free<W: Write>(
     alloc: Global,
@@ -333,16 +237,12 @@ fn write_free<W: Write>(
     geometry: Geometry,
     blocks: &[Block],
     table: &ContentsBlock,
-) -> Result<(), VolumeFault>
-    ensures lines { OnOk result (Appends (W.contents writer.old) (W.contents writer.new) (free_line geometry blocks.now table.now)) }
-    ensures fault { IfErr result (λ e. e ≢ VolumeFault.Store) }
+) -> io::Result<()>
+    ensures { OnOk result (Appends (W.contents writer.old) (W.contents writer.new) (free_line geometry blocks.now table.now)) }
 {
     let tracks = tracks_free(alloc, geometry, blocks)?;
     let free_blocks = table.free_blocks;
-    match writeln!(writer, "free {tracks} tracks, {free_blocks} control blocks") {
-        Ok(()) => Ok(()),
-        Err(_) => Err(VolumeFault::Write),
-    }
+    writeln!(writer, "free {tracks} tracks, {free_blocks} control blocks")
 }
 
 // The lines of what is wrong.
@@ -360,6 +260,6 @@ fn write_finding<W: Write>(writer: &mut W, finding: &Finding) -> io::Result<()>
     ensures { OnOk result (Appends (W.contents writer.old) (W.contents writer.new) (finding_line finding.now)) }
 {
     let place = Place(finding.place);
-    let problem = finding.problem;
+    let problem = Wrong(finding.problem);
     writeln!(writer, "finding {place} {problem}")
 }

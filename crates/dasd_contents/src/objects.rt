@@ -9,12 +9,7 @@ ghost use Rattle.dasd_contents.specs.Objects.{quoted_text, four_text, day_or_nul
 ghost use Rattle.dasd_contents.specs.Objects.{number_members, comma_before, listed_extent, extents_text, listed_type, types_text, set_object, block_object};
 ghost use Rattle.dasd_contents.specs.Objects.{finding_members, finding_object, volume_objects, contents_objects};
 
-use crate::blocks::Block;
-use crate::findings::Finding;
-use crate::lines::{is_data_set, tracks_free, tracks_owned, tracks_used};
-use crate::reading::Contents;
-use crate::sets::{DataSet, data_set_of};
-use crate::words::{Day, Format, Organisation, Text, is_date, kind_of};
+use crate::words::{Day, Format, Organisation, Text, Wrong, is_date, kind_of};
 use ckd_track::Geometry;
 use counted_io::{Counted, WriteFault, write_flushed};
 use dasd_volumes::VolumeFault;
@@ -22,6 +17,10 @@ use data_sets::without_blanks;
 use std::alloc::Global;
 use std::io::Write;
 use std::{fmt, io};
+use volume_contents::{
+    Block, Contents, DataSet, Finding, data_set_of, is_data_set, tracks_free, tracks_owned,
+    tracks_used,
+};
 use volume_labels::{ContentsBlock, DataSetBlock, Date, Extent, VolumeLabel};
 
 /// Prints the volume label, each data set, the free tracks, and what is wrong, each as an object of JSON with the volume's
@@ -62,15 +61,12 @@ fn make_objects<W: Write>(
     writer: &mut W,
     volume: Volume,
     contents: &Contents,
-) -> Result<(), VolumeFault>
-    ensures lines { OnOk result (Appends (W.contents writer.old) (W.contents writer.new)
+) -> io::Result<()>
+    ensures { OnOk result (Appends (W.contents writer.old) (W.contents writer.new)
         (contents_objects volume.entry.path.now volume.entry.geometry contents.now)) }
 {
     write_known(alloc, writer, volume, contents)?;
-    match write_findings(writer, volume.path, contents.found.findings.as_slice()) {
-        Ok(()) => Ok(()),
-        Err(_) => Err(VolumeFault::Write),
-    }
+    write_findings(writer, volume.path, contents.found.findings.as_slice())
 }
 
 // The volume that objects are of: its path, which is a string of JSON with its quotes, and its geometry.
@@ -136,10 +132,9 @@ fn write_known<W: Write>(
     writer: &mut W,
     volume: Volume,
     contents: &Contents,
-) -> Result<(), VolumeFault>
-    ensures lines { OnOk result (Appends (W.contents writer.old) (W.contents writer.new)
+) -> io::Result<()>
+    ensures { OnOk result (Appends (W.contents writer.old) (W.contents writer.new)
         (volume_objects volume.entry.path.now volume.entry.geometry contents.now.found.blocks.items contents.now.label contents.now.table)) }
-    ensures fault { IfErr result (λ e. e ≢ VolumeFault.Store) }
 {
     let Some(label) = contents.label else {
         return Ok(());
@@ -149,9 +144,7 @@ fn write_known<W: Write>(
     };
     let blocks = contents.found.blocks.as_slice();
     let free = tracks_free(alloc, volume.geometry, blocks)?;
-    let Ok(()) = write_volume(writer, volume.path, &label, &table, free) else {
-        return Err(VolumeFault::Write);
-    };
+    write_volume(writer, volume.path, &label, &table, free)?;
     write_sets(alloc, writer, volume, blocks)
 }
 
@@ -177,18 +170,7 @@ fn write_volume<W: Write>(
 }
 
 // The object of a volume with a label and without a table.
-fn write_alone<W: Write>(writer: &mut W, path: &str, label: &VolumeLabel) -> Result<(), VolumeFault>
-    ensures lines { OnOk result (Appends (W.contents writer.old) (W.contents writer.new) (path_text path.now ++ alone_members label.now)) }
-    ensures fault { IfErr result (λ e. e ≢ VolumeFault.Store) }
-{
-    match write_label(writer, path, label) {
-        Ok(()) => Ok(()),
-        Err(_) => Err(VolumeFault::Write),
-    }
-}
-
-// The same; a write that failed is told as the writer tells it.
-fn write_label<W: Write>(writer: &mut W, path: &str, label: &VolumeLabel) -> io::Result<()>
+fn write_alone<W: Write>(writer: &mut W, path: &str, label: &VolumeLabel) -> io::Result<()>
     ensures { OnOk result (Appends (W.contents writer.old) (W.contents writer.new) (path_text path.now ++ alone_members label.now)) }
 {
     write_path(writer, path)?;
@@ -232,10 +214,9 @@ fn write_sets<W: Write>(
     writer: &mut W,
     volume: Volume,
     blocks: &[Block],
-) -> Result<(), VolumeFault>
-    ensures lines { OnOk result (Appends (W.contents writer.old) (W.contents writer.new)
+) -> io::Result<()>
+    ensures { OnOk result (Appends (W.contents writer.old) (W.contents writer.new)
         (flat_map (block_object volume.entry.path.now volume.entry.geometry blocks.now) blocks.now)) }
-    ensures fault { IfErr result (λ e. e ≢ VolumeFault.Store) }
 {
     for block in blocks {
         write_block(alloc, writer, volume, blocks, block)?;
@@ -250,21 +231,15 @@ fn write_block<W: Write>(
     volume: Volume,
     blocks: &[Block],
     block: &Block,
-) -> Result<(), VolumeFault>
-    ensures lines { OnOk result (Appends (W.contents writer.old) (W.contents writer.new)
+) -> io::Result<()>
+    ensures { OnOk result (Appends (W.contents writer.old) (W.contents writer.new)
         (block_object volume.entry.path.now volume.entry.geometry blocks.now block.now)) }
-    ensures fault { IfErr result (λ e. e ≢ VolumeFault.Store) }
 {
     if !is_data_set(block.kind) {
         return Ok(());
     }
-    let Ok(set) = data_set_of(alloc, blocks, block) else {
-        return Err(VolumeFault::OutOfMemory);
-    };
-    match write_set(writer, volume, &set) {
-        Ok(()) => Ok(()),
-        Err(_) => Err(VolumeFault::Write),
-    }
+    let set = data_set_of(alloc, blocks, block)?;
+    write_set(writer, volume, &set)
 }
 
 // The object of a data set.
@@ -393,6 +368,9 @@ fn write_problem<W: Write>(writer: &mut W, finding: &Finding) -> io::Result<()>
     writeln!(
         writer,
         ",\"cylinder\":{},\"head\":{},\"record\":{},\"kind\":\"{kind}\",\"text\":\"{}\"}}",
-        place.track.cylinder, place.track.head, place.number, finding.problem
+        place.track.cylinder,
+        place.track.head,
+        place.number,
+        Wrong(finding.problem)
     )
 }

@@ -3,21 +3,22 @@
 ghost use Rattle.std.specs.Prelude.{◌≡◌, ◌≤◌, [], ◌∷◌, Some, length, codes};
 ghost use Rattle.std.specs.List.{concat};
 ghost use Rattle.std.specs.Fmt.{WritesOnOk, decimal};
+ghost use Rattle.dasd_volumes.specs.Lines.{hexadecimal};
 ghost use Rattle.dasd_contents.specs.Words.{owner_text, track_text, place_text, extent_text, piece_text, in_text, text_of, is_date, day_text, organisation_of};
 ghost use Rattle.dasd_contents.specs.Words.{unmovable, organisation_text, form_of, where_set, format_text, chain_text, problem_text, kind_text};
 
-use crate::chains::ChainFault;
-use crate::findings::Problem;
 use dasd_volumes::{Reason, TrackAddress as Address};
 use data_sets::without_blanks;
 use std::fmt;
+use std::fmt::Display;
+use volume_contents::{ChainFault, Problem};
 use volume_labels::{Date, Extent, FreeTracks, RecordAddress, TrackAddress, shown_character};
 
 /// A track: cylinder and head.
 #[derive(Clone, Copy)]
 pub(crate) struct Track(pub(crate) TrackAddress);
 
-impl fmt::Display for Track {
+impl Display for Track {
     ghost output = { λ t. Some (track_text t.0) };
 
     fn fmt<W: fmt::Write>(&self, f: &mut fmt::Formatter<W>) -> fmt::Result {
@@ -30,7 +31,7 @@ impl fmt::Display for Track {
 #[derive(Clone, Copy)]
 pub(crate) struct Place(pub(crate) RecordAddress);
 
-impl fmt::Display for Place {
+impl Display for Place {
     ghost output = { λ p. Some (place_text p.0) };
 
     fn fmt<W: fmt::Write>(&self, f: &mut fmt::Formatter<W>) -> fmt::Result {
@@ -51,7 +52,7 @@ pub(crate) struct Text<'a> {
     pub(crate) quoted: bool,
 }
 
-impl fmt::Display for Text<'_> {
+impl Display for Text<'_> {
     ghost output = { λ t. Some (text_of t.quoted t.bytes.now) };
 
     fn fmt<W: fmt::Write>(&self, f: &mut fmt::Formatter<W>) -> fmt::Result {
@@ -81,7 +82,7 @@ fn write_character<W: fmt::Write>(
 #[derive(Clone, Copy)]
 pub(crate) struct Owner<'a>(pub(crate) &'a [u8]);
 
-impl fmt::Display for Owner<'_> {
+impl Display for Owner<'_> {
     ghost output = { λ o. Some (owner_text o.0.now) };
 
     fn fmt<W: fmt::Write>(&self, f: &mut fmt::Formatter<W>) -> fmt::Result {
@@ -108,7 +109,7 @@ pub(crate) fn is_date(date: Date) -> bool
     date.year != 0 || date.day != 0
 }
 
-impl fmt::Display for Day {
+impl Display for Day {
     ghost output = { λ d. Some (day_text d.wide d.date) };
 
     fn fmt<W: fmt::Write>(&self, f: &mut fmt::Formatter<W>) -> fmt::Result {
@@ -129,7 +130,7 @@ pub(crate) struct Organisation {
     pub(crate) wide: bool,
 }
 
-impl fmt::Display for Organisation {
+impl Display for Organisation {
     ghost output = { λ o. Some (organisation_text o.wide o.bits) };
 
     fn fmt<W: fmt::Write>(&self, f: &mut fmt::Formatter<W>) -> fmt::Result {
@@ -166,7 +167,7 @@ fn unmovable(bits: u16, wide: bool) -> &'static str
 #[derive(Clone, Copy)]
 pub(crate) struct Format(pub(crate) u8);
 
-impl fmt::Display for Format {
+impl Display for Format {
     ghost output = { λ f. Some (format_text f.0) };
 
     fn fmt<W: fmt::Write>(&self, f: &mut fmt::Formatter<W>) -> fmt::Result {
@@ -217,7 +218,7 @@ pub(crate) fn format_width(format: u8) -> usize
 #[derive(Clone, Copy)]
 pub(crate) struct Bounds(pub(crate) Extent);
 
-impl fmt::Display for Bounds {
+impl Display for Bounds {
     ghost output = { λ b. Some (extent_text b.0) };
 
     fn fmt<W: fmt::Write>(&self, f: &mut fmt::Formatter<W>) -> fmt::Result {
@@ -229,7 +230,7 @@ impl fmt::Display for Bounds {
 #[derive(Clone, Copy)]
 struct Piece(FreeTracks);
 
-impl fmt::Display for Piece {
+impl Display for Piece {
     ghost output = { λ p. Some (piece_text p.0) };
 
     fn fmt<W: fmt::Write>(&self, f: &mut fmt::Formatter<W>) -> fmt::Result {
@@ -245,11 +246,15 @@ impl fmt::Display for Piece {
     }
 }
 
-impl fmt::Display for ChainFault {
-    ghost output = { λ c. Some (chain_text c) };
+/// Why a chain of control blocks is not followed further.
+#[derive(Clone, Copy)]
+pub struct Broken(pub ChainFault);
+
+impl Display for Broken {
+    ghost output = { λ c. Some (chain_text c.0) };
 
     fn fmt<W: fmt::Write>(&self, f: &mut fmt::Formatter<W>) -> fmt::Result {
-        match *self {
+        match self.0 {
             ChainFault::Missing(at) => write_at(f, "next control block ", at, " is none"),
             ChainFault::OtherFormat(at) => {
                 write_at(f, "next control block ", at, " has another format")
@@ -297,24 +302,26 @@ pub(crate) fn kind_of(problem: &Problem) -> &'static str
     }
 }
 
-impl fmt::Display for Problem {
-    ghost output = { λ p. Some (problem_text p) };
+/// What is wrong.
+#[derive(Clone, Copy)]
+pub(crate) struct Wrong(pub(crate) Problem);
+
+impl Display for Wrong {
+    ghost output = { λ w. Some (problem_text w.0) };
 
     fn fmt<W: fmt::Write>(&self, f: &mut fmt::Formatter<W>) -> fmt::Result {
-        match *self {
+        match self.0 {
             Problem::NoLabel => f.write_str("no volume label"),
             Problem::NoContents(at) => write_at(f, "no volume table of contents at ", at, ""),
             Problem::BadContents(extent) => {
                 write_extent(f, extent, " of the volume table of contents")
             }
-            Problem::Unreadable(fault) => write!(f, "{}", Reason(fault)),
+            Problem::Unreadable(fault) => Reason(fault).fmt(f),
             Problem::NoBlock => f.write_str("record has not the lengths of a control block"),
-            Problem::UnknownFormat(format) => {
-                write!(f, "control block of unknown format {format:02X}")
-            }
+            Problem::UnknownFormat(format) => write_format(f, format),
             Problem::OtherKey => f.write_str("control block has a key of another format"),
-            Problem::Chain(fault) => write!(f, "{fault}"),
-            Problem::OtherNumber(found, said) => write!(f, "{found} extents, and not {said}"),
+            Problem::Chain(fault) => Broken(fault).fmt(f),
+            Problem::OtherNumber(found, said) => write_number(f, found, said),
             Problem::BadExtent(extent) => write_extent(f, extent, " is no run of tracks"),
             Problem::ExtentOutside(extent) => {
                 write_extent(f, extent, " is not all on the volume")
@@ -324,6 +331,20 @@ impl fmt::Display for Problem {
             Problem::FreeInUse(piece, track) => write_in_use(f, piece, track),
         }
     }
+}
+
+// The format of a control block that is none of those known.
+fn write_format<W: fmt::Write>(f: &mut fmt::Formatter<W>, format: u8) -> fmt::Result
+    ensures { WritesOnOk W.write_str_gives f.old result (concat (codes "control block of unknown format " ∷ hexadecimal 2 format ∷ [])) f.new }
+{
+    write!(f, "control block of unknown format {format:02X}")
+}
+
+// How many extents there are, and how many there should be.
+fn write_number<W: fmt::Write>(f: &mut fmt::Formatter<W>, found: usize, said: u8) -> fmt::Result
+    ensures { WritesOnOk W.write_str_gives f.old result (concat (decimal found ∷ codes " extents, and not " ∷ decimal said ∷ [])) f.new }
+{
+    write!(f, "{found} extents, and not {said}")
 }
 
 // An extent, and what is wrong with it.

@@ -8,10 +8,10 @@ use Rattle.dasd_volumes.specs.declared.fault.VolumeFault.{VolumeFault}
 use Rattle.dasd_volumes.specs.declared.fault.VolumeFault.TheVariants as volume
 use Rattle.dasd_volumes.specs.Printing.{CountsWrites}
 use Rattle.dasd_volumes.specs.Reading.{KnownVolume}
-use Rattle.dasd_contents.specs.declared.blocks.Block.{Block}
-use Rattle.dasd_contents.specs.declared.reading.Contents.{Contents}
-use Rattle.dasd_contents.specs.declared.findings.Finding.{Finding}
-use Rattle.dasd_contents.specs.Contents.{Said, contents_of}
+use Rattle.volume_contents.specs.declared.blocks.Block.{Block}
+use Rattle.volume_contents.specs.declared.reading.Contents.{Contents}
+use Rattle.volume_contents.specs.declared.findings.Finding.{Finding}
+use Rattle.volume_contents.specs.Contents.{Said, contents_of}
 use Rattle.dasd_contents.specs.Lines.{volume_lines, finding_line}
 use Rattle.dasd_contents.specs.Objects.{volume_objects, finding_object}
 use Rattle.dasd_jobs.specs.declared.faults.JobFault.TheVariants as job

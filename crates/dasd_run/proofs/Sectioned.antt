@@ -7,8 +7,8 @@ use Rattle.dasd_volumes.specs.declared.fault.VolumeFault.TheVariants as volume
 use Rattle.dasd_volumes.specs.Printing.{PrintsText, CountsWrites}
 use Rattle.dasd_volumes.specs.Reading.{KnownVolume}
 use Rattle.dasd_volumes.proofs.Fronts.{begins_with_all, begins_before, front_more, front_behind}
-use Rattle.dasd_contents.specs.declared.blocks.Block.{Block}
-use Rattle.dasd_contents.specs.declared.reading.Contents.{Contents}
+use Rattle.volume_contents.specs.declared.blocks.Block.{Block}
+use Rattle.volume_contents.specs.declared.reading.Contents.{Contents}
 use Rattle.library_members.specs.Report.{printed, some_wrong}
 use Rattle.volume_details.specs.Sections.{Views, sections, TellsWrong}
 use Rattle.dasd_jobs.specs.declared.faults.JobFault.TheVariants as job

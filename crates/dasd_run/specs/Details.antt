@@ -3,7 +3,7 @@ use Rattle.std.specs.Prelude.{◌≡◌, ◌⊎◌, ℕ, Bool, true, false, if�
 use Rattle.counted_io.specs.Streams.{Stream, Takes, TakesFront, NoneFailed, IsFlushed}
 use Rattle.ckd_track.specs.declared.geometries.Geometry.{Geometry}
 use Rattle.dasd_volumes.specs.Reading.{KnownVolume}
-use Rattle.dasd_contents.specs.Contents.{contents_of}
+use Rattle.volume_contents.specs.Contents.{contents_of}
 use Rattle.library_members.specs.Report.{Line, printed, some_wrong}
 use Rattle.volume_details.specs.declared.fault.LibraryFault.{LibraryFault}
 use Rattle.volume_details.specs.declared.fault.LibraryFault.TheVariants as library

@@ -4,10 +4,10 @@ use Rattle.std.specs.List.{flat_map}
 use Rattle.counted_io.specs.Streams.{Stream, Takes, TakesFront, NoneFailed, OneFailed, IsFlushed}
 use Rattle.ckd_track.specs.declared.geometries.Geometry.{Geometry}
 use Rattle.dasd_volumes.specs.Reading.{KnownVolume}
-use Rattle.dasd_contents.specs.declared.findings.Finding.{Finding}
-use Rattle.dasd_contents.specs.declared.reading.Contents.{Contents}
-use Rattle.dasd_contents.specs.Contents.{Said, contents_of}
-use Rattle.dasd_contents.specs.Checks.{findings_of}
+use Rattle.volume_contents.specs.declared.findings.Finding.{Finding}
+use Rattle.volume_contents.specs.declared.reading.Contents.{Contents}
+use Rattle.volume_contents.specs.Contents.{Said, contents_of}
+use Rattle.volume_contents.specs.Checks.{findings_of}
 use Rattle.dasd_contents.specs.Lines.{volume_lines, finding_line, contents_lines}
 use Rattle.dasd_contents.specs.Objects.{volume_objects, finding_object, contents_objects}
 use Rattle.dasd_words.specs.declared.requests.PrintedVolume.{PrintedVolume}

@@ -13,12 +13,13 @@ use crate::printed_paths::{path_if, quoted};
 use crate::reaches::with_reach;
 use ckd_track::Geometry;
 use counted_io::Counted;
-use dasd_contents::{Contents, check_contents, read_contents, write_lines, write_objects};
+use dasd_contents::{write_lines, write_objects};
 use dasd_jobs::{ImageFiles, JobFault, SlotReader, open_volume};
 use dasd_volumes::VolumeFault;
 use dasd_words::PrintedVolume;
 use std::alloc::Global;
 use std::io::Write;
+use volume_contents::{Contents, check_contents, read_contents};
 
 /// Prints what the volume of these files holds, and says whether something is wrong with it.
 ///

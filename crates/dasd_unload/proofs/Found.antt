@@ -3,7 +3,7 @@ use Rattle.std.proofs.Common.{◌≡◌, ℕ, List, Option, Some, None, sym, fin
 use Rattle.dasd_volumes.specs.Reading.{KnownVolume}
 use Rattle.volume_labels.specs.declared.fields.Extent.{Extent}
 use Rattle.data_sets.specs.declared.directories.DirectoryEntry.{DirectoryEntry}
-use Rattle.dasd_contents.specs.declared.sets.DataSet.{DataSet}
+use Rattle.volume_contents.specs.declared.sets.DataSet.{DataSet}
 use Rattle.dasd_extract.specs.declared.members.Members.{Members}
 use Rattle.dasd_extract.specs.Members.{MembersOf}
 use Rattle.dasd_extract.specs.Names.{Names}

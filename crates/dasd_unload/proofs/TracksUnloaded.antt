@@ -2,7 +2,7 @@
 use Rattle.std.proofs.Common.{◌≡◌, sym, subst, ℕ, true, List, Option, Some, None, Result, Ok, Err, OnOk, OnErr, IfOk, IfErr, inr}
 use Rattle.counted_io.specs.Streams.{IsFlushed}
 use Rattle.dasd_volumes.specs.Reading.{KnownVolume}
-use Rattle.dasd_contents.specs.declared.sets.DataSet.{DataSet}
+use Rattle.volume_contents.specs.declared.sets.DataSet.{DataSet}
 use Rattle.dasd_extract.specs.declared.stops.Stop.{Stop}
 use Rattle.dasd_extract.specs.Raw.{CopiesTracks}
 use Rattle.dasd_unload.specs.declared.fault.UnloadFault.{UnloadFault}

@@ -13,13 +13,13 @@ use Rattle.data_sets.specs.declared.directories.DirectoryFault.{DirectoryFault}
 use Rattle.data_sets.specs.Directories.{entries_of}
 use Rattle.dasd_volumes.specs.Reading.{KnownVolume}
 use Rattle.dasd_volumes.proofs.Fronts.{front_behind}
-use Rattle.dasd_contents.specs.declared.blocks.Block.{Block}
-use Rattle.dasd_contents.specs.declared.chains.ChainFault.{ChainFault}
-use Rattle.dasd_contents.specs.declared.sets.DataSet.{DataSet}
-use Rattle.dasd_contents.specs.declared.reading.Contents.{Contents}
-use Rattle.dasd_contents.specs.declared.findings.Finding.{Finding}
-use Rattle.dasd_contents.specs.Contents.{IsContents, contents_of}
-use Rattle.dasd_contents.specs.Sets.{DataSetOf, is_data_set, extents_behind, behind_block}
+use Rattle.volume_contents.specs.declared.blocks.Block.{Block}
+use Rattle.volume_contents.specs.declared.chains.ChainFault.{ChainFault}
+use Rattle.volume_contents.specs.declared.sets.DataSet.{DataSet}
+use Rattle.volume_contents.specs.declared.reading.Contents.{Contents}
+use Rattle.volume_contents.specs.declared.findings.Finding.{Finding}
+use Rattle.volume_contents.specs.Contents.{IsContents, contents_of}
+use Rattle.volume_contents.specs.Sets.{DataSetOf, is_data_set, extents_behind, behind_block}
 use Rattle.dasd_extract.specs.declared.blocks.Form.{Form}
 use Rattle.dasd_extract.specs.declared.members.Members.{Members}
 use Rattle.dasd_extract.specs.declared.stops.Stop.{Stop}

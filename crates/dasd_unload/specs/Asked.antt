@@ -13,9 +13,9 @@ use Rattle.record_formats.specs.declared.layouts.AttributeFault.TheVariants.{NoF
 use Rattle.record_formats.specs.Layouts.{layout, layout_given}
 use Rattle.data_sets.specs.Records as records
 use Rattle.dasd_volumes.specs.Reading.{KnownVolume}
-use Rattle.dasd_contents.specs.Contents.{contents_of}
-use Rattle.dasd_contents.specs.Sets.{FoundOf}
-use Rattle.dasd_contents.specs.declared.sets.DataSet.{DataSet}
+use Rattle.volume_contents.specs.Contents.{contents_of}
+use Rattle.volume_contents.specs.Sets.{FoundOf}
+use Rattle.volume_contents.specs.declared.sets.DataSet.{DataSet}
 use Rattle.dasd_extract.specs.declared.blocks.Form.{Form}
 use Rattle.dasd_extract.specs.declared.blocks.Form.TheVariants.{Raw, Text}
 use Rattle.dasd_extract.specs.declared.members.Members.{Members}

@@ -1,7 +1,7 @@
 -- Why there is nothing to unload.
 use Rattle.std.specs.Prelude.{◌≡◌, ◌≢◌, ℕ, true, List, Option, Some, None, Result, Ok, Err}
 use Rattle.dasd_volumes.specs.Reading.{KnownVolume}
-use Rattle.dasd_contents.specs.declared.sets.DataSet.{DataSet}
+use Rattle.volume_contents.specs.declared.sets.DataSet.{DataSet}
 use Rattle.dasd_extract.specs.declared.stops.Cause.TheVariants.{EndOfFile}
 use Rattle.dasd_extract.specs.declared.stops.Stop.{Stop}
 use Rattle.dasd_unload.specs.declared.fault.UnloadFault.{UnloadFault}

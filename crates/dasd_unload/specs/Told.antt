@@ -8,7 +8,7 @@ use Rattle.quantities.specs.Quantities.{quantity_text}
 use Rattle.data_sets.specs.declared.directories.DirectoryFault.{DirectoryFault}
 use Rattle.data_sets.specs.declared.directories.DirectoryFault.TheVariants.{UsedBytes, EntryPastUsed}
 use Rattle.dasd_volumes.specs.Lines.{line_feed}
-use Rattle.dasd_contents.specs.declared.chains.ChainFault.{ChainFault}
+use Rattle.volume_contents.specs.declared.chains.ChainFault.{ChainFault}
 use Rattle.dasd_contents.specs.Words.{chain_text}
 use Rattle.dasd_extract.specs.declared.stops.Cause.{Cause}
 use Rattle.dasd_extract.specs.declared.stops.Cause.TheVariants.{EndOfFile}

@@ -8,10 +8,10 @@ use Rattle.volume_labels.specs.Labels.{data_set_block_of}
 use Rattle.data_sets.specs.declared.directories.DirectoryEntry.{DirectoryEntry}
 use Rattle.data_sets.specs.Directories.{entries_of}
 use Rattle.dasd_volumes.specs.Reading.{KnownVolume}
-use Rattle.dasd_contents.specs.declared.blocks.Block.{Block}
-use Rattle.dasd_contents.specs.declared.chains.ChainFault.{ChainFault}
-use Rattle.dasd_contents.specs.Contents.{Said, contents_of}
-use Rattle.dasd_contents.specs.Sets.{is_data_set, extents_behind, behind_block}
+use Rattle.volume_contents.specs.declared.blocks.Block.{Block}
+use Rattle.volume_contents.specs.declared.chains.ChainFault.{ChainFault}
+use Rattle.volume_contents.specs.Contents.{Said, contents_of}
+use Rattle.volume_contents.specs.Sets.{is_data_set, extents_behind, behind_block}
 use Rattle.dasd_extract.specs.declared.blocks.Form.{Form}
 use Rattle.dasd_extract.specs.Written.{Written}
 use Rattle.dasd_extract.specs.Walk.{Wanted, wanted, source_written}

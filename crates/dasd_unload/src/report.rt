@@ -11,7 +11,7 @@ ghost use Rattle.dasd_unload.specs.Told.{chain_texts, directory_texts, directory
 use crate::fault::{NO_MEMORY, UnloadFault};
 use crate::sets::Unloaded;
 use counted_io::{Counted, WriteFault, write_flushed, write_whole};
-use dasd_contents::ChainFault;
+use dasd_contents::Broken;
 use dasd_extract::{Cause, Members, Stop};
 use dasd_jobs::JobFault;
 use data_sets::DirectoryFault;
@@ -19,6 +19,7 @@ use quantities::Quantity;
 use std::alloc::Global;
 use std::io::Write;
 use std::{fmt, io};
+use volume_contents::ChainFault;
 
 /// Of what a line is: of what has this name. Where lines are objects of JSON, they have the paths of the volume, as a string of it.
 #[derive(Clone, Copy)]
@@ -313,7 +314,7 @@ impl fmt::Display for Wrong {
     fn fmt<W: fmt::Write>(&self, f: &mut fmt::Formatter<W>) -> fmt::Result {
         match *self {
             Wrong::Contents => f.write_str("has findings, which dasd vtoc prints"),
-            Wrong::Chain(fault) => write!(f, "{fault}"),
+            Wrong::Chain(fault) => write!(f, "{}", Broken(fault)),
             Wrong::NoRecords => f.write_str("its format is of no records"),
             Wrong::Directory(fault) => f.write_str(directory_text(fault)),
             Wrong::Ends(stop) => write!(f, "{stop}"),

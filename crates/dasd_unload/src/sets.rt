@@ -11,7 +11,6 @@ ghost use Rattle.dasd_unload.specs.Causes.{WhyNoStart, WhyNot, UnloadsOrTells};
 
 use crate::fault::{NO_MEMORY, UnloadFault, of_reading, of_volume};
 use counted_io::{Counted, WriteFault, flush_all};
-use dasd_contents::{DataSet, find, read_contents};
 use dasd_extract::{
     Cause, Form, Source, Stop, data_set_name, extract, find_member, member_name, read_members,
 };
@@ -20,6 +19,7 @@ use data_sets::{DirectoryEntry, record_form};
 use record_formats::{AttributeFault, Layout, RecordAttributes, layout_given};
 use std::alloc::Global;
 use std::io::Write;
+use volume_contents::{DataSet, find, read_contents};
 use volume_labels::{DataSetBlock, Extent, RelativeAddress};
 
 /// The bit of a data set's organisation that says that it is partitioned (IBM System/360 Operating System, System Control Blocks,

@@ -11,11 +11,11 @@ ghost use Rattle.dasd_unload.specs.Tracks.{tracks_by, PutsTracks, PrintsFirstTra
 use crate::fault::{UnloadFault, of_volume};
 use crate::sets::find_set;
 use counted_io::{Counted, WriteFault, flush_all};
-use dasd_contents::DataSet;
 use dasd_extract::{Cause, Stop, copy_tracks};
 use dasd_jobs::{ImageFiles, JobFault, SlotReader, begin_file, put_file};
 use std::alloc::Global;
 use std::io::Write;
+use volume_contents::DataSet;
 use volume_labels::Extent;
 
 /// A data set whose tracks are to be unloaded.

@@ -5,7 +5,7 @@ ghost use Rattle.std.specs.List.{flat_map};
 ghost use Rattle.std.specs.Option.{option_copied};
 ghost use Rattle.std.specs.String.{string_bytes};
 ghost use Rattle.counted_io.specs.Streams.{seen_by, IsFlushed};
-ghost use Rattle.dasd_contents.specs.Sets.{is_data_set};
+ghost use Rattle.volume_contents.specs.Sets.{is_data_set};
 ghost use Rattle.dasd_extract.specs.Walk.{wanted};
 ghost use Rattle.dasd_unload.specs.Unloads.{AddsIn, IsFileName, outcome, file_name, is_of_job};
 ghost use Rattle.dasd_unload.specs.Volumes.{plan, plan_of, Unload, path_in, block_steps, partitioned_steps, set_steps, volume_steps, DoesOfVolume};
@@ -15,12 +15,12 @@ use crate::fault::{NO_MEMORY, UnloadFault, of_reading};
 use crate::report::{Named, Report, Wrong};
 use crate::sets::{form_of, is_partitioned, unload_to, whole};
 use counted_io::Counted;
-use dasd_contents::{Block, DataSet, data_set_of, read_contents};
 use dasd_extract::{Form, Source, member_of, read_members};
 use dasd_jobs::{ImageFiles, JobFault, SlotReader, open_volume};
 use data_sets::{DirectoryEntry, safe_name};
 use std::alloc::Global;
 use std::io::Write;
+use volume_contents::{Block, DataSet, data_set_of, read_contents};
 use volume_labels::BlockKind;
 
 /// A volume all of whose data sets are to be unloaded.

@@ -9,10 +9,10 @@ use Rattle.volume_labels.specs.declared.blocks.DataSetBlock.{DataSetBlock}
 use Rattle.volume_labels.specs.Labels.{data_set_block_of}
 use Rattle.data_sets.specs.declared.directories.DirectoryEntry.{DirectoryEntry}
 use Rattle.data_sets.specs.Names.{safe_name_of}
-use Rattle.dasd_contents.specs.declared.blocks.Block.{Block}
-use Rattle.dasd_contents.specs.declared.findings.Finding.{Finding}
-use Rattle.dasd_contents.specs.Contents.{contents_of}
-use Rattle.dasd_contents.specs.Sets.{is_data_set, extents_behind}
+use Rattle.volume_contents.specs.declared.blocks.Block.{Block}
+use Rattle.volume_contents.specs.declared.findings.Finding.{Finding}
+use Rattle.volume_contents.specs.Contents.{contents_of}
+use Rattle.volume_contents.specs.Sets.{is_data_set, extents_behind}
 use Rattle.volume_hash.specs.Lines.{hash_text}
 use Rattle.volume_hash.specs.Message.{unreadable_in}
 use Rattle.set_hash.specs.Lines.{Shown, set_text, member_text, findings_text}

@@ -2,7 +2,6 @@
 
 ghost use Rattle.std.specs.Prelude.{◌≡◌, ◌≢◌, ◌&&◌, ◌++◌, IfErr, OnOk};
 ghost use Rattle.dasd_volumes.specs.Reading.{IsRead};
-ghost use Rattle.dasd_contents.specs.Sets.{is_data_set};
 ghost use Rattle.set_hash.specs.Lines.{shown};
 ghost use Rattle.set_hash.specs.Message.{is_partitioned, are_whole, beginning};
 ghost use Rattle.set_hash.specs.Prints.{Adds};
@@ -12,11 +11,11 @@ ghost use Rattle.set_hash.specs.Sets.{blocks_are_whole, contents_lines, contents
 use crate::blocks::hash_blocks;
 use crate::items::{Form, Report, write_findings};
 use crate::libraries::{Named, add_library, add_set};
-use dasd_contents::{Block, DataSet, Finding, data_set_of, read_contents};
 use dasd_volumes::{SlotReader, VolumeFault};
 use data_sets::safe_name;
 use std::alloc::{AllocError, Global};
-use volume_labels::{BlockKind, DataSetBlock, RelativeAddress};
+use volume_contents::{Block, DataSet, Finding, data_set_of, is_data_set, read_contents};
+use volume_labels::{DataSetBlock, RelativeAddress};
 
 /// The bit of a data set's organisation that says that it is partitioned (IBM System/360 Operating System, System Control Blocks,
 /// 'Data Set Control Block', format 1, DS1DSORG).
@@ -103,13 +102,6 @@ fn add_blocks<V: SlotReader>(
         }
     }
     Ok(())
-}
-
-// Whether a control block is one of format 1.
-fn is_data_set(kind: BlockKind) -> bool
-    ensures { result ≡ is_data_set kind }
-{
-    kind == BlockKind::DataSet
 }
 
 // The lines of the data set whose control block this is, if it is one's.

@@ -1,6 +1,6 @@
 -- The indicators of a data set, in its format 1 block (System Control Blocks, 'Data Set Control Block', DS1DSIND), and the types of extents.
 use Rattle.std.specs.Prelude.{ℕ, ◌==◌, Bool, not, if◌then◌else◌, List, slice_index, bit_and, codes}
-use Rattle.dasd_contents.specs.declared.blocks.Block.{Block}
+use Rattle.volume_contents.specs.declared.blocks.Block.{Block}
 use Rattle.volume_details.specs.declared.indicators.Protection.{Protection}
 use Rattle.volume_details.specs.declared.indicators.Protection.TheVariants as protection
 

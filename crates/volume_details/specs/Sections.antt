@@ -7,8 +7,8 @@ use Rattle.volume_labels.specs.Labels.{data_set_block_of}
 use Rattle.data_sets.specs.Names.{safe_name_of}
 use Rattle.dasd_volumes.specs.Lines.{line_feed}
 use Rattle.dasd_volumes.specs.Reading.{KnownVolume}
-use Rattle.dasd_contents.specs.declared.blocks.Block.{Block}
-use Rattle.dasd_contents.specs.Sets.{is_data_set, extents_behind}
+use Rattle.volume_contents.specs.declared.blocks.Block.{Block}
+use Rattle.volume_contents.specs.Sets.{is_data_set, extents_behind}
 use Rattle.dasd_unload.specs.Asked.{is_partitioned}
 use Rattle.library_members.specs.Report.{Line, plain, some_wrong}
 use Rattle.library_members.specs.Lines.{Shown}

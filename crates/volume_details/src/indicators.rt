@@ -4,7 +4,7 @@
 ghost use Rattle.std.specs.Prelude.{◌≡◌};
 ghost use Rattle.volume_details.specs.Indicators.{is_last_volume, protection_of, type_text};
 
-use dasd_contents::Block;
+use volume_contents::Block;
 
 /// Where they stand in the data of the block.
 const INDICATORS: usize = 49;

@@ -15,13 +15,13 @@ use crate::fault::{LibraryFault, of_volume};
 use crate::printing::print_report;
 use crate::sections::is_partitioned;
 use counted_io::Counted;
-use dasd_contents::{DataSet, find, read_contents};
 use dasd_extract::data_set_name;
 use dasd_volumes::{SlotReader, VolumeFault};
 use data_sets::safe_name;
 use library_members::{Form, Library, Report, list_members};
 use std::alloc::Global;
 use std::io::Write;
+use volume_contents::{DataSet, find, read_contents};
 
 /// Prints the members of the first data set that has a name, in the order of its directory, with where each begins, its user data and how
 /// many bytes its blocks have; as objects of JSON, where there are the paths of the volume for them, as a string of it with its quotes. It

@@ -6,9 +6,9 @@ use Rattle.dasd_contents.proofs.lines.write_sets.Goals as goal
 pub loop-block-preserved : goal.loop-block-preserved
 loop-block-preserved g c = one_more_text _ _ _ (block_line c.args.geometry c.args.blocks.now) [] c.args.blocks.now c.loop-block.block-index
     _ (search (rules, tests))
-    c.loop-block.invariant c.in_ok-write_block.ensures.lines
+    c.loop-block.invariant c.in_ok-write_block.ensures
 
-pub returns-clause-lines : goal.returns-clause-lines
-returns-clause-lines g c =
+pub returns : goal.returns
+returns g c =
     all_texts _ _ (block_line c.args.geometry c.args.blocks.now) [] c.args.blocks.now c.loop-block.block-index
     (search (rules, tests)) c.loop-block.invariant

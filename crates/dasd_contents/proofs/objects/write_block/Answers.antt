@@ -1,5 +1,5 @@
 use Rattle.std.proofs.KnownBytes.{Appends-nil}
 use Rattle.dasd_contents.proofs.objects.write_block.Goals as goal
 
-pub returns-then-not-is_data_set-clause-lines : goal.returns-then-not-is_data_set-clause-lines
-returns-then-not-is_data_set-clause-lines g c = rw (← c.is_data_set.ensures, c.if-not-is_data_set.true) (Appends-nil _)
+pub returns-then-not-is_data_set : goal.returns-then-not-is_data_set
+returns-then-not-is_data_set g c = rw (← c.is_data_set.ensures, c.if-not-is_data_set.true) (Appends-nil _)
