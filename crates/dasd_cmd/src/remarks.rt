@@ -44,6 +44,11 @@ impl<'a> Remarks<'a> {
         }
     }
 
+    /// The host on whose standard error they are told.
+    pub(crate) fn host(&self) -> &'a HostRuntime {
+        self.host
+    }
+
     /// Whether somebody sits at standard error.
     pub(crate) fn is_terminal(&self) -> bool {
         self.is_terminal
