@@ -49,7 +49,6 @@ ERRORS = {
     "pread64": ["EIO", "EIO on", "EINTR"],
     "getdents64": ["EIO"],
     "write": ["EIO", "ENOSPC", "ENOSPC on", "EINTR"],
-    "pwrite64": ["EIO", "ENOSPC", "ENOSPC on", "EINTR"],
     "ftruncate": ["EIO"],
     "fsync": ["EIO"],
     "fdatasync": ["EIO"],
@@ -215,7 +214,7 @@ def play(dasd: Path, command: Command, tracing: list[str]) -> Came:
         fill(folder)
         words = ["strace", "-qq", *tracing, str(dasd), *command.words, "--verbose"]
         done = subprocess.run(words, cwd=folder, input=command.given, capture_output=True, timeout=60, check=False)
-        unread = ended_saves(dasd, folder)
+        unread = ["a journal stays, and no fault is told"] if done.returncode == 0 and any(folder.glob(f"{JOURNAL}*")) else ended_saves(dasd, folder)
         return Came(done.returncode, done.stdout, done.stderr, files_in(folder), kept_drafts(dasd, folder), unread)
 
 
@@ -358,7 +357,7 @@ def unsynced(lines: list[str]) -> list[str]:
             opened[call["answer"]] = file
         elif name in ("fsync", "fdatasync"):
             seen.sync(file)
-        elif name in ("write", "pwrite64", "ftruncate"):
+        elif name in ("write", "ftruncate"):
             seen.go_on()
             seen.write(file)
         elif name in ("rename", "link"):

@@ -65,7 +65,8 @@ def access_list_and_extended_attribute_are_kept_in_place(s: Scratch) -> None:
             raise Skipped(f"{words[0]} can do nothing in this file system")
 
     def kept() -> list[str]:
-        return [subprocess.run([*words, "vol.ckd"], cwd=s.folder, capture_output=True, text=True, check=True).stdout for words in (["getfacl"], ["getfattr", "-d"])]
+        tools = (["getfacl", "-n", "vol.ckd"], ["getfattr", "-d", "vol.ckd"])
+        return [subprocess.run(words, cwd=s.folder, capture_output=True, text=True, check=True).stdout for words in tools]
 
     before = kept()
     same(("user:1000:rw-" in before[0], 'user.note="mine"' in before[1]), (True, True))
@@ -151,12 +152,14 @@ def volume_whose_save_was_cut_off_is_read_whole(s: Scratch) -> None:
     beside, half = cut_off(s), s.path("vol.ckd").read_bytes()
     read = INSTEAD.format("vol.ckd", f"./{beside.name}")
     for words in (["list"], ["list", "--json"], ["check"], ["check", "--strict"], ["dump"], ["hash"]):
-        status, out, told = s.dasd(*words, "new.ckd")
-        same(s.dasd(*words, VERBOSE, "vol.ckd"), (status, out.replace("new.ckd", "vol.ckd"), told + read), " ".join(words))
+        place = ["0", "0"] if words == ["dump"] else []
+        status, out, told = s.dasd(*words, "new.ckd", *place)
+        same(s.dasd(*words, VERBOSE, "vol.ckd", *place), (status, out.replace("new.ckd", "vol.ckd"), told + read), " ".join(words))
     same(s.dasd("compare", "vol.ckd", "new.ckd")[0], 0)
     same(s.dasd("run", "--no-save", VERBOSE, "90=vol.ckd"), (0, "", read))
+    s.path("link.ckd").symlink_to("vol.ckd")
+    os.link(s.path("vol.ckd"), s.path("hard.ckd"))
     for link in ("link.ckd", "hard.ckd"):
-        (s.path(link).symlink_to if link == "link.ckd" else s.path(link).hardlink_to)(s.path("vol.ckd"))
         same(s.dasd("hash", link)[1].split()[0], s.dasd("hash", "new.ckd")[1].split()[0], link)
     is_held(s.path("vol.ckd"), half)
     same(beside.exists(), True)
@@ -277,6 +280,6 @@ def file_whose_name_is_no_text_is_read_and_written_through_a_link(s: Scratch) ->
     is_held(s.path(name), NEW)
     same((s.path(name).stat().st_ino, os.readlink(s.path("link.ckd"))), (number, name))
     journal(s, name, OLD, NEW)
-    same(s.dasd("run", VERBOSE, "90=link.ckd"), (0, "", ENDED.format("link.ckd")))
+    same(s.dasd("run", VERBOSE, IN_PLACE, "90=link.ckd"), (0, "", ENDED.format("link.ckd")))
     is_held(s.path(name), OLD)
     same(len(s.names()), 2)

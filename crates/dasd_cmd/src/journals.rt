@@ -6,10 +6,11 @@
 ghost use Rattle.std.specs.Prelude.{◌≡◌, ◌≤◌, length};
 
 use crate::drafts::{Old, folder_of};
-use crate::locks::wrong;
+use crate::locks::{busy, wrong};
 use crate::remarks::Remarks;
+use journal_bytes::{are_either, take_differences};
 use std::fs::{File, Metadata, OpenOptions};
-use std::io::ErrorKind;
+use std::io::{ErrorKind, Seek, SeekFrom, Write};
 use std::os::unix::fs::{FileExt, MetadataExt};
 use std::path::{Path, PathBuf};
 use std::{fmt, fs, io};
@@ -104,6 +105,11 @@ impl<'a> Journal<'a> {
         self.sync_folder()
     }
 
+    // Whether it still has its name.
+    fn is_there(&self) -> bool {
+        fs::symlink_metadata(self.remarks.host(), self.path.as_path()).is_ok()
+    }
+
     // Has the folder's names on the disk.
     fn sync_folder(&self) -> io::Result<()> {
         File::open(self.remarks.host(), folder_of(self.path.as_path()))?.sync_all()
@@ -159,10 +165,8 @@ impl<'a> Journal<'a> {
         if saved[..count] == held[..count] {
             return Ok(());
         }
-        for (byte, other) in held[..count].iter_mut().zip(saved[..count].iter()) {
-            *byte ^= *other;
-        }
-        self.file.write_all_at(&held[..count], self.len.saturating_add(at))
+        take_differences(&saved[..count], &mut held[..count]);
+        write_at(&self.file, &held[..count], self.len.saturating_add(at))
     }
 
     // Whether each byte of a block of the target is the one that is saved, or the one that was there before.
@@ -175,12 +179,7 @@ impl<'a> Journal<'a> {
         self.read(&mut saved[..count], at)?;
         self.read(&mut differing[..count], self.len.saturating_add(at))?;
         self.read_target(target, &mut held[..count], at)?;
-        for i in 0..count {
-            if held[i] != saved[i] && held[i] != saved[i] ^ differing[i] {
-                return Ok(false);
-            }
-        }
-        Ok(true)
+        Ok(are_either(&saved[..count], &differing[..count], &held[..count]))
     }
 
     // Writes a block of what is saved over that of the target, if it is another.
@@ -194,8 +193,14 @@ impl<'a> Journal<'a> {
         if saved[..count] == held[..count] {
             return Ok(());
         }
-        target.write_all_at(&saved[..count], at)
+        write_at(target, &saved[..count], at)
     }
+}
+
+// Writes bytes into a file, from a place on.
+fn write_at(mut file: &File, bytes: &[u8], at: u64) -> io::Result<()> {
+    file.seek(SeekFrom::Start(at))?;
+    file.write_all(bytes)
 }
 
 /// Where a file lies that a path leads to: where a symbolic link leads, if that is a text, and else where the link stands.
@@ -233,32 +238,54 @@ pub(crate) fn whole_file<'a>(
         return Ok(file);
     };
     if !journal.pass(&file, Step::Compare)? {
+        if !journal.is_there() {
+            return Ok(file); // its save was ended meanwhile
+        }
         remarks.note(&Changed(path, journal.path.as_str()));
         return Err(wrong("it was written by another program since"));
     }
     if may_write {
-        if let Some(target) = open_target(remarks.host(), path, &known) {
-            return match journal.finish(&target) {
-                Ok(()) => {
-                    remarks.note(&Ended(path));
-                    Ok(file)
-                }
-                Err(fault) => {
-                    remarks.note(&Begun(path));
-                    Err(fault)
-                }
-            };
+        match open_target(remarks.host(), path, &known) {
+            Ok(target) => return end_save(&journal, &target).map(|()| file),
+            Err(fault) if !may_not_write(&fault) => return Err(fault),
+            Err(_) => {}
         }
     }
     remarks.note(&Instead(path, journal.path.as_str()));
     Ok(journal.file)
 }
 
-/// Opens the file that a path leads to for reading and writing, if it is this one and may be written.
-pub(crate) fn open_target(host: &HostRuntime, path: &str, known: &Metadata) -> Option<File> {
-    let file = OpenOptions::new().read(true).write(true).open(host, path).ok()?;
-    let there = file.metadata().ok()?;
-    (there.dev() == known.dev() && there.ino() == known.ino()).then_some(file)
+// Ends a save that was cut off, and says whether that is done.
+fn end_save(journal: &Journal, target: &File) -> io::Result<()> {
+    let ended = journal.finish(target);
+    match &ended {
+        Ok(()) => journal.remarks.note(&Ended(journal.given)),
+        Err(_) => journal.remarks.note(&Begun(journal.given)),
+    }
+    ended
+}
+
+// Whether a file was not opened since it may not be written.
+fn may_not_write(fault: &io::Error) -> bool {
+    matches!(
+        fault.kind(),
+        ErrorKind::PermissionDenied | ErrorKind::ReadOnlyFilesystem
+    )
+}
+
+/// Opens the file that a path leads to for reading and writing, if it is this one.
+pub(crate) fn open_target(
+    host: &HostRuntime,
+    path: &str,
+    known: &Metadata,
+) -> io::Result<File> {
+    let file = OpenOptions::new().read(true).write(true).open(host, path)?;
+    let there = file.metadata()?;
+    if there.dev() == known.dev() && there.ino() == known.ino() {
+        Ok(file)
+    } else {
+        Err(busy("another program replaces it"))
+    }
 }
 
 // The path of the journal of a file that lies here, and has this number.

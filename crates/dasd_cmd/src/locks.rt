@@ -54,8 +54,8 @@ pub(crate) fn wrong(why: &str) -> Error {
     Error::new(ErrorKind::InvalidInput, why)
 }
 
-// A file that is in use.
-fn busy(why: &str) -> Error {
+/// A file that is in use.
+pub(crate) fn busy(why: &str) -> Error {
     Error::new(ErrorKind::ResourceBusy, why)
 }
 
@@ -201,15 +201,12 @@ fn old_at(host: &HostRuntime, path: PathBuf, known: Metadata, in_place: bool) ->
     if known.permissions().readonly() {
         return Err(wrong("it may not be written"));
     }
-    let _may_write = OpenOptions::new().write(true).open(host, path.as_str())?;
     let target = if in_place {
-        open_target(host, path.as_str(), &known)
+        Some(open_target(host, path.as_str(), &known)?)
     } else {
+        let _may_write = OpenOptions::new().write(true).open(host, path.as_str())?;
         None
     };
-    if in_place && target.is_none() {
-        return Err(busy("another program replaces it"));
-    }
     Ok(Old {
         path,
         known,
