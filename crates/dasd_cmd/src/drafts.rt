@@ -2,10 +2,10 @@
 
 ghost use Rattle.std.specs.Prelude.{◌≡◌, [], length, IfOk};
 
-use crate::journals::{Begun, Journal, SaveFault};
 use crate::locks::wrong;
 use crate::remarks::Remarks;
 use ckd_image::{ImageStore, StoreFault};
+use file_journals::{Journal, Notes, SaveFault, Told, folder_of};
 use ghost_data::{Count, Trace};
 use std::fs::{self, File, Metadata, OpenOptions, Permissions, TryLockError};
 use std::io::{Error, ErrorKind, Write};
@@ -139,7 +139,7 @@ impl<'a> HostDraft<'a> {
         let put = draft.move_to(path);
         draft.is_put = !matches!(put, Err(SaveFault::Kept(_)));
         if matches!(put, Err(SaveFault::Begun(_))) {
-            draft.remarks.note(&Begun(path));
+            draft.remarks.note(&Told::Begun(path));
         }
         if draft.is_put && draft.is_taken_over {
             draft.note_owners();
@@ -173,8 +173,11 @@ impl<'a> HostDraft<'a> {
         }
         match &old.target {
             Some(target) => {
-                Journal::of_draft(self.remarks, path, &self.file, self.len, old)?
-                    .save(self.beside.as_path(), target)
+                let (home, known) = (old.path.as_path(), &old.known);
+                Journal::of_draft(self.remarks, path, &self.file, home, known)?.save(
+                    self.beside.as_path(),
+                    target,
+                )
             }
             None => {
                 self.file.sync_all()?;
@@ -291,14 +294,6 @@ fn is_held(host: &HostRuntime, file: &File, path: &str) -> io::Result<bool> {
         Ok(there) => Ok(there.dev() == made.dev() && there.ino() == made.ino()),
         Err(fault) if fault.kind() == ErrorKind::NotFound => Ok(false),
         Err(fault) => Err(fault),
-    }
-}
-
-/// The folder of a path.
-pub(crate) fn folder_of(path: Path<'_>) -> Path<'_> {
-    match path.parent() {
-        Some(folder) if !folder.as_str().is_empty() => folder,
-        _ => Path::new("."),
     }
 }
 

@@ -2,8 +2,7 @@
 
 ghost use Rattle.std.specs.Prelude.{◌≡◌, [], IfOk};
 
-use crate::drafts::{HostDraft, Old, folder_of, note_folder, sync_folders};
-use crate::journals::{SaveFault, whole_file};
+use crate::drafts::{HostDraft, Old, note_folder, sync_folders};
 use crate::leftovers::clear_folder;
 use crate::locks::{
     Locked, find_old, is_locked, keep, list_done, mark_done, open_locked, open_trace_file,
@@ -15,6 +14,7 @@ use crate::traces::{TraceFile, TraceOutput};
 use dasd_jobs::{FileFault, ImageFiles, SavePlan, Sources, Written};
 use dasd_run::Traces;
 use dasd_words::TraceTarget;
+use file_journals::{Notes, SaveFault, folder_of, whole_file};
 use std::alloc::Global;
 use std::fs::File;
 use std::io::{BufWriter, Error, ErrorKind};

@@ -1,8 +1,8 @@
 //! Files of the host that are locked, and that may be replaced.
 
 use crate::drafts::{HostDraft, Old};
-use crate::journals::{home_of, open_target, whole_file};
 use crate::remarks::Remarks;
+use file_journals::{Notes, home_of, open_target, whole_file};
 use std::alloc::Global;
 use std::fs::{File, Metadata, OpenOptions, TryLockError};
 use std::io::{Error, ErrorKind};
@@ -54,8 +54,8 @@ pub(crate) fn wrong(why: &str) -> Error {
     Error::new(ErrorKind::InvalidInput, why)
 }
 
-/// A file that is in use.
-pub(crate) fn busy(why: &str) -> Error {
+// A file that is in use.
+fn busy(why: &str) -> Error {
     Error::new(ErrorKind::ResourceBusy, why)
 }
 

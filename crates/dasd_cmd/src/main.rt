@@ -4,7 +4,6 @@
 mod drafts;
 mod faults;
 mod host;
-mod journals;
 mod leftovers;
 mod locks;
 mod reading;
@@ -40,7 +39,8 @@ INT
 ";
 
 /// What is said of a word that is no text, behind it.
-const NO_TEXT: &str = "a link to the file that has another name (ln -s) is read by each command, and run --in-place writes through it";
+const NO_TEXT: &str =
+    "a link to the file that has another name (ln -s) is read by each command, and run --in-place writes through it";
 
 /// The most bytes of a word that is no text which are shown.
 const SHOWN: usize = 4_096;
@@ -197,7 +197,9 @@ fn tell_no_text(rt: &HostRuntime) -> Result<String, AllocError> {
                 let word = bytes.get(..count).unwrap_or(&[]);
                 if str::from_utf8(word).is_err() {
                     let word = Bytes(word);
-                    return format!(in alloc; "error: word {number} is not UTF-8: {word}; {NO_TEXT}\n");
+                    return format!(in alloc;
+                        "error: word {number} is not UTF-8: {word}; {NO_TEXT}\n"
+                    );
                 }
             }
             Err(FillError::TooLong) => {}

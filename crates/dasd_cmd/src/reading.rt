@@ -2,10 +2,10 @@
 
 ghost use Rattle.std.specs.Prelude.{◌≡◌, ◌≤◌, length, None, IfOk, OnOk, OnErr};
 
-use crate::journals::whole_file;
 use crate::remarks::Remarks;
 use ckd_image::StoreFault;
 use dasd_jobs::{OpenedFile, is_header};
+use file_journals::{Notes, whole_file};
 use std::alloc::Global;
 use std::fs::File;
 use std::io;

@@ -124,16 +124,14 @@ pub(crate) fn with_arg<'a>(
 fn arg<'a>(alloc: Global, row: &ArgRow) -> Result<Arg<'a>, AllocError> {
     let arg = Arg::new(alloc, row.id).help(row.help);
     match &row.kind {
-        ArgKind::Flag => Ok(flag(arg, row.id)),
-        ArgKind::FlagWithout(others) => flag(arg, row.id).conflicts_with_all(*others),
+        ArgKind::Flag => Ok(arg.long(row.id).action(ArgAction::SetTrue)),
+        ArgKind::FlagWithout(others) => {
+            let flag = arg.long(row.id).action(ArgAction::SetTrue);
+            flag.conflicts_with_all(*others)
+        }
         ArgKind::Valued(value) => valued(arg.long(row.id), value),
         ArgKind::Words(parser, least, most) => Ok(words(arg, *parser, *least, *most)),
     }
-}
-
-// An option that is there or is not.
-fn flag<'a>(arg: Arg<'a>, id: &'static str) -> Arg<'a> {
-    arg.long(id).action(ArgAction::SetTrue)
 }
 
 // An option with a value behind it.

@@ -1,5 +1,5 @@
 use Rattle.std.proofs.Common.{◌≡◌, ◌<◌, ◌≤◌, ℕ, length, slice_index_or, bit_xor}
-use Rattle.journal_bytes.proofs.take_differences.Given as goal
+use Rattle.file_journals.proofs.bytes.take_differences.Given as goal
 
 -- those before this place are differences, and the others are as they were
 abbrev pub invariant-loop-i : goal.invariant-loop-i

@@ -1,9 +1,7 @@
-//! The bytes of a journal beside those of its file: what is saved of a file that keeps its place, and by which bits the bytes that it
-//! held differ from that.
-#![tactic(auto)]
+//! The bytes of a journal beside those of its file: what is saved, and by which bits the bytes that the file held differ from that.
 
 ghost use Rattle.std.specs.Prelude.{◌≡◌, ◌↔◌, length, IsTrue};
-ghost use Rattle.journal_bytes.specs.Bytes.{AreEither, Differ};
+ghost use Rattle.file_journals.specs.Bytes.{AreEither, Differ};
 
 /// Leaves of each byte that a file held the bits by which it differs from the one that is saved.
 pub fn take_differences(saved: &[u8], held: &mut [u8])

@@ -1,6 +1,6 @@
 use Rattle.std.proofs.Common.{◌<◌, ℕ, length, slice_index_or}
-use Rattle.journal_bytes.specs.Bytes.{IsEither}
-use Rattle.journal_bytes.proofs.are_either.Given as goal
+use Rattle.file_journals.specs.Bytes.{IsEither}
+use Rattle.file_journals.proofs.bytes.are_either.Given as goal
 
 -- those before this place are either
 abbrev pub invariant-loop-i : goal.invariant-loop-i

@@ -13,4 +13,4 @@ IsEither saved difference held = (held ≡ saved) ⊎ (held ≡ bit_xor saved di
 -- so is each byte at its place
 abbrev pub AreEither : (saved differing held : List ℕ) → Type 0
 AreEither saved differing held =
-  (k : ℕ) → k < length held → IsEither (slice_index_or saved k 0) (slice_index_or differing k 0) (slice_index_or held k 0)
+    (k : ℕ) → k < length held → IsEither (slice_index_or saved k 0) (slice_index_or differing k 0) (slice_index_or held k 0)
