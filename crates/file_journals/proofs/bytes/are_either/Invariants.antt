@@ -1,4 +1,4 @@
-use Rattle.std.proofs.Common.{◌<◌, ℕ, length, slice_index_or}
+use Rattle.std.proofs.Common.{◌<◌, ℕ, slice_index_or}
 use Rattle.file_journals.specs.Bytes.{IsEither}
 use Rattle.file_journals.proofs.bytes.are_either.Given as goal
 
