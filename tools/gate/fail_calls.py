@@ -15,6 +15,9 @@ programs. Wanted is:
   the next command that writes a file into that folder removes it, and says so.
 - Where a file takes its place, it was synced before that. Its folder is synced right behind it where it replaces a file, before anything is
   written or gets another name; and once behind all where files are new.
+- A file that keeps its place (`run --in-place`) has its old bytes until its journal, `.dasd+` and its number, stands beside it. From then on it
+  counts as new: what a reader finds there is whole, and the next run ends what was begun, says so and leaves no journal. The journal was synced before it
+  got its name, its folder behind that and before the file is written, the file before the journal goes, and the folder once more.
 
 It runs crates/dasd_cmd/out/dasd_cmd, as `rt ci` leaves it; with --built FILE that program; with words behind, the commands whose names have one of them.
 The last line is 'N failures of N calls, M came out wrong', and the status 1 where M is not 0.
@@ -59,6 +62,8 @@ ERRORS = {
 }
 # What a fault of a read is called: that of a command's own file, that of a volume, and that of a file which a text loads.
 READ_FAULTS = ("read fault", "no file of this name could be read")
+# What a read is called that a save in place needs.
+SAVE_FAULTS = ("write fault",)
 # The signals by which a command is ended: that of `kill -9`; where it writes files, also those of `kill`, of Ctrl-C, and of a terminal that is gone.
 KILLED = "killed by "
 KILL = ["KILL"]
@@ -66,6 +71,7 @@ SIGNALS = [*KILL, "TERM", "INT", "HUP"]
 CALL = re.compile(r"^(?P<name>\w+)\((?P<words>.*)\)\s+= (?P<answer>-?\d+)")
 PATH = re.compile(r'"((?:[^"\\]|\\.)*)"')
 DRAFT = ".dasd-"
+JOURNAL = ".dasd+"
 
 
 @dataclass
@@ -75,6 +81,10 @@ class Command:
     name: str
     words: list[str]
     given: bytes = b""  # on standard input
+
+    def read_faults(self) -> tuple[str, ...]:
+        """What a fault of a read is called."""
+        return READ_FAULTS + SAVE_FAULTS if "--in-place" in self.words else READ_FAULTS
 
     def signals(self) -> list[str]:
         """The signals by which it is ended at each call."""
@@ -92,6 +102,7 @@ COMMANDS = [
     Command("format over a file", ["format", "one.ckd", "--cylinders", "2"]),
     Command("run", ["run", "90=one.ckd", "91=two.ckd"], deck_for("190") + deck_for("191")),
     Command("run with a trace", ["run", "--trace-to", "trace", "90=one.ckd"], deck_for("190")),
+    Command("run --in-place", ["run", "--in-place", "90=one.ckd", "91=two.ckd"], deck_for("190") + deck_for("191")),
     Command("list", ["list", "pack.ckd"]),
     Command("list a pipe", ["list", "/dev/stdin"], volume(cylinders=2)),
     Command("check", ["check", "pack.ckd"]),
@@ -119,6 +130,7 @@ class Came(NamedTuple):
     told: bytes
     files: dict[str, bytes]
     kept: list[str]
+    unread: list[str]  # files with journals that readers do not find whole, and journals that the next run does not end
 
 
 class Failure(NamedTuple):
@@ -169,14 +181,41 @@ def kept_drafts(dasd: Path, folder: Path) -> list[str]:
     return kept
 
 
+def owner_of(journal: Path) -> Path:
+    """The file that a journal belongs to."""
+    number = int(journal.name.removeprefix(JOURNAL))
+    return next(it for it in journal.parent.iterdir() if it.stat().st_ino == number)
+
+
+def ended_saves(dasd: Path, folder: Path) -> list[str]:
+    """Has the next commands read and write the files that have journals; what was wrong with that."""
+    wrong = []
+    for journal in sorted(folder.glob(f"{JOURNAL}*")):
+        file, both = owner_of(journal), journal.read_bytes()
+        (folder / "whole").write_bytes(both[: len(both) // 2])
+        for words, status, said in (
+            (["compare", "--verbose", file.name, "whole"], 0, "is read in its place"),
+            (["run", "--verbose", "--no-save", f"90={file.name}"], 0, "is read in its place"),
+            (["run", "--verbose", f"90={file.name}"], 0, "a save of it was cut off, and is ended"),
+        ):
+            done = subprocess.run([str(dasd), *words], cwd=folder, input=b"", capture_output=True, timeout=60, check=False)
+            if done.returncode != status or said not in done.stderr.decode():
+                wrong.append(f"{words}: status {done.returncode}, {done.stdout!r}, {done.stderr!r}")
+        if journal.exists() or file.read_bytes() != (folder / "whole").read_bytes():
+            wrong.append(f"{file.name} is not what its journal held, or that stays")
+        (folder / "whole").unlink()
+    return wrong
+
+
 def play(dasd: Path, command: Command, tracing: list[str]) -> Came:
-    """Runs a command under strace in a folder of its own, and asks it for all that it has to say."""
+    """Runs a command under strace in a folder of its own, and asks it for all that it has to say. A save in place that is begun is ended."""
     with tempfile.TemporaryDirectory(prefix="fail_calls-") as room:
         folder = Path(room)
         fill(folder)
         words = ["strace", "-qq", *tracing, str(dasd), *command.words, "--verbose"]
         done = subprocess.run(words, cwd=folder, input=command.given, capture_output=True, timeout=60, check=False)
-        return Came(done.returncode, done.stdout, done.stderr, files_in(folder), kept_drafts(dasd, folder))
+        unread = ["a journal stays, and no fault is told"] if done.returncode == 0 and any(folder.glob(f"{JOURNAL}*")) else ended_saves(dasd, folder)
+        return Came(done.returncode, done.stdout, done.stderr, files_in(folder), kept_drafts(dasd, folder), unread)
 
 
 def old_files() -> dict[str, bytes]:
@@ -226,13 +265,13 @@ def is_old_or_new(came: Came, old: dict[str, bytes], new: dict[str, bytes], kill
     return f"{missing[0]} is gone" if missing else None
 
 
-def untold(failure: Failure, came: Came) -> str | None:
+def untold(failure: Failure, came: Came, read_faults: tuple[str, ...]) -> str | None:
     """What is wrong with what a command says that ended with a fault; where all writes fail it can't say anything."""
     error, _, on = failure.how.partition(" ")
     if on and failure.call == "write":
         return None
     first, *more = came.told.decode(errors="replace").splitlines() or [""]
-    if not first.startswith("dasd: ") or on and not any(it in first for it in READ_FAULTS):
+    if not first.startswith("dasd: ") or on and not any(it in first for it in read_faults):
         return f"status {came.status}, and no fault{' of a read' if on else ''} is told"
     why = f": {os.strerror(getattr(errno, error))}"
     if failure.call == "pread64":
@@ -240,14 +279,16 @@ def untold(failure: Failure, came: Came) -> str | None:
     return None if any(re.fullmatch(rf"  \S.*{why}", line) for line in more) else f"status {came.status}, and it is not told which file it was and why"
 
 
-def judge(failure: Failure, came: Came, good: Came, old: dict[str, bytes]) -> str | None:
-    """What is wrong with what came of a failure, if anything is."""
+def judge(command: Command, failure: Failure, came: Came, good: Came, old: dict[str, bytes]) -> str | None:
+    """What is wrong with what came of a failure of a command, if anything is."""
+    if came.unread:
+        return f"what is left of a save in place is not taken up: {came.unread[0]}"
     killed, left = failure.is_killed(), without_first_names(came.files, failure)
     if not killed and came.status == 0:
         if came.printed != good.printed:
             return "it ends as if all were well, and printed something else"
         return None if left == good.files else "it ends as if all were well, and left something else"
-    if not killed and (fault := untold(failure, came)):
+    if not killed and (fault := untold(failure, came, command.read_faults())):
         return fault
     if came.kept and killed:
         return f"{came.kept[0]} stays behind the next command, or goes without a word"
@@ -261,16 +302,29 @@ class Syncs:
     """Which files and folders were synced, and which folders have names that are not."""
 
     synced: set[str] = field(default_factory=set)
-    owed: dict[str, str] = field(default_factory=dict)  # the folder of each file that took its place
-    replaced: str = ""  # the file that replaced another one, until its folder is synced
+    owed: dict[str, str] = field(default_factory=dict)  # the folder of each file that took its place, or of a journal that went
+    replaced: str = ""  # the file that replaced another one, or the journal that came or went, until its folder is synced
+    written: set[str] = field(default_factory=set)  # files that were written since they were synced
     wrong: list[str] = field(default_factory=list)
 
     def sync(self, path: str) -> None:
         """A file or a folder is synced."""
         self.synced.add(path)
+        self.written.discard(path)
         self.owed = {file: folder for file, folder in self.owed.items() if folder != path}
         if self.replaced not in self.owed:
             self.replaced = ""
+
+    def write(self, path: str) -> None:
+        """Bytes are written into a file."""
+        self.synced.discard(path)
+        self.written.add(path)
+
+    def end(self, journal: str) -> None:
+        """A journal is taken away, so its file has what it held."""
+        self.wrong += [f"{journal} was taken away before {file} was synced" for file in sorted(self.written - {""})]
+        self.owed[journal] = os.path.normpath(os.path.dirname(journal) or ".")
+        self.replaced = journal
 
     def go_on(self) -> None:
         """Something is written or named behind what was done."""
@@ -296,14 +350,22 @@ def unsynced(lines: list[str]) -> list[str]:
     for call in filter(None, map(CALL.match, lines)):
         name, words = call["name"], call["words"]
         paths = PATH.findall(words)
+        file = opened.get(words.split(",")[0], "")
         if name == "openat" and paths and int(call["answer"]) >= 0:
             opened[call["answer"]] = os.path.normpath(paths[0])
+        elif name == "fcntl" and "F_DUPFD" in words:
+            opened[call["answer"]] = file
         elif name in ("fsync", "fdatasync"):
-            seen.sync(opened.get(words.split(",")[0], ""))
-        elif name in ("rename", "link", "write"):
+            seen.sync(file)
+        elif name in ("write", "ftruncate"):
             seen.go_on()
-            if name != "write" and call["answer"] == "0":
+            seen.write(file)
+        elif name in ("rename", "link"):
+            seen.go_on()
+            if call["answer"] == "0":
                 seen.place(paths[0], paths[1], name == "rename")
+        elif name == "unlink" and os.path.basename(paths[0]).startswith(JOURNAL):
+            seen.end(paths[0])
     return seen.wrong + [f"the folder of {file} is not synced behind it" for file in seen.owed]
 
 
@@ -318,7 +380,7 @@ def try_command(dasd: Path, command: Command, pool: ThreadPoolExecutor) -> tuple
 
     def tried(failure: Failure) -> str | None:
         came = play(dasd, command, ["-o", "/dev/null", *failure.words()])
-        said = judge(failure, came, good, old)
+        said = judge(command, failure, came, good, old)
         return said and f"{command.name}: {failure.call} {failure.number}, {failure.how}: {said} (status {came.status}, {came.told!r})"
 
     wrong += filter(None, pool.map(tried, failures))

@@ -212,9 +212,12 @@ def control_characters_of_a_name_are_not_written_to_a_terminal(s: Scratch) -> No
 def names_that_are_no_text_are_refused(s: Scratch) -> None:
     name, held = os.fsdecode(b"caf\xe9.ckd"), volume()
     s.put(name, held)
-    told = "error: a word is not UTF-8; dasd reads such a file as /dev/stdin, behind < FILE\n"
-    for words in (["check", name], ["run", f"90={name}"], ["format", name]):
+    way = "a link to the file that has another name (ln -s) is read by each command, and run --in-place writes through it"
+    for words, number, shown in ((["check", name], 2, ""), (["run", "--no-save", f"90={name}"], 3, "90="), (["format", name], 2, "")):
+        told = f"error: word {number} is not UTF-8: {shown}caf\\xE9.ckd; {way}\n"
         same(s.dasd(*words), (2, "", told), " ".join(words[:1]))
+    told = f"error: a word is not UTF-8; {way}\n"
+    same(s.dasd("check", "a" * 5000 + name), (2, "", told), "a word that is too long to be shown")
     with open(s.path(name), "rb") as file:
         ran = subprocess.run([s.program, "check", "/dev/stdin"], stdin=file, capture_output=True, text=True, check=False)
     same((ran.returncode, ran.stdout, ran.stderr), (0, "0 findings\n", ""))

@@ -5,6 +5,7 @@ ghost use Rattle.std.specs.Prelude.{◌≡◌, [], length, IfOk};
 use crate::locks::wrong;
 use crate::remarks::Remarks;
 use ckd_image::{ImageStore, StoreFault};
+use file_journals::{Journal, Notes, SaveFault, Told, folder_of};
 use ghost_data::{Count, Trace};
 use std::fs::{self, File, Metadata, OpenOptions, Permissions, TryLockError};
 use std::io::{Error, ErrorKind, Write};
@@ -32,10 +33,12 @@ const STICKY: u32 = 0o1000;
 pub(crate) struct Old {
     pub(crate) path: PathBuf,
     pub(crate) known: Metadata,
+    /// The file itself, where its bytes are written over and it keeps its place.
+    pub(crate) target: Option<File>,
 }
 
-/// A new file that is written beside the one that it replaces, under a name of its own, and then takes its place. Where that does
-/// not come about it is removed.
+/// A new file that is written beside the one that it replaces, under a name of its own, and then takes its place, or becomes the journal
+/// of one that keeps its place. Where that does not come about it is removed.
 pub(crate) struct HostDraft<'a> {
     host: &'a HostRuntime,
     remarks: &'a Remarks<'a>,
@@ -104,7 +107,11 @@ impl<'a> HostDraft<'a> {
             is_put: false,
         };
         if let Some(old) = &draft.old {
-            draft.is_taken_over = !keep_owner(host, &draft.file, old)?;
+            if old.target.is_some() {
+                give_to_owner(&draft.file, old)?;
+            } else {
+                draft.is_taken_over = !keep_owner(host, &draft.file, old)?;
+            }
         }
         Ok(draft)
     }
@@ -123,14 +130,21 @@ impl<'a> HostDraft<'a> {
     }
 
     /// Takes the place of the old file, if that is still there, which is then on the disk; or of none, which its folder's sync has there.
-    pub(crate) fn put(self, path: &str) -> io::Result<()> {
+    /// Where the old file keeps its place, it then has these bytes on the disk.
+    pub(crate) fn put(self, path: &str) -> Result<(), SaveFault> {
         let mut draft = self;
-        draft.move_to(path)?;
-        draft.is_put = true;
-        if draft.is_taken_over {
+        if draft.given.as_str() != path {
+            return Err(SaveFault::Kept(wrong("it was begun for another path")));
+        }
+        let put = draft.move_to(path);
+        draft.is_put = !matches!(put, Err(SaveFault::Kept(_)));
+        if matches!(put, Err(SaveFault::Begun(_))) {
+            draft.remarks.note(&Told::Begun(path));
+        }
+        if draft.is_put && draft.is_taken_over {
             draft.note_owners();
         }
-        Ok(())
+        put
     }
 
     // Notes whose the old file was, and whose the new one is.
@@ -147,21 +161,28 @@ impl<'a> HostDraft<'a> {
         }
     }
 
-    // Has the file on the disk, and gives it its name.
-    fn move_to(&self, path: &str) -> io::Result<()> {
-        if self.given.as_str() != path {
-            return Err(wrong("it was begun for another path"));
+    // Gives the file its name, or that of a journal, by which the old file is written.
+    fn move_to(&self, path: &str) -> Result<(), SaveFault> {
+        let Some(old) = &self.old else {
+            self.file.sync_all()?;
+            return Ok(name_new(self.host, self.beside.as_str(), path)?);
+        };
+        let there = fs::metadata(self.host, old.path.as_str())?;
+        if there.dev() != old.known.dev() || there.ino() != old.known.ino() {
+            return Err(SaveFault::Kept(wrong("another program has replaced it")));
         }
-        self.file.sync_all()?;
-        match &self.old {
-            Some(old) => {
-                let there = fs::metadata(self.host, old.path.as_str())?;
-                if there.dev() != old.known.dev() || there.ino() != old.known.ino() {
-                    return Err(wrong("another program has replaced it"));
-                }
-                replace(self.host, self.beside.as_str(), old.path.as_str())
+        match &old.target {
+            Some(target) => {
+                let (home, known) = (old.path.as_path(), &old.known);
+                Journal::of_draft(self.remarks, path, &self.file, home, known)?.save(
+                    self.beside.as_path(),
+                    target,
+                )
             }
-            None => name_new(self.host, self.beside.as_str(), path),
+            None => {
+                self.file.sync_all()?;
+                Ok(replace(self.host, self.beside.as_str(), old.path.as_str())?)
+            }
         }
     }
 }
@@ -240,6 +261,7 @@ fn create_beside(host: &HostRuntime, path: Path<'_>, mode: u32) -> io::Result<(F
         let name = format!(in host.alloc(); "{NAME_BEGIN}{number}-{turn}")?;
         let beside = folder.join(host.alloc(), name.as_str())?;
         let made = OpenOptions::new()
+            .read(true)
             .write(true)
             .create_new(true)
             .mode(mode)
@@ -275,12 +297,13 @@ fn is_held(host: &HostRuntime, file: &File, path: &str) -> io::Result<bool> {
     }
 }
 
-/// The folder of a path.
-pub(crate) fn folder_of(path: Path<'_>) -> Path<'_> {
-    match path.parent() {
-        Some(folder) if !folder.as_str().is_empty() => folder,
-        _ => Path::new("."),
+// Gives a new file that nobody but its owner may read to the owner of the old one, if the host does that.
+fn give_to_owner(file: &File, old: &Old) -> io::Result<()> {
+    let owner = old.known.uid();
+    if file.metadata()?.uid() != owner {
+        let _ = fchown(file, Some(owner), None);
     }
+    Ok(())
 }
 
 // Gives a new file the owner, the group and the mode of the old one, and says whether the owner is kept. Where the host refuses him, the

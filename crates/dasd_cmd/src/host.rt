@@ -2,18 +2,19 @@
 
 ghost use Rattle.std.specs.Prelude.{◌≡◌, [], IfOk};
 
-use crate::drafts::{HostDraft, Old, folder_of, note_folder, sync_folders};
+use crate::drafts::{HostDraft, Old, note_folder, sync_folders};
 use crate::leftovers::clear_folder;
 use crate::locks::{
     Locked, find_old, is_locked, keep, list_done, mark_done, open_locked, open_trace_file,
-    try_to_replace,
+    try_to_write,
 };
 use crate::reading::{HostFile, read_some};
 use crate::remarks::Remarks;
 use crate::traces::{TraceFile, TraceOutput};
-use dasd_jobs::{FileFault, ImageFiles, Sources, Written};
+use dasd_jobs::{FileFault, ImageFiles, SavePlan, Sources, Written};
 use dasd_run::Traces;
 use dasd_words::TraceTarget;
+use file_journals::{Notes, SaveFault, folder_of, whole_file};
 use std::alloc::Global;
 use std::fs::File;
 use std::io::{BufWriter, Error, ErrorKind};
@@ -34,8 +35,8 @@ pub(crate) struct HostFiles<'a> {
     unsettled: Vec<String>,
     remarks: &'a Remarks<'a>,
     is_verbose: bool,
-    /// Whether files that are locked are to be replaced.
-    replaces: bool,
+    /// What becomes of files that are locked.
+    plan: SavePlan,
 }
 
 impl<'a> HostFiles<'a> {
@@ -53,7 +54,7 @@ impl<'a> HostFiles<'a> {
             unsettled: Vec::new(host.alloc()),
             remarks,
             is_verbose: false,
-            replaces: true,
+            plan: SavePlan::Replaced,
         }
     }
 
@@ -85,12 +86,22 @@ impl<'a> HostFiles<'a> {
         told
     }
 
+    // Whether files that are locked are written later.
+    fn saves(&self) -> bool {
+        !matches!(self.plan, SavePlan::Nothing)
+    }
+
+    // Whether they keep their places.
+    fn writes_over(&self) -> bool {
+        matches!(self.plan, SavePlan::InPlace)
+    }
+
     // Says before a deck is run why what it changes of a file could not be saved, if somebody is to hear it.
     fn forewarn(&self, path: &str) -> Result<(), FileFault> {
-        if !self.replaces || !self.tells() {
+        if !self.saves() || !self.tells() {
             return Ok(());
         }
-        match try_to_replace(self.host, self.remarks, path) {
+        match try_to_write(self.remarks, path, self.writes_over()) {
             Ok(()) => Ok(()),
             Err(fault) if fault.kind() == ErrorKind::OutOfMemory => Err(FileFault::OutOfMemory),
             Err(fault) => {
@@ -105,7 +116,8 @@ impl<'a> HostFiles<'a> {
         ensures written { self.new.written ≡ self.old.written }
         ensures opened { self.new.opened ≡ self.old.opened }
     {
-        find_old(self.host, &mut self.locked, path, replaces)
+        let in_place = self.writes_over();
+        find_old(self.remarks, &mut self.locked, path, replaces, in_place)
     }
 
     // Begins a new file for a path, in the place of the old one, if there is one. Its folder is cleared of what killed programs left.
@@ -178,13 +190,14 @@ impl<'a> ImageFiles for HostFiles<'a> {
         }
     }
 
-    fn plan_replacing(&mut self, replaces: bool) {
-        self.replaces = replaces;
+    fn plan_saving(&mut self, plan: SavePlan) {
+        self.plan = plan;
     }
 
     fn lock(&mut self, alloc: Global, path: &str) -> Result<HostFile<'a>, FileFault> {
         let locked = self.locked.as_slice();
-        let (file, known) = match open_locked(self.host, locked, path, self.replaces) {
+        let saves = self.saves();
+        let (file, known) = match open_locked(self.host, locked, path, saves) {
             Ok(found) => found,
             Err(fault) => return Err(self.remarks.refuse(path, &fault)),
         };
@@ -195,6 +208,11 @@ impl<'a> ImageFiles for HostFiles<'a> {
         if let Err(fault) = keep(&mut self.locked, alloc, path, &file, &known) {
             return Err(self.remarks.refuse(path, &fault));
         }
+        let may_write = saves && !known.permissions().readonly();
+        let file = match whole_file(self.remarks, path, file, may_write) {
+            Ok(file) => file,
+            Err(fault) => return Err(self.remarks.refuse(path, &fault)),
+        };
         self.forewarn(path)?;
         match HostFile::of(alloc, self.remarks, path, file, known.len()) {
             Ok(file) => {
@@ -247,7 +265,8 @@ impl<'a> ImageFiles for HostFiles<'a> {
                 }
                 Ok(())
             }
-            Err(fault) => Err(self.not_written(path, &fault)),
+            Err(SaveFault::Kept(fault)) => Err(self.not_written(path, &fault)),
+            Err(SaveFault::Begun(fault)) => Err(self.remarks.refuse(path, &fault)),
         }
     }
 

@@ -2,6 +2,7 @@
 
 use crate::drafts::NAME_BEGIN;
 use crate::remarks::Remarks;
+use file_journals::Notes;
 use std::fs::{self, DirEntry, File};
 use std::io::{self, ErrorKind};
 use std::os::unix::fs::MetadataExt;

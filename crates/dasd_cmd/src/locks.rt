@@ -2,10 +2,12 @@
 
 use crate::drafts::{HostDraft, Old};
 use crate::remarks::Remarks;
+use file_journals::{Notes, home_of, open_target, whole_file};
 use std::alloc::Global;
 use std::fs::{File, Metadata, OpenOptions, TryLockError};
 use std::io::{Error, ErrorKind};
 use std::os::unix::fs::MetadataExt;
+use std::path::PathBuf;
 use std::{fs, io};
 
 /// How often a file is opened again that was replaced before it was locked.
@@ -145,13 +147,16 @@ pub(crate) fn keep(
     }
 }
 
-/// What is at a path that is to be written: a file that may be replaced, which is locked from now on, or none.
+/// What is at a path that is to be written: a file that may be replaced, or written over in its place, which is locked from now on; or
+/// none. A save of it that was cut off is ended.
 pub(crate) fn find_old(
-    host: &HostRuntime,
+    remarks: &Remarks,
     held: &mut Vec<Locked>,
     path: &str,
     replaces: bool,
+    in_place: bool,
 ) -> io::Result<Option<Old>> {
+    let host = remarks.host();
     if let Err(fault) = fs::symlink_metadata(host, path) {
         return match fault.kind() {
             ErrorKind::NotFound => Ok(None),
@@ -164,36 +169,57 @@ pub(crate) fn find_old(
             "it is there, and is not to be replaced",
         ));
     }
-    let target = fs::canonicalize(host, path)?;
+    let target = target_of(host, path, in_place)?;
     let (file, known) = open_locked(host, held, target.as_str(), true)?;
-    if known.permissions().readonly() {
-        return Err(wrong("it may not be written"));
+    let is_new = !is_locked(held.as_slice(), &known);
+    if is_new && was_locked_by(held.as_slice(), path) {
+        return Err(wrong("another program has replaced it"));
     }
-    let _may_write = OpenOptions::new().write(true).open(host, target.as_str())?;
-    if !is_locked(held.as_slice(), &known) {
-        if was_locked_by(held.as_slice(), path) {
-            return Err(wrong("another program has replaced it"));
-        }
-        keep(held, host.alloc(), path, &file, &known)?;
+    let old = old_at(host, target, known, in_place)?;
+    if is_new {
+        keep(held, host.alloc(), path, &file, &old.known)?;
+        whole_file(remarks, path, file, true)?;
     }
-    Ok(Some(Old {
-        path: target,
-        known,
-    }))
+    Ok(Some(old))
 }
 
-/// Begins what would replace a file, and takes it back.
-pub(crate) fn try_to_replace(host: &HostRuntime, remarks: &Remarks, path: &str) -> io::Result<()> {
-    let known = fs::metadata(host, path)?;
+// The path of a file that is to be written: without symbolic links, where it is replaced.
+fn target_of(host: &HostRuntime, path: &str, in_place: bool) -> io::Result<PathBuf> {
+    if in_place {
+        return home_of(host, path);
+    }
+    match fs::canonicalize(host, path) {
+        Err(fault) if fault.kind() == ErrorKind::InvalidFilename => {
+            Err(wrong("it leads to a name that is not UTF-8: run --in-place writes there"))
+        }
+        found => found,
+    }
+}
+
+// The file at a path that is to be written, if it may be.
+fn old_at(host: &HostRuntime, path: PathBuf, known: Metadata, in_place: bool) -> io::Result<Old> {
     if known.permissions().readonly() {
         return Err(wrong("it may not be written"));
     }
-    let target = fs::canonicalize(host, path)?;
-    let _may_write = OpenOptions::new().write(true).open(host, target.as_str())?;
-    let old = Old {
-        path: target,
-        known,
+    let target = if in_place {
+        Some(open_target(host, path.as_str(), &known)?)
+    } else {
+        let _may_write = OpenOptions::new().write(true).open(host, path.as_str())?;
+        None
     };
+    Ok(Old {
+        path,
+        known,
+        target,
+    })
+}
+
+/// Begins what would replace a file, or be written over it, and takes it back.
+pub(crate) fn try_to_write(remarks: &Remarks, path: &str, in_place: bool) -> io::Result<()> {
+    let host = remarks.host();
+    let known = fs::metadata(host, path)?;
+    let target = target_of(host, path, in_place)?;
+    let old = old_at(host, target, known, in_place)?;
     let _tried = HostDraft::begin(host, remarks, path, Some(old))?;
     Ok(())
 }

@@ -24,7 +24,9 @@ use dasd_jobs::{ImageFiles, JobFault};
 use dasd_run::{Ending, ProgramFault, obey};
 use dasd_words::is_comparison;
 use std::alloc::{AllocError, Global};
-use std::env;
+use std::env::{self, Env, FillError};
+use std::fmt;
+use std::fmt::Write;
 use std::io::{BufWriter, ErrorKind};
 use std::process::ExitCode;
 
@@ -36,9 +38,12 @@ SHOW 40 8
 INT
 ";
 
-/// What is said of words that are no text.
+/// What is said of a word that is no text, behind it.
 const NO_TEXT: &str =
-    "error: a word is not UTF-8; dasd reads such a file as /dev/stdin, behind < FILE\n";
+    "a link to the file that has another name (ln -s) is read by each command, and run --in-place writes through it";
+
+/// The most bytes of a word that is no text which are shown.
+const SHOWN: usize = 4_096;
 
 /// The status of a comparison that came to no end, as that of `cmp`.
 const NOT_COMPARED: u8 = 2;
@@ -175,9 +180,48 @@ fn host_words(rt: &HostRuntime) -> Result<Vec<String>, ProgramFault> {
             Ok(list)
         }
         Err(fault) if fault.kind() == ErrorKind::OutOfMemory => Err(ProgramFault::OutOfMemory),
-        Err(_) => match NO_TEXT.to_string(rt.alloc()) {
+        Err(_) => match tell_no_text(rt) {
             Ok(text) => Err(ProgramFault::Words(text)),
             Err(_) => Err(ProgramFault::OutOfMemory),
         },
+    }
+}
+
+// Says which word is no text: its number, where the program's name has none, and its bytes.
+fn tell_no_text(rt: &HostRuntime) -> Result<String, AllocError> {
+    let alloc = rt.alloc();
+    let mut bytes = [0u8; SHOWN];
+    for number in 0..usize::MAX {
+        match rt.arg(number, &mut bytes) {
+            Ok(count) => {
+                let word = bytes.get(..count).unwrap_or(&[]);
+                if str::from_utf8(word).is_err() {
+                    let word = Bytes(word);
+                    return format!(in alloc;
+                        "error: word {number} is not UTF-8: {word}; {NO_TEXT}\n"
+                    );
+                }
+            }
+            Err(FillError::TooLong) => {}
+            Err(FillError::NotPresent) => break,
+        }
+    }
+    format!(in alloc; "error: a word is not UTF-8; {NO_TEXT}\n")
+}
+
+/// The bytes of a word that is no text: those that are no letters, digits or signs of ASCII are shown by their numbers.
+#[derive(Clone, Copy)]
+struct Bytes<'a>(&'a [u8]);
+
+impl fmt::Display for Bytes<'_> {
+    fn fmt<W: fmt::Write>(&self, f: &mut fmt::Formatter<W>) -> fmt::Result {
+        for byte in self.0 {
+            if byte.is_ascii_graphic() || *byte == b' ' {
+                f.write_char(char::from(*byte))?;
+            } else {
+                write!(f, "\\x{byte:02X}")?;
+            }
+        }
+        Ok(())
     }
 }

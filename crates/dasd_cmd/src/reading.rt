@@ -5,6 +5,7 @@ ghost use Rattle.std.specs.Prelude.{◌≡◌, ◌≤◌, length, None, IfOk, On
 use crate::remarks::Remarks;
 use ckd_image::StoreFault;
 use dasd_jobs::{OpenedFile, is_header};
+use file_journals::{Notes, whole_file};
 use std::alloc::Global;
 use std::fs::File;
 use std::io;
@@ -115,6 +116,7 @@ impl<'a> HostFile<'a> {
     ) -> io::Result<HostFile<'a>> {
         let known = file.metadata()?;
         if known.is_file() {
+            let file = whole_file(remarks, path, file, false)?;
             return HostFile::of(alloc, remarks, path, file, known.len());
         }
         let mut bytes = Vec::new(alloc);

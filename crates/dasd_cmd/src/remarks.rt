@@ -1,6 +1,7 @@
 //! What is told on standard error beside the line of a fault.
 
 use dasd_jobs::FileFault;
+use file_journals::Notes;
 use std::alloc::Global;
 use std::cell::{Cell, RefCell};
 use std::fmt;
@@ -75,38 +76,6 @@ impl<'a> Remarks<'a> {
         }
     }
 
-    /// One line more; where there is no memory for it, it is left out.
-    pub(crate) fn note<T: fmt::Display>(&self, remark: &T) {
-        let Ok(text) = format!(in self.alloc; "{remark}") else {
-            return;
-        };
-        let shown = Shown(text.as_str());
-        if let Ok(line) = format!(in self.alloc; "  {shown}\n") {
-            if let Ok(mut lines) = self.lines.try_borrow_mut() {
-                let _ = lines.push_str(line.as_str());
-            }
-        }
-    }
-
-    /// Why the host refused something of a file, in its words.
-    pub(crate) fn note_fault(&self, path: &str, fault: &Error) {
-        if let Ok(text) = format!(in self.alloc; "{fault}") {
-            let why = words_of(text.as_str());
-            self.note(&Refused { path, why });
-        }
-    }
-
-    /// Why the bytes of a file from a place on could not be read. One that has become shorter since it was opened has none there.
-    pub(crate) fn note_reading(&self, path: &str, at: u64, fault: &Error) {
-        if fault.kind() == ErrorKind::UnexpectedEof {
-            let why = "the file has become shorter";
-            self.note(&Unread { path, at, why });
-        } else if let Ok(text) = format!(in self.alloc; "{fault}") {
-            let why = words_of(text.as_str());
-            self.note(&Unread { path, at, why });
-        }
-    }
-
     /// Says at once, on standard error, why what a run changes of a file can't be saved.
     pub(crate) fn warn(&self, path: &str, fault: &Error) {
         if let Ok(text) = format!(in self.alloc; "{fault}") {
@@ -144,6 +113,43 @@ impl<'a> Remarks<'a> {
         if let Ok(lines) = self.lines.try_borrow() {
             let text = lines.as_str();
             let _ = eprint!(self.host; "{text}");
+        }
+    }
+}
+
+impl Notes for Remarks<'_> {
+    fn host(&self) -> &HostRuntime {
+        self.host
+    }
+
+    // Where there is no memory for a line, it is left out.
+    fn note<T: fmt::Display>(&self, remark: &T) {
+        let Ok(text) = format!(in self.alloc; "{remark}") else {
+            return;
+        };
+        let shown = Shown(text.as_str());
+        if let Ok(line) = format!(in self.alloc; "  {shown}\n") {
+            if let Ok(mut lines) = self.lines.try_borrow_mut() {
+                let _ = lines.push_str(line.as_str());
+            }
+        }
+    }
+
+    fn note_fault(&self, path: &str, fault: &Error) {
+        if let Ok(text) = format!(in self.alloc; "{fault}") {
+            let why = words_of(text.as_str());
+            self.note(&Refused { path, why });
+        }
+    }
+
+    // One that has become shorter since it was opened has no bytes there.
+    fn note_reading(&self, path: &str, at: u64, fault: &Error) {
+        if fault.kind() == ErrorKind::UnexpectedEof {
+            let why = "the file has become shorter";
+            self.note(&Unread { path, at, why });
+        } else if let Ok(text) = format!(in self.alloc; "{fault}") {
+            let why = words_of(text.as_str());
+            self.note(&Unread { path, at, why });
         }
     }
 }

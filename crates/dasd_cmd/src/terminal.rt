@@ -5,6 +5,7 @@ ghost use Rattle.std.specs.Io.{WritesAtMost};
 
 use crate::remarks::{ERASE_BEHIND, Remarks};
 use dasd_jobs::{Progress, Stage};
+use file_journals::Notes;
 use std::io;
 use std::io::{ErrorKind, Read, Write};
 

@@ -29,6 +29,17 @@ pub enum FileFault {
     Exists,
 }
 
+/// What becomes of files that are locked, where they are written later.
+#[derive(Clone, Copy)]
+pub enum SavePlan {
+    /// They are not written: each is shared with others that only read it.
+    Nothing,
+    /// A new file takes the place of each.
+    Replaced,
+    /// Each stays the file that it is, with its owner, its rights and its other names, and holds other bytes.
+    InPlace,
+}
+
 /// A file that was opened, and is read in parts.
 pub trait OpenedFile: Drop {
     // what it holds, where that is known: of a file of the host, which others may change while it is read, it is not
@@ -45,7 +56,8 @@ pub trait OpenedFile: Drop {
 }
 
 /// Files that are read in place, and are made or replaced whole: what is new is written beside the old file and takes its place
-/// at the end, so that whatever fails leaves the old file as it was.
+/// at the end, so that whatever fails leaves the old file as it was. A file that keeps its place has other bytes whole, or as before:
+/// what is new stands beside it until then, and is read in its place.
 pub trait ImageFiles {
     /// A file that was opened to be read.
     type Opened: OpenedFile;
@@ -68,9 +80,9 @@ pub trait ImageFiles {
         ensures kept { written self.new ≡ written self.old }
         ensures opens { OpensFile result Self.Opened.content path.now (opened self.old) (opened self.new) };
 
-    /// Says whether files that are locked from here on are to be replaced; where nothing is said, they are. One that is not is shared
-    /// with others that only read it, and is not looked at for what would hinder its replacement.
-    fn plan_replacing(&mut self, replaces: bool)
+    /// Says what becomes of the files that are locked from here on; where nothing is said, they are replaced. One that is not to be
+    /// written is not looked at for what would hinder that.
+    fn plan_saving(&mut self, plan: SavePlan)
         ensures kept { written self.new ≡ written self.old }
         ensures same { opened self.new ≡ opened self.old };
 
@@ -106,11 +118,13 @@ pub trait ImageFiles {
         ensures empty { IfOk result (λ draft. Self.Draft.content draft ≡ []) };
 
     /// Puts the new file that was begun for this path there. All its bytes are on the disk before it takes its place; that it has
-    /// taken the place of an old one is on the disk behind this, and that it is a new one is so behind `settle`.
+    /// taken the place of an old one is on the disk behind this, and that it is a new one is so behind `settle`. Where the old one
+    /// keeps its place, its bytes are on the disk behind this.
     ///
     /// # Errors
     ///
-    /// The host can't do it, or another file has come to the path since: what is there stays.
+    /// The host can't do it, or another file has come to the path since: what is there stays. Where the old file keeps its place and
+    /// was written in part, that is remarked, and whoever opens it next finds the new bytes whole.
     fn put(&mut self, path: &str, draft: Self::Draft) -> Result<(), FileFault>
         ensures ok { OnOk result (written self.new ≡ with_file (written self.old) path.now (Self.Draft.content draft)) }
         ensures err { OnErr result (written self.new ≡ written self.old) }

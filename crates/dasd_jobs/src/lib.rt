@@ -15,7 +15,7 @@ mod sources;
 mod written;
 
 pub use crate::faults::JobFault;
-pub use crate::files::{FileFault, ImageFiles, OpenedFile};
+pub use crate::files::{FileFault, ImageFiles, OpenedFile, SavePlan};
 pub use crate::headers::is_header;
 pub use crate::jobs::{NewVolume, check_files, format_file, list_files};
 pub use crate::lengths::Reach;

@@ -14,6 +14,8 @@ use Rattle.dasd_words.specs.declared.volumes.VolumeSource.TheVariants.{Files, Ne
 use Rattle.dasd_jobs.specs.Back.{WritesBack}
 use Rattle.dasd_jobs.specs.Written.{Replaced}
 use Rattle.dasd_jobs.specs.declared.faults.JobFault.{JobFault}
+use Rattle.dasd_jobs.specs.declared.files.SavePlan.{SavePlan}
+use Rattle.dasd_jobs.specs.declared.files.SavePlan.TheVariants.{Nothing, Replaced as by_new, InPlace}
 use Rattle.dasd_run.specs.declared.fault.ProgramFault.{ProgramFault}
 use Rattle.dasd_run.specs.declared.fault.ProgramFault.TheVariants as fault
 
@@ -56,6 +58,12 @@ Concludes (Err f) result volumes channel before now = (result ≡ Err (fault.Run
 abbrev pub unsaved_ending : Result (Unit {0}) RunFault → Result (Unit {0}) ProgramFault
 unsaved_ending (Ok done) = Ok done
 unsaved_ending (Err f) = Err (fault.Run f)
+
+-- what becomes of the files of a run: nothing where nothing is saved, and else each keeps its place, where that is asked, or is replaced
+abbrev pub plan_of : (saves in_place : Bool) → SavePlan
+plan_of false in_place = Nothing
+plan_of true true = InPlace
+plan_of true false = by_new
 
 -- the files are saved, where that is asked; and else none is written
 abbrev pub Ends : (saves : Bool) → (run : Result (Unit {0}) RunFault) → (result : Result (Unit {0}) ProgramFault) → List Volume → ChannelState

@@ -7,7 +7,7 @@ ghost use Rattle.dasd_run.specs.Answers.{FormatsVolume, ListsVolume, ChecksVolum
 ghost use Rattle.dasd_run.specs.Faults.{keeps_files};
 ghost use Rattle.dasd_run.specs.Printed.{ending_of};
 ghost use Rattle.dasd_run.specs.Runs.{RunsOrStops, Tells};
-ghost use Rattle.dasd_run.specs.Saves.{Concludes, Ends, unsaved_ending};
+ghost use Rattle.dasd_run.specs.Saves.{Concludes, Ends, plan_of, unsaved_ending};
 
 use crate::archive::{compare_both, dump_part};
 use crate::decks::{read_deck, run_deck, tell_fault};
@@ -23,7 +23,9 @@ use crate::unload::{extract_set, extract_tracks, extract_volume};
 use crate::vtoc::list_contents;
 use crate::words::{assemble_text, disassemble_deck};
 use counted_io::{Counted, WriteFault, write_flushed};
-use dasd_jobs::{ImageFiles, JobFault, NewVolume, Progress, check_files, format_file, list_files};
+use dasd_jobs::{
+    ImageFiles, JobFault, NewVolume, Progress, SavePlan, check_files, format_file, list_files,
+};
 use dasd_words::{DeckRun, NewImage, Request, Volume, WordFault, read_words};
 use s360_deck::RunFault;
 use std::alloc::Global;
@@ -199,7 +201,7 @@ fn run_volumes<F: Traces, R: Read, W: Write>(
     concluded.and(traced.and(Ok(Ending::Done)))
 }
 
-// Says whether files are to be replaced, and opens the trace.
+// Says what becomes of the files, and opens the trace.
 fn begin_run<F: Traces>(
     alloc: Global,
     files: &mut F,
@@ -209,8 +211,21 @@ fn begin_run<F: Traces>(
     ensures same { F.opened files.new ≡ F.opened files.old }
     ensures no_trace { IfErr result (λ e. NoTrace e asked.now) }
 {
-    files.plan_replacing(asked.saves);
+    files.plan_saving(save_plan(asked));
     begin_trace(alloc, files, asked)
+}
+
+// What becomes of the files of a run.
+fn save_plan(asked: &DeckRun) -> SavePlan
+    ensures { result ≡ plan_of asked.now.saves asked.now.in_place }
+{
+    if !asked.saves {
+        SavePlan::Nothing
+    } else if asked.in_place {
+        SavePlan::InPlace
+    } else {
+        SavePlan::Replaced
+    }
 }
 
 // Checks the volume of these files, and says whether it has tracks that can't be read.

@@ -36,6 +36,8 @@ pub(crate) struct ArgRow {
 pub(crate) enum ArgKind {
     /// An option that is there or is not.
     Flag,
+    /// The same, which can't stand beside these others.
+    FlagWithout(&'static [&'static str]),
     /// An option with a value behind it.
     Valued(Value),
     /// Words: what each has to be, and how many there are at least and at most.
@@ -123,6 +125,10 @@ fn arg<'a>(alloc: Global, row: &ArgRow) -> Result<Arg<'a>, AllocError> {
     let arg = Arg::new(alloc, row.id).help(row.help);
     match &row.kind {
         ArgKind::Flag => Ok(arg.long(row.id).action(ArgAction::SetTrue)),
+        ArgKind::FlagWithout(others) => {
+            let flag = arg.long(row.id).action(ArgAction::SetTrue);
+            flag.conflicts_with_all(*others)
+        }
         ArgKind::Valued(value) => valued(arg.long(row.id), value),
         ArgKind::Words(parser, least, most) => Ok(words(arg, *parser, *least, *most)),
     }

@@ -248,6 +248,8 @@ pub struct DeckRun<'a> {
     pub deck: Option<&'a str>,
     /// Whether the files are written back that the deck changed.
     pub saves: bool,
+    /// Whether a file that is written back stays the file that it is, and is not replaced by another.
+    pub in_place: bool,
     /// Its trace, if one is written.
     pub trace: Option<AskedTrace<'a>>,
     /// The volumes, in the order of the words.

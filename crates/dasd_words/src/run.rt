@@ -58,6 +58,11 @@ pub(crate) const COMMAND: CommandRow = CommandRow {
             kind: ArgKind::Flag,
         },
         ArgRow {
+            id: "in-place",
+            help: "writes over the bytes of an image that was changed, which stays the same file, behind a journal beside it",
+            kind: ArgKind::FlagWithout(&["no-save"]),
+        },
+        ArgRow {
             id: "trace",
             help: "tells on standard error what each channel command word does",
             kind: ArgKind::Flag,
@@ -112,6 +117,7 @@ pub(crate) fn read<'a>(alloc: Global, options: &ArgMatches<'a>) -> Result<Reques
         channel: read_channel(alloc, options)?,
         deck: options.get_str("deck"),
         saves: !options.get_flag("no-save"),
+        in_place: options.get_flag("in-place"),
         trace: read_trace(alloc, options)?,
         volumes: read_volumes(alloc, words)?,
     }))

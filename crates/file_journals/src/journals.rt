@@ -1,0 +1,228 @@
+//! A journal, and the file that is written by it.
+//!
+//! A journal has twice the length of its file: the bytes that are saved, and behind them, for each of these, the bits by which what the
+//! file held differs from it. So it is known of each byte of the file whether it is one that was, one that is to be, or another's.
+
+ghost use Rattle.std.specs.Prelude.{◌≡◌, ◌≤◌, length};
+
+use crate::bytes::{are_either, take_differences};
+use crate::notes::Notes;
+use crate::places::{folder_of, journal_path};
+use std::fs::{File, Metadata};
+use std::io::{ErrorKind, Seek, SeekFrom, Write};
+use std::os::unix::fs::{FileExt, MetadataExt};
+use std::path::{Path, PathBuf};
+use std::{fs, io};
+
+/// How many bytes are compared, and written, at once.
+const BLOCK: usize = 16_384;
+
+/// What is done with each block of a file.
+#[derive(Clone, Copy)]
+enum Step {
+    /// By what the file's bytes differ from those that are saved is noted.
+    Note,
+    /// Each of the file's bytes is looked at: it was there, or is saved.
+    Compare,
+    /// The bytes that are saved are written.
+    Write,
+}
+
+/// Why a save in place did not come to its end.
+#[derive(Drop)]
+pub enum SaveFault {
+    /// The file is as it was.
+    Kept(io::Error),
+    /// The journal stands beside it, and it is to be written by that.
+    Begun(io::Error),
+}
+
+impl From<io::Error> for SaveFault {
+    fn from(fault: io::Error) -> SaveFault {
+        SaveFault::Kept(fault)
+    }
+}
+
+/// The journal of a file. Where its bytes or those of the file can't be read, it notes where and why.
+#[derive(Drop)]
+pub struct Journal<'a, N: Notes> {
+    pub(crate) notes: &'a N,
+    /// The path of its file as it was given.
+    pub(crate) given: &'a str,
+    pub(crate) file: File,
+    pub(crate) path: PathBuf,
+    /// How many bytes are saved.
+    pub(crate) len: u64,
+}
+
+impl<'a, N: Notes> Journal<'a, N> {
+    /// What is to be a journal: a new file with the bytes that are saved of one that is known, lies here, and was named by a path.
+    ///
+    /// # Errors
+    ///
+    /// The host refuses it, or there is no memory.
+    pub fn of_draft(
+        notes: &'a N,
+        given: &'a str,
+        draft: &File,
+        home: Path<'_>,
+        known: &Metadata,
+    ) -> io::Result<Journal<'a, N>> {
+        Ok(Journal {
+            notes,
+            given,
+            file: draft.try_clone()?,
+            path: journal_path(notes.host(), home, known.ino())?,
+            len: draft.metadata()?.len(),
+        })
+    }
+
+    /// Makes the journal of a file that holds what is saved, and has no other name than this hidden one; then writes over the bytes of
+    /// the target, and takes the journal away.
+    ///
+    /// # Errors
+    ///
+    /// The host refuses something of it, or the target has another length.
+    pub fn save(&self, hidden: Path<'_>, target: &File) -> Result<(), SaveFault> {
+        let host = self.notes.host();
+        if target.metadata()?.len() != self.len {
+            let fault = io::Error::new(ErrorKind::InvalidInput, "its length has changed");
+            return Err(SaveFault::Kept(fault));
+        }
+        self.pass(target, Step::Note)?;
+        self.file.set_len(self.len.saturating_mul(2))?;
+        self.file.sync_all()?;
+        fs::rename(host, hidden, self.path.as_path())?;
+        if let Err(fault) = self.sync_folder() {
+            return Err(match fs::remove_file(host, self.path.as_path()) {
+                Ok(()) => SaveFault::Kept(fault),
+                Err(_) => SaveFault::Begun(fault),
+            });
+        }
+        match self.finish(target) {
+            Ok(()) => Ok(()),
+            Err(fault) => Err(SaveFault::Begun(fault)),
+        }
+    }
+
+    /// Writes what is saved over the bytes of the target, and takes the journal away once that is on the disk.
+    pub(crate) fn finish(&self, target: &File) -> io::Result<()> {
+        self.pass(target, Step::Write)?;
+        target.sync_all()?;
+        fs::remove_file(self.notes.host(), self.path.as_path())?;
+        self.sync_folder()
+    }
+
+    /// Whether each byte of the target is one that is saved, or that was there before.
+    pub(crate) fn fits(&self, target: &File) -> io::Result<bool> {
+        self.pass(target, Step::Compare)
+    }
+
+    /// Whether it still has its name.
+    pub(crate) fn is_there(&self) -> bool {
+        fs::symlink_metadata(self.notes.host(), self.path.as_path()).is_ok()
+    }
+
+    // Has the folder's names on the disk.
+    fn sync_folder(&self) -> io::Result<()> {
+        File::open(self.notes.host(), folder_of(self.path.as_path()))?.sync_all()
+    }
+
+    // Reads bytes of the journal.
+    fn read(&self, into: &mut [u8], at: u64) -> io::Result<()>
+        ensures { length into.new ≡ length into.old }
+    {
+        let read = self.file.read_exact_at(into, at);
+        if let Err(fault) = &read {
+            self.notes.note_reading(self.path.as_str(), at, fault);
+        }
+        read
+    }
+
+    // Reads bytes of the target.
+    fn read_target(&self, target: &File, into: &mut [u8], at: u64) -> io::Result<()>
+        ensures { length into.new ≡ length into.old }
+    {
+        let read = target.read_exact_at(into, at);
+        if let Err(fault) = &read {
+            self.notes.note_reading(self.given, at, fault);
+        }
+        read
+    }
+
+    // Does a step with each block of the target, up to the first that is not as it must be, and says whether there is none.
+    fn pass(&self, target: &File, step: Step) -> io::Result<bool> {
+        let mut at = 0u64;
+        for _ in 0..u64::MAX {
+            let count = self.len.saturating_sub(at).min(BLOCK as u64) as usize;
+            if count == 0 {
+                break;
+            }
+            if !self.do_step(target, step, at, count)? {
+                return Ok(false);
+            }
+            at = at.saturating_add(count as u64);
+        }
+        Ok(true)
+    }
+
+    // Does a step with a block, and says whether it is as it must be.
+    fn do_step(&self, target: &File, step: Step, at: u64, count: usize) -> io::Result<bool>
+        requires { count ≤ BLOCK }
+    {
+        match step {
+            Step::Note => self.note_block(target, at, count)?,
+            Step::Compare => return self.compare_block(target, at, count),
+            Step::Write => self.write_block(target, at, count)?,
+        }
+        Ok(true)
+    }
+
+    // Notes by what a block of the target differs from what is saved.
+    fn note_block(&self, target: &File, at: u64, count: usize) -> io::Result<()>
+        requires { count ≤ BLOCK }
+    {
+        let mut saved = [0u8; BLOCK];
+        let mut held = [0u8; BLOCK];
+        self.read(&mut saved[..count], at)?;
+        self.read_target(target, &mut held[..count], at)?;
+        if saved[..count] == held[..count] {
+            return Ok(());
+        }
+        take_differences(&saved[..count], &mut held[..count]);
+        write_at(&self.file, &held[..count], self.len.saturating_add(at))
+    }
+
+    // Whether each byte of a block of the target is the one that is saved, or the one that was there before.
+    fn compare_block(&self, target: &File, at: u64, count: usize) -> io::Result<bool>
+        requires { count ≤ BLOCK }
+    {
+        let mut saved = [0u8; BLOCK];
+        let mut differing = [0u8; BLOCK];
+        let mut held = [0u8; BLOCK];
+        self.read(&mut saved[..count], at)?;
+        self.read(&mut differing[..count], self.len.saturating_add(at))?;
+        self.read_target(target, &mut held[..count], at)?;
+        Ok(are_either(&saved[..count], &differing[..count], &held[..count]))
+    }
+
+    // Writes a block of what is saved over that of the target, if it is another.
+    fn write_block(&self, target: &File, at: u64, count: usize) -> io::Result<()>
+        requires { count ≤ BLOCK }
+    {
+        let mut saved = [0u8; BLOCK];
+        let mut held = [0u8; BLOCK];
+        self.read(&mut saved[..count], at)?;
+        self.read_target(target, &mut held[..count], at)?;
+        if saved[..count] == held[..count] {
+            return Ok(());
+        }
+        write_at(target, &saved[..count], at)
+    }
+}
+
+// Writes bytes into a file, from a place on.
+fn write_at(mut file: &File, bytes: &[u8], at: u64) -> io::Result<()> {
+    file.seek(SeekFrom::Start(at))?;
+    file.write_all(bytes)
+}
