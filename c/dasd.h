@@ -161,10 +161,34 @@ typedef struct dasd_file {
     uint64_t changes;
 } dasd_file;
 
-/* Shows a file of a drive's volume, 0 for its first, where no program runs on the drive's channel. The bytes stand there, and are the
- * volume's, until the next dasd_step, dasd_run_on, dasd_hio or dasd_reset of that channel, dasd_detach or dasd_free.
- * DASD_NO_CHANNEL, DASD_PROGRAM_RUNS, DASD_NO_DRIVE, DASD_NO_FILE. */
+/* Shows a file of a drive's volume, 0 for its first, where the drive's program does not run: that of another drive may. All that the
+ * drive's programs wrote is in it. The bytes stand there, and are the volume's, until the next dasd_step, dasd_run_on, dasd_hio or
+ * dasd_reset of that channel, dasd_detach or dasd_free. DASD_NO_CHANNEL, DASD_PROGRAM_RUNS, DASD_NO_DRIVE, DASD_NO_FILE. */
 int32_t dasd_show_file(const dasd *d, uint16_t address, uint8_t file, dasd_file *shown);
+
+/* A track of a file that was written, and where its slot lies there. */
+typedef struct dasd_changed {
+    size_t at;    /* where the slot begins in the file */
+    size_t len;   /* how many bytes it has */
+    size_t track; /* the track's number among those of the file, from 0 on: cylinder by cylinder, and head by head */
+    size_t next;  /* the number of the track at which the next look begins: 0 before the first call */
+} dasd_changed;
+
+/* Shows the first track of a file, from number `next` of it on, that was written since the file's `changes` was `since`: 1, and `track`
+ * names it, with `next` behind it; or 0, there is none, and `track` stays. Each byte of a track that is passed over is what it was when
+ * the number was `since`, and so is the header, which no drive writes. So a copy of the file, made when the number was `since`, is the
+ * file once each track that is shown was copied:
+ *
+ *     dasd_changed it = {0, 0, 0, 0};
+ *     dasd_show_file(&d, 0x190, 0, &file);
+ *     while (dasd_next_changed(&d, 0x190, 0, since, &it) == 1) pwrite(fd, file.at + it.at, it.len, (off_t)it.at);
+ *     if (fsync(fd) == 0) since = file.changes;
+ *
+ * The number is the caller's to keep, and no call forgets what was written: where a write fails it stays, and the next time the same
+ * tracks are shown, and those since. `since` is a number that dasd_show_file has shown of this file. A number above the file's own shows
+ * all tracks. A new volume's file is copied whole before all that: dasd_attach_new wrote it. Where dasd_show_file would be refused:
+ * DASD_NO_CHANNEL, DASD_PROGRAM_RUNS, DASD_NO_DRIVE, DASD_NO_FILE. */
+int32_t dasd_next_changed(const dasd *d, uint16_t address, uint8_t file, uint64_t since, dasd_changed *track);
 
 enum dasd_arm { DASD_AT_REST = 0, DASD_IN_MOTION = 1, DASD_ARRIVED = 2 };
 

@@ -36,6 +36,7 @@
 #include <optional>
 #include <type_traits>
 #include <utility>
+#include <vector>
 
 #if __cplusplus >= 202002L && defined(__has_include)
 #if __has_include(<span>)
@@ -273,12 +274,23 @@ class Channels {
      * DASD_NO_CHANNEL, DASD_NO_DRIVE, DASD_PROGRAM_RUNS, DASD_ENDING_PENDS, DASD_DEVICE_END_OWED. */
     void detach(std::uint16_t address) { detail::done(dasd_detach(held(), address)); }
 
-    /* A file of a drive's volume, 0 for its first, where no program runs on the drive's channel. Its bytes stand there until the next step,
-     * run_on, hio or reset of that channel, detach or free. DASD_NO_CHANNEL, DASD_PROGRAM_RUNS, DASD_NO_DRIVE, DASD_NO_FILE. */
+    /* A file of a drive's volume, 0 for its first, where the drive's program does not run: that of another drive may. Its bytes stand there
+     * until the next step, run_on, hio or reset of that channel, detach or free. DASD_NO_CHANNEL, DASD_PROGRAM_RUNS, DASD_NO_DRIVE,
+     * DASD_NO_FILE. */
     File file(std::uint16_t address, std::uint8_t place = 0) {
         dasd_file shown{};
         detail::done(dasd_show_file(held(), address, place, &shown));
         return {Bytes(shown.at, shown.len), shown.changes};
+    }
+
+    /* The tracks of such a file that were written since its `changes` was this number, with the places of their slots in it: each other
+     * byte is what it was then. A new volume's file is copied whole first. DASD_NO_CHANNEL, DASD_PROGRAM_RUNS, DASD_NO_DRIVE,
+     * DASD_NO_FILE; std::bad_alloc. */
+    std::vector<dasd_changed> changed(std::uint16_t address, std::uint64_t since, std::uint8_t place = 0) {
+        std::vector<dasd_changed> tracks;
+        dasd_changed next{};
+        while (detail::done(dasd_next_changed(held(), address, place, since, &next)) == 1) tracks.push_back(next);
+        return tracks;
     }
 
     /* What is known of a drive without a channel program. DASD_NO_CHANNEL, DASD_NO_DRIVE. */

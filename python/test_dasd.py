@@ -89,6 +89,27 @@ class Calls(unittest.TestCase):
             others.detach(0x001)
             self.refused("NO_DRIVE", others.detach, 0x001)
 
+    def test_a_file_is_kept_by_its_changed_tracks(self) -> None:
+        with self.made() as disks:
+            image, since = disks.file(0x190)
+            kept = bytearray(image)
+            self.assertEqual(disks.changed(0x190, since), ([], since))
+            self.assertEqual([it.track for it in disks.changed(0x190, 0).tracks], list(range(40)))  # those of the new volume
+            # Search Identifier of record 0, and Write Count, Key and Data behind it
+            disks.storage[0x100:0x118] = bytes.fromhex("31000200400000050800010000000000 1D00020820000009")
+            disks.storage[0x200:0x211] = bytes.fromhex("00" * 8 + "0000000001000001C1")
+            self.assertEqual(disks.sio(0x190), 0)
+            self.refused("PROGRAM_RUNS", disks.changed, 0x190, since)
+            disks.run_on(1, 1000)
+            tracks, changes = disks.changed(0x190, since)
+            self.assertEqual([(it.track, it.at, len(it.data)) for it in tracks], [(0, 512, 7680)])
+            for track in tracks:
+                kept[track.at : track.at + len(track.data)] = track.data
+            self.assertEqual((disks.file(0x190), disks.changed(0x190, changes)), ((bytes(kept), changes), ([], changes)))
+            self.assertNotEqual((image, since), (bytes(kept), changes))
+            self.refused("NO_FILE", disks.changed, 0x190, 0, 1)
+            self.refused("NO_CHANNEL", disks.changed, 0x390, 0)
+
     def test_an_arm_moves(self) -> None:
         with self.made() as disks:
             disks.storage[0x100:0x108] = bytes.fromhex("0700020020000006")

@@ -71,6 +71,7 @@ class Numbers(unittest.TestCase):
             self.refused("NO_CYLINDERS", disks.attach_new, 0x191, 2314, 1 + beyond)
             self.refused("NO_FILE", disks.file, 0x190, beyond)
             self.refused("NO_FILE", disks.changes, 0x190, beyond)
+            self.refused("NO_FILE", disks.changed, 0x190, 0, beyond)
             self.refused("BAD_KEY", disks.set_key, 0, 3 + beyond)
             of_channels: Sequence[Tuple[Call, List[object]]] = [(disks.run_on, [1]), (disks.step, [1]), (disks.reset, []), (disks.channel, [])]
             for call, behind in of_channels:
@@ -92,6 +93,7 @@ class Numbers(unittest.TestCase):
         calls += [(call, [1, units]) for call in (disks.run_on, disks.step) for units in (1 << 32, -1)]
         calls += [(call, [mask]) for call in (disks.is_pending, disks.interrupt) for mask in (0x1FE, -1)]
         calls += [(disks.peek, [0, -1])]
+        calls += [(disks.changed, [address, since]) for address, since in ((0x10190, 0), (-1, 0), (0x190, -1), (0x190, 1 << 64))]
         for call, arguments in calls:
             with self.assertRaises(ValueError, msg=str(arguments)):
                 call(*arguments)

@@ -1,4 +1,5 @@
-/* files.c - a volume's file is read whole, and saved so that whoever looks finds the old file or the new one, and no half of either. */
+/* files.c - a volume's file is read whole, and saved by its changed tracks, in place, so that nobody is told of it before they are on the
+ * disk; or whole, so that whoever looks finds the old file or the new one, and no half of either. */
 #define _XOPEN_SOURCE 700
 #include <errno.h>
 #include <fcntl.h>
@@ -35,6 +36,35 @@ uint8_t *read_file(const char *path, size_t *len) {
     close(fd);
     errno = why;
     return bytes;
+}
+
+int open_to_save(const char *path, size_t len) {
+    struct stat s;
+    int fd = open(path, O_WRONLY | O_CLOEXEC);
+    if (fd < 0 || (!fstat(fd, &s) && S_ISREG(s.st_mode) && (size_t)s.st_size == len)) return fd;
+    close(fd);
+    return errno = EINVAL, -1;
+}
+
+int write_at(int fd, size_t at, const uint8_t *bytes, size_t len) {
+    while (len) {
+        ssize_t put = pwrite(fd, bytes, len, (off_t)at);
+        if (put < 0 && errno != EINTR) return -1;
+        if (put > 0) {
+            bytes += put;
+            at += (size_t)put;
+            len -= (size_t)put;
+        }
+    }
+    return 0;
+}
+
+int close_saved(int fd, int bad) {
+    bad = bad || fsync(fd);
+    int why = errno;
+    if (close(fd) && !bad) return -1;
+    errno = why;
+    return bad ? -1 : 0;
 }
 
 static int write_all(int fd, const uint8_t *bytes, size_t len) {

@@ -10,7 +10,7 @@
  *   another device beside the library's, on a channel of its own                            console.c
  *   packs that an operator changes while the machine runs                                   operator.c, volumes.c
  *   the whole machine is copied in the middle of its run, and gone back to                  again.c
- *   a volume's file is read, and saved so that no half file is ever left                    files.c
+ *   a volume's file is read, and saved: by its changed tracks alone, or whole               files.c, volumes.c
  *
  * 'PoO' is IBM System/360 Principles of Operation, A22-6821. */
 #ifndef S360_H
@@ -55,8 +55,8 @@ typedef struct volume {
     uint16_t address; /* of the drive on which it is mounted; 0: it is on the shelf */
     uint8_t *bytes;   /* on the shelf: its file */
     size_t len;       /* of that file */
-    uint64_t changes; /* the number of its changes as it was mounted */
-    int is_changed;   /* a byte of it was changed before that */
+    uint64_t changes; /* the number of its changes as it was mounted, or saved */
+    int is_changed;   /* it was changed before that, and not saved */
 } volume;
 
 enum { MOST_VOLUMES = 16, MOST_DRIVES = 8 };
@@ -165,9 +165,13 @@ int keep(machine *m, machine *kept);
 int go_back(machine *m, machine *kept);
 void drop(machine *kept);
 
-/* files.c: a whole file in memory, which is freed by free; a file written beside an old one and put in its place. NULL and -1 where the
- * system refused, as errno says. */
+/* files.c: a whole file in memory, which is freed by free; a file of so many bytes, opened to be written in place, bytes of it written, and
+ * all of that brought to the disk, unless it went bad, and closed; a file written beside an old one and put in its place. NULL and -1 where
+ * the system refused, as errno says. */
 uint8_t *read_file(const char *path, size_t *len);
+int open_to_save(const char *path, size_t len);
+int write_at(int fd, size_t at, const uint8_t *bytes, size_t len);
+int close_saved(int fd, int bad);
 int save_file(const char *path, const uint8_t *bytes, size_t len);
 
 #endif

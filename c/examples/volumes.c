@@ -73,13 +73,27 @@ volume *volume_called(machine *m, const char *serial) {
     return NULL;
 }
 
-/* Saves a volume, if a byte of it was changed since it was read. */
-static int save(machine *m, const volume *v) {
+/* The tracks that were written go where they belong in the file. If the power fails meanwhile, some of them are new and some old, and one
+ * may be half of each, as on a pack at which a program wrote: an emulator that wants all or nothing writes them to a journal first, or
+ * the whole file anew, as below. */
+static int save_tracks(machine *m, const volume *v, const dasd_file *shown) {
+    dasd_changed track = {0, 0, 0, 0};
+    int fd = open_to_save(v->path, shown->len), bad = 0;
+    if (fd < 0) return -1;
+    while (!bad && dasd_next_changed(&m->d, v->address, 0, v->changes, &track) == 1)
+        bad = write_at(fd, track.at, shown->at + track.at, track.len);
+    return close_saved(fd, bad);
+}
+
+/* Saves a volume, if it was written since it was read or saved. What was not saved is saved the next time. */
+static int save(machine *m, volume *v) {
     dasd_file shown = {v->bytes, v->len, v->changes};
     int code = v->address ? dasd_show_file(&m->d, v->address, 0, &shown) : DASD_DONE;
     if (code != DASD_DONE) return complain_of_fault(v, code);
     if (shown.changes == v->changes && !v->is_changed) return 0;
-    if (save_file(v->path, shown.at, shown.len)) return complain(v, strerror(errno));
+    if (v->is_changed ? save_file(v->path, shown.at, shown.len) : save_tracks(m, v, &shown)) return complain(v, strerror(errno));
+    v->changes = shown.changes;
+    v->is_changed = 0;
     fprintf(stderr, "s360: %s is saved\n", v->path);
     return 0;
 }

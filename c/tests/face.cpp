@@ -100,6 +100,24 @@ void a_volume_goes_from_one_to_another() {
     CHECK(refused([&] { libdasd::check(image); }) == DASD_LENGTH && refused([&] { others.attach(0x001, image); }) == DASD_LENGTH);
 }
 
+void a_file_is_kept_by_its_changed_tracks() {
+    const Octets write = {0x31, 0, 2, 0, 0x40, 0, 0, 5, 8, 0, 1, 0, 0, 0, 0, 0, 0x1D, 0, 2, 8, 0x20, 0, 0, 9};
+    Subsystem disks = made(write);
+    Octets image = image_of(disks);
+    const auto before = disks.file(drive).changes;
+    CHECK(disks.changed(drive, before).empty() && disks.changed(drive, 0).size() == 40);
+    disks.poke(0x208, Octets{0, 0, 0, 0, 1, 0, 0, 1, 0xC1});
+    CHECK(disks.sio(drive) == 0 && refused([&] { (void)disks.changed(drive, before); }) == DASD_PROGRAM_RUNS);
+    (void)disks.run_on(1, 1000);
+    const auto tracks = disks.changed(drive, before);
+    CHECK(tracks.size() == 1 && tracks[0].track == 0 && tracks[0].at == 512 && tracks[0].len == 7680 && tracks[0].next == 1);
+    const auto shown = disks.file(drive);
+    CHECK(!std::equal(image.begin(), image.end(), shown.bytes.begin(), shown.bytes.end()));
+    for (const auto &it : tracks) std::copy_n(shown.bytes.begin() + static_cast<std::ptrdiff_t>(it.at), it.len, image.begin() + static_cast<std::ptrdiff_t>(it.at));
+    CHECK(std::equal(image.begin(), image.end(), shown.bytes.begin(), shown.bytes.end()) && disks.changed(drive, shown.changes).empty());
+    CHECK(refused([&] { (void)disks.changed(0x390, 0); }) == DASD_NO_CHANNEL && refused([&] { (void)disks.changed(drive, 0, 1); }) == DASD_NO_FILE);
+}
+
 void a_volume_in_several_files() {
     enum { HEADER = 512, TWO_CYLINDERS = 2 * 10 * 4096, SEQUENCE = 17, HIGHEST_CYLINDER = 18 };
     Subsystem disks = made(read_r0);
@@ -394,6 +412,7 @@ int main(int count, char **words) { // NOLINT(bugprone-exception-escape)
     a_record_is_read();
     a_program_is_shown_while_it_runs();
     a_volume_goes_from_one_to_another();
+    a_file_is_kept_by_its_changed_tracks();
     a_volume_in_several_files();
     an_arm_moves();
     several_channels();

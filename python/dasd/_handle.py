@@ -4,7 +4,7 @@ from __future__ import annotations
 
 import ctypes
 import threading
-from typing import Callable, Tuple
+from typing import Callable, List, Tuple
 
 from . import _library
 from ._words import Fault, FaultCode
@@ -76,6 +76,22 @@ class Handle:
             try:
                 done(calls.dasd_show_file(self._at, address, place, ctypes.byref(shown)))
                 return ctypes.string_at(shown.at, shown.len), shown.changes
+            finally:
+                self._is_copying = False
+
+    def changed(self, address: int, place: int, since: int) -> Tuple[List[Tuple[int, int, bytes]], int]:
+        """The tracks of such a file that were written since a number of its changes, each with its number, its slot's place and a copy of the
+        slot; and the number now."""
+        shown, track = _library.File(), _library.Changed()
+        tracks: List[Tuple[int, int, bytes]] = []
+        with self._lock:
+            self._refuse_while_copying()
+            self._is_copying = True
+            try:
+                done(calls.dasd_show_file(self._at, address, place, ctypes.byref(shown)))
+                while done(calls.dasd_next_changed(self._at, address, place, since, ctypes.byref(track))) == 1:
+                    tracks.append((track.track, track.at, ctypes.string_at(shown.at + track.at, track.len)))
+                return tracks, shown.changes
             finally:
                 self._is_copying = False
 

@@ -32,6 +32,12 @@ class File(ctypes.Structure):
     _fields_ = [("at", ctypes.c_void_p), ("len", ctypes.c_size_t), ("changes", ctypes.c_uint64)]
 
 
+class Changed(ctypes.Structure):
+    """A track of a file that was written, and where its slot lies there."""
+
+    _fields_ = [("at", ctypes.c_size_t), ("len", ctypes.c_size_t), ("track", ctypes.c_size_t), ("next", ctypes.c_size_t)]
+
+
 class Storage(ctypes.Structure):
     """Where main storage lies."""
 
@@ -131,7 +137,7 @@ def _to(of: Type[ctypes.Structure]) -> Any:
     return ctypes.POINTER(of)
 
 
-_U8, _U16, _U32, _SIZE = ctypes.c_uint8, ctypes.c_uint16, ctypes.c_uint32, ctypes.c_size_t
+_U8, _U16, _U32, _U64, _SIZE = ctypes.c_uint8, ctypes.c_uint16, ctypes.c_uint32, ctypes.c_uint64, ctypes.c_size_t
 
 # The calls that take a handle: their arguments behind it.
 _CALLS: Dict[str, List[Any]] = {
@@ -142,6 +148,7 @@ _CALLS: Dict[str, List[Any]] = {
     "attach_new": [_U16, _U16, _U16],
     "detach": [_U16],
     "show_file": [_U16, _U8, _to(File)],
+    "next_changed": [_U16, _U8, _U64, _to(Changed)],
     "show_drive": [_U16, _to(Drive)],
     "sio": [_U16],
     "tio": [_U16],

@@ -14,6 +14,8 @@ from ._words import (
     Area,
     Arm,
     AttachedDrive,
+    Changed,
+    ChangedTrack,
     ChannelState,
     Credit,
     DriveState,
@@ -40,7 +42,7 @@ _Kind = TypeVar("_Kind", bound="Channels")
 #: The channels 0 to 6, as a system mask.
 ALL_CHANNELS = 0xFE
 
-_U8, _U16, _U32 = 0xFF, 0xFFFF, 0xFFFF_FFFF
+_U8, _U16, _U32, _U64 = 0xFF, 0xFFFF, 0xFFFF_FFFF, 0xFFFF_FFFF_FFFF_FFFF
 # Main storage has so many bytes or more; none has so many.
 _LEAST, _TOO_MANY = 4096, (1 << 24) + 1
 
@@ -194,7 +196,7 @@ class Channels:
         self._call("detach", _number("address", address, _U16))
 
     def file(self, address: int, place: int = 0) -> VolumeFile:
-        """A copy of a file of a drive's volume, 0 for its first, where no program runs on its channel, and the number of its changes.
+        """A copy of a file of a drive's volume, 0 for its first, where the drive's program does not run, and the number of its changes.
 
         NO_CHANNEL, PROGRAM_RUNS, NO_DRIVE, NO_FILE.
         """
@@ -206,6 +208,18 @@ class Channels:
         self._call("show_file", _number("address", address, _U16), _refusable(place, _U8, _U8), ctypes.byref(shown))
         changes: int = shown.changes
         return changes
+
+    def changed(self, address: int, since: int, place: int = 0) -> Changed:
+        """The tracks of such a file that were written since its number of changes was this one, with copies of their slots.
+
+        A copy of the file that was made then is the file once each slot stands at its place in it. `since` is a number that `file`,
+        `changes` or this call has answered for the file; a number above the file's own answers all tracks. A new volume's file is copied
+        whole first. The same Faults as those of `file`.
+        """
+        tracks, changes = self._handle.changed(
+            _number("address", address, _U16), _refusable(place, _U8, _U8), _number("since", since, _U64)
+        )
+        return Changed([ChangedTrack(*it) for it in tracks], changes)
 
     def drive(self, address: int) -> DriveState:
         """What is known of a drive. NO_CHANNEL, NO_DRIVE."""

@@ -3,7 +3,7 @@
 from __future__ import annotations
 
 import enum
-from typing import NamedTuple, Tuple
+from typing import List, NamedTuple, Tuple
 
 
 class FaultCode(enum.IntEnum):
@@ -149,6 +149,26 @@ class VolumeFile(NamedTuple):
     #: a copy of all its bytes
     data: bytes
     #: another number after each write to the file, also of bytes that stood there already
+    changes: int
+
+
+class ChangedTrack(NamedTuple):
+    """A track of a file that was written."""
+
+    #: its number among the tracks of the file, from 0 on: cylinder by cylinder, and head by head
+    track: int
+    #: where its slot begins in the file
+    at: int
+    #: a copy of the slot, which goes there
+    data: bytes
+
+
+class Changed(NamedTuple):
+    """What was written to a file since its changes were a number: each other byte is what it was then."""
+
+    #: the tracks, in their order
+    tracks: List[ChangedTrack]
+    #: the number of changes now, for the next time
     changes: int
 
 

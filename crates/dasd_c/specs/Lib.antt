@@ -5,3 +5,4 @@ pub mod Calls
 pub mod Attaching
 pub mod Copying
 pub mod Watching
+pub mod Saving

@@ -1,15 +1,16 @@
 -- What C is shown of channels and drives.
-use Rattle.std.specs.Prelude.{◌≡◌, ◌/◌, ◌%◌, ℤ, pos, ℕ, Bool, true, false, List, length, map, filter, is_some, Option, Some, None, if◌then◌else◌}
+use Rattle.std.specs.Prelude.{◌≡◌, ◌/◌, ◌%◌, ◌==◌, ℤ, pos, ℕ, Bool, true, false, List, length, map, filter, is_some, Option, Some, None, if◌then◌else◌}
 use Rattle.s360_words.specs.Storage.{Storage}
 use Rattle.ckd_image.specs.Image.{ImageState, IsFileAt}
 use Rattle.ckd_track.specs.declared.model.DriveModel.{DriveModel}
 use Rattle.ckd_track.specs.declared.model.DriveModel.TheVariants.{D2311, D2314}
-use Rattle.s360_laws.specs.Machine.{Machine, is_working}
+use Rattle.s360_laws.specs.Machine.{Machine}
 use Rattle.s360_laws.specs.declared.arm.Arm.{Arm}
 use Rattle.s360_laws.specs.declared.arm.Arm.TheVariants.{AtRest, InMotion, Arrived}
 use Rattle.s360_channels.specs.Channels.{ChannelsState, channel_at}
 use Rattle.s360_channel.specs.Channel.{ChannelState, StandsFor}
 use Rattle.s360_channel.specs.Shares.{with_storage}
+use Rattle.s360_channel.specs.Packs.{runs_at}
 use Rattle.s360_channel.specs.Views.{view_of}
 use Rattle.s360_channels.specs.Asked.{drive_at, image_at}
 use Rattle.s360_channel.specs.declared.view.DriveView.{DriveView}
@@ -17,8 +18,6 @@ use Rattle.s360_channel.specs.declared.view.RunOn.{RunOn}
 use Rattle.s360_channel.specs.declared.view.View.{View}
 use Rattle.s360_channel.specs.declared.view.SubchannelView.{SubchannelView}
 use Rattle.s360_channel.specs.declared.view.SubchannelView.TheVariants.{Idle, Working, Pending}
-use Rattle.s360_events.specs.declared.conditions.Condition.{Condition}
-use Rattle.s360_events.specs.declared.conditions.Condition.TheVariants.{Two}
 use Rattle.dasd_subsystem.specs.declared.shown.ShownDrive.{ShownDrive}
 use Rattle.dasd_subsystem.specs.declared.shown.ShownChannel.{ShownChannel}
 use Rattle.dasd_subsystem.specs.Shown.{ShowsState, drive_shown, numbers_of}
@@ -51,15 +50,15 @@ abbrev pub ShowsStateOf : Option ChannelState → Storage → (code : ℤ) → (
 ShowsStateOf (Some c) s code before shown = (code ≡ pos 0) × ((m : Machine) → StandsFor (with_storage c s) m → ShowsState shown (view_of m))
 ShowsStateOf None s code before shown = (code ≡ no_channel) × (shown ≡ before)
 
--- whether a condition code is 2: of Test Channel, that a program runs
-abbrev pub is_two : {A : Type 0} → Condition A → Bool
-is_two Two = true
-is_two code = false
+-- whether a subchannel works for a device
+abbrev pub is_working : (device : ℕ) → SubchannelView → Bool
+is_working device (Working d asked) = d == device
+is_working device seen = false
 
--- whether a program runs on a channel, over this storage; where there is none, none runs
-abbrev pub RunsAt : Bool → Storage → Option ChannelState → Type 0
-RunsAt answer s (Some c) = (m : Machine) → StandsFor (with_storage c s) m → answer ≡ is_working m.subchannel
-RunsAt answer s None = answer ≡ false
+-- whether the program that runs on a channel is a device's, over this storage; where there is no channel, none runs
+abbrev pub WorksAt : Bool → Storage → (device : ℕ) → Option ChannelState → Type 0
+WorksAt answer s device (Some c) = (m : Machine) → StandsFor (with_storage c s) m → answer ≡ runs_at device m.subchannel
+WorksAt answer s device None = answer ≡ false
 
 -- A file that holds these bytes is shown, by how many they are; or there is no such file, and nothing is.
 abbrev pub ShowsContent : Option (List ℕ) → (code : ℤ) → (before shown : File) → Type 0
@@ -76,13 +75,13 @@ abbrev pub ShowsFileAt : Option ChannelState → (device place : ℕ) → (code 
 ShowsFileAt (Some c) device place code before shown = ShowsFileIn (image_at device (Some c)) place code before shown
 ShowsFileAt None device place code before shown = (code ≡ no_channel) × (shown ≡ before)
 
--- or a program runs there.
-abbrev pub ShowsUnless : (running : Bool) → Option ChannelState → (device place : ℕ) → (code : ℤ) → (before shown : File) → Type 0
+-- or the drive's program runs.
+abbrev pub ShowsUnless : (working : Bool) → Option ChannelState → (device place : ℕ) → (code : ℤ) → (before shown : File) → Type 0
 ShowsUnless true o device place code before shown = (code ≡ program_runs) × (shown ≡ before)
 ShowsUnless false o device place code before shown = ShowsFileAt o device place code before shown
 
 -- A file of the drive under an address, by its place among those of the drive's volume.
 pub record ShowsFileOf (s : ChannelsState) (address place : ℕ) (code : ℤ) (before shown : File) : Type 0 where
-  pub running : Bool
-  pub runs : RunsAt running s.storage (channel_at (address / 256) s)
-  pub shows : ShowsUnless running (channel_at (address / 256) s) (address % 256) place code before shown
+  pub working : Bool
+  pub works : WorksAt working s.storage (address % 256) (channel_at (address / 256) s)
+  pub shows : ShowsUnless working (channel_at (address / 256) s) (address % 256) place code before shown

@@ -9,6 +9,7 @@ mod copying;
 mod handle;
 mod instructions;
 mod parts;
+mod saving;
 mod showing;
 mod slot;
 mod storing;

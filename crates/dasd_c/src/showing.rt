@@ -5,15 +5,15 @@ ghost use Rattle.s360_words.specs.Storage.{Storage as StorageState};
 ghost use Rattle.s360_channels.specs.Channels.{channel_at};
 ghost use Rattle.s360_channels.specs.Selectors.{across};
 ghost use Rattle.dasd_c.specs.Calls.{CallsAny};
-ghost use Rattle.dasd_c.specs.Shown.{RunsAt, ShowsDriveOf, ShowsFileIn, ShowsFileOf, ShowsStateOf, is_two};
+ghost use Rattle.dasd_c.specs.Shown.{ShowsDriveOf, ShowsFileIn, ShowsFileOf, ShowsStateOf, WorksAt, is_working};
 
 use crate::handle::{Handle, put, take};
 use crate::tell::{DONE, NO_CHANNEL, NO_DRIVE, NO_FILE, NOTHING_HELD, PROGRAM_RUNS};
 use ckd_image::{Image, ImageStore};
 use dasd_files::VolumeFile;
 use dasd_subsystem::{ShownChannel, ShownDrive};
+use s360_channel::SubchannelView;
 use s360_channels::Selectors;
-use s360_events::Condition;
 use std::alloc::Global;
 
 /// A file of a volume: where its bytes lie, how many there are, and a number that is another after each write that changes one.
@@ -25,7 +25,7 @@ pub struct File {
     pub changes: u64,
 }
 
-/// Shows a file of a drive's volume, where no program runs on its channel.
+/// Shows a file of a drive's volume, where its program does not run.
 #[unsafe(no_mangle)]
 pub extern "C" fn dasd_show_file(
     handle: &mut Handle,
@@ -47,7 +47,7 @@ pub extern "C" fn dasd_show_file(
 fn show_file(channels: &Selectors<VolumeFile>, address: u16, file: u8, shown: &mut File) -> i32
     ensures { (s : StorageState) → ShowsFileOf (across channels.now s) address file result shown.old shown.new }
 {
-    if runs(channels, address) {
+    if is_at_work(channels, address) {
         return PROGRAM_RUNS;
     }
     if !channels.has((address / 256) as u8) {
@@ -71,21 +71,23 @@ fn show_file_of(image: &Image<VolumeFile>, file: u8, shown: &mut File) -> i32
     }
 }
 
-// Whether a program runs on the channel of an address: Test Channel says so.
-fn runs(channels: &Selectors<VolumeFile>, address: u16) -> bool
-    ensures { (s : StorageState) → RunsAt result s (channel_at (address / 256) (across channels.now s)) }
+// Whether the program that runs on the channel of an address is that of its drive.
+pub(crate) fn is_at_work(channels: &Selectors<VolumeFile>, address: u16) -> bool
+    ensures { (s : StorageState) → WorksAt result s (address % 256) (channel_at (address / 256) (across channels.now s)) }
 {
-    is_two(channels.tch(address))
+    match channels.state((address / 256) as u8) {
+        Some(view) => is_working(view.subchannel, (address % 256) as u8),
+        None => false,
+    }
 }
 
-fn is_two(condition: Condition<()>) -> bool
-    ensures { result ≡ is_two condition }
+fn is_working(subchannel: SubchannelView, device: u8) -> bool
+    ensures { result ≡ is_working device subchannel }
 {
-    match condition {
-        Condition::Zero => false,
-        Condition::Stored(_) => false,
-        Condition::Two => true,
-        Condition::Three => false,
+    match subchannel {
+        SubchannelView::Idle => false,
+        SubchannelView::Working(working, _) => working == device,
+        SubchannelView::Pending(_, _) => false,
     }
 }
 

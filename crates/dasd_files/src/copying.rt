@@ -1,5 +1,8 @@
 //! A file is copied in memory.
 
+ghost use Rattle.std.specs.Prelude.{◌≡◌, IfOk};
+
+use crate::parts::Parts;
 use crate::volume_file::VolumeFile;
 use ckd_image::CopyStore;
 use std::alloc::{AllocError, Global};
@@ -12,6 +15,18 @@ impl CopyStore for VolumeFile {
             refused: self.refused.again(),
             changes: self.changes,
             counted: self.counted,
+            past: self.past.again(),
+            parts: copy_parts(alloc, &self.parts)?,
         })
+    }
+}
+
+// The same parts once more, where they are kept.
+fn copy_parts(alloc: Global, parts: &Option<Parts>) -> Result<Option<Parts>, AllocError>
+    ensures { IfOk result (λ copy. copy ≡ parts.now) }
+{
+    match parts {
+        Some(parts) => Ok(Some(parts.copy(alloc)?)),
+        None => Ok(None),
     }
 }

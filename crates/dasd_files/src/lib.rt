@@ -2,6 +2,7 @@
 #![tactic(auto)]
 
 mod copying;
+mod parts;
 mod volume_file;
 
 pub use crate::volume_file::VolumeFile;

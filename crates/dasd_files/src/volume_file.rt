@@ -1,9 +1,11 @@
 //! A volume's file in memory.
 
-ghost use Rattle.std.specs.Prelude.{◌≡◌, ◌≢◌, ◌+◌, ◌<◌, ◌≤◌, true, false, nat_lt, length, replicate, slice_range, is_ok, IsOk, IfOk};
+ghost use Rattle.std.specs.Prelude.{◌≡◌, ◌≢◌, ◌+◌, ◌++◌, ◌^◌, ◌<◌, ◌≤◌, Some, true, false, nat_lt, length, option_map, replicate, slice_range, is_ok, IsOk, IfOk};
 ghost use Rattle.ckd_image.specs.Store.{overwritten};
-ghost use Rattle.dasd_files.specs.Files.{file_of, has_room_in, next_number, Writes};
+ghost use Rattle.dasd_files.specs.Parts.{parts_of};
+ghost use Rattle.dasd_files.specs.Files.{AreAsThen, IsFile, Writes, file_of, has_room_in, last_number, may_differ_in, may_have_changed, next_number, parts_behind, past_behind};
 
+use crate::parts::Parts;
 use ckd_image::{ImageStore, StoreFault};
 use ghost_data::{Count, Trace};
 use std::alloc::{AllocError, Global};
@@ -27,6 +29,8 @@ pub struct VolumeFile {
     pub(crate) refused: Count,
     pub(crate) changes: u64,
     pub(crate) counted: CountedWrites,
+    pub(crate) past: Trace,
+    pub(crate) parts: Option<Parts>,
 }
 
 impl Model for VolumeFile {
@@ -34,9 +38,23 @@ impl Model for VolumeFile {
 
     ghost Value = { FileState };
 
-    ghost view = { λ f. record { content = f.held.items; origin = f.origin.bytes; failures = f.refused; changes = f.changes } };
+    ghost view = { λ f. record {
+      content = f.held.items;
+      origin = f.origin.bytes;
+      failures = f.refused;
+      changes = f.changes;
+      past = f.past.bytes;
+      parts = f.parts;
+    } };
 
-    ghost invariant = { λ f. IsFile (record { content = f.held.items; origin = f.origin.bytes; failures = f.refused; changes = f.changes }) };
+    ghost invariant = { λ f. IsFile (record {
+      content = f.held.items;
+      origin = f.origin.bytes;
+      failures = f.refused;
+      changes = f.changes;
+      past = f.past.bytes;
+      parts = f.parts;
+    }) };
 }
 
 impl VolumeFile {
@@ -45,12 +63,15 @@ impl VolumeFile {
         ensures { result ≡ file_of held.items }
     {
         let origin = Trace::of(held.as_slice());
+        let past = origin.again();
         VolumeFile {
             held,
             origin,
             refused: Count::new(),
             changes: 0,
             counted: CountedWrites::Changing,
+            past,
+            parts: None,
         }
     }
 
@@ -61,6 +82,33 @@ impl VolumeFile {
     {
         self.counted = CountedWrites::All;
         self
+    }
+
+    /// The same file, which from now on keeps when each of its parts was written last: parts of so many bytes, the first one of as many
+    /// fewer as `lead` says. It takes the memory for that, eight bytes a part, here and at once. The only error is that it was refused.
+    pub fn watched(self, alloc: Global, lead: u32, size: u32) -> Result<VolumeFile, AllocError>
+        requires { 0 < size }
+        ensures { IfOk result (λ f. f ≡ record self { parts = Some (parts_of lead size (length self.content) self.changes) }) }
+    {
+        let parts = Parts::new(alloc, lead, size, self.held.len(), self.changes)?;
+        let VolumeFile {
+            held,
+            origin,
+            refused,
+            changes,
+            counted,
+            past,
+            parts: _,
+        } = self;
+        Ok(VolumeFile {
+            held,
+            origin,
+            refused,
+            changes,
+            counted,
+            past,
+            parts: Some(parts),
+        })
     }
 
     /// A file of a copy of these bytes. The only error is that memory was refused.
@@ -77,9 +125,10 @@ impl VolumeFile {
         Ok(VolumeFile::new(vec![in alloc; 0u8; len as usize]?))
     }
 
-    /// The bytes held.
+    /// The bytes held. What was held before, by the number of changes, is there for contracts alone.
     pub fn bytes(&self) -> &[u8]
-        ensures { result.now ≡ self.now.content }
+        ensures bytes { result.now ≡ self.now.content }
+        ensures file { IsFile self.now }
     {
         self.held.as_slice()
     }
@@ -103,6 +152,16 @@ impl VolumeFile {
         ensures kept { result ≡ false → self.now.content ≡ self.now.origin }
     {
         self.changes > 0
+    }
+
+    /// Whether so many bytes from a place on may have been written since the number of changes was this one. If not, each of them is
+    /// what it was then. Of a file that is watched it is exact where they are one of its parts.
+    pub fn may_have_changed(&self, number: u64, at: usize, len: usize) -> bool
+        requires within { at + len ≤ length self.now.content }
+        ensures answer { result ≡ may_have_changed self.now number at len }
+        ensures kept { result ≡ false → AreAsThen self.now number at len }
+    {
+        may_differ(&self.parts, self.changes, number, at, len)
     }
 }
 
@@ -140,17 +199,50 @@ impl ImageStore for VolumeFile {
             self.refused = self.refused.next();
             return Err(StoreFault);
         }
-        let counts = match self.counted {
-            CountedWrites::All => {
-                put(self.held.as_mut_slice(), from, bytes);
-                true
-            }
-            CountedWrites::Changing => overwrite(self.held.as_mut_slice(), from, bytes),
-        };
+        let counts = write_over(self.held.as_mut_slice(), from, bytes, self.counted);
         if counts {
-            self.changes = another(self.changes);
+            let was = self.changes;
+            mark(&mut self.parts, from, bytes.len(), was);
+            self.past = longer(&self.origin, &self.past, was, self.held.as_slice());
+            self.changes = another(was);
         }
         Ok(())
+    }
+}
+
+// Whether so many bytes from a place on may have been written since the number of changes was this one.
+fn may_differ(parts: &Option<Parts>, changes: u64, number: u64, at: usize, len: usize) -> bool
+    requires few { at < 2 ^ 63 }
+    ensures { result ≡ may_differ_in parts.now changes number at len }
+{
+    match parts {
+        Some(parts) => number > changes || parts.may_differ(number, at, len),
+        None => number != changes,
+    }
+}
+
+// So many bytes from a place on were written, as this number moved on.
+fn mark(parts: &mut Option<Parts>, at: usize, len: usize, was: u64)
+    requires few { at + len < 2 ^ 63 }
+    ensures { parts.new ≡ option_map (parts_behind was at len) parts.old }
+{
+    if let Some(parts) = parts {
+        if was == u64::MAX {
+            parts.mark_all(1);
+        } else {
+            parts.mark(at, len, was + 1);
+        }
+    }
+}
+
+// What was held at each number, with what is held as this one has moved on.
+fn longer(origin: &Trace, past: &Trace, was: u64, held: &[u8]) -> Trace
+    ensures { result.bytes ≡ past_behind origin.now.bytes past.now.bytes was held.now }
+{
+    if was == u64::MAX {
+        origin.and(held)
+    } else {
+        past.and(held)
     }
 }
 
@@ -161,6 +253,21 @@ fn another(number: u64) -> u64
     ensures next { result ≡ next_number number }
 {
     if number == u64::MAX { 1 } else { number + 1 }
+}
+
+// Puts bytes over those from a place on, and says whether the write counts.
+fn write_over(held: &mut [u8], at: usize, bytes: &[u8], counted: CountedWrites) -> bool
+    requires { at + length bytes.now ≤ length held.old }
+    ensures put { held.new ≡ overwritten held.old at bytes.now }
+    ensures same { result ≡ false → held.new ≡ held.old }
+{
+    match counted {
+        CountedWrites::All => {
+            put(held, at, bytes);
+            true
+        }
+        CountedWrites::Changing => overwrite(held, at, bytes),
+    }
 }
 
 // Puts bytes over those from a place on, and says whether one of them is another.

@@ -3,3 +3,4 @@ pub mod Making
 pub mod Attaching
 pub mod Shown
 pub mod Watched
+pub mod Changed

@@ -3,6 +3,7 @@
 #![tactic(auto)]
 
 mod attaching;
+mod changed;
 mod copying;
 mod making;
 mod mounting;
@@ -11,6 +12,7 @@ mod shown;
 mod subsystem;
 mod watched;
 
+pub use crate::changed::{ShownTrack, next_changed};
 pub use crate::mounting::check;
 pub use crate::refusal::Refusal;
 pub use crate::shown::{ShownChannel, ShownDrive, seen};

@@ -1,16 +1,21 @@
 //! Files become an image.
 
-ghost use Rattle.std.specs.Prelude.{◌≡◌, ◌+◌, ◌<◌, ◌≤◌, ◌∷◌, ◌++◌, [], length, map, IfOk, IfErr, OnOk, All, IsSome};
+ghost use Rattle.std.specs.Prelude.{◌≡◌, ◌+◌, ◌<◌, ◌≤◌, ◌∷◌, ◌++◌, [], length, map, replicate, IfOk, IfErr, OnOk, All, IsSome};
 ghost use Rattle.arrayvec.specs.ArrayVec.{array_vec_len};
+ghost use Rattle.ckd_track.specs.Geometry.{new_geometry};
 ghost use Rattle.ckd_image.specs.Files.{each};
+ghost use Rattle.ckd_image.specs.Layout.{image_length};
+ghost use Rattle.dasd_files.specs.Files.{file_of};
+ghost use Rattle.dasd_subsystem.specs.Changed.{by_slots, slot_size};
 ghost use Rattle.dasd_subsystem.specs.Attaching.{AreFew, AreImage, IsImageOf, NotFormatted, NotMounted, new_volume};
 
+use crate::changed::{slot_size, watched};
 use crate::refusal::Refusal;
 use arrayvec::ArrayVec;
 use ckd_image::{Image, image_len};
-use ckd_track::DriveModel;
+use ckd_track::{DriveModel, Geometry};
 use dasd_files::VolumeFile;
-use std::alloc::Global;
+use std::alloc::{AllocError, Global};
 
 /// Whether these files, in their order, are an image.
 ///
@@ -54,12 +59,21 @@ fn copied(alloc: Global, files: &[&[u8]]) -> Result<ArrayVec<Option<VolumeFile>,
 {
     let mut copies: ArrayVec<Option<VolumeFile>, 8> = ArrayVec::new();
     for bytes in files {
-        let Ok(file) = VolumeFile::copy_of(alloc, *bytes) else {
+        let Ok(file) = copy_of(alloc, *bytes) else {
             return Err(Refusal::OutOfMemory);
         };
-        append(&mut copies, file.counting_all_writes());
+        append(&mut copies, file);
     }
     Ok(copies)
+}
+
+// A file of a copy of these bytes, which keeps what is written from now on.
+fn copy_of(alloc: Global, bytes: &[u8]) -> Result<VolumeFile, AllocError>
+    ensures slots { IfOk result (λ f. f ≡ by_slots (slot_size bytes.now) (file_of bytes.now)) }
+    ensures same { IfOk result (λ f. f ≡ record (file_of bytes.now) { parts = f.parts }) }
+{
+    let file = VolumeFile::copy_of(alloc, bytes)?;
+    watched(alloc, file.counting_all_writes(), slot_size(bytes))
 }
 
 // One file more.
@@ -86,11 +100,23 @@ pub(crate) fn formatted(
     if cylinders == 0 {
         return Err(Refusal::NoCylinders);
     }
-    let Ok(file) = VolumeFile::zeros(alloc, image_len(model, cylinders)) else {
+    let Ok(file) = zeros(alloc, model, cylinders) else {
         return Err(Refusal::OutOfMemory);
     };
-    match Image::format(file.counting_all_writes(), model, cylinders) {
+    match Image::format(file, model, cylinders) {
         Ok(image) => Ok(image),
         Err((fault, _)) => Err(Refusal::Mount(fault)),
     }
+}
+
+// A file of zeros for a new volume, which keeps what is written from now on.
+fn zeros(alloc: Global, model: DriveModel, cylinders: u16) -> Result<VolumeFile, AllocError>
+    ensures slots { let g = new_geometry model cylinders in
+        IfOk result (λ f. f ≡ by_slots g.track_size (file_of (replicate (image_length g) 0))) }
+    ensures same { let g = new_geometry model cylinders in
+        IfOk result (λ f. f ≡ record (file_of (replicate (image_length g) 0)) { parts = f.parts }) }
+{
+    let file = VolumeFile::zeros(alloc, image_len(model, cylinders))?;
+    let geometry = Geometry::new(model, cylinders);
+    watched(alloc, file.counting_all_writes(), geometry.track_size)
 }

@@ -54,6 +54,20 @@ pub struct dasd_file {
     pub changes: u64,
 }
 
+/// A track of a file that was written, and where its slot lies there.
+#[repr(C)]
+#[derive(Clone, Copy, Debug, Default)]
+pub struct dasd_changed {
+    /// Where the slot begins in the file.
+    pub at: usize,
+    /// How many bytes it has.
+    pub len: usize,
+    /// The track's number among those of the file, from 0 on: cylinder by cylinder, and head by head.
+    pub track: usize,
+    /// The number of the track at which the next look begins: 0 before the first call.
+    pub next: usize,
+}
+
 /// Main storage.
 #[repr(C)]
 #[derive(Clone, Copy, Debug)]
@@ -227,9 +241,12 @@ extern "C" {
     pub fn dasd_attach_new(d: *mut dasd, address: u16, model: u16, cylinders: u16) -> i32;
     /// Takes a drive off its channel, and frees its volume.
     pub fn dasd_detach(d: *mut dasd, address: u16) -> i32;
-    /// Shows a file of a drive's volume, 0 for its first, where no program runs on the drive's channel. Its bytes stand there until the
-    /// next [`dasd_step`], [`dasd_run_on`], [`dasd_hio`] or [`dasd_reset`] of that channel, [`dasd_detach`] or [`dasd_free`].
+    /// Shows a file of a drive's volume, 0 for its first, where the drive's program does not run. Its bytes stand there until the next
+    /// [`dasd_step`], [`dasd_run_on`], [`dasd_hio`] or [`dasd_reset`] of that channel, [`dasd_detach`] or [`dasd_free`].
     pub fn dasd_show_file(d: *mut dasd, address: u16, file: u8, shown: *mut dasd_file) -> i32;
+    /// Shows the first track of a file, from `next` of it on, that was written since the file's `changes` was `since`: 1; or 0, where
+    /// there is none. What is passed over holds what it held then.
+    pub fn dasd_next_changed(d: *mut dasd, address: u16, file: u8, since: u64, track: *mut dasd_changed) -> i32;
     /// Shows a drive.
     pub fn dasd_show_drive(d: *mut dasd, address: u16, shown: *mut dasd_drive) -> i32;
     /// Start I/O.

@@ -1,6 +1,6 @@
 //! The calls of a subsystem while its storage is lent.
 
-use crate::{Address, Answer, ChannelSet, Condition, Csw, DriveModel, DriveView, Event, Fault, File, RunOn, Status, Subsystem, View};
+use crate::{Address, Answer, Changed, ChannelSet, Condition, Csw, DriveModel, DriveView, Event, Fault, File, RunOn, Status, Subsystem, View};
 use std::marker::PhantomData;
 
 /// The calls of a [`Subsystem`] whose main storage is lent beside them ([`Subsystem::lend`]). They stay in the thread of that storage.
@@ -22,6 +22,15 @@ impl<'a> Calls<'a> {
     /// As there.
     pub fn file(&mut self, address: Address, place: u8) -> Result<File<'_>, Fault> {
         self.disks.file(address, place)
+    }
+
+    /// As [`Subsystem::changed`]. What it shows is the volume's own, no part of main storage.
+    ///
+    /// # Errors
+    ///
+    /// As there.
+    pub fn changed(&mut self, address: Address, place: u8, since: u64) -> Result<Changed<'_>, Fault> {
+        self.disks.changed(address, place, since)
     }
 }
 

@@ -31,7 +31,7 @@ mod watching;
 mod words;
 
 pub use crate::calls::Calls;
-pub use crate::subsystem::{check, version, DriveView, File, Lent, LentSubsystem, Owned, RunOn, Subsystem, View};
+pub use crate::subsystem::{check, version, Changed, ChangedTrack, DriveView, File, Lent, LentSubsystem, Owned, RunOn, Subsystem, View};
 pub use crate::events::{Answer, Event};
 pub use crate::fault::Fault;
 pub use crate::watching::{Area, Credit, Phase, Program, Registers};

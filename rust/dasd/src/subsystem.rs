@@ -42,6 +42,26 @@ pub struct File<'a> {
     pub changes: u64,
 }
 
+/// A track of a file that was written, lent to be saved.
+#[derive(Clone, Copy, Debug, PartialEq, Eq)]
+pub struct ChangedTrack<'a> {
+    /// Its number among the tracks of the file, from 0 on: cylinder by cylinder, and head by head.
+    pub track: usize,
+    /// Where its slot begins in the file.
+    pub at: usize,
+    /// The slot, which goes there.
+    pub bytes: &'a [u8],
+}
+
+/// What was written to a file since its changes were a number: each other byte is what it was then.
+#[derive(Clone, Debug, PartialEq, Eq)]
+pub struct Changed<'a> {
+    /// The tracks, in their order.
+    pub tracks: Vec<ChangedTrack<'a>>,
+    /// The number of changes now, for the next time.
+    pub changes: u64,
+}
+
 /// What is known of a drive without a channel program.
 #[derive(Clone, Copy, Debug, PartialEq, Eq)]
 pub struct DriveView {
@@ -166,7 +186,7 @@ impl<Storage> Subsystem<Storage> {
         done(unsafe { sys::dasd_detach(&mut *self.handle, address.0) }).map(drop)
     }
 
-    /// A file of a drive's volume, 0 for its first, where no program runs on its channel.
+    /// A file of a drive's volume, 0 for its first, where the drive's program does not run.
     ///
     /// # Errors
     ///
@@ -177,6 +197,23 @@ impl<Storage> Subsystem<Storage> {
         // SAFETY: the bytes stay as they are until the next call, which the borrow forbids.
         let bytes = unsafe { std::slice::from_raw_parts(shown.at, shown.len) };
         Ok(File { bytes, changes: shown.changes })
+    }
+
+    /// The tracks of such a file that were written since its number of changes was this one. A copy of the file that was made then is the
+    /// file once each slot stands at its place in it. The number is one that [`File::changes`] or [`Changed::changes`] has been for the
+    /// file; one above the file's own answers all tracks. A new volume's file is copied whole first.
+    ///
+    /// # Errors
+    ///
+    /// As [`Subsystem::file`].
+    pub fn changed(&mut self, address: Address, place: u8, since: u64) -> Result<Changed<'_>, Fault> {
+        let (mut next, mut shown) = (sys::dasd_changed::default(), Vec::new());
+        while done(unsafe { sys::dasd_next_changed(&mut *self.handle, address.0, place, since, &mut next) })? == 1 {
+            shown.push(next);
+        }
+        let File { bytes, changes } = self.file(address, place)?;
+        let tracks = shown.iter().map(|it| ChangedTrack { track: it.track, at: it.at, bytes: &bytes[it.at..it.at + it.len] }).collect();
+        Ok(Changed { tracks, changes })
     }
 
     /// What is known of a drive without a channel program.

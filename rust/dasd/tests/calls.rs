@@ -1,6 +1,6 @@
 //! Each call once, and what the library refuses.
 
-use dasd::{check, version, Address, Arm, ChannelSet, Subsystem, Condition, DriveModel, Fault, Phase, SubchannelView};
+use dasd::{check, version, Address, Arm, Changed, ChannelSet, Subsystem, Condition, DriveModel, Fault, Phase, SubchannelView};
 
 const DRIVE: Address = Address(0x190);
 
@@ -79,6 +79,30 @@ fn a_volume_goes_from_one_to_another() {
     assert_eq!(disks.file(Address(0x191), 0).unwrap().changes, 0);
     assert_eq!(disks.file(Address(0x191), 1).unwrap_err(), Fault::NoFile);
     assert_eq!((disks.detach(Address(0x191)), disks.detach(Address(0x191))), (Ok(()), Err(Fault::NoDrive)));
+}
+
+#[test]
+fn a_file_is_kept_by_its_changed_tracks() {
+    let mut disks = made();
+    let mut kept = disks.file(DRIVE, 0).unwrap().bytes.to_vec();
+    let since = disks.file(DRIVE, 0).unwrap().changes;
+    assert_eq!(disks.changed(DRIVE, 0, since).unwrap(), Changed { tracks: vec![], changes: since });
+    assert_eq!(disks.changed(DRIVE, 0, 0).unwrap().tracks.len(), 40); // those of the new volume
+    let storage = disks.storage(); // Search Identifier of record 0, and Write Count, Key and Data behind it
+    storage[0x100..0x118].copy_from_slice(&[0x31, 0, 2, 0, 0x40, 0, 0, 5, 8, 0, 1, 0, 0, 0, 0, 0, 0x1D, 0, 2, 8, 0x20, 0, 0, 9]);
+    storage[0x200..0x211].copy_from_slice(&[0, 0, 0, 0, 0, 0, 0, 0, 0, 0, 0, 0, 1, 0, 0, 1, 0xC1]);
+    assert_eq!((disks.sio(DRIVE), disks.changed(DRIVE, 0, since).err()), (Condition::Zero, Some(Fault::ProgramRuns)));
+    disks.run_on(1, 1000).unwrap();
+    let shown = disks.changed(DRIVE, 0, since).unwrap();
+    let tracks: Vec<_> = shown.tracks.iter().map(|it| (it.track, it.at, it.bytes.len())).collect();
+    assert_eq!((tracks, shown.changes > since), (vec![(0, 512, 7680)], true));
+    shown.tracks.iter().for_each(|it| kept[it.at..it.at + it.bytes.len()].copy_from_slice(it.bytes));
+    let since = shown.changes;
+    assert_eq!(disks.changed(DRIVE, 0, since).unwrap().tracks, []);
+    let file = disks.file(DRIVE, 0).unwrap();
+    assert!(file.changes == since && file.bytes == kept);
+    assert_eq!(disks.changed(Address(0x390), 0, 0).err(), Some(Fault::NoChannel));
+    assert_eq!(disks.changed(DRIVE, 1, 0).err(), Some(Fault::NoFile));
 }
 
 #[test]

@@ -8,9 +8,8 @@ loop-bytes-preserved c =
     let files = c.args.files.now in let i = c.loop-bytes.bytes-index in record {
       there = c.append.ensures.there;
       room = c.append.ensures.count ∙ ap (λ n. n + 1) c.loop-bytes.invariant.room;
-      contents = c.append.ensures.contents ∙ ap (λ (ts : List (List ℕ)). ts ++ c.counting_all_writes.result.content
-          ∷ []) c.loop-bytes.invariant.contents
+      contents = c.append.ensures.contents ∙ ap (λ (ts : List (List ℕ)). ts ++ c.in-Ok.file.content ∷ []) c.loop-bytes.invariant.contents
           ∙ ap (λ (t : List ℕ). map (λ (file : Bor (List ℕ)). file.now) (take i files) ++ t ∷ [])
-          (ap (λ f. f.content) (c.counting_all_writes.ensures ∙ c.in-Ok.ensures))
+          (ap (λ f. f.content) c.in-Ok.ensures.same)
           ∙ sym (map_more (λ (file : Bor (List ℕ)). file.now) files i _ c.loop-bytes-test.true);
     }

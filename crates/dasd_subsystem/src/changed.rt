@@ -1,0 +1,72 @@
+//! Which tracks of a volume's file were written.
+
+ghost use Rattle.std.specs.Prelude.{◌≡◌, ◌+◌, ◌*◌, ◌≤◌, length, IfOk};
+ghost use Rattle.dasd_files.specs.Files.{IsFile};
+ghost use Rattle.dasd_subsystem.specs.Changed.{ShowsNext, by_slots, slot_size, tracks_in};
+
+use byteorder::{ByteOrder, LittleEndian};
+use dasd_files::VolumeFile;
+use std::alloc::{AllocError, Global};
+
+/// The length of a file's header, in bytes. The slots follow it.
+const HEADER_LENGTH: u32 = 512;
+
+/// A track that may have been written, and where its slot lies in the file.
+#[repr(C)]
+#[derive(Clone, Copy)]
+pub struct ShownTrack {
+    /// Where its slot begins.
+    pub at: usize,
+    /// How many bytes the slot has.
+    pub len: usize,
+    /// The track's number among those of the file, from 0 on: cylinder by cylinder, and head by head.
+    pub track: usize,
+    /// The number of the track at which the next look begins.
+    pub next: usize,
+}
+
+/// The first track of a file, whose slots have so many bytes, at this one or behind it, that may have been written since the file's
+/// number of changes was this one. Each track that is passed over holds what it held then.
+pub fn next_changed(file: &VolumeFile, size: u32, since: u64, from: usize) -> Option<ShownTrack>
+    ensures next { ShowsNext file.now size since from result }
+    ensures file { IsFile file.now }
+{
+    let len = file.bytes().len();
+    if size == 0 || len < HEADER_LENGTH as usize {
+        return None;
+    }
+    let tracks = (len - HEADER_LENGTH as usize) / size as usize;
+    for track in from..tracks {
+        let at = HEADER_LENGTH as usize + track * size as usize;
+        if file.may_have_changed(since, at, size as usize) {
+            return Some(ShownTrack {
+                at,
+                len: size as usize,
+                track,
+                next: track + 1,
+            });
+        }
+    }
+    None
+}
+
+/// The same file, whose slots, of so many bytes, are watched. The only error is that memory was refused.
+pub(crate) fn watched(alloc: Global, file: VolumeFile, size: u32) -> Result<VolumeFile, AllocError>
+    ensures slots { IfOk result (λ f. f ≡ by_slots size file) }
+    ensures same { IfOk result (λ f. f ≡ record file { parts = f.parts }) }
+{
+    if size <= HEADER_LENGTH {
+        return Ok(file);
+    }
+    file.watched(alloc, size - HEADER_LENGTH, size)
+}
+
+/// The size of a slot, as the header says it with which these bytes begin; 0 where they are fewer than it has.
+pub(crate) fn slot_size(bytes: &[u8]) -> u32
+    ensures { result ≡ slot_size bytes.now }
+{
+    if bytes.len() < 16 {
+        return 0;
+    }
+    LittleEndian::read_u32(&bytes[12..16])
+}
