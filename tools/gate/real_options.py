@@ -43,7 +43,15 @@ def warnings_alone_go_with_a_strict_check(s: Scratch) -> None:
     same(s.dasd("check", "--warnings", "vol.ckd"), (2, "", "error: --warnings goes with --strict\n"))
 
 
-# Dumps of records that are not there.
+# Dumps: their words, and records that are not there.
+
+
+@row
+def words_of_a_dump_are_told_once(s: Scratch) -> None:
+    words = "PATH.. CYLINDER HEAD [RECORD]"
+    for asked in ("--help",), ():
+        status, out, told = s.dasd("dump", *asked)
+        same((status, (out + told).count(words)), (2, 1), " ".join(asked))
 
 
 @row
