@@ -1,16 +1,10 @@
 //! The text of a trace that is not written yet: the lines of one look.
 
-ghost use Rattle.std.specs.Prelude.{◌≤◌};
-
 use arrayvec::ArrayString;
 use std::fmt::{Display, Write};
-use text_lines::put_hexadecimal;
 
 /// More bytes than the lines of a look have: ten at most, with the names of all sense bits in one of them.
 const ROOM: usize = 2_048;
-
-/// The most digits of a number in hexadecimal.
-const DIGITS: usize = 8;
 
 /// Lines, the last of which may be under way.
 #[derive(Clone, Copy)]
@@ -65,12 +59,12 @@ impl Text {
 
     /// A number below 16 in its digit.
     pub fn digit(&mut self, number: u8) {
-        self.hexadecimal(1, u32::from(number));
+        self.is_whole = write!(self.lines, "{number:X}").is_ok() && self.is_whole;
     }
 
     /// A byte in two digits.
     pub fn byte(&mut self, byte: u8) {
-        self.hexadecimal(2, u32::from(byte));
+        self.is_whole = write!(self.lines, "{byte:02X}").is_ok() && self.is_whole;
     }
 
     /// Bytes, each in two digits.
@@ -82,23 +76,12 @@ impl Text {
 
     /// An input/output address in three digits.
     pub fn device(&mut self, address: u16) {
-        self.hexadecimal(3, u32::from(address));
+        self.is_whole = write!(self.lines, "{address:03X}").is_ok() && self.is_whole;
     }
 
     /// An address in storage in six digits.
     pub fn address(&mut self, address: u32) {
-        self.hexadecimal(6, address);
-    }
-
-    // A number in hexadecimal digits, so many at least.
-    fn hexadecimal(&mut self, least: usize, number: u32)
-        requires { least ≤ 8 }
-    {
-        if self.lines.len() + DIGITS <= ROOM {
-            put_hexadecimal(&mut self.lines, least, number);
-        } else {
-            self.is_whole = false;
-        }
+        self.is_whole = write!(self.lines, "{address:06X}").is_ok() && self.is_whole;
     }
 
     /// Blanks up to a column of the line, and one at least.
