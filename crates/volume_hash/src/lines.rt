@@ -90,7 +90,6 @@ impl fmt::Display for Kind {
 }
 
 // A volume with so many tracks that can't be read.
-#[tactic(auto, unfolding(crate::specs::Lines::unreadable_kind))]
 fn write_unreadable<W: fmt::Write>(f: &mut fmt::Formatter<W>, unreadable: u32) -> fmt::Result
     ensures { WritesOnOk W.write_str_gives f.old result (unreadable_kind unreadable) f.new }
 {
