@@ -195,8 +195,8 @@ impl<'a> ImageFiles for HostFiles<'a> {
     }
 
     fn lock(&mut self, alloc: Global, path: &str) -> Result<HostFile<'a>, FileFault> {
-        let locked = self.locked.as_slice();
         let saves = self.saves();
+        let locked = self.locked.as_slice();
         let (file, known) = match open_locked(self.host, locked, path, saves) {
             Ok(found) => found,
             Err(fault) => return Err(self.remarks.refuse(path, &fault)),
