@@ -1,6 +1,8 @@
 -- What a file held at each number, and when its parts were written.
-use Rattle.std.proofs.Common.{◌≡◌, ◌⊎◌, inl, inr, ℕ, ◌+◌, ◌-◌, ◌*◌, ◌<◌, ◌≤◌, suc, List, ◌++◌, length, take, drop, replicate, get_or, min, ◌∙◌, ap, arith}
-use Rattle.std.proofs.Common.{length-append, length-drop, length-take-le, get_or-take, get_or-drop, mul-le-mul_right, suc-mul, add-mul, one-mul, le_trans, div-mul-le_self}
+use Rattle.std.proofs.Common.{◌≡◌, ◌⊎◌, inl, inr, ℕ, ◌+◌, ◌-◌, ◌*◌, ◌<◌, ◌≤◌, suc, List, ◌++◌, length, take, drop, replicate, get_or}
+use Rattle.std.proofs.Common.{min, ◌∙◌, ap, arith}
+use Rattle.std.proofs.Common.{length-append, length-drop, length-take-le, get_or-take, get_or-drop, mul-le-mul_right, suc-mul, add-mul}
+use Rattle.std.proofs.Common.{one-mul, le_trans, div-mul-le_self}
 use Rattle.std.proofs.lemmas.List.{get_or_append_left, get_or-append_right, get_or-replicate, length-replicate}
 use Rattle.std.proofs.lemmas.Nat.{le-div}
 use Rattle.std.proofs.lemmas.Bool.{cases_lt}

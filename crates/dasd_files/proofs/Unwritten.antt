@@ -1,5 +1,6 @@
 -- What is not told of is what it was.
-use Rattle.std.proofs.Common.{◌≡◌, ℕ, ◌+◌, ◌-◌, ◌*◌, ◌/◌, ◌%◌, ◌<◌, ◌≤◌, ◌==◌, ◌&&◌, nat_lt, length, get_or, Bool, true, false, Option, Some, None, if◌then◌else◌, ◌∙◌, sym, ap, subst, refl, arith}
+use Rattle.std.proofs.Common.{◌≡◌, ℕ, ◌+◌, ◌-◌, ◌*◌, ◌/◌, ◌%◌, ◌<◌, ◌≤◌, ◌==◌, ◌&&◌, nat_lt, length, get_or, Bool, true, false, Option}
+use Rattle.std.proofs.Common.{Some, None, if◌then◌else◌, ◌∙◌, sym, ap, subst, refl, arith}
 use Rattle.std.proofs.Common.{div-add-mod', true≢false}
 use Rattle.std.proofs.lemmas.Nat.{div-mul-add}
 use Rattle.std.proofs.lemmas.Bool.{and_parts, eqb-true, ltb-false, ltb-true, not-false, or_parts}
@@ -37,7 +38,8 @@ as_then_inside : (f : FileState) (number at len : ℕ) → IsFile f → at + len
     → AreAsThen f number at len
 as_then_inside f number at len is within e = λ byte low high. by_parts f.parts refl e byte low high
   where
-    by_parts : (o : Option PartsState) → f.parts ≡ o → may_differ_in o f.changes number at len ≡ false → (byte : ℕ) → at ≤ byte → byte < at + len
+    by_parts : (o : Option PartsState) → f.parts ≡ o → may_differ_in o f.changes number at len ≡ false → (byte : ℕ) → at ≤ byte
+        → byte < at + len
         → byte_now f byte ≡ byte_then f number byte
     by_parts None parts e byte low high =
         let same = eqb-true number f.changes (not-false (number == f.changes) e) in

@@ -1,11 +1,13 @@
 -- What is true of a file stays true behind a write.
-use Rattle.std.proofs.Common.{◌≡◌, ◌⊎◌, inl, inr, ℕ, ◌+◌, ◌*◌, ◌<◌, ◌≤◌, ◌==◌, List, ◌++◌, length, get_or, Bool, true, false, Option, Some, None, IfSome, option_map, if◌then◌else◌, ◌∙◌, sym, ap, ap₂, subst, refl, arith}
+use Rattle.std.proofs.Common.{◌≡◌, ◌⊎◌, inl, inr, ℕ, ◌+◌, ◌*◌, ◌<◌, ◌≤◌, ◌==◌, List, ◌++◌, length, get_or, Bool, true, false, Option}
+use Rattle.std.proofs.Common.{Some, None, IfSome, option_map, if◌then◌else◌, ◌∙◌, sym, ap, ap₂, subst, refl, arith}
 use Rattle.std.proofs.Common.{one-mul, zero-mul}
 use Rattle.std.proofs.lemmas.Bool.{cases_lt}
 use Rattle.std.proofs.lemmas.List.{get_or-replicate, length-replicate}
 use Rattle.ckd_image.specs.Store.{overwritten}
 use Rattle.dasd_files.specs.Parts.{PartsState, IsUnwritten, marked, numbered, parts_of, parts_to, part_of}
-use Rattle.dasd_files.specs.Files.{FileState, IsFile, IsUnwrittenIn, byte_now, byte_then, file_of, last_number, next_number, parts_behind, past_behind}
+use Rattle.dasd_files.specs.Files.{FileState, IsFile, IsUnwrittenIn, byte_now, byte_then, file_of, last_number, next_number}
+use Rattle.dasd_files.specs.Files.{parts_behind, past_behind}
 use Rattle.dasd_files.proofs.Past.{all_written, earlier, kept_place, latest, longer_by_one, same_length, unwritten_before}
 
 -- a file as it was made
@@ -123,7 +125,8 @@ written old new at bytes is within content origin changes past parts = by_number
           ∙ earlier old.past new.content size 0 (old.changes + 1) i is.count (omega arith) (inside i h)
           ∙ is.first i (inside i h) ∙ ap (λ (xs : List ℕ). get_or xs i 0) (sym origin);
       last = λ i h. at_last old.past past (old.changes + 1) i is.count changes;
-      unwritten = λ n i le h u. by_time n i (omega (arith, le, changes)) h (subst (λ o. IsUnwrittenIn o n i) parts u) (cases_lt n (old.changes + 1));
+      unwritten = λ n i le h u. by_time n i (omega (arith, le, changes)) h (subst (λ o. IsUnwrittenIn o n i) parts u) (cases_lt n
+          (old.changes + 1));
     }
       where
         before : (n i : ℕ) → i < length new.content → n < old.changes + 1
