@@ -23,7 +23,7 @@ year_and_day wide d year there is = rw (is, there, zeros_before d.day, append-ni
 -- words that end with a number
 pub other_number : (found said : ℕ)
     → decimal found ++ (codes " extents, and not " ++ decimal said) ≡ concat
-        (decimal found ∷ codes " extents, and not " ∷ decimal said ∷ [])
+    (decimal found ∷ codes " extents, and not " ∷ decimal said ∷ [])
 other_number found said = rw (append-nil (decimal said)) refl
 
 pub unknown_format : (format : ℕ)

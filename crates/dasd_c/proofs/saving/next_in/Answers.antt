@@ -7,5 +7,5 @@ use Rattle.dasd_c.proofs.saving.next_in.Goals as goal
 pub returns-in-Some : goal.returns-in-Some
 returns-in-Some c =
     next_among c.args.image.now c.args.file c.args.since _ c.args.track.now c.tell_next.new.track c.in-Some.store.now
-        c.geometry.result.track_size
+    c.geometry.result.track_size
     c.in-Some.ensures.file c.tell_next.ensures.file (ap (λ (g : Geometry). g.track_size) c.geometry.ensures.geometry) (search rules)

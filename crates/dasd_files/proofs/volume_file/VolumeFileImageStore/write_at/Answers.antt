@@ -14,4 +14,4 @@ invariant_of-self-then-counts c =
     let size : length new ≡ c.self.inside.held.len = search rules in
     written _ _ c.args.at c.args.bytes.now c.self.invariant (omega (arith, ap (λ (f : FileState). length f.content) c.self.view_is))
     (take_at new (drop (length new) old) c.self.inside.held.len size ∙ put) refl c.another-self-inside.ensures.next (search rules)
-        (search rules)
+    (search rules)
