@@ -13,7 +13,15 @@ _Static_assert(sizeof(dasd_changed) == 32 && offsetof(dasd_changed, len) == 8 &&
                    offsetof(dasd_changed, next) == 24,
                "a changed track");
 
-enum { HEADER = 512, SLOT = 4096, HEADS = 10, CYLINDER = HEADS * SLOT, CYLINDERS = 3, TRACKS = CYLINDERS * HEADS, WHOLE = HEADER + CYLINDERS * CYLINDER };
+enum {
+    HEADER = 512,
+    SLOT = 4096,
+    HEADS = 10,
+    CYLINDER = HEADS * SLOT,
+    CYLINDERS = 3,
+    TRACKS = CYLINDERS * HEADS,
+    WHOLE = HEADER + CYLINDERS * CYLINDER
+};
 enum { SEQUENCE = 17, HIGHEST_CYLINDER = 18 };
 
 /* A copy of a file that a caller keeps, and the number of changes that it is as of. */

@@ -113,9 +113,11 @@ void a_file_is_kept_by_its_changed_tracks() {
     CHECK(tracks.size() == 1 && tracks[0].track == 0 && tracks[0].at == 512 && tracks[0].len == 7680 && tracks[0].next == 1);
     const auto shown = disks.file(drive);
     CHECK(!std::equal(image.begin(), image.end(), shown.bytes.begin(), shown.bytes.end()));
-    for (const auto &it : tracks) std::copy_n(shown.bytes.begin() + static_cast<std::ptrdiff_t>(it.at), it.len, image.begin() + static_cast<std::ptrdiff_t>(it.at));
+    for (const auto &it : tracks)
+        std::copy_n(shown.bytes.begin() + static_cast<std::ptrdiff_t>(it.at), it.len, image.begin() + static_cast<std::ptrdiff_t>(it.at));
     CHECK(std::equal(image.begin(), image.end(), shown.bytes.begin(), shown.bytes.end()) && disks.changed(drive, shown.changes).empty());
-    CHECK(refused([&] { (void)disks.changed(0x390, 0); }) == DASD_NO_CHANNEL && refused([&] { (void)disks.changed(drive, 0, 1); }) == DASD_NO_FILE);
+    CHECK(refused([&] { (void)disks.changed(0x390, 0); }) == DASD_NO_CHANNEL &&
+          refused([&] { (void)disks.changed(drive, 0, 1); }) == DASD_NO_FILE);
 }
 
 void a_volume_in_several_files() {
