@@ -92,7 +92,7 @@ class Calls(unittest.TestCase):
     def test_a_file_is_kept_by_its_changed_tracks(self) -> None:
         with self.made() as disks:
             image, since = disks.file(0x190)
-            kept = bytearray(image)
+            held = bytearray(image)
             self.assertEqual(disks.changed(0x190, since), ([], since))
             self.assertEqual([it.track for it in disks.changed(0x190, 0).tracks], list(range(40)))  # those of the new volume
             # Search Identifier of record 0, and Write Count, Key and Data behind it
@@ -104,9 +104,9 @@ class Calls(unittest.TestCase):
             tracks, changes = disks.changed(0x190, since)
             self.assertEqual([(it.track, it.at, len(it.data)) for it in tracks], [(0, 512, 7680)])
             for track in tracks:
-                kept[track.at : track.at + len(track.data)] = track.data
-            self.assertEqual((disks.file(0x190), disks.changed(0x190, changes)), ((bytes(kept), changes), ([], changes)))
-            self.assertNotEqual((image, since), (bytes(kept), changes))
+                held[track.at : track.at + len(track.data)] = track.data
+            self.assertEqual((disks.file(0x190), disks.changed(0x190, changes)), ((bytes(held), changes), ([], changes)))
+            self.assertNotEqual((image, since), (bytes(held), changes))
             self.refused("NO_FILE", disks.changed, 0x190, 0, 1)
             self.refused("NO_CHANNEL", disks.changed, 0x390, 0)
 
