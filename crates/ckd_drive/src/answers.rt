@@ -1,5 +1,7 @@
 //! What a drive answers, and the stages of a command by which it does.
 
+use ckd_position::Area;
+
 /// What a command code led to.
 #[derive(Clone, Copy, Debug, PartialEq, Eq)]
 pub enum Begun {
@@ -51,12 +53,12 @@ pub enum Phase {
     },
 }
 
-/// How a read ends all of whose bytes pass at once.
-#[derive(Clone, Copy, Debug, PartialEq, Eq)]
+/// How a read ends whose bytes pass at once.
+#[derive(Clone, Copy, Debug)]
 pub struct WholeRead {
-    /// The number of its record.
-    pub record: usize,
-    /// Whether that has no data.
+    /// The area behind which it leaves the track.
+    pub area: Area,
+    /// Whether its bytes are those of a record's data, and there are none.
     pub no_data: bool,
 }
 
