@@ -17,7 +17,13 @@ use crate::run::{Comes, Run, Step};
 use crate::units::is_incorrect;
 use ckd_drive::{Drive, WholeRead};
 use ckd_image::ImageStore;
-use ckd_sense::Command;
+
+// The codes of the commonest reads, and the bit beside them by which a read goes on at the next head.
+const READ_DATA: u8 = 0x06;
+
+const READ_COUNT_KEY_AND_DATA: u8 = 0x1E;
+
+const MULTI_TRACK: u8 = 0x80;
 
 impl Run {
     /// A read that looks for its area and whose bytes pass at once, and its end. None where they do not: where a further area follows,
@@ -50,8 +56,10 @@ impl Run {
                 let _ = storage.store(ccw.address, bytes, self.key);
                 return Some(self.finish(count, false, read, drive));
             }
-        } else if let Command::ReadData | Command::ReadCountKeyAndData = drive.command()?.command {
-            // of these the other call has no bytes either
+        } else if ccw.code % MULTI_TRACK == READ_DATA
+            || ccw.code % MULTI_TRACK == READ_COUNT_KEY_AND_DATA
+        {
+            // of these the other call has no bytes either; their codes are at hand, and the drive is not asked for its command
             return None;
         }
         self.other_read(storage, drive)
