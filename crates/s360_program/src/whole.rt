@@ -62,10 +62,35 @@ impl Run {
             // of these the other call has no bytes either; their codes are at hand, and the drive is not asked for its command
             return None;
         }
-        self.other_read(storage, drive)
+        self.rarer_read(storage, drive)
     }
 
-    // The same, of any read, and of any length: as many bytes pass as the word counts, or as the drive has.
+    // The same, of any read, and of any length; the step is handed on part by part, so that no room for it is cleared on the way of
+    // the commonest reads.
+    #[inline(always)]
+    fn rarer_read<S: ImageStore, M: MainStorage>(
+        &mut self,
+        storage: &mut M,
+        drive: &mut Drive<S>,
+    ) -> Option<Step>
+        requires fits { Fits self.old drive.old }
+        requires stage { self.old.comes ≡ Comes.Look }
+        requires unchained { chains_data self.old.ccw ≡ false }
+        requires stores { skips self.old.ccw ≡ false }
+        ensures step { (most : ℕ) → self.old.place.residual < most
+            → IfSome result (λ a. IsStep self.old (M.holds storage.old) drive.old most a self.new (M.holds storage.new) drive.new) }
+        ensures none { IfNone result ((self.new ≡ self.old) × (M.holds storage.new ≡ M.holds storage.old) × (drive.new ≡ drive.old)) }
+        ensures place { M.place storage.new ≡ M.place storage.old }
+        ensures calls { CallsAtMost 1 drive.old drive.new }
+    {
+        match self.other_read(storage, drive) {
+            Some(Step::Units(n)) => Some(Step::Units(n)),
+            Some(Step::Over(n)) => Some(Step::Over(n)),
+            None => None,
+        }
+    }
+
+    // As many bytes pass as the word counts, or as the drive has.
     #[inline(never)]
     fn other_read<S: ImageStore, M: MainStorage>(
         &mut self,
