@@ -18,7 +18,9 @@ use crate::units::is_incorrect;
 use ckd_drive::{Drive, WholeRead};
 use ckd_image::ImageStore;
 
-// The codes of the commonest reads, and the bit beside them by which a read goes on at the next head.
+// The codes of Sense and of the commonest reads, and the bit beside them by which a read goes on at the next head.
+const SENSE: u8 = 0x04;
+
 const READ_DATA: u8 = 0x06;
 
 const READ_COUNT_KEY_AND_DATA: u8 = 0x1E;
@@ -56,7 +58,8 @@ impl Run {
                 let _ = storage.store(ccw.address, bytes, self.key);
                 return Some(self.finish(count, false, read, drive));
             }
-        } else if ccw.code % MULTI_TRACK == READ_DATA
+        } else if ccw.code % MULTI_TRACK == SENSE
+            || ccw.code % MULTI_TRACK == READ_DATA
             || ccw.code % MULTI_TRACK == READ_COUNT_KEY_AND_DATA
         {
             // of these the other call has no bytes either; their codes are at hand, and the drive is not asked for its command
