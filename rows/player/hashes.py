@@ -68,7 +68,8 @@ def hashed(program: str, volume: Volume, name: str = "v.ckd") -> Said:
     same("the path of the object", "+".join(names), read["path"])
     digest, kind = printed[:64].decode("ascii"), printed[64:].decode()
     same("the hash of both", read["hash"], digest)
-    words = "  volume " if not read["unreadable"] else "  volume with %d unreadable tracks " % read["unreadable"]
+    number = read["unreadable"]
+    words = "  volume with %d unreadable %s " % (number, "track" if number == 1 else "tracks") if number else "  volume "
     same("what stands before the path", words, kind[: len(words)])
     return Said(digest, read["unreadable"], kind[len(words) :], status)
 

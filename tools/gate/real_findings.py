@@ -176,7 +176,7 @@ def reserved_byte_of_the_second_file_is_found_there(s: Scratch) -> None:
     s.put("a.ckd", header(MODEL, 1, 1) + new_cylinder(0) + new_cylinder(1))
     s.put("b.ckd", bytes(second))
     status, printed, told = s.dasd("check", "--strict", "a.ckd", "b.ckd")
-    same((status, printed.splitlines(), told), (0, ["warning header of file 2 reserved byte at 20 is not zero", "0 errors, 1 warnings, 0 notes"], ""))
+    same((status, printed.splitlines(), told), (0, ["warning header of file 2 reserved byte at 20 is not zero", "0 errors, 1 warning, 0 notes"], ""))
 
 
 @row
@@ -193,7 +193,7 @@ def files_of_a_wrong_length_and_of_one_highest_cylinder_have_their_reason(s: Scr
     s.put("a.ckd", header(MODEL, 1, 1) + new_cylinder(0) + new_cylinder(1))
     s.put("b.ckd", header(MODEL, 2, 1) + new_cylinder(2))
     s.put("c.ckd", header(MODEL, 3, 0) + new_cylinder(3))
-    told = fault(f"image in several files\n  b.ckd: its highest cylinder is 1, and 1 more follow\n{ONE_VOLUME}".rstrip())
+    told = fault(f"image in several files\n  b.ckd: its highest cylinder is 1, and 1 more follows\n{ONE_VOLUME}".rstrip())
     same(s.dasd("list", "--verbose", "a.ckd", "b.ckd", "c.ckd"), told)
 
 

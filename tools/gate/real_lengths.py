@@ -19,6 +19,11 @@ FAR = "--as-far-as-it-goes"
 WRONG = fault("wrong length")
 
 
+def counted(number: int, one: str, many: str) -> str:
+    """A count and its noun."""
+    return f"{number} {one if number == 1 else many}"
+
+
 @dataclass(frozen=True)
 class Reach:
     """How far a file of this length goes: the cylinders of its volume, how many tracks it lacks, and how many bytes are left out."""
@@ -49,9 +54,11 @@ class Reach:
         left_out = self.length - HEADER - self.held * SLOT
         lines = []
         if self.lacking:
-            lines.append(f"{name}: {self.lacking} tracks are not in the file, from {self.places()[0]} on")
+            tracks = counted(self.lacking, "track is", "tracks are")
+            lines.append(f"{name}: {tracks} not in the file, from {self.places()[0]} on")
         if left_out:
-            lines.append(f"{name}: {left_out} bytes behind the last whole track are left out")
+            behind = "behind the last whole track"
+            lines.append(f"{name}: {counted(left_out, f'byte {behind} is', f'bytes {behind} are')} left out")
         return lines
 
     def told(self, name: str = "vol.ckd") -> str:
@@ -117,7 +124,7 @@ def each_prefix_is_read_as_far_as_it_goes(s: Scratch) -> None:
             continue
         status, printed, told = s.dasd("list", FAR, "vol.ckd")
         same((status, printed.splitlines(), told), (reach.status(), reach.listed(), reach.told()), f"a file of {length} bytes")
-        lines = [*(f"error {it} not in the file" for it in reach.places()), f"{reach.lacking} errors, 0 warnings, 0 notes"]
+        lines = [*(f"error {it} not in the file" for it in reach.places()), counted(reach.lacking, "error", "errors") + ", 0 warnings, 0 notes"]
         same((strictly[0], strictly[1].splitlines(), strictly[2]), (reach.status(), lines, reach.told()), f"a file of {length} bytes")
 
 
@@ -174,8 +181,8 @@ def last_of_several_files_may_be_odd(s: Scratch) -> None:
         lines = [f"2311 3 cylinders {HEADS} heads slot {SLOT}", *listed(range(3))[: 2 * (30 - lacking)]]
         lines += [f"0002 {it:04X} unreadable not in the file" for it in range(10 - lacking, 10)]
         same((status, printed.splitlines()), (1 if lacking else 0, lines))
-        said = [f"  2.ckd: {lacking} tracks are not in the file, from 0002 0007 on"] if lacking else []
-        same(told.splitlines(), [*said, f"  2.ckd: {9 if lacking else 1} bytes behind the last whole track are left out"])
+        lacks, left_out = "  2.ckd: 3 tracks are not in the file, from 0002 0007 on", "  2.ckd: 9 bytes behind the last whole track are left out"
+        same(told.splitlines(), [lacks, left_out] if lacking else ["  2.ckd: 1 byte behind the last whole track is left out"])
 
 
 @row
@@ -225,7 +232,7 @@ def hash_has_no_bytes_of_a_track_that_lacks(s: Scratch) -> None:
         message += b"\1" + new_track(*divmod(track, HEADS)).spelled()
     message += b"\0" + bytes(4)
     digest = hashlib.sha256(message).hexdigest()
-    same(s.dasd("hash", FAR, "vol.ckd"), (1, f"{digest}  volume with 1 unreadable tracks vol.ckd\n", reach.told()))
+    same(s.dasd("hash", FAR, "vol.ckd"), (1, f"{digest}  volume with 1 unreadable track vol.ckd\n", reach.told()))
 
 
 def cut_pack(s: Scratch, length: int) -> Reach:

@@ -68,6 +68,50 @@ def volumes_are_compared_up_to_the_last_cylinder(s: Scratch) -> None:
     same((status, printed.splitlines(), told), (1, [*wanted, "3 tracks differ"], ""))
 
 
+# Counts of one have their nouns in the singular, but where all bytes of a line are fixed: `check`, `format` and the first line of `list`.
+
+
+@row
+def one_track_differs_and_one_can_not_be_read(s: Scratch) -> None:
+    held = bytearray(volume(MODEL, 1))
+    s.put("one.ckd", bytes(held))
+    count = slot_at(MODEL, 3) + 5
+    held[count + 6 : count + 8] = b"\xff\xff"
+    s.put("other.ckd", bytes(held))
+    unreadable = "0000 0003 unreadable in the second: record past end at 5\n"
+    same(s.dasd("compare", "one.ckd", "other.ckd"), (1, unreadable + "1 track differs\n", ""))
+    same(s.dasd("compare", "--tracks", "one.ckd", "one.ckd"), (0, "0 tracks differ\n", ""))
+    same(s.dasd("check", "--strict", "other.ckd"), (1, "error 0000 0003 record past end at 5\n1 error, 0 warnings, 0 notes\n", ""))
+    status, printed, told = s.dasd("hash", "other.ckd")
+    same((status, printed[64:], told), (1, "  volume with 1 unreadable track other.ckd\n", ""))
+    same(s.dasd("check", "other.ckd"), (1, "0000 0003 record past end at 5\n1 findings\n", ""))
+    same(s.dasd("format", "new.ckd", "--cylinders", "1"), (0, "formatted 2311 1 cylinders\n", ""))
+    same(s.dasd("list", "--used", "new.ckd"), (0, "2311 1 cylinders 10 heads slot 4096\n", ""))
+
+
+@row
+def one_cylinder_of_two_geometries_is_one(s: Scratch) -> None:
+    s.put("one.ckd", volume("2311", 1))
+    s.put("other.ckd", volume("2314", 1))
+    same(s.dasd("compare", "one.ckd", "other.ckd"), (1, "geometry 2311 1 cylinder slot 4096 and 2314 1 cylinder slot 7680\n", ""))
+    told = '{"path":"one.ckd","other":"other.ckd","text":"geometry 2311 1 cylinder slot 4096 and 2314 1 cylinder slot 7680"}\n'
+    same(s.dasd("compare", "--json", "one.ckd", "other.ckd"), (1, told, ""))
+
+
+@row
+def one_byte_of_one_data_set_is_one_file(s: Scratch) -> None:
+    s.put("pack.ckd", volume(MODEL, 1))
+    image = Image(s.path("pack.ckd"))
+    put_label(image, "ONE001", [DataSet("ONE", "PS", 80, 80, [(2, 2)], (0, 1))])
+    image.put_blocks(2, [(b"", b"\xc1"), (b"", b"")])
+    image.save()
+    s.path("out").mkdir()
+    same(s.dasd("extract", "--all", "out", "pack.ckd"), (0, "ONE 1 byte\n1 file, 0 findings\n", ""))
+    same(s.dasd("extract", "--all", "out", "pack.ckd"), (1, "ONE: file exists\n0 files, 1 finding\n", ""))
+    status, printed, told = s.dasd("check", "--strict", "--warnings", "pack.ckd")
+    same((status, printed, told), (0, "0 errors, 0 warnings, 1 note\n", ""))
+
+
 @row
 def data_set_of_four_extents_has_no_finding(s: Scratch) -> None:
     path = s.put("pack.ckd", volume(MODEL, 2))

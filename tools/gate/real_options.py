@@ -19,7 +19,7 @@ NO_SAVE = "--no-save"
 def strict_check_reads_a_pipe(s: Scratch) -> None:
     held = bytearray(volume())
     held[20] = 1
-    found = "warning header of file 1 reserved byte at 20 is not zero\n0 errors, 1 warnings, 0 notes\n"
+    found = "warning header of file 1 reserved byte at 20 is not zero\n0 errors, 1 warning, 0 notes\n"
     same(s.dasd("check", "--strict", "/dev/stdin", deck=bytes(held)), (0, found, ""))
 
 

@@ -140,7 +140,7 @@ def defective_track_is_read_from_its_alternate_and_told(s: Scratch) -> None:
     text = f"track 2 of the data set: {FOLLOWED}"
     same(s.dasd("extract", "pack.ckd", "CARDS", "--text"), fault(text, lines(CARDS)))
     s.path("out").mkdir()
-    same(s.dasd("extract", "--all", "out", "pack.ckd"), (1, f"CARDS 240 bytes\nCARDS: {text}\n1 files, 1 findings\n", ""))
+    same(s.dasd("extract", "--all", "out", "pack.ckd"), (1, f"CARDS 240 bytes\nCARDS: {text}\n1 file, 1 finding\n", ""))
     is_held(s.path("out/CARDS"), raw(*CARDS))
 
 
@@ -191,6 +191,6 @@ def member_and_directory_are_read_from_alternates(s: Scratch) -> None:
     image.save()
     same(s.dasd("extract", "pack.ckd", "LIB(ALPHA)", "--text"), fault(f"track 1 of the data set: {FOLLOWED}", "IN ALPHA\n"))
     s.path("out").mkdir()
-    wanted = [f"LIB: track 0 of the data set: {FOLLOWED}", "LIB(ALPHA) 80 bytes", f"LIB(ALPHA): track 1 of the data set: {FOLLOWED}", "1 files, 2 findings"]
+    wanted = [f"LIB: track 0 of the data set: {FOLLOWED}", "LIB(ALPHA) 80 bytes", f"LIB(ALPHA): track 1 of the data set: {FOLLOWED}", "1 file, 2 findings"]
     same(s.dasd("extract", "--all", "out", "pack.ckd"), (1, lines(wanted), ""))
     is_held(s.path("out/LIB(ALPHA)"), raw("IN ALPHA"))

@@ -17,7 +17,7 @@ RIGHT: list[tuple[str, dict[str, Any]]] = [
     ("dump", {"path": "a", "cylinder": 0, "head": 0, "home_address": "0000000000"}),
     ("dump", {"path": "a", "cylinder": 0, "head": 0, "identifier": "0000000001", "key": "", "data": "C1C2"}),
     ("compare", {"path": "a", "other": "b", "cylinder": 0, "head": 0, "text": "record 1 data from 0 on"}),
-    ("compare", {"path": "a", "other": "b", "text": "geometry 2311 1 cylinders slot 4096 and 2314 1 cylinders slot 7680"}),
+    ("compare", {"path": "a", "other": "b", "text": "geometry 2311 1 cylinder slot 4096 and 2314 1 cylinder slot 7680"}),
     ("compare", {"path": "a", "other": "b", "tracks_differ": 1}),
     ("vtoc", {"path": "a", "serial": "ABC123", "owner": "", "contents": [0, 1, 0, 1], "free_tracks": 0, "free_blocks": 0}),
     ("vtoc", {"path": "a", "cylinder": 0, "head": 0, "record": 0, "kind": "no volume label", "text": "no volume label"}),

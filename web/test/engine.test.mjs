@@ -108,7 +108,8 @@ test('a volume is looked at, dumped, compared and taken out', () => {
   assert.equal(look.label, null);
   const other = new Map([['c.ckd', volumes.format(2311, 1)]]), compared = volumes.compare(files, other);
   assert.equal(compared.same, false);
-  assert.ok(compared.tracks.length > 0 && compared.text.endsWith(`${compared.tracks.length} tracks differ\n`));
+  const number = compared.tracks.length;
+  assert.ok(number > 0 && compared.text.endsWith(number === 1 ? '1 track differs\n' : `${number} tracks differ\n`));
   assert.equal(volumes.compare(other, other).same, true);
   assert.deepEqual(volumes.dump(other, 0, 3).records.map(it => [it.identifier, it.data.length]), [['0000000300', 8]]);
   assert.throws(() => volumes.look(new Map([['x', new Uint8Array(700)]])), named('REFUSED'));

@@ -92,21 +92,18 @@ impl fmt::Display for Reason {
                 write!(f, "its highest cylinder is {highest}, and no file follows")
             }
             Reason::NoHeader(len) => {
-                let bytes = Quantity::new(*len, "byte", "bytes");
-                write!(f, "its length is {bytes}, and its header has {HEADER}")
+                write!(f, "its length is {len} bytes, and its header has {HEADER}")
             }
             Reason::OtherLength(len, wanted) => {
-                let bytes = Quantity::new(*len, "byte", "bytes");
                 write!(
                     f,
-                    "its length is {bytes}, and its cylinders take {wanted}"
+                    "its length is {len} bytes, and its cylinders take {wanted}"
                 )
             }
             Reason::Length(len, cylinder) => {
-                let bytes = Quantity::new(*len, "byte", "bytes");
                 write!(
                     f,
-                    "its length is {bytes}, and an image is {HEADER} bytes and whole cylinders of {cylinder}"
+                    "its length is {len} bytes, and an image is {HEADER} bytes and whole cylinders of {cylinder}"
                 )
             }
         }
