@@ -45,7 +45,8 @@ from tools.gate.real_extracts import raw as cards
 from tools.make import hercules_volumes as volumes
 
 CARD, COLUMNS = 80, 72
-NO_END = "the extents end before an end of file"
+# Writers of labels leave the bit of the last volume off, so that it is told too where no end of file stands in the extents.
+NO_END = "the extents end before an end of file; its label does not mark this volume as its last"
 
 
 @dataclass
