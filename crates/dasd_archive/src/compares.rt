@@ -16,10 +16,10 @@ use crate::reports::Style;
 use ckd_image::StoreFault;
 use counted_io::Counted;
 use dasd_volumes::{SlotReader, TrackAddress, VolumeFault};
+use quantities::Quantity;
 use std::alloc::Global;
 use std::io;
 use std::io::Write;
-use quantities::Quantity;
 
 /// How the lines of a comparison are written: their style, the paths of the two volumes as strings of JSON with their quotes,
 /// and whether each difference has a line.

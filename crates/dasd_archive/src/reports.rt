@@ -6,9 +6,9 @@ ghost use Rattle.dasd_archive.specs.Findings.{finding_line, severity_of};
 ghost use Rattle.dasd_archive.specs.Reports.{one_more, shown_line, tally_line, tally_of, Reports};
 
 use crate::findings::{Finding, Members, Severity};
+use quantities::Quantity;
 use std::io;
 use std::io::Write;
-use quantities::Quantity;
 
 /// For whom lines are written.
 #[derive(Clone, Copy)]

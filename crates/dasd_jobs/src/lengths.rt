@@ -13,8 +13,8 @@ use crate::reasons::Head;
 use byteorder::{ByteOrder, LittleEndian};
 use ckd_track::Geometry;
 use dasd_volumes::TrackAddress;
-use std::fmt;
 use quantities::Quantity;
+use std::fmt;
 
 /// How far files go that hold a volume: how many tracks of it they lack, which are its last ones, and how many bytes they have behind its
 /// slots.

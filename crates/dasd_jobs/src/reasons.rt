@@ -6,8 +6,8 @@ use crate::files::ImageFiles;
 use crate::headers::{HEADER, is_header};
 use byteorder::{ByteOrder, LittleEndian};
 use ckd_image::MountFault;
-use std::fmt;
 use quantities::Quantity;
+use std::fmt;
 
 /// The header of a file, and the file's length. Of a file that is shorter than a header it has zeros.
 #[derive(Clone, Copy)]

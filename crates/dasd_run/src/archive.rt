@@ -21,10 +21,10 @@ use dasd_archive::{Comparison, Form, Part, Range, Style, compare, dump, has_reco
 use dasd_jobs::{ImageFiles, SlotReader, open_volume};
 use dasd_volumes::VolumeFault;
 use dasd_words::{ComparedVolumes, DumpedPart, Numbers, PrintedVolume};
+use quantities::Quantity;
 use std::alloc::Global;
 use std::io::Write;
 use std::{fmt, io};
-use quantities::Quantity;
 
 /// For whom lines are printed.
 pub(crate) fn style(json: bool) -> Style

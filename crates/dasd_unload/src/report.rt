@@ -16,10 +16,10 @@ use dasd_contents::ChainFault;
 use dasd_extract::{Members, Stop};
 use dasd_jobs::JobFault;
 use data_sets::DirectoryFault;
+use quantities::Quantity;
 use std::alloc::Global;
 use std::io::Write;
 use std::{fmt, io};
-use quantities::Quantity;
 
 /// Of what a line is: of what has this name. Where lines are objects of JSON, they have the paths of the volume, as a string of it.
 #[derive(Clone, Copy)]

@@ -6,10 +6,10 @@ ghost use Rattle.hex.specs.Hex.{encode_lower};
 ghost use Rattle.volume_hash.specs.Lines.{escaped, path_text, volume_kind, volume_line, volume_object, line_or_object};
 
 use crate::volumes::VolumeHash;
+use quantities::Quantity;
 use std::alloc::{AllocError, Global};
 use std::io::Write;
 use std::{fmt, io};
-use quantities::Quantity;
 
 /// How the hash of a volume is printed.
 #[derive(Clone, Copy)]
