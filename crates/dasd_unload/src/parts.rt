@@ -134,7 +134,10 @@ impl fmt::Display for Part {
         match self {
             Part::Whole => Ok(()),
             Part::Last(number) => {
-                write!(f, "; part {number} of a data set on several volumes, the last")
+                write!(
+                    f,
+                    "; part {number} of a data set on several volumes, the last"
+                )
             }
             Part::Followed(number) => write!(
                 f,
