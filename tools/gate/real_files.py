@@ -6,7 +6,7 @@ tools/gate/real_runs.py, `dasd extract` in tools/gate/real_extracts.py, record f
 they stand in tools/gate/real_formats.py, strict checks, dumps and comparisons in tools/gate/real_archives.py,
 findings in tools/gate/real_findings.py, hashes of data sets and members in tools/gate/real_hashes.py, odd lengths in
 tools/gate/real_lengths.py, lists in tools/gate/real_lists.py, options of checks, dumps and runs in tools/gate/real_options.py, data
-sets that share cylinders and tracks that have alternates in tools/gate/real_packs.py, and what is told beside a fault's line in
+sets that share cylinders, tracks that have alternates and parts of data sets in tools/gate/real_packs.py, and what is told beside a fault's line in
 tools/gate/real_reasons.py. A row that needs
 root, a small file system of its own or a device, where these can't be had, is skipped, with a word.
 
