@@ -1,5 +1,5 @@
 -- Tracks of a data set that were unloaded, or stopped, by what was found and what was written.
-use Rattle.std.proofs.Common.{◌≡◌, refl, sym, subst, ℕ, true, List, Option, Some, None, Result, Ok, Err, OnOk, OnErr, IfOk, IfErr, inr}
+use Rattle.std.proofs.Common.{◌≡◌, refl, sym, subst, ℕ, true, List, Option, Some, None, Ok, inr}
 use Rattle.counted_io.specs.Streams.{IsFlushed}
 use Rattle.dasd_volumes.specs.Reading.{KnownVolume}
 use Rattle.dasd_contents.specs.declared.sets.DataSet.{DataSet}
@@ -10,17 +10,6 @@ use Rattle.dasd_unload.specs.Unloads.{Outcome, is_of_job}
 use Rattle.dasd_unload.specs.Asked.{SetOf}
 use Rattle.dasd_unload.specs.Parts.{end_of}
 use Rattle.dasd_unload.specs.Tracks.{AskedTracks, PrintsFirstTracks, PutsTracks, StopsTracks, UnloadsTracks, WritesTracks}
-
--- what is so of a value, and what is so where there is one
-pub both_ok : {A E : Type 0} (r : Result A E) (F : Type 0) (P Q : A → Type 0) → OnOk r F → IfOk r P
-    → ((x : A) → P x → F → Q x) → IfOk r Q
-both_ok (Ok x) F P Q on if both = both x if on
-both_ok (Err e) F P Q on if both = if
-
-pub both_err : {A E : Type 0} (r : Result A E) (F : Type 0) (P Q : E → Type 0) → OnErr r F → IfErr r P
-    → ((e : E) → P e → F → Q e) → IfErr r Q
-both_err (Ok x) F P Q on if both = if
-both_err (Err e) F P Q on if both = both e if on
 
 module _ (a : AskedTracks) (v : KnownVolume) (before now : Outcome) (set : DataSet) (named : SetOf a.name v (Some set)) where
   -- to a file
