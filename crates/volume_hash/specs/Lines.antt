@@ -1,5 +1,5 @@
 -- What is printed of a volume's hash.
-use Rattle.std.specs.Prelude.{ℕ, ◌==◌, Bool, if◌then◌else◌, List, [], ◌∷◌, codes}
+use Rattle.std.specs.Prelude.{ℕ, ◌==◌, Bool, if◌then◌else◌, List, [], ◌∷◌, ◌++◌, codes}
 use Rattle.std.specs.List.{concat, flat_map}
 use Rattle.std.specs.Fmt.{decimal}
 use Rattle.hex.specs.Hex.{encode_lower}
@@ -15,11 +15,12 @@ escaped byte = if byte == 10 then codes "\\n" else (if byte == 13 then codes "\\
 abbrev pub path_text : (path : List ℕ) → List ℕ
 path_text path = flat_map escaped path
 
--- what was hashed
+-- what was hashed: a volume, with its tracks that can't be read, if it has some
+abbrev pub unreadable_kind : (unreadable : ℕ) → List ℕ
+unreadable_kind unreadable = codes "volume with " ++ quantity_text unreadable (codes "unreadable track") (codes "unreadable tracks")
+
 abbrev pub volume_kind : (unreadable : ℕ) → List ℕ
-volume_kind unreadable =
-    if unreadable == 0 then codes "volume"
-    else concat (codes "volume with " ∷ quantity_text unreadable (codes "unreadable track") (codes "unreadable tracks") ∷ [])
+volume_kind unreadable = if unreadable == 0 then codes "volume" else unreadable_kind unreadable
 
 -- the hash in hexadecimal digits, two blanks, what was hashed, and the path of the volume
 abbrev pub volume_line : (path digits : List ℕ) → (unreadable : ℕ) → List ℕ

@@ -1,9 +1,10 @@
 //! The line of a hash.
 
 ghost use Rattle.std.specs.Prelude.{◌≡◌, Some, IfOk, OnOk, codes};
+ghost use Rattle.std.specs.Fmt.{WritesOnOk};
 ghost use Rattle.std.specs.Io.KnownBytes.{Appends};
 ghost use Rattle.hex.specs.Hex.{encode_lower};
-ghost use Rattle.volume_hash.specs.Lines.{escaped, path_text, volume_kind, volume_line, volume_object, line_or_object};
+ghost use Rattle.volume_hash.specs.Lines.{escaped, path_text, unreadable_kind, volume_kind, volume_line, volume_object, line_or_object};
 
 use crate::volumes::VolumeHash;
 use quantities::Quantity;
@@ -81,14 +82,19 @@ impl fmt::Display for Kind {
     ghost output = { λ k. Some (volume_kind k.unreadable) };
 
     fn fmt<W: fmt::Write>(&self, f: &mut fmt::Formatter<W>) -> fmt::Result {
-        let unreadable = self.unreadable;
-        if unreadable == 0 {
-            f.write_str("volume")
-        } else {
-            let tracks = Quantity::new(unreadable as u64, "unreadable track", "unreadable tracks");
-            write!(f, "volume with {tracks}")
+        match self.unreadable {
+            0 => f.write_str("volume"),
+            unreadable => write_unreadable(f, unreadable),
         }
     }
+}
+
+// A volume with so many tracks that can't be read.
+fn write_unreadable<W: fmt::Write>(f: &mut fmt::Formatter<W>, unreadable: u32) -> fmt::Result
+    ensures { WritesOnOk W.write_str_gives f.old result (unreadable_kind unreadable) f.new }
+{
+    let tracks = Quantity::new(unreadable as u64, "unreadable track", "unreadable tracks");
+    write!(f, "volume with {tracks}")
 }
 
 /// Writes a path, in which no byte ends the line.
