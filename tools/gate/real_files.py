@@ -4,7 +4,8 @@ Each row makes files, runs commands and says what they print, end with and leave
 owners, full disks, broken pipes, odd names and files that are no images; kills, runs at once and traces in
 tools/gate/real_runs.py, `dasd extract` in tools/gate/real_extracts.py, record formats that are given and tracks as
 they stand in tools/gate/real_formats.py, strict checks, dumps and comparisons in tools/gate/real_archives.py,
-findings in tools/gate/real_findings.py, hashes of data sets and members in tools/gate/real_hashes.py, odd lengths in
+findings in tools/gate/real_findings.py, hashes of data sets and members in tools/gate/real_hashes.py, new volumes with a
+label in tools/gate/real_labels.py, odd lengths in
 tools/gate/real_lengths.py, lists in tools/gate/real_lists.py, options of checks, dumps and runs in tools/gate/real_options.py, data
 sets that share cylinders and tracks that have alternates in tools/gate/real_packs.py, and what is told beside a fault's line in
 tools/gate/real_reasons.py. A row that needs
@@ -37,6 +38,7 @@ from tools.gate import (
     real_findings,
     real_formats,
     real_hashes,
+    real_labels,
     real_lengths,
     real_lists,
     real_options,
@@ -54,6 +56,7 @@ OTHERS = (
     real_findings,
     real_formats,
     real_hashes,
+    real_labels,
     real_lengths,
     real_lists,
     real_options,
