@@ -11,6 +11,8 @@ import json
 import os
 import zlib
 from collections import Counter
+from collections.abc import Callable
+from functools import partial
 
 from . import says
 from .answers import Answer, Finding, Set, Stamp, Task, Way
@@ -21,6 +23,8 @@ from .unloading import unload
 
 #: Faults of this stage are of the machine at that time, and not of the volume: it is asked again by the next scan.
 HERE = "here"
+#: Asks a part of what there is to ask.
+Part = Callable[[Answer, Volume], None]
 
 
 def ask(task: Task, way: Way) -> Answer:
@@ -29,7 +33,7 @@ def ask(task: Task, way: Way) -> Answer:
     try:
         before = [stamp_of(it) for it in task.paths]
         _ask_files(answer, way)
-        answer.stamps = [Stamp(size, modified, says.unloaded_hash(path)) for path, (size, modified) in zip(task.paths, before)]
+        answer.stamps = [Stamp(size, modified, says.file_hash(path)) for path, (size, modified) in zip(task.paths, before)]
         if before != [stamp_of(it) for it in task.paths]:
             answer = Answer(task, "waiting", faults=[(HERE, "it changed while it was read")])
     except OSError as fault:
@@ -48,7 +52,7 @@ def stamp_of(path: bytes) -> tuple[int, int]:
 def _ask_files(answer: Answer, way: Way) -> None:
     """Asks the files of a task, if they are an image and not what they were."""
     task = answer.task
-    if task.digest and len(task.paths) == 1 and says.unloaded_hash(task.paths[0]) == task.digest:
+    if task.digest and len(task.paths) == 1 and says.file_hash(task.paths[0]) == task.digest:
         answer.state = "same"
         return
     is_image = first_bytes(task.paths[0], len(MAGIC)) == MAGIC
@@ -89,7 +93,14 @@ def ask_volume(answer: Answer, volume: Volume) -> None:
         if not answer.volume:
             return
     answer.state = "volume"
-    for name, part in (("list", ask_tracks), ("hash", ask_hash), ("vtoc", ask_contents), ("extract", unload)):
+    hashes = says.Hashes()
+    parts: tuple[tuple[str, Part], ...] = (
+        ("list", ask_tracks),
+        ("hash", partial(ask_hash, hashes=hashes)),
+        ("vtoc", ask_contents),
+        ("extract", partial(unload, hashes=hashes)),
+    )
+    for name, part in parts:
         try:
             part(answer, volume)
         except Fault as fault:
@@ -130,11 +141,12 @@ def ask_tracks(answer: Answer, volume: Volume) -> None:
     answer.tracks = zlib.compress(json.dumps(tracks, separators=(",", ":")).encode())
 
 
-def ask_hash(answer: Answer, volume: Volume) -> None:
-    """The hash of what it says."""
-    for it in volume.ask("hash"):
-        if "hash" in it:
-            answer.said = bytes.fromhex(it["hash"])
+def ask_hash(answer: Answer, volume: Volume, hashes: says.Hashes) -> None:
+    """The hashes of what it says, and of what its data sets and members say."""
+    try:
+        hashes.ask(volume)
+    finally:
+        answer.said = hashes.volume
 
 
 def ask_contents(answer: Answer, volume: Volume) -> None:

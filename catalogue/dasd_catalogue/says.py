@@ -1,34 +1,42 @@
-"""Hashes of what a data set and a member say, by which copies are found; that of a volume `dasd hash` prints.
+"""Hashes: those of what a volume, a data set and a member say, by which copies are found, are what `dasd hash` prints; that of a file is made here.
 
-They are `unloaded_hash` and `library_hash`. Whoever puts others in their place, or another hash of volumes, gives FUNCTION another name: then the next
-scan asks each volume again, and hashes of both are never compared.
-
-What a member says, or a data set without members, are the bytes of its blocks in their order, as `dasd extract` writes them: SHA-256 of its output.
-How the bytes are cut into blocks is no part of it, nor are keys. What a partitioned data set says are its members in the order of its directory: the
-name of each, and what it says.
+Whoever takes others gives FUNCTION another name: then the next scan asks each volume again, and hashes of both are never compared.
 """
 
 from __future__ import annotations
 
 import hashlib
 
-#: The name of these functions, with that of a volume; the database has it.
-FUNCTION = "says-2"
+from .program import Volume
+
+#: The name of these hashes; the database has it.
+FUNCTION = "says-3"
 CHUNK = 1 << 20
 
 
-def unloaded_hash(path: bytes) -> bytes:
+class Hashes:
+    """What `dasd hash` prints of a volume: its hash, if it has one, and those of its data sets and members by the names of their files."""
+
+    def __init__(self) -> None:
+        self.volume = b""
+        self.files: dict[str, bytes] = {}
+
+    def ask(self, volume: Volume) -> None:
+        """Takes all that the program prints; what came before a fault stays."""
+        for it in volume.ask("hash", "--members"):
+            if "hash" not in it:
+                continue
+            said = bytes.fromhex(it["hash"])
+            if "name" not in it:
+                self.volume = said
+            else:
+                self.files[f"{it['name']}({it['member']})" if "member" in it else it["name"]] = said
+
+
+def file_hash(path: bytes) -> bytes:
     """What a file holds: SHA-256, 32 bytes."""
     said = hashlib.sha256()
     with open(path, "rb") as file:
         while chunk := file.read(CHUNK):
             said.update(chunk)
-    return said.digest()
-
-
-def library_hash(members: list[tuple[str, bytes]]) -> bytes:
-    """What a partitioned data set says, by the names of its members, as `dasd extract --all` spells them, and what each says; 32 bytes."""
-    said = hashlib.sha256(b"library")
-    for name, own in members:
-        said.update(len(name).to_bytes(4, "big") + name.encode("ascii") + own)
     return said.digest()

@@ -15,7 +15,7 @@ from .images import BadPacking
 from .names import Places
 from .program import Fault, Object, Volume
 from .queries import Place, described
-from .says import unloaded_hash
+from .says import Hashes
 from .scratch import parent_for, scratch_folder
 
 ALL = "all"
@@ -58,31 +58,35 @@ def take_of_volume(connection: sqlite3.Connection, volume: int, told: list[Objec
     task = Task(tuple(it["id"] for it in rows), tuple(taking.places.found(it["path"]) for it in rows))
     size = sum(it["size"] or 0 for it in rows)
     with scratch_folder(parent_for(size, taking.way.scratch)) as folder:
+        hashes = Hashes()
         try:
-            unload_all(task, folder, taking)
+            unload_all(task, folder, taking, hashes)
             fault = ""
         except (OSError, Fault, BadPacking) as why:
             fault = str(why)
         for it in told:
-            yield {**it, **put_file(it, folder, taking, fault)}
+            source = os.path.join(folder, os.fsencode(ALL), os.fsencode(it["file_name"]))
+            if not os.path.exists(source):
+                yield {**it, "fault": fault or "the pack has it no more"}
+            elif hashes.files.get(it["file_name"], b"").hex() != it["hash"]:
+                yield {**it, "fault": "the pack says something else since it was scanned"}
+            else:
+                yield {**it, **put_file(it, source, taking)}
 
 
-def unload_all(task: Task, folder: bytes, taking: Taking) -> None:
-    """Unloads all of a volume into a folder."""
+def unload_all(task: Task, folder: bytes, taking: Taking, hashes: Hashes) -> None:
+    """Unloads all of a volume into a folder, and takes the hashes of what it says now."""
     names = put_files(Answer(task), folder, taking.way)
     os.mkdir(os.path.join(folder, os.fsencode(ALL)))
     words = ["--text"] if taking.is_text else []
-    for _ in Volume(taking.way.program, folder, names, taking.way.patience).ask("extract", "--all", ALL, *words):
+    volume = Volume(taking.way.program, folder, names, taking.way.patience)
+    hashes.ask(volume)
+    for _ in volume.ask("extract", "--all", ALL, *words):
         pass
 
 
-def put_file(it: Object, folder: bytes, taking: Taking, fault: str) -> Object:
+def put_file(it: Object, source: bytes, taking: Taking) -> Object:
     """Puts what was unloaded where it belongs: a folder for its volume, by its number, and the name that `dasd` gives it."""
-    source = os.path.join(folder, os.fsencode(ALL), os.fsencode(it["file_name"]))
-    if not os.path.exists(source):
-        return {"fault": fault or "the pack has it no more"}
-    if not taking.is_text and unloaded_hash(source).hex() != it["hash"]:
-        return {"fault": "the pack says something else since it was scanned"}
     target = os.path.join(taking.folder, str(it["volume"]), it["file_name"])
     try:
         os.makedirs(os.path.dirname(target), exist_ok=True)

@@ -1,4 +1,4 @@
-"""All data sets and members of a volume, unloaded by `dasd extract --all`: as blocks, of which their hashes are taken, and as lines of text."""
+"""All data sets and members of a volume, unloaded by `dasd extract --all`: as blocks, which are counted, and as lines of text."""
 
 from __future__ import annotations
 
@@ -7,7 +7,7 @@ import os
 from .answers import Answer, Finding, Set, Text, Unloaded
 from .names import fits, split_name
 from .program import Fault, Object, Volume
-from .says import library_hash, unloaded_hash
+from .says import Hashes
 
 #: A text of more bytes is not kept, and that is told as a fault.
 MOST_TEXT = 16 << 20
@@ -22,11 +22,11 @@ ENDLESS = ("DA", "IS")
 PARTITIONED = "PO"
 
 
-def unload(answer: Answer, volume: Volume) -> None:
-    """Unloads all, to the answer's sets and texts."""
+def unload(answer: Answer, volume: Volume, hashes: Hashes) -> None:
+    """Unloads all, to the answer's sets and texts, each with its hash."""
     for folder in (BLOCKS, TEXTS):
         os.mkdir(os.path.join(volume.folder, os.fsencode(folder)))
-    blocks = Unload(answer, volume)
+    blocks = Unload(answer, volume, hashes.files)
     try:
         for it in volume.ask("extract", "--all", BLOCKS):
             blocks.take(it)
@@ -36,12 +36,15 @@ def unload(answer: Answer, volume: Volume) -> None:
         unloaded.text = texts.get(file_name)
     for found in answer.sets:
         if found.told["organisation"].startswith(PARTITIONED):
-            found.own = library(found)
+            found.own = library(found, hashes.files)
 
 
-def library(found: Set) -> Unloaded:
-    """A partitioned data set as all of its members."""
-    said = library_hash([(split_name(it.file_name)[1], it.said) for it in found.members])
+def library(found: Set, hashes: dict[str, bytes]) -> Unloaded | None:
+    """A partitioned data set as all of its members, if it has a hash. One without members has no file, and is known by its name."""
+    names = (it for it in hashes if not split_name(it)[1] and fits(found.told["name"], it))
+    said = hashes.get(found.file_name or next(names, ""))
+    if said is None:
+        return None
     is_whole = found.is_whole and all(it.is_whole for it in found.members)
     return Unloaded(found.file_name, sum(it.size for it in found.members), said, None, is_whole)
 
@@ -50,8 +53,8 @@ class Unload:
     """What was unloaded as blocks so far. Files come in the order of the table of contents, so each belongs to the data set of the last one, if that
     was called the same, or to one behind it."""
 
-    def __init__(self, answer: Answer, volume: Volume) -> None:
-        self.answer, self.volume, self.at, self.last = answer, volume, -1, ""
+    def __init__(self, answer: Answer, volume: Volume, hashes: dict[str, bytes]) -> None:
+        self.answer, self.volume, self.hashes, self.at, self.last = answer, volume, hashes, -1, ""
         self.unloaded: dict[str, Unloaded] = {}
 
     def take(self, told: Object) -> None:
@@ -68,9 +71,12 @@ class Unload:
                 found.is_whole = is_endless
 
     def _take_file(self, file_name: str, size: int) -> None:
-        path = os.path.join(self.volume.folder, os.fsencode(BLOCKS), os.fsencode(file_name))
-        unloaded = Unloaded(file_name, size, unloaded_hash(path))
-        os.unlink(path)
+        os.unlink(os.path.join(self.volume.folder, os.fsencode(BLOCKS), os.fsencode(file_name)))
+        said = self.hashes.get(file_name)
+        if said is None:
+            self.answer.faults.append(("hash", f"{file_name} has no hash"))
+            return
+        unloaded = Unloaded(file_name, size, said)
         self.unloaded[file_name] = unloaded
         data_set, member = split_name(file_name)
         found = self._set_of(data_set)

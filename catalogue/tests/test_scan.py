@@ -279,7 +279,7 @@ class Again(Case):
     def test_everything_again(self) -> None:
         """By a word, and where hashes are made otherwise, also when the first try was ended."""
         self.assertEqual(scanned(self.database, [self.packs], everything=True).asked, 4)
-        with mock.patch.object(says, "FUNCTION", "says-3"):
+        with mock.patch.object(says, "FUNCTION", "says-other"):
             with self.assertRaises(KeyboardInterrupt):
                 scanned(self.database, [self.packs], Ended(1))
             with mock.patch("dasd_catalogue.asking.ask_volume", wraps=lambda answer, volume: None) as asked:
