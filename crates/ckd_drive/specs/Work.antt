@@ -1,6 +1,8 @@
 -- A drive between two calls, as those see it who call it.
 use Rattle.std.specs.Prelude.{◌≡◌, ◌⊎◌, ℕ, zero, suc, ◌+◌, ◌-◌, List, [], ◌++◌, Bool, true, false, not, ◌&&◌, ◌==◌, Option, Some, None, length, slice_index_or}
-use Rattle.std.specs.Prelude.{if◌then◌else◌}
+use Rattle.std.specs.Prelude.{nat_lt, if◌then◌else◌}
+use Rattle.ckd_track.specs.Model.{heads_of}
+use Rattle.ckd_track.specs.declared.geometries.Geometry.{Geometry}
 use Rattle.ckd_image.specs.Image.{ImageState}
 use Rattle.ckd_command.specs.declared.registers.Mark.{Mark}
 use Rattle.ckd_command.specs.declared.registers.Mark.TheVariants as mark
@@ -11,6 +13,7 @@ use Rattle.ckd_command.specs.declared.close.DriveEnding.{DriveEnding}
 use Rattle.ckd_command.specs.declared.begin.Opened.{Opened}
 use Rattle.ckd_command.specs.Tables.{aim, action_of, is_giving, is_search}
 use Rattle.ckd_sense.specs.declared.commands.Command.{Command}
+use Rattle.ckd_sense.specs.declared.sense_bytes.Sense.{Sense}
 use Rattle.ckd_sense.specs.declared.commands.Command.TheVariants.{ReadData, ReadCountKeyAndData}
 use Rattle.ckd_position.specs.declared.areas.Area.{Area}
 use Rattle.ckd_position.specs.declared.areas.Area.TheVariants.{Of}
@@ -398,3 +401,14 @@ without_sense s = with_registers s (record s.registers { sense = no_sense })
 -- the drive over this image
 abbrev pub with_image : DriveState → ImageState → DriveState
 with_image d i = record d { image = i }
+
+-- A drive that becomes what one was between two programs.
+
+-- whether a volume has a track at this cylinder and head
+abbrev pub has_track : Geometry → (cylinder head : ℕ) → Bool
+has_track g cylinder head = nat_lt cylinder g.cylinders && nat_lt head (heads_of g.model)
+
+-- the drive with its arm at this cylinder, this head selected, and these sense bytes
+abbrev pub restored : (cylinder head : ℕ) → Sense → DriveState → DriveState
+restored cylinder head sense d =
+    record d { state = begin_program (record (drive_of d.state) { cylinder = cylinder; head = head; sense = sense }) }

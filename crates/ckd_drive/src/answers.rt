@@ -1,5 +1,7 @@
 //! What a drive answers, and the stages of a command by which it does.
 
+use thiserror::Error;
+
 /// What a command code led to.
 #[derive(Clone, Copy, Debug, PartialEq, Eq)]
 pub enum Begun {
@@ -21,6 +23,11 @@ pub enum Look {
     /// The command is over, and waits for its end: the sense bytes say why.
     Failed,
 }
+
+/// The volume of a drive has no track at this cylinder and head.
+#[derive(Clone, Copy, Debug, PartialEq, Eq, Error)]
+#[error("the volume has no such track")]
+pub struct NoSuchTrack;
 
 /// How far a command is, and so what may be called next. Other calls than those named wait: whoever makes one breaks
 /// its condition.

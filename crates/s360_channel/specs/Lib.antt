@@ -11,4 +11,5 @@ pub mod Attaches
 pub mod Ends
 pub mod Nexts
 pub mod Watched
+pub mod Restores
 pub mod Selector

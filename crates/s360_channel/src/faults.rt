@@ -62,3 +62,25 @@ pub enum ExchangeFault {
 #[derive(Clone, Copy, Debug, PartialEq, Eq, Error)]
 #[error("a storage of another size")]
 pub struct OtherSize;
+
+/// Why a drive is not put where it was. `Held` is looked for first.
+#[derive(Clone, Copy, Debug, PartialEq, Eq, Error)]
+pub enum RestoreFault {
+    /// There is no such drive, or something is owed of it.
+    #[error("{0}")]
+    Held(DetachFault),
+    /// Its volume has no such cylinder or head.
+    #[error("the volume has no such track")]
+    NoSuchTrack,
+}
+
+/// Why a channel status word does not pend. `NotIdle` is looked for first.
+#[derive(Clone, Copy, Debug, PartialEq, Eq, Error)]
+pub enum PendingFault {
+    /// A program runs, or a channel status word pends.
+    #[error("the subchannel is not available")]
+    NotIdle,
+    /// No channel stores it for this device: it lacks the channel end; or it has the device end, and the arm owes another; or neither.
+    #[error("no ending that a channel owes")]
+    NotOwed,
+}

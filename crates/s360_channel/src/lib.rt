@@ -17,6 +17,7 @@ mod instructions;
 mod interrupting;
 mod packs;
 mod processor;
+mod restoring;
 mod selector;
 mod showing;
 mod starting;
@@ -31,7 +32,9 @@ pub use crate::asking::finds_another;
 pub use crate::channel::{Channel, Finished, Reset};
 pub use crate::driving::drive;
 pub use crate::faults::{
-    AttachFault, DetachFault, ExchangeFault, NewFault, OtherSize, OutsideStorage,
+    AttachFault, DetachFault, ExchangeFault, NewFault, OtherSize, OutsideStorage, PendingFault,
+    RestoreFault,
 };
+pub use crate::restoring::SavedDrive;
 pub use crate::selector::Selector;
 pub use crate::view::{DriveView, RunOn, SubchannelView, View, Watched};
