@@ -13,6 +13,7 @@ pub mod OneMore
 pub mod AllAnswered
 pub mod PartLengths
 pub mod Removing
+pub mod Restoring
 pub mod Images
 pub mod Fronts
 pub mod Slots

@@ -1,11 +1,12 @@
 //! A channel becomes what one was between two programs, as it was saved.
 
-ghost use Rattle.std.specs.Prelude.{◌≡◌, true, IfErr, OnOk, OnErr};
+ghost use Rattle.std.specs.Prelude.{◌≡◌, IfErr, OnOk, OnErr};
 ghost use Rattle.s360_words.specs.Storage.{Storage as StorageState};
-ghost use Rattle.s360_laws.specs.Machine.{Machine};
+ghost use Rattle.s360_laws.specs.Machine.{Machine, device_at};
+ghost use Rattle.s360_laws.specs.Soundness.{arm_owes, device_owes};
 ghost use Rattle.s360_channel.specs.Channel.{StandsFor};
-ghost use Rattle.s360_channel.specs.declared.subchannel.Subchannel.TheVariants.{Pending};
-ghost use Rattle.s360_channel.specs.Restores.{RestoresDrive, WhyNotRestored, WhyNotPending, is_available, is_owed, with_pending};
+ghost use Rattle.s360_channel.specs.declared.subchannel.Subchannel.TheVariants.{Idle, Pending};
+ghost use Rattle.s360_channel.specs.Restores.{RestoresDrive, WhyNotRestored, WhyNotPending, is_owed, with_pending};
 ghost use Rattle.s360_channel.specs.Selector.{KeepsSelector, over};
 
 use crate::channel::Channel;
@@ -81,15 +82,26 @@ impl<S: ImageStore> Selector<S> {
 
     // Whether this channel status word may pend for a device: it has channel end; and either it has the device end, or the arm owes it.
     fn is_owed(&self, device: u8, csw: Csw) -> bool
-        ensures { (s : StorageState) (m : Machine) → StandsFor (over self.now s) m → is_available m.subchannel ≡ true
-            → result ≡ is_owed device csw m }
+        requires { self.now.subchannel ≡ Idle }
+        ensures { (s : StorageState) (m : Machine) → StandsFor (over self.now s) m → result ≡ is_owed device csw m }
     {
-        let owes = match self.drives.place_of(device) {
-            Some(place) => self.drives.arm(place) != Arm::AtRest,
-            None => false,
-        };
-        let tells_end = csw.unit.0 & UnitStatus::DEVICE_END.0 != 0;
-        csw.unit.0 & UnitStatus::CHANNEL_END.0 != 0 && tells_end != owes
+        let ends_channel = csw.unit.0 & UnitStatus::CHANNEL_END.0 != 0;
+        let ends_device = csw.unit.0 & UnitStatus::DEVICE_END.0 != 0;
+        match self.arm_of(device) {
+            Arm::AtRest => ends_channel && ends_device,
+            Arm::InMotion | Arm::Arrived => ends_channel && !ends_device,
+        }
+    }
+
+    // What the arm of the drive with this address does; at rest, where there is none.
+    fn arm_of(&self, device: u8) -> Arm
+        requires { self.now.subchannel ≡ Idle }
+        ensures { (s : StorageState) (m : Machine) → StandsFor (over self.now s) m → device_owes (device_at m device) ≡ arm_owes result }
+    {
+        match self.drives.place_of(device) {
+            Some(place) => self.drives.arm(place),
+            None => Arm::AtRest,
+        }
     }
 }
 
