@@ -68,6 +68,7 @@ impl<S: ImageStore> Selector<S> {
         ensures refused { (s : StorageState) (m : Machine) → StandsFor (over self.old s) m
             → IfErr result (λ e. WhyNotPending device csw m e) }
         ensures stays { OnErr result (self.new ≡ self.old) }
+        ensures same { KeepsSelector self.old self.new }
     {
         match self.subchannel {
             Subchannel::Idle => {}

@@ -46,3 +46,25 @@ pub enum ExchangeFault {
     #[error("{0}")]
     Refused(s360_channel::ExchangeFault),
 }
+
+/// Why a drive is not put where it was. `NoChannel` is looked for first.
+#[derive(Clone, Copy, Debug, PartialEq, Eq, Error)]
+pub enum RestoreFault {
+    /// There is no channel with the number in the high byte.
+    #[error("there is no channel with this number")]
+    NoChannel,
+    /// The channel refuses it.
+    #[error("{0}")]
+    Refused(s360_channel::RestoreFault),
+}
+
+/// Why a channel status word does not pend. `NoChannel` is looked for first.
+#[derive(Clone, Copy, Debug, PartialEq, Eq, Error)]
+pub enum PendingFault {
+    /// There is no channel with the number in the high byte.
+    #[error("there is no channel with this number")]
+    NoChannel,
+    /// The channel refuses it.
+    #[error("{0}")]
+    Refused(s360_channel::PendingFault),
+}

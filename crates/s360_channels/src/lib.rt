@@ -15,6 +15,7 @@ pub mod laws;
 mod packs;
 mod places;
 mod processor;
+mod restoring;
 mod running;
 mod selectors;
 mod showing;
@@ -23,6 +24,8 @@ mod turns;
 
 pub use crate::channels::Channels;
 pub use crate::ending::Removed;
-pub use crate::faults::{AddFault, AttachFault, DetachFault, ExchangeFault};
+pub use crate::faults::{
+    AddFault, AttachFault, DetachFault, ExchangeFault, PendingFault, RestoreFault,
+};
 pub use crate::interrupting::is_open;
 pub use crate::selectors::Selectors;
