@@ -89,6 +89,7 @@ complete -c dasd -n '__fish_seen_subcommand_from run' -l storage -x -d 'the size
 complete -c dasd -n '__fish_seen_subcommand_from run' -l channel -x -d 'the number of the channel, 0 to 6'
 complete -c dasd -n '__fish_seen_subcommand_from run' -l deck -r -F -d 'the deck; standard input where there is none'
 complete -c dasd -n '__fish_seen_subcommand_from run' -l no-save -d 'leaves all files as they are: what the deck changes is not saved'
+complete -c dasd -n '__fish_seen_subcommand_from run' -l in-place -d 'writes over the bytes of an image that was changed, which stays the same file, behind a journal beside it'
 complete -c dasd -n '__fish_seen_subcommand_from run' -l trace -d 'tells on standard error what each channel command word does'
 complete -c dasd -n '__fish_seen_subcommand_from run' -l trace-to -r -F -d 'as --trace, into a file, whose bytes are replaced'
 complete -c dasd -n '__fish_seen_subcommand_from run' -l trace-only -x -a 'failing' -d 'traces those starts alone whose programs fail'
