@@ -9,7 +9,8 @@ A line has calls, with `;` between:
 | `06 1 found`, `29 1 fails` | the command finds its area, or fails, after so many index passes |
 | `06 0 gives C1*80 0C`, `05 0 takes D7*80 0C`, `1D 0 takes .. only 8 0E` | a whole command, with its bytes, and its unit status |
 | `look passed`, `look failed`, `look 80`, `give C1*80`, `take D7*80`, `end 0C` | one call |
-| `whole none`, `whole C1*80 0C` | the read that is lent whole |
+| `whole none`, `whole C1*80 0C` | the read that is lent whole, if it is one of the commonest |
+| `once none`, `once C1*80 0C` | the same, whatever read it is |
 | `settle`, `settle fails` | the drive settles, or its store fails |
 | `sense 80 10`, `saved`, `written`, `unsaved 0 3` | what the drive tells |
 
@@ -93,7 +94,7 @@ class DriveRow:
             self.gives(call, bytes_of(words[1]))
         elif words[0] == "take":
             same(call, len(bytes_of(words[1])), self.take(bytes_of(words[1])))
-        elif words[0] == "whole":
+        elif words[0] in ("whole", "once"):
             self.whole(call, words)
         elif words[0] == "end":
             self.ends(call, words[1])
@@ -102,9 +103,10 @@ class DriveRow:
         return True
 
     def whole(self, call: str, words: Sequence[str]) -> None:
-        answer = self.stage.ask("DRIVE WHOLE").split()
+        verb = words[0].upper()
+        answer = self.stage.ask("DRIVE %s" % verb).split()
         if words[1] == "none":
-            same(call, ["WHOLE", "NONE"], answer)
+            same(call, [verb, "NONE"], answer)
             return
         same(call, (bytes_of(words[1]), ["ENDED", words[2], "still"]), (bytes_of(answer[1]), answer[2:]) if len(answer) == 5 else answer)
 
@@ -238,7 +240,7 @@ def play_in_pieces(stage: Stage, disk: Disk, block: Block, failing: Failing | No
 def is_of_memory(block: Block) -> bool:
     """Whether a row can be played at a drive over one file in memory, of which no call fails and none is counted; nor are reads lent whole
     there."""
-    return not block.behind("failing ") and all(call.split()[0] != "whole" for call in row_calls(block))
+    return not block.behind("failing ") and all(call.split()[0] not in ("whole", "once") for call in row_calls(block))
 
 
 def play_in_memory(stage: Stage, disk: Disk, block: Block) -> None:

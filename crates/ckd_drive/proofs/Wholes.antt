@@ -1,23 +1,17 @@
--- A read all of whose bytes pass at once, on the track at hand.
-use Rattle.std.proofs.Common.{◌≡◌, ◌∙◌, ap, sym, refl, ℕ, List, [], ◌∷◌, Bool, true, false, cond, Option, Some, None}
-use Rattle.std.specs.Prelude.{if◌then◌else◌, find, ◌&&◌}
+-- A read whose bytes pass at once, on the track at hand.
+use Rattle.std.proofs.Common.{◌≡◌, ◌∙◌, ap, sym, refl, ℕ, List, Bool, true, false, Option, Some, None}
+use Rattle.std.specs.Prelude.{if◌then◌else◌, ◌&&◌}
 use Rattle.std.proofs.lemmas.Bool.{eqb-true}
 use Rattle.std.proofs.lemmas.Option.{cond_some}
 use Rattle.std.proofs.Math.Bool.{and-false}
 use Rattle.ckd_track.specs.Track.{track_of, track_or_none}
 use Rattle.ckd_position.specs.declared.areas.Area.{Area}
-use Rattle.ckd_position.specs.declared.areas.Area.TheVariants.{Of}
 use Rattle.ckd_position.specs.declared.areas.Kind.{Kind}
-use Rattle.ckd_position.specs.declared.areas.Kind.TheVariants as kind
 use Rattle.ckd_position.specs.declared.areas.Next.{Next as NextArea}
 use Rattle.ckd_position.specs.declared.areas.Next.TheVariants as next
-use Rattle.ckd_position.specs.declared.areas.Part.TheVariants.{Count, Data}
-use Rattle.ckd_position.specs.declared.areas.Position.{Position}
 use Rattle.ckd_position.specs.declared.areas.Position.TheVariants.{At}
-use Rattle.ckd_position.specs.Areas.{areas, found, next_of_kind, takes}
+use Rattle.ckd_position.specs.Areas.{next_of_kind}
 use Rattle.ckd_position.specs.Contents.{is_readable, bytes_of, has_no_data}
-use Rattle.ckd_sense.specs.declared.commands.Command.{Command}
-use Rattle.ckd_sense.specs.declared.commands.Command.TheVariants as command
 use Rattle.ckd_command.specs.Answers.{Sight}
 use Rattle.ckd_command.specs.declared.begin.Opened.{Opened}
 use Rattle.ckd_command.specs.declared.registers.Mark.{Mark}
@@ -32,38 +26,17 @@ use Rattle.ckd_slot.specs.Cache.{holds, slot_at_hand, slot_held}
 use Rattle.ckd_drive.specs.declared.answers.Stage.TheVariants.{Looking}
 use Rattle.ckd_drive.specs.declared.answers.WholeRead.{WholeRead}
 use Rattle.ckd_drive.specs.Invariant.{HalfDone, own_slot, own_track, parts_of, state_of}
-use Rattle.ckd_drive.specs.Work.{GivesWhole, gives_at_once, is_lent_whole, is_ready, open_at}
+use Rattle.ckd_drive.specs.Work.{GivesWhole, gives_at_once, is_ready, open_at}
 use Rattle.ckd_drive.proofs.Standing.{slot_is}
 
 pub held_of : (held : Option ℕ) (n : ℕ) → holds held n ≡ true → held ≡ Some n
 held_of None n e = absurd cc
 held_of (Some t) n e = ap (λ (k : ℕ). Some k) (eqb-true t n e)
 
--- an area that a search along the track found is one that it takes
-found_taken : (test : Area → Bool) (along : List Area) (a : Area) → next.Found a ≡ found (find test along) → test a ≡ true
-found_taken test [] a e = absurd (cc e)
-found_taken test (x ∷ along) a e = by (test x) refl (found_taken test along a) e
-  where
-    by : (b : Bool) → test x ≡ b → (next.Found a ≡ found (find test along) → test a ≡ true)
-        → next.Found a ≡ found (cond b (Some x) (find test along)) → test a ≡ true
-    by true taken behind e = (let same : a ≡ x = cc in rw same taken)
-    by false taken behind e = behind e
-
-left_of_lent : (c : Command) (k : Kind) (p : Position) (a : Area) → is_lent_whole c ≡ true → aim c ≡ Next k → takes k p a ≡ true → (n : ℕ)
-    × (area_left (extent_of c) a ≡ Of Data n)
-left_of_lent command.ReadData kind.Data p (Of Data n) lent aimed taken = (n, refl)
-left_of_lent command.ReadCountKeyAndData kind.LaterCount p (Of Count n) lent aimed taken = (n, refl)
-left_of_lent _ _ p _ lent aimed taken = absurd cc
-
-reads_lent : (c : Command) → is_lent_whole c ≡ true → action_of c ≡ action.Read
-reads_lent command.ReadData lent = refl
-reads_lent command.ReadCountKeyAndData lent = refl
-reads_lent _ lent = absurd (cc lent)
-
--- a read that is lent whole looks for an area of this kind, and its track is at hand, with this slot
+-- a read looks for an area of this kind, and its track is at hand, with this slot
 pub record Lent (h : HalfDone) (k : Kind) (slot : List ℕ) : Type 0 where
   pub at_hand : Some slot ≡ slot_at_hand h.cache (own_track h)
-  pub lent : is_lent_whole h.opened.command ≡ true
+  pub reads : action_of h.opened.command ≡ action.Read
   pub aimed : aim h.opened.command ≡ Next k
 
 -- whether it found an area
@@ -78,58 +51,50 @@ module _ {h : HalfDone} {k : Kind} {slot : List ℕ} (l : Lent h k slot) where
   slot_own : slot ≡ own_slot h
   slot_own = slot_is h.cache (own_track h) slot (held_of h.cache.held (own_track h) hand.0) (sym hand.1)
 
-  reads : action_of h.opened.command ≡ action.Read
-  reads = reads_lent h.opened.command l.lent
-
   -- its next look is that of the area which comes next, on a track that reads whole
   sees : (x : NextArea) → is_readable (track_of slot) ≡ true → x ≡ next_of_kind (track_or_none (track_of slot)) h.registers.position k
       → sight h.cache.image.geometry (track_of (own_slot h)) h.opened h.registers ≡ sight_of h.cache.image.geometry h.opened h.registers x
   unfolding sight
-  sees x whole is = rw (← slot_own, l.aimed, reads, whole, ← is) refl
+  sees x whole is = rw (← slot_own, l.aimed, l.reads, whole, ← is) refl
 
   -- by what each call of the code says of its area and its bytes, which makes its premises many
   pub gives_whole : (m : Mark) (a : Area) (read : WholeRead) (bytes : List ℕ) → is_readable (track_of slot) ≡ true
       → next.Found a ≡ next_of_kind (track_or_none (track_of slot)) h.registers.position k
-      → Of Data read.record ≡ area_left (extent_of h.opened.command) a → ends_with_data (extent_of h.opened.command) ≡ true
-      → read.no_data ≡ has_no_data (track_of slot) (Some a)
+      → read.area ≡ area_left (extent_of h.opened.command) a
+      → read.no_data ≡ (ends_with_data (extent_of h.opened.command) && has_no_data (track_of slot) (Some a))
       → bytes ≡ bytes_of (extent_of h.opened.command) (track_of slot) a → GivesWhole (state_of (parts_of h m Looking)) bytes read
-  gives_whole m a read bytes whole comes left full none are =
+  gives_whole m a read bytes whole comes left none are =
       let g = h.cache.image.geometry in
       let t = track_of (own_slot h) in
       let o : Opened = record h.opened { area = Some a } in
       let finds = sees (next.Found a) whole comes in
-      let has : read.no_data ≡ has_no_data t (Some a) = none ∙ ap (λ (s : List ℕ). has_no_data (track_of s) (Some a)) slot_own in
-      let closes : closing g t o h.registers bytes ≡ ends (record h.registers { position = At (Of Data read.record) })
+      let has : read.no_data ≡ (ends_with_data (extent_of h.opened.command) && has_no_data t (Some a)) =
+      none ∙ ap (λ (s : List ℕ). ends_with_data (extent_of h.opened.command) && has_no_data (track_of s) (Some a)) slot_own in
+      let closes : (b : List ℕ) → closing g t o h.registers b ≡ ends (record h.registers { position = At read.area })
       (if read.no_data then unit_exception_status else ending_status) =
-      closing_by action.Read g t o h.registers bytes reads ∙ rw (← left, full, ← has) refl in
+      λ b. closing_by action.Read g t o h.registers b l.reads ∙ rw (left, has) refl in
       record {
         asked = h.opened;
         opened = o;
         works = refl;
         finds = rw finds refl;
         stays = rw finds (and-false (is_written_by m));
-        gives = rw reads refl;
-        given = area_by action.Read t o h.registers reads ∙ sym (rw slot_own at are);
-        ends = rw closes refl;
-        keeps = rw closes (and-false (is_written_by m));
+        gives = rw l.reads refl;
+        given = area_by action.Read t o h.registers l.reads ∙ sym (rw slot_own at are);
+        ends = λ b. rw (closes b) refl;
+        keeps = λ b n. rw (closes b) (and-false (is_written_by m));
       }
-
-  -- the position is then at a record's data
-  pub leaves_data : (a : Area) → next.Found a ≡ next_of_kind (track_or_none (track_of slot)) h.registers.position k → (n : ℕ)
-      × (area_left (extent_of h.opened.command) a ≡ Of Data n)
-  leaves_data a comes = left_of_lent h.opened.command k h.registers.position a l.lent l.aimed (found_taken (takes k h.registers.position)
-      (areas (track_or_none (track_of slot))) a comes)
 
   -- When it is lent: its bytes are there exactly if its next look finds its area.
   abbrev IsLent : Mark → Bool → Type 0
   IsLent m b = b ≡ (holds h.cache.held (own_track h) && gives_at_once (state_of (parts_of h m Looking)))
 
   lends_if : (m : Mark) (b : Bool) → b ≡ is_ready (look None (open_at (state_of (parts_of h m Looking)) h.opened)) → IsLent m b
-  lends_if m b ready = rw (hand.0, l.lent) ready
+  lends_if m b ready = rw (hand.0, l.reads) ready
 
   pub lends_unread : (m : Mark) → is_readable (track_of slot) ≡ false → IsLent m false
   unfolding sight
-  lends_unread m unread = lends_if m false (rw (← slot_own, l.aimed, reads, unread) refl)
+  lends_unread m unread = lends_if m false (rw (← slot_own, l.aimed, l.reads, unread) refl)
 
   pub lends_next : (m : Mark) (x : NextArea) → is_readable (track_of slot) ≡ true
       → x ≡ next_of_kind (track_or_none (track_of slot)) h.registers.position k → IsLent m (is_found x)

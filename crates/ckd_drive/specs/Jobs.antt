@@ -23,7 +23,7 @@ use Rattle.ckd_drive.specs.declared.answers.Stage.TheVariants as stage
 use Rattle.ckd_drive.specs.Invariant.{HalfDone, own_track, own_slot, Parts, parts_of, BeginsWell, AreaIsThere, state_of}
 use Rattle.ckd_drive.specs.Passing.{Absorbs, Finishes, command_end_at}
 use Rattle.ckd_drive.specs.Calls.{Begins, Looks}
-use Rattle.ckd_drive.specs.Work.{gives_at_once}
+use Rattle.ckd_drive.specs.Work.{gives_at_once, gives_common}
 use Rattle.ckd_slot.specs.Cache.{holds}
 
 -- the command half done that a job holds
@@ -90,6 +90,10 @@ pub record ClosesTo {S : Type 0} (old : Job S) (closed : Closed) (new : Job S) :
 -- command is a read that is lent whole and finds its area with its next look
 abbrev pub lends : {S : Type 0} → Job S → Mark → Bool
 lends j m = holds j.cache.held (own_track (half_done j)) && gives_at_once (state_of (parts_held j m stage.Looking))
+
+-- the same of the commonest reads
+abbrev pub lends_common : {S : Type 0} → Job S → Mark → Bool
+lends_common j m = holds j.cache.held (own_track (half_done j)) && gives_common (state_of (parts_held j m stage.Looking))
 
 -- A search that fails at once.
 

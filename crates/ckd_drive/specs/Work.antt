@@ -1,9 +1,13 @@
 -- A drive between two calls, as those see it who call it.
 use Rattle.std.specs.Prelude.{◌≡◌, ◌⊎◌, ℕ, zero, suc, ◌+◌, ◌-◌, List, [], ◌++◌, Bool, true, false, not, ◌&&◌, ◌==◌, Option, Some, None, length, slice_index_or}
-use Rattle.std.specs.Prelude.{if◌then◌else◌}
+use Rattle.std.specs.Prelude.{nat_lt, if◌then◌else◌}
+use Rattle.ckd_track.specs.Model.{heads_of}
+use Rattle.ckd_track.specs.declared.geometries.Geometry.{Geometry}
 use Rattle.ckd_image.specs.Image.{ImageState}
 use Rattle.ckd_command.specs.declared.registers.Mark.{Mark}
 use Rattle.ckd_command.specs.declared.registers.Mark.TheVariants as mark
+use Rattle.ckd_command.specs.declared.tables.Action.{Action}
+use Rattle.ckd_command.specs.declared.tables.Action.TheVariants as action
 use Rattle.ckd_command.specs.declared.tables.Aim.{Aim}
 use Rattle.ckd_command.specs.declared.tables.Aim.TheVariants.{Next}
 use Rattle.ckd_command.specs.Answers.{Beginning, ToCylinderZero, Sight, NextHead}
@@ -11,10 +15,9 @@ use Rattle.ckd_command.specs.declared.close.DriveEnding.{DriveEnding}
 use Rattle.ckd_command.specs.declared.begin.Opened.{Opened}
 use Rattle.ckd_command.specs.Tables.{aim, action_of, is_giving, is_search}
 use Rattle.ckd_sense.specs.declared.commands.Command.{Command}
+use Rattle.ckd_sense.specs.declared.sense_bytes.Sense.{Sense}
 use Rattle.ckd_sense.specs.declared.commands.Command.TheVariants.{ReadData, ReadCountKeyAndData}
 use Rattle.ckd_position.specs.declared.areas.Area.{Area}
-use Rattle.ckd_position.specs.declared.areas.Area.TheVariants.{Of}
-use Rattle.ckd_position.specs.declared.areas.Part.TheVariants.{Data}
 use Rattle.ckd_position.specs.declared.areas.Position.TheVariants.{At}
 use Rattle.ckd_command.specs.Commands.{ending_status, unit_exception_status, in_motion_status, unit_check_status, beginning, sight, closing}
 use Rattle.ckd_command.specs.Drive.{State, with_registers, Fault, LoadFails, SaveFails, Open, AfterBegin, Rejected, Immediate, Started, AfterLook, Ready}
@@ -309,39 +312,53 @@ pub record Reports (so : Type 0) (old new : DriveState) : Type 0 where
 
 -- A read that passes whole.
 
--- how a read ends all of whose bytes passed at once: where its record has no data, that is reported
+-- how a read ends whose bytes passed at once: where its record has no data, that is reported
 abbrev pub whole_ending : WholeRead → DriveEnding
 whole_ending read = record {
   unit = record { 0 = if read.no_data then unit_exception_status else ending_status };
   motion = false;
 }
 
--- the state then: the record's data passed last, and nothing else changes
+-- the state then: the area behind which it leaves the track passed last, and nothing else changes
 abbrev pub state_behind : State → WholeRead → State
-state_behind s read = with_registers s (record s.registers { position = At (Of Data read.record) })
+state_behind s read = with_registers s (record s.registers { position = At read.area })
 
--- the reads that are lent whole, the commonest: Read Data, and Read Count, Key and Data
-abbrev pub is_lent_whole : Command → Bool
-is_lent_whole ReadData = true
-is_lent_whole ReadCountKeyAndData = true
-is_lent_whole _ = false
+-- whether the action gives the bytes of an area
+abbrev pub is_read : Action → Bool
+is_read action.Read = true
+is_read _ = false
 
 -- whether a look found the command's area
 abbrev pub is_ready : AfterLook → Bool
 is_ready (Ready o) = true
 is_ready _ = false
 
--- whether a command this far is one of those reads, and finds its area with its next look
+-- whether a command this far is a read of an area, and finds it with its next look
 abbrev pub gives_at_once_of : DriveState → Work → Bool
-gives_at_once_of d (Looking o) = is_lent_whole o.command && is_ready (look None (open_at d o))
+gives_at_once_of d (Looking o) = is_read (action_of o.command) && is_ready (look None (open_at d o))
 gives_at_once_of d w = false
 
 -- whether the command at hand is a read that is lent whole where its track is at hand
 abbrev pub gives_at_once : DriveState → Bool
 gives_at_once d = gives_at_once_of d d.work
 
+-- the commonest reads, which are lent by a call of their own: Read Data, and Read Count, Key and Data
+abbrev pub is_lent_whole : Command → Bool
+is_lent_whole ReadData = true
+is_lent_whole ReadCountKeyAndData = true
+is_lent_whole _ = false
+
+-- whether a command this far is one of these, and finds its area with its next look
+abbrev pub gives_common_of : DriveState → Work → Bool
+gives_common_of d (Looking o) = is_lent_whole o.command && is_ready (look None (open_at d o))
+gives_common_of d w = false
+
+-- whether the command at hand is one of the commonest reads, and is lent whole where its track is at hand
+abbrev pub gives_common : DriveState → Bool
+gives_common d = gives_common_of d d.work
+
 -- A command that looks for its area finds it on the track under the arm with its next look, which saves nothing; it gives
--- just these bytes, and once all of them have passed it ends so, and saves nothing.
+-- just these bytes, and however many of them have passed it ends so, and saves nothing.
 pub record GivesWhole (d : DriveState) (bytes : List ℕ) (read : WholeRead) : Type 0 where
   pub asked : Opened
   pub opened : Opened
@@ -350,9 +367,9 @@ pub record GivesWhole (d : DriveState) (bytes : List ℕ) (read : WholeRead) : T
   pub stays : look_saves_of d (Looking asked) ≡ false
   pub gives : is_giving (action_of opened.command) ≡ true
   pub given : given (open_at d opened) ≡ bytes
-  pub ends : close None (open_at d opened) bytes
+  pub ends : (passed : List ℕ) → close None (open_at d opened) passed
       ≡ record { state = state_behind d.state read; unit = (whole_ending read).unit; motion = false }
-  pub keeps : end_saves_of d (Passing opened bytes 0) ≡ false
+  pub keeps : (passed : List ℕ) (left : ℕ) → end_saves_of d (Passing opened passed left) ≡ false
 
 -- A search that fails at once.
 
@@ -398,3 +415,14 @@ without_sense s = with_registers s (record s.registers { sense = no_sense })
 -- the drive over this image
 abbrev pub with_image : DriveState → ImageState → DriveState
 with_image d i = record d { image = i }
+
+-- A drive that becomes what one was between two programs.
+
+-- whether a volume has a track at this cylinder and head
+abbrev pub has_track : Geometry → (cylinder head : ℕ) → Bool
+has_track g cylinder head = nat_lt cylinder g.cylinders && nat_lt head (heads_of g.model)
+
+-- the drive with its arm at this cylinder, this head selected, and these sense bytes
+abbrev pub restored : (cylinder head : ℕ) → Sense → DriveState → DriveState
+restored cylinder head sense d =
+    record d { state = begin_program (record (drive_of d.state) { cylinder = cylinder; head = head; sense = sense }) }

@@ -1,5 +1,8 @@
 //! What a drive answers, and the stages of a command by which it does.
 
+use ckd_position::Area;
+use thiserror::Error;
+
 /// What a command code led to.
 #[derive(Clone, Copy, Debug, PartialEq, Eq)]
 pub enum Begun {
@@ -21,6 +24,11 @@ pub enum Look {
     /// The command is over, and waits for its end: the sense bytes say why.
     Failed,
 }
+
+/// The volume of a drive has no track at this cylinder and head.
+#[derive(Clone, Copy, Debug, PartialEq, Eq, Error)]
+#[error("the volume has no such track")]
+pub struct NoSuchTrack;
 
 /// How far a command is, and so what may be called next. Other calls than those named wait: whoever makes one breaks
 /// its condition.
@@ -51,12 +59,12 @@ pub enum Phase {
     },
 }
 
-/// How a read ends all of whose bytes pass at once.
-#[derive(Clone, Copy, Debug, PartialEq, Eq)]
+/// How a read ends whose bytes pass at once.
+#[derive(Clone, Copy, Debug)]
 pub struct WholeRead {
-    /// The number of its record.
-    pub record: usize,
-    /// Whether that has no data.
+    /// The area behind which it leaves the track.
+    pub area: Area,
+    /// Whether its bytes are those of a record's data, and there are none.
     pub no_data: bool,
 }
 

@@ -16,6 +16,9 @@ use ckd_command::{Mark, Opened, Registers, Start, add_cause, begin_command, move
 use ckd_image::{ImageStore, StoreFault};
 use ckd_sense::Sense;
 
+// The bit of a code by which a search or a read goes on at the next head.
+const MULTI_TRACK: u8 = 0x80;
+
 // A track is lost whose saving failed.
 fn lose(registers: &mut Registers)
     ensures { registers.new ≡ with_cause (record registers.old { credit = None }) STORE_FAULT }
@@ -125,6 +128,27 @@ impl<S: ImageStore> Job<S> {
             0x1E => self.start_here(mark, 0x1E),
             0x31 => self.start_here(mark, 0x31),
             0xB1 => self.start_here(mark, 0xB1),
+            _ => self.start_rarer(mark, code),
+        }
+    }
+
+    // The same, of a code that is none of these: the other reads that go over whole cylinders are known too.
+    // Told from the rest by the code without its multi-track bit, so that the commonest codes are told by no more tests than without them.
+    #[inline(always)]
+    fn start_rarer(&mut self, mark: &mut Mark, code: u8) -> Stage
+        requires idle { Stands (parts_held self.old mark.old stage.Idle) }
+        requires well { BeginsBy code self.old }
+        ensures { Starts code self.old mark.old self.new mark.new result }
+    {
+        match code % MULTI_TRACK {
+            0x0E | 0x12 | 0x1E => match code {
+                0x0E => self.start_here(mark, 0x0E),
+                0x12 => self.start_here(mark, 0x12),
+                0x8E => self.start_here(mark, 0x8E),
+                0x92 => self.start_here(mark, 0x92),
+                0x9E => self.start_here(mark, 0x9E),
+                _ => self.start_elsewhere(mark, code),
+            },
             _ => self.start_elsewhere(mark, code),
         }
     }

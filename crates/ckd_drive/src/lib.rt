@@ -10,11 +10,12 @@ mod drive;
 mod job;
 mod laws;
 mod look;
+mod restoring;
 mod search;
 mod transfer;
 mod view;
 mod whole;
 
-pub use crate::answers::{Begun, Look, Phase, WholeRead};
+pub use crate::answers::{Begun, Look, NoSuchTrack, Phase, WholeRead};
 pub use crate::drive::Drive;
 pub use crate::laws::{each_call_tells, each_trail_tells};

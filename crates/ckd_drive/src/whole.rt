@@ -1,25 +1,27 @@
-//! A read all of whose bytes pass at once: they are found before anything is changed, and nothing half done is kept.
+//! A read whose bytes pass at once: they are found before anything is changed, and nothing half done is kept.
 
 ghost use Rattle.std.specs.Prelude.{◌≡◌, List, ℕ, IfSome, is_some, true};
-ghost use Rattle.ckd_command.specs.declared.begin.Opened.{Opened};
 ghost use Rattle.ckd_command.specs.declared.registers.Mark.{Mark as MarkValue};
 ghost use Rattle.ckd_command.specs.declared.tables.Aim.TheVariants.{Next as Aims};
 ghost use Rattle.ckd_command.specs.Commands.{IsAtTrack};
 ghost use Rattle.ckd_command.specs.Drive.{is_written};
-ghost use Rattle.ckd_command.specs.Tables.{aim};
+ghost use Rattle.ckd_command.specs.declared.tables.Action.TheVariants.{Read};
+ghost use Rattle.ckd_command.specs.Tables.{aim, action_of};
 ghost use Rattle.ckd_drive.specs.declared.answers.Stage.TheVariants as stage;
 ghost use Rattle.ckd_drive.specs.Invariant.{state_of};
-ghost use Rattle.ckd_drive.specs.Jobs.{parts_held, lends};
-ghost use Rattle.ckd_drive.specs.Work.{Idle, GivesWhole, gives_at_once, is_lent_whole, whole_ending, state_behind};
+ghost use Rattle.ckd_drive.specs.Jobs.{parts_held, lends, lends_common};
+ghost use Rattle.ckd_drive.specs.Work.{Idle, GivesWhole, gives_at_once, gives_common, whole_ending, state_behind};
 
 use crate::answers::{Stage, WholeRead};
 use crate::drive::Drive;
 use crate::job::Job;
 use ckd_command::{CHANNEL_AND_DEVICE_END, DriveEnding, tables};
 use ckd_image::ImageStore;
-use ckd_position::{Area, Kind, Next, Part, Position};
+use ckd_position::{Kind, Next, Position};
 use ckd_sense::Command;
-use ckd_sense::Command::{ReadCountKeyAndData, ReadData};
+use ckd_sense::Command::{
+    ReadCount, ReadCountKeyAndData, ReadData, ReadHomeAddress, ReadIpl, ReadKeyAndData, ReadR0,
+};
 use s360_words::UnitStatus;
 
 // Channel end, device end and unit exception.
@@ -32,7 +34,7 @@ impl<S: ImageStore> Job<S> {
         requires arm { IsAtTrack self.now.cache.image.geometry self.now.registers }
         requires command { command ≡ self.now.opened.command }
         requires aim { aim command ≡ Aims kind }
-        requires lent { is_lent_whole command ≡ true }
+        requires reads { action_of command ≡ Read }
         ensures gives { (m : MarkValue) → IfSome result (λ x. GivesWhole (state_of (parts_held self.now m stage.Looking))
             x.0.now x.1) }
         ensures lends { (m : MarkValue) → is_some result ≡ lends self.now m }
@@ -43,22 +45,35 @@ impl<S: ImageStore> Job<S> {
         if !buffer.is_readable() {
             return None;
         }
-        let Next::Found(area) = buffer.next_area(self.registers.position, kind) else {
+        let Next::Found(found) = buffer.next_area(self.registers.position, kind) else {
             return None;
         };
         let extent = tables::extent(command);
-        let Area::Of(Part::Data, record) = tables::area_left(extent, area) else {
-            return None;
-        };
-        if !tables::ends_with_data(extent) {
-            return None;
-        }
-        let (window, no_data) = buffer.part(extent, area);
+        let (window, no_data) = buffer.part(extent, found);
         let bytes = &buffer.bytes()[window.start..window.start + window.len];
-        Some((bytes, WholeRead { record, no_data }))
+        let read = WholeRead {
+            area: tables::area_left(extent, found),
+            no_data: tables::ends_with_data(extent) && no_data,
+        };
+        Some((bytes, read))
     }
 
-    // The same, of the command that looks for its area: the commonest reads, by themselves.
+    // The same, of the command that looks for its area, if it is one of the commonest reads.
+    #[inline(always)]
+    fn common(&self) -> Option<(&[u8], WholeRead)>
+        requires { IsAtTrack self.now.cache.image.geometry self.now.registers }
+        ensures gives { (m : MarkValue) → IfSome result (λ x. GivesWhole (state_of (parts_held self.now m stage.Looking))
+            x.0.now x.1) }
+        ensures lends { (m : MarkValue) → is_some result ≡ lends_common self.now m }
+    {
+        match self.opened.command {
+            ReadData => self.whole_of(ReadData, Kind::Data),
+            ReadCountKeyAndData => self.whole_of(ReadCountKeyAndData, Kind::LaterCount),
+            _ => None,
+        }
+    }
+
+    // The same, if it is any read.
     #[inline(always)]
     fn whole(&self) -> Option<(&[u8], WholeRead)>
         requires { IsAtTrack self.now.cache.image.geometry self.now.registers }
@@ -69,6 +84,11 @@ impl<S: ImageStore> Job<S> {
         match self.opened.command {
             ReadData => self.whole_of(ReadData, Kind::Data),
             ReadCountKeyAndData => self.whole_of(ReadCountKeyAndData, Kind::LaterCount),
+            ReadKeyAndData => self.whole_of(ReadKeyAndData, Kind::KeyAndData),
+            ReadCount => self.whole_of(ReadCount, Kind::LaterCount),
+            ReadR0 => self.whole_of(ReadR0, Kind::FirstCount),
+            ReadHomeAddress => self.whole_of(ReadHomeAddress, Kind::HomeAddress),
+            ReadIpl => self.whole_of(ReadIpl, Kind::FirstData),
             _ => None,
         }
     }
@@ -84,6 +104,20 @@ impl<S: ImageStore> Drive<S> {
     #[inline(always)]
     pub fn whole_read(&self) -> Option<(&[u8], WholeRead)>
         ensures gives { IfSome result (λ x. GivesWhole self.now x.0.now x.1) }
+        ensures only { is_some result ≡ true → gives_common self.now ≡ true }
+        ensures written { is_written self.now.state ≡ true → is_some result ≡ gives_common self.now }
+    {
+        match self.stage {
+            Stage::Looking => self.job.common(),
+            _ => None,
+        }
+    }
+
+    /// The same, whatever read it is: there are none where the command is no read of an area (component descriptions, 'Read
+    /// Commands'), nor where that look would not find the area. For one of the commonest, `whole_read` is the quicker call.
+    #[inline(always)]
+    pub fn read_at_once(&self) -> Option<(&[u8], WholeRead)>
+        ensures gives { IfSome result (λ x. GivesWhole self.now x.0.now x.1) }
         ensures only { is_some result ≡ true → gives_at_once self.now ≡ true }
         ensures written { is_written self.now.state ≡ true → is_some result ≡ gives_at_once self.now }
     {
@@ -93,15 +127,15 @@ impl<S: ImageStore> Drive<S> {
         }
     }
 
-    /// Ends a read whose bytes `whole_read` lent, once all of them have passed: by a look, `pass` of them all, and `end`
-    /// it would come to the same. Answers the unit status; the arm does not move.
+    /// Ends a read whose bytes `whole_read` or `read_at_once` lent, once they have passed, or the first of them: by a look, `pass` of
+    /// so many, and `end` it would come to the same. Answers the unit status; the arm does not move.
     #[inline(always)]
     pub fn end_whole(&mut self, read: WholeRead) -> DriveEnding
         requires { (bytes : List ℕ) × GivesWhole self.old bytes read }
         ensures ended { self.new ≡ record self.old { state = state_behind self.old.state read; work = Idle } }
         ensures ending { result ≡ whole_ending read }
     {
-        self.job.registers.position = Position::At(Area::Of(Part::Data, read.record));
+        self.job.registers.position = Position::At(read.area);
         self.stage = Stage::Idle;
         let unit = if read.no_data {
             END_WITH_UNIT_EXCEPTION

@@ -22,7 +22,7 @@ use Rattle.s360_program.specs.Steps.{MovesBy, MovesBytesBy, transfer_by, status_
 use Rattle.s360_program.specs.declared.moving.Segment.{Segment}
 
 -- so many bytes from a place on, as they are taken
-ranged : (xs : List ℕ) (at m : ℕ) → slice_range xs at (at + m) ≡ take m (drop at xs)
+pub ranged : (xs : List ℕ) (at m : ℕ) → slice_range xs at (at + m) ≡ take m (drop at xs)
 ranged xs at m = let span : at + m - at ≡ m = omega arith in ap (λ n. take n (drop at xs)) span
 
 counted : (xs : List ℕ) (at m : ℕ) → at + m ≤ length xs → length (take m (drop at xs)) ≡ m

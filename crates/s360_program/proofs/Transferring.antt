@@ -191,7 +191,7 @@ module _ (r r2 : Run) (s : Storage) (a : Step) (d0 d1 d2 : DriveState) (flow : F
 -- Bytes.
 
 -- what a drive that has found the area reports again
-again : (d : DriveState) → HasFound d → (left_of d.work ≡ 0 → (gives_now d.work ≡ true) ⊎ (length (passed_of d.work) ≡ 8 → ⊥))
+pub again : (d : DriveState) → HasFound d → (left_of d.work ≡ 0 → (gives_now d.work ≡ true) ⊎ (length (passed_of d.work) ≡ 8 → ⊥))
     → Flows (record { gives = gives_now d.work; left = left_of d.work }) d d
 again d f all = by d.work f all
   where
@@ -343,7 +343,7 @@ behind_bytes g m p s s2 d d2 (Passing o b left) q le =
     rw k.drive (ap (λ n. left - n) k.count, length-append b _ ∙ ap (λ n. length b + n) k.count, refl, refl, refl)
 
 -- one unit behind so many bytes; it names what stands before the bytes, between, and behind, since it joins two walks
-unit_behind : (key m most : ℕ) (phase : ProgramPhase) (r r2 : Run) (s s2 : Storage) (a : Step) (d0 d1 d2 : DriveState) → m < most
+pub unit_behind : (key m most : ℕ) (phase : ProgramPhase) (r r2 : Run) (s s2 : Storage) (a : Step) (d0 d1 d2 : DriveState) → m < most
     → walk (units m) key phase ≡ StandsIn (phase_in (run_of r) s d1)
     → ComesBy key (λ f. unit f key (phase_in (run_of r) s d1)) a r2 s2 d0 d2 → Steps key phase most (behind m a) r2 s2 d0 d2
 unit_behind key m most phase r r2 s s2 (step.Units n) d0 d1 d2 few walked c =

@@ -1,5 +1,5 @@
 -- What the parts of a unit come to.
-use Rattle.std.specs.Prelude.{◌≡◌, ℕ, ◌+◌, ◌≤◌, ◌<◌, ◌^◌, [], ◌∷◌, Bool, true, false, not, ◌&&◌, ◌||◌, ◌==◌, Option, Some, None, is_none, Result, Ok, Err}
+use Rattle.std.specs.Prelude.{◌≡◌, ◌⊎◌, ℕ, ◌+◌, ◌≤◌, ◌<◌, ◌^◌, [], ◌∷◌, Bool, true, false, not, ◌&&◌, ◌||◌, ◌==◌, Option, Some, None, is_none, Result, Ok, Err}
 use Rattle.std.specs.Prelude.{length, if◌then◌else◌, List, IsTrue}
 use Rattle.s360_words.specs.Storage.{Storage, may_store}
 use Rattle.s360_words.specs.Words.{chains_command, chains_data, skips}
@@ -291,16 +291,20 @@ MovesBytesBy g r s s_new d d_new w = ⊥
 abbrev pub MovesBytes : Segment → Storage → DriveState → Result ℕ ChannelCondition → Storage → DriveState → Type 0
 MovesBytes g s d r s_new d_new = MovesBytesBy g r s s_new d d_new d.work
 
--- A command that looks for its area is a read that passes whole: the drive has just as many bytes as its word counts, and
--- has them at hand; all of them may be stored; no further area follows; and more units are asked for than there are bytes.
-pub record PassesWhole (r : Run) (most : ℕ) (s : Storage) (d : DriveState) (bytes : List ℕ)
+-- A command that looks for its area is a read whose bytes pass at once: these are all that the drive has, and has at hand; so many of
+-- them pass, one at least: as many as its word counts, or all; these may be stored; no further area follows; and more units are asked
+-- for than its word counts.
+pub record PassesWhole (r : Run) (most : ℕ) (s : Storage) (d : DriveState) (given : List ℕ) (n : ℕ)
     (read : WholeRead) : Type 0 where
-  pub gives : GivesWhole d bytes read
-  pub counts : length bytes ≡ r.place.residual
+  pub gives : GivesWhole d given read
+  pub some : 0 < n
+  pub counts : n ≤ r.place.residual
+  pub has : n ≤ length given
+  pub spent : (n ≡ r.place.residual) ⊎ (n ≡ length given)
   pub few : r.place.residual < most
   pub unchained : chains_data r.ccw ≡ false
   pub stores : skips r.ccw ≡ false
-  pub may : (i : ℕ) → i < r.place.residual → IsTrue (may_store s r.key (r.ccw.address + i))
+  pub may : (i : ℕ) → i < n → IsTrue (may_store s r.key (r.ccw.address + i))
 
 -- So many units are bytes of a read under way: the drive has found its area and has so many left, its word counts no fewer and does not
 -- skip them, and all of them may be stored.

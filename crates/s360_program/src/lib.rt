@@ -16,3 +16,4 @@ mod slices;
 mod starting;
 mod units;
 pub mod view;
+mod whole;

@@ -39,15 +39,6 @@ fn leads_back<M: MainStorage>(place: &Place, storage: &M) -> Option<Ccw>
     Some(ccw)
 }
 
-// Whether more than the first record of the track has passed: most searches that fail once fail at that one, and find theirs behind it.
-#[inline(always)]
-fn is_behind_first<S: ImageStore>(drive: &Drive<S>) -> bool {
-    match drive.registers().position {
-        Position::At(Area::Of(_, i)) => i > 0,
-        _ => false,
-    }
-}
-
 impl Run {
     /// Goes round as often as the search of the next word fails at once, and as so many units allow, where that word was reached by
     /// a transfer in channel behind it. Answers how many units that were.
@@ -66,10 +57,11 @@ impl Run {
         if self.place.may_transfer || self.place.last != self.place.next + 8 {
             return 0;
         }
-        if !is_behind_first(drive) {
-            return 0;
+        // most searches that fail once fail at the first record of the track, and find theirs behind it
+        match drive.registers().position {
+            Position::At(Area::Of(_, i)) if i > 0 => self.go_round(most, storage, drive),
+            _ => 0,
         }
-        self.go_round(most, storage, drive)
     }
 
     // The same, where the last word stood behind the next one.

@@ -1,28 +1,28 @@
 //! A running channel program, unit by unit (Principles of Operation, Input/Output Operations).
 
-ghost use Rattle.std.specs.Prelude.{ℕ, ◌≡◌, ◌⊎◌, ◌<◌, ◌≤◌, ◌+◌, ◌*◌, ◌^◌, ◌==◌, ◌&&◌, ◌||◌, [], not, true, false, None, is_some, List, IfSome, IfNone};
+ghost use Rattle.std.specs.Prelude.{ℕ, ◌≡◌, ◌⊎◌, ◌<◌, ◌≤◌, ◌+◌, ◌*◌, ◌^◌, ◌==◌, ◌&&◌, ◌||◌, [], not, true, false, None, is_some, IfSome, IfNone};
 ghost use Rattle.s360_words.specs.Words.{chains_data, suppresses_length};
 ghost use Rattle.ckd_command.specs.Drive.{is_written, unsaved};
 ghost use Rattle.s360_runs.specs.Commands.{choice};
 ghost use Rattle.s360_runs.specs.Endings.{ending};
 ghost use Rattle.s360_runs.specs.Units.{unit, next_chosen, Between, EndsIn, standing_in};
 ghost use Rattle.s360_runs.specs.Unsaved.{has_written};
-ghost use Rattle.s360_words.specs.Storage.{Storage as StorageState, stored};
-ghost use Rattle.ckd_drive.specs.Work.{is_idle, may_end, closed_of, left_of, passed_of, CallsStore, GivesWhole};
+ghost use Rattle.s360_words.specs.Storage.{Storage as StorageState};
+ghost use Rattle.ckd_drive.specs.Work.{is_idle, may_end, closed_of, left_of, passed_of, CallsStore};
 ghost use Rattle.s360_program.specs.Advances.{RunsOn, CallsAtMost, KeepsStorage, NeedNoStore, TellsOf};
 ghost use Rattle.s360_program.specs.Stands.{phase_in, Within};
 ghost use Rattle.s360_program.specs.Steps.{run_of, in_bytes, count_of, Fits, IsQuiet, ComesBy, EndsBy, IsStep, Steps, FindsArea, has_moved, goes_on, point_at};
-ghost use Rattle.s360_program.specs.Steps.{request_at, status_of, condition_for, differs, needs_area, behind, PassesWhole};
+ghost use Rattle.s360_program.specs.Steps.{request_at, status_of, condition_for, differs, needs_area, behind};
 
 use crate::conditions::{ChannelCondition, chains};
 use crate::endings::{end_program, told};
 use crate::main_storage::MainStorage;
-use crate::moving::{COUNT_AREA, Segment, admits_all, flow_of, gives, move_bytes};
+use crate::moving::{COUNT_AREA, Segment, flow_of, gives, move_bytes};
 use crate::place::Fetched;
 use crate::program::Ran;
 use crate::run::{Comes, Run, Step};
 use ckd_command::DriveEnding;
-use ckd_drive::{Begun, Drive, Look, Phase, WholeRead};
+use ckd_drive::{Begun, Drive, Look, Phase};
 use ckd_image::ImageStore;
 use s360_words::{Ccw, Csw};
 
@@ -238,9 +238,8 @@ impl Run {
         ensures place { M.place storage.new ≡ M.place storage.old }
         ensures calls { CallsAtMost 2 drive.old drive.new }
     {
-        if let Some((bytes, read)) = self.whole_read(most, storage, drive) {
-            let _ = storage.store(self.ccw.address, bytes, self.key);
-            return Some(self.finish(read, drive));
+        if let Some(step) = self.pass_whole(most, storage, drive) {
+            return Some(step);
         }
         match drive.look() {
             Look::Failed => {
@@ -261,57 +260,6 @@ impl Run {
                 None
             }
         }
-    }
-
-    // All bytes of the command that looks for its area, and how it ends, where it is a read that passes whole: the drive has
-    // just as many as its word counts, all of them may be stored, and so many units are asked for.
-    #[inline(always)]
-    fn whole_read<'a, S: ImageStore, M: MainStorage>(
-        &self,
-        most: u32,
-        storage: &M,
-        drive: &'a Drive<S>,
-    ) -> Option<(&'a [u8], WholeRead)>
-        requires { self.now.key < 16 }
-        ensures { IfSome result (λ x. PassesWhole self.now most (M.holds storage.now) drive.now x.0.now x.1) }
-    {
-        let (ccw, count) = (self.ccw, self.place.residual);
-        // asked first, since writes, searches and controls, whose codes are odd, would ask the rest for nothing
-        if ccw.code % 2 != 0 || most <= u32::from(count) || ccw.chains_data() || ccw.skips() {
-            return None;
-        }
-        let (bytes, read) = drive.whole_read()?;
-        if bytes.len() != usize::from(count) || !admits_all(storage, ccw.address, count, self.key) {
-            return None;
-        }
-        Some((bytes, read))
-    }
-
-    // The end of a read whose bytes were stored, all of them.
-    #[inline(always)]
-    fn finish<S: ImageStore>(&mut self, read: WholeRead, drive: &mut Drive<S>) -> Step
-        requires fits { Fits self.old drive.old }
-        requires stage { self.old.comes ≡ Comes.Look }
-        requires whole { (bytes : List ℕ) × GivesWhole drive.old bytes read }
-        ensures steps { (most : ℕ) (s : StorageState) (bytes : List ℕ)
-            → PassesWhole self.old most s drive.old bytes read
-            → Steps self.old.key (phase_in (run_of self.old) s drive.old) most result self.new
-            (stored s self.old.ccw.address bytes) drive.old drive.new }
-        ensures calls { CallsAtMost 1 drive.old drive.new }
-        ensures quiet { (s : StorageState) → NeedNoStore self.old.key (phase_in (run_of self.old) s drive.old)
-            (count_of result) → drive.new.image ≡ drive.old.image }
-    {
-        let (ccw, count) = (self.ccw, self.place.residual);
-        let ended = drive.end_whole(read);
-        self.place.residual = 0;
-        let condition = ChannelCondition::of_length(false, ended.unit);
-        if !chains(ccw, ended.unit, condition) {
-            end_program(self, ended, condition, drive);
-            return Step::Over(u32::from(count) + 1);
-        }
-        self.place.modify(ended.unit);
-        self.comes = Comes::NextCommand;
-        Step::Units(u32::from(count) + 1)
     }
 
     // All bytes of a command whose area was just found, and its end, of which nothing half done is kept where all of them pass.
@@ -465,7 +413,7 @@ fn has_moved<S: ImageStore>(drive: &Drive<S>) -> bool
 }
 
 // Whether the count and the bytes that are left differ, and the word does not suppress telling it.
-fn is_incorrect(ccw: Ccw, residual: u16, left: usize) -> bool
+pub(crate) fn is_incorrect(ccw: Ccw, residual: u16, left: usize) -> bool
     ensures { result ≡ (not (suppresses_length ccw) && differs residual left) }
 {
     !ccw.suppresses_length() && (residual == 0) != (left == 0)

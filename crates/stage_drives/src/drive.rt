@@ -44,6 +44,7 @@ pub(crate) enum Passes {
     Next,
     Take,
     Whole,
+    Once,
 }
 
 impl Alone {
@@ -81,6 +82,7 @@ impl Alone {
             Passes::Next => next(drive, line.size(0), &mut line.said),
             Passes::Take => take(drive, line),
             Passes::Whole => whole(drive, &mut line.said),
+            Passes::Once => once(drive, &mut line.said),
         }
     }
 }
@@ -241,6 +243,15 @@ fn whole(drive: &mut Disk, said: &mut Said) {
         return said.put("WHOLE NONE");
     };
     said.answer("WHOLE", &[Word::Spelled(lent)]);
+    said.put(" ");
+    show_ending(drive.end_whole(read), said);
+}
+
+fn once(drive: &mut Disk, said: &mut Said) {
+    let Some((lent, read)) = drive.read_at_once() else {
+        return said.put("ONCE NONE");
+    };
+    said.answer("ONCE", &[Word::Spelled(lent)]);
     said.put(" ");
     show_ending(drive.end_whole(read), said);
 }

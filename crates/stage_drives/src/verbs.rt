@@ -36,7 +36,7 @@ pub(crate) enum Below {
 }
 
 /// The verbs.
-pub(crate) static VERBS: [Verb<Call>; 65] = [
+pub(crate) static VERBS: [Verb<Call>; 66] = [
     (
         "DRIVE",
         "MOUNT",
@@ -61,6 +61,7 @@ pub(crate) static VERBS: [Verb<Call>; 65] = [
     ("DRIVE", "NEXT", &[NUMBER], Call::Passes(Passes::Next)),
     ("DRIVE", "TAKE", &[Kind::Bytes], Call::Passes(Passes::Take)),
     ("DRIVE", "WHOLE", &[], Call::Passes(Passes::Whole)),
+    ("DRIVE", "ONCE", &[], Call::Passes(Passes::Once)),
     ("PROGRAM", "START", &[AT], Call::Runs(Runs::Start)),
     ("PROGRAM", "ADVANCE", &[HALF], Call::Runs(Runs::Advance)),
     ("PROGRAM", "RUN", &[WIDE], Call::Runs(Runs::Run)),

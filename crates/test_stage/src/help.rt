@@ -10,7 +10,7 @@ a channel: BEGIN number size | VOLUME uu model name.. | DETACH uu | EXCHANGE uu 
   STATE | PENDING | VIEW | REGISTERS | UNIT uu | IMAGE uu
 decks: DECK LINE text | BYTES bytes | PARSE | EVENTS | RUN | COUNTED | TRACE | DRIVE | SERIAL
   DECK READS n fails | WRITES n room FAILS|NONE | FLUSH | WRITTEN | CALLS
-a drive: DRIVE MOUNT name.. | PROGRAM | CLEAR | BEGIN code | LOOK | GIVE n | NEXT n | TAKE bytes | WHOLE | END | SETTLE
+a drive: DRIVE MOUNT name.. | PROGRAM | CLEAR | BEGIN code | LOOK | GIVE n | NEXT n | TAKE bytes | WHOLE | ONCE | END | SETTLE
   DRIVE PHASE | STATE | REGISTERS | SLOT | RELEASE
 a program: PROGRAM START caw | ADVANCE n | RUN n | CUT | TAKE | ASKED | VIEW
 storage: STORAGE NEW size | SIZE | PUT at bytes | PEEK at n | FROM at n | BYTE at | KEY at k | KEYOF at

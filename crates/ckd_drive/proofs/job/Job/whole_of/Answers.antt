@@ -1,13 +1,9 @@
-use Rattle.std.proofs.Common.{◌≡◌, ◌∙◌, true, rules, sym}
-use Rattle.ckd_command.specs.Tables.{area_left, ends_with_data}
-use Rattle.ckd_position.specs.declared.areas.Area.TheVariants.{Of}
-use Rattle.ckd_position.specs.declared.areas.Part.TheVariants.{Data}
+use Rattle.std.proofs.Common.{◌≡◌, rules, sym}
 use Rattle.ckd_drive.specs.Invariant.{own_track}
 use Rattle.ckd_drive.specs.Jobs.{half_done}
-use Rattle.ckd_drive.proofs.Wholes.{Lent, gives_whole, leaves_data, lends_unread, lends_next}
+use Rattle.ckd_drive.proofs.Wholes.{Lent, gives_whole, lends_unread, lends_next}
 use Rattle.ckd_drive.proofs.job.Job.whole_of.Given.{Over}
-use Rattle.ckd_drive.proofs.job.Job.whole_of.Goals.{After-is_readable, in_default-area_left-via-in-Of+in_default}
-use Rattle.ckd_drive.proofs.job.Job.whole_of.Goals.{in_default-area_left-via-in_default}
+use Rattle.ckd_drive.proofs.job.Job.whole_of.Goals.{After-is_readable}
 use Rattle.ckd_drive.proofs.job.Job.whole_of.Goals as goal
 
 -- the track is at hand, and its slot is in the buffer
@@ -17,7 +13,7 @@ lent g c =
     rw c.geometry-geometry.ensures.geometry at c.track_at-track.ensures.number in
     record {
       at_hand = rw track at c.in_ok-buffer.ensures;
-      lent = rw c.requires.command at c.requires.lent;
+      reads = rw c.requires.command at c.requires.reads;
       aimed =
           rw c.requires.command at c.requires.aim;
     }
@@ -33,19 +29,6 @@ pub returns-in_default-clause-lends : goal.returns-in_default-clause-lends
 returns-in_default-clause-lends g c = λ m. lends_next (lent g (goal.at.returns-in_default-clause-lends g c).After-is_readable) m _
     (sym c.if-not-is_readable.ensures) c.in_default.ensures.next
 
--- the area that was found is one behind which the position is at a record's data
-pub returns-in_default-area_left-clause-lends : goal.returns-in_default-area_left-clause-lends
-returns-in_default-area_left-clause-lends g c = λ m.
-    let at = leaves_data (lent g (goal.at.returns-in_default-area_left-clause-lends g c).After-is_readable) c.in-Found.area
-    c.in-Found.ensures.next in
-    let extent = rw c.requires.command at c.extent-extent.ensures in
-    let left : c.area_left.result ≡ Of Data at.0 = c.area_left.ensures ∙ rw extent at.1 in
-    elim c.in_default-area_left.branch [
-      | in_default-area_left-via-in-Of+in_default w ↦ absurd
-          (search (rules, left))
-      | in_default-area_left-via-in_default w ↦ absurd (let home = sym w.in_default-area_left.is ∙ left in cc)
-    ]
-
 pub returns-clause-lends : goal.returns-clause-lends
 returns-clause-lends g c = λ m. lends_next (lent g (goal.at.returns-clause-lends g c).After-is_readable) m _
     (search rules) c.in-Found.ensures.next
@@ -53,8 +36,5 @@ returns-clause-lends g c = λ m. lends_next (lent g (goal.at.returns-clause-lend
 pub returns-clause-gives : goal.returns-clause-gives
 returns-clause-gives g c = λ m.
     let extent = rw c.requires.command at c.extent-extent.ensures in
-    let left : Of Data c.in-Of-Data-default.record ≡ area_left c.extent-extent.result c.in-Found.area = search rules in
-    let full : ends_with_data c.extent-extent.result ≡ true = search rules in
-    gives_whole (lent g (goal.at.returns-clause-gives g c).After-is_readable) m c.in-Found.area _ _ (search rules) c.in-Found.ensures.next
-    (rw extent at left) (rw extent at full) c.part-no_data.ensures.no_data
-    (rw c.bytes.ensures (rw extent at c.part-no_data.ensures.lies.here))
+    gives_whole (lent g (goal.at.returns-clause-gives g c).After-is_readable) m c.in-Found.found _ _ (search rules) c.in-Found.ensures.next
+    (search (rules, extent)) (search (rules, extent)) (rw c.bytes.ensures (rw extent at c.part-no_data.ensures.lies.here))

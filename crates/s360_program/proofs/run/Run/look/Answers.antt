@@ -1,43 +1,33 @@
-use Rattle.std.proofs.Common.{◌≡◌, ◌∙◌, ◌+◌, ◌<◌, ap, arith, length, List, refl, rules, take, ℕ}
-use Rattle.std.specs.Prelude.{IsTrue}
-use Rattle.s360_words.specs.Storage.{Storage, may_store, stored}
+use Rattle.std.proofs.Common.{◌≡◌, arith, refl, rules, subst, sym}
+use Rattle.s360_words.specs.Storage.{Storage}
+use Rattle.ckd_drive.specs.Work.{DriveState, Over, CallsStore, Reports, after_look, failed_ending, fault_met, look_loads, look_saves}
+use Rattle.ckd_drive.specs.Work.{with_image}
 use Rattle.s360_program.specs.Stands.{phase_in}
-use Rattle.s360_program.specs.Steps.{run_of, Looked}
+use Rattle.s360_program.specs.Steps.{run_of, in_bytes, Fits, IsStep, Looked}
+use Rattle.s360_program.specs.declared.run.Comes.TheVariants as comes
+use Rattle.s360_program.specs.declared.run.Run.{Run}
 use Rattle.s360_program.specs.declared.run.Step.TheVariants as step
-use Rattle.s360_program.proofs.Wholes.{stores_all, takes_all}
 use Rattle.s360_program.proofs.Looking.{look_fails, look_passes, look_fits, ready_left, ready_first, looking_within}
 use Rattle.s360_program.proofs.Quiet.{fails_quiet, looks_quiet}
 use Rattle.s360_program.proofs.Stepping.{kept, quietly, finds}
 use Rattle.s360_program.proofs.Transferring.{over_once}
 use Rattle.s360_program.proofs.run.Run.look.Goals as goal
 
--- all bytes of a read that passes whole were stored
-all_stored : (s s2 : Storage) (a n : ℕ) (bytes : List ℕ) → n ≡ length bytes → s2 ≡ stored s a (take n bytes) → s2 ≡ stored s a bytes
-all_stored s s2 a n bytes all is = is ∙ ap (stored s a) (takes_all bytes n all)
+-- a look of a drive that stands as it stood
+looked_from : (r : Run) (d d1 d2 : DriveState) → d1 ≡ d → Fits r d → r.comes ≡ comes.Look
+    → d2 ≡ with_image (after_look (fault_met d1 d2) d1) d2.image → CallsStore (look_loads d1) (look_saves d1) d1 d2
+    → Reports (d2.work ≡ Over failed_ending) d1 d2 → Looked r d d2
+looked_from r d d1 d2 same fits at state calls reports = subst (λ (x : DriveState). Looked r x d2) same (record {
+  fits = subst (λ (x : DriveState). Fits r x) (sym same) fits;
+  at = at;
+  state = state;
+  calls = calls;
+  reports = reports;
+})
 
-pub returns-in-Some : goal.returns-in-Some
-returns-in-Some g c =
-    let holds = g.M.MainStorage.holds in
-    let a = c.args in
-    let x = c.in-Some in
-    let p = x.ensures in
-    let n = c.store in
-    let t = c.finish in
-    let may : (i : ℕ) → i < length x.bytes.now → IsTrue (may_store (holds a.storage.now) a.self.now.key (a.self.now.ccw.address + i)) =
-    λ i h. p.may i (omega (arith, h, p.counts)) in
-    let all : n.result ≡ length x.bytes.now = stores_all (holds a.storage.now) a.self.now.key a.self.now.ccw.address n.result
-    (length x.bytes.now) n.ensures.bound may n.ensures.next in
-    let is = all_stored (holds a.storage.now) (holds n.new.self) a.self.now.ccw.address n.result x.bytes.now all n.ensures.change in
-    record {
-      step = record {
-        steps = rw is (t.ensures.steps a.most (holds a.storage.now) x.bytes.now p);
-        storage = n.ensures.keeps;
-        quiet = t.ensures.quiet (holds a.storage.now);
-      };
-      found = tt;
-      place = search rules;
-      calls = search rules;
-    }
+-- what is said of a run and of a storage is said of those that are the same
+said_of : (P : Run → Storage → Type 0) {r1 r : Run} {s1 s : Storage} → r1 ≡ r → s1 ≡ s → P r1 s1 → P r s
+said_of P {r1} {r} {s1} {s} same_run same_storage is = subst (λ (x : Run). P x s) same_run (subst (λ (x : Storage). P r1 x) same_storage is)
 
 pub returns-in-Failed : goal.returns-in-Failed
 returns-in-Failed g c =
@@ -45,24 +35,19 @@ returns-in-Failed g c =
     let r = c.args.self.now in
     let s = holds c.args.storage.now in
     let d = c.args.drive.now in
+    let same = c.in_default.ensures.none in
     let l = c.in-Failed.ensures in
     let p = c.end_program in
-    let k : Looked r d c.look.new.self = record {
-      fits = c.requires.fits;
-      at = c.requires.stage;
-      state = l.state;
-      calls = l.calls;
-      reports =
-          l.reported;
-    } in
+    let k = looked_from r d c.pass_whole.new.drive c.look.new.self same.2 c.requires.fits c.requires.stage l.state l.calls
+    l.reported in
     record {
-      step = quietly r p.new.run s s d p.new.drive c.args.most (step.Over 1) k.fits (kept s)
+      step = rw same.1 (quietly r p.new.run s s d p.new.drive c.args.most (step.Over 1) k.fits (kept s)
           (fails_quiet r d c.look.new.self p.new.drive k p.ensures.calls)
           (over_once r.key (phase_in (run_of r) s d) c.args.most _ s d p.new.drive c.requires.some
-          (look_fails r s d c.look.new.self k _ p.new.drive l.answer p.ensures));
+          (look_fails r s d c.look.new.self k _ p.new.drive l.answer (rw same.0 at p.ensures))));
       found = tt;
       place = search rules;
-      calls = search rules;
+      calls = rw (← same.2) (search rules);
     }
 
 pub returns-in-Passed : goal.returns-in-Passed
@@ -71,21 +56,16 @@ returns-in-Passed g c =
     let r = c.args.self.now in
     let s = holds c.args.storage.now in
     let d = c.args.drive.now in
+    let same = c.in_default.ensures.none in
     let l = c.in-Passed.ensures in
-    let k : Looked r d c.look.new.self = record {
-      fits = c.requires.fits;
-      at = c.requires.stage;
-      state = l.state;
-      calls = l.calls;
-      reports =
-          l.reported;
-    } in
+    let k = looked_from r d c.pass_whole.new.drive c.look.new.self same.2 c.requires.fits c.requires.stage l.state l.calls
+    l.reported in
     record {
-      step = quietly r r s s d c.look.new.self c.args.most (step.Units 1) k.fits (kept s) (looks_quiet r d c.look.new.self k)
-          (look_passes r s d c.look.new.self k c.args.most c.requires.some l.answer);
+      step = rw (same.0, same.1) (quietly r r s s d c.look.new.self c.args.most (step.Units 1) k.fits (kept s)
+          (looks_quiet r d c.look.new.self k) (look_passes r s d c.look.new.self k c.args.most c.requires.some l.answer));
       found = tt;
       place = search rules;
-      calls = search rules;
+      calls = rw (← same.2) (search rules);
     }
 
 pub complete-requires : goal.complete-requires
@@ -94,18 +74,13 @@ complete-requires g c =
     let r = c.args.self.now in
     let s = holds c.args.storage.now in
     let d = c.args.drive.now in
+    let same = c.in_default.ensures.none in
     let l = c.in-Ready.ensures in
-    let k : Looked r d c.look.new.self = record {
-      fits = c.requires.fits;
-      at = c.requires.stage;
-      state = l.state;
-      calls = l.calls;
-      reports =
-          l.reported;
-    } in
+    let k = looked_from r d c.pass_whole.new.drive c.look.new.self same.2 c.requires.fits c.requires.stage l.state l.calls
+    l.reported in
     record {
-      fits = look_fits r s d c.look.new.self k c.in-Ready.left l.answer;
-      some = (looking_within r d k.fits k.at).2;
+      fits = rw same.0 (look_fits r s d c.look.new.self k c.in-Ready.left l.answer);
+      some = rw same.0 (looking_within r d k.fits k.at).2;
       left = omega (arith, ready_left r s d c.look.new.self k c.in-Ready.left l.answer, c.if-left-from.true);
       first = ready_first r s d c.look.new.self k c.in-Ready.left l.answer;
       unchained = search rules;
@@ -115,26 +90,32 @@ pub returns-then-not-chains_data : goal.returns-then-not-chains_data
 returns-then-not-chains_data g c =
     let holds = g.M.MainStorage.holds in
     let r = c.args.self.now in
+    let same = c.in_default.ensures.none in
     let l = c.in-Ready.ensures in
     let t = c.complete in
     record {
       step = finds r t.new.self (holds c.args.storage.now) (holds t.new.storage) c.in-Ready.left c.args.most c.args.drive.now
           c.look.new.self t.new.drive
-          (record { fits = c.requires.fits; at = c.requires.stage; state = l.state; calls = l.calls; reports = l.reported }) l.answer
+          (looked_from r c.args.drive.now c.pass_whole.new.drive c.look.new.self same.2 c.requires.fits c.requires.stage l.state l.calls
+          l.reported) l.answer
           t.ensures.loads
-          (record { steps = t.ensures.steps c.args.most (omega arith); storage = t.ensures.storage; quiet = t.ensures.quiet });
+          (said_of (λ (x : Run) (y : Storage). IsStep (in_bytes x) y c.look.new.self c.args.most t.result t.new.self (holds t.new.storage)
+          t.new.drive) same.0 same.1
+          (record { steps = t.ensures.steps c.args.most (omega arith); storage = t.ensures.storage; quiet = t.ensures.quiet }));
       found = tt;
       place = search rules;
-      calls = search rules;
+      calls = rw (← same.2) (search rules);
     }
 
 pub returns-else-left-from-clause-found : goal.returns-else-left-from-clause-found
 returns-else-left-from-clause-found g c =
+    let same = c.in_default.ensures.none in
     let l = c.in-Ready.ensures in
     record {
-      looked = record { fits = c.requires.fits; at = c.requires.stage; state = l.state; calls = l.calls; reports = l.reported };
+      looked = looked_from c.args.self.now c.args.drive.now c.pass_whole.new.drive c.look.new.self same.2 c.requires.fits
+          c.requires.stage l.state l.calls l.reported;
       left = c.in-Ready.left;
       answer = l.answer;
-      run = refl;
-      storage = refl;
+      run = rw same.0 refl;
+      storage = same.1;
     }

@@ -1,4 +1,4 @@
-use Rattle.std.proofs.Common.{◌≡◌, ◌∙◌, ◌+◌, ◌≤◌, ℕ, ap, arith, inr, length, refl, rules, sym, take, true}
+use Rattle.std.proofs.Common.{◌≡◌, ◌∙◌, ◌+◌, ◌≤◌, ℕ, ap, arith, inr, refl, rules, sym, take, true}
 use Rattle.s360_words.specs.Storage.{stored}
 use Rattle.ckd_command.specs.Drive.{State}
 use Rattle.ckd_drive.specs.Work.{DriveState, Work, Idle, Over, Looking, Passing, left_of, gives_now}
