@@ -15,6 +15,7 @@ ORGANISATION = {"PS": b"\x40\0", "PO": b"\2\0"}
 # Record formats: fixed and variable length, both blocked.
 FORMAT = {"FB": 0x90, "VB": 0x50}
 DAYS = bytes([74, 1, 109, 99, 1, 109])
+LAST_VOLUME = 0x80  # the bit of a data set's indicators that says that it is on no further volume
 
 
 # The types of extents: tracks of data; and those of an extent that shares its cylinders, of each of which it has its heads from the first to the last.
@@ -28,7 +29,7 @@ def extent(image: Image, number: int, run: Run, kind: int = DATA) -> bytes:
 
 @dataclass
 class DataSet:
-    """A data set of blocked records, made on day 365 of 1974 and kept until that of 1999."""
+    """A data set of blocked records, made on day 365 of 1974 and kept until that of 1999; or the part of it on one of its volumes."""
 
     name: str
     organisation: str
@@ -38,13 +39,16 @@ class DataSet:
     last: tuple[int, int]
     form: str = "FB"
     kind: int = DATA
+    volume: int = 1
+    is_last: bool = False
 
     def blocks(self, image: Image, serial: str, number: int) -> list[tuple[bytes, bytes]]:
         """Its control blocks: that of format 1, which stands as the record of this number, and one of format 3 behind it if need be."""
         extents = [extent(image, *it, self.kind) for it in enumerate(self.runs)]
-        block = b"\xf1" + ebcdic(serial, 6) + b"\0\1" + DAYS + bytes([len(extents), 0, 0]) + ebcdic("SCRIPT", 13) + bytes(7)
+        block = b"\xf1" + ebcdic(serial, 6) + self.volume.to_bytes(2, "big") + DAYS + bytes([len(extents), 0, 0]) + ebcdic("SCRIPT", 13) + bytes(7)
         block += ORGANISATION[self.organisation] + bytes([FORMAT[self.form], 0])
         block += self.block_length.to_bytes(2, "big") + self.record_length.to_bytes(2, "big")
+        block = block.ljust(49, b"\0") + bytes([LAST_VOLUME if self.is_last else 0])
         block = block.ljust(54, b"\0") + self.last[0].to_bytes(2, "big") + bytes([self.last[1]]) + bytes(4)
         block += b"".join(extents[:3]).ljust(30, b"\0")
         if len(extents) <= 3:

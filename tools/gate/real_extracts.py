@@ -15,6 +15,7 @@ from tools.gate.scratch_files import How, Scratch, fault, is_held, row, same, vo
 
 MODEL = "2311"
 END_OF_FILE = (b"", b"")
+UNMARKED = "the extents end before an end of file; its label does not mark this volume as its last"
 # Where each data set stands: its tracks on the volume.
 CARDS, LIBRARY, OUTSIDE, ENDLESS, SHAPELESS, TWIN = [(2, 2)], [(3, 3), (5, 5)], [(6, 6)], [(7, 7)], [(8, 8)], [(9, 9)]
 # A data set that is to be: its name, its organisation and its tracks.
@@ -134,7 +135,7 @@ def what_is_not_there_is_refused_by_name(s: Scratch) -> None:
 @row
 def data_set_without_an_end_is_written_and_told(s: Scratch) -> None:
     labelled(s)
-    text = "track 1 of the data set: the extents end before an end of file"
+    text = f"track 1 of the data set: {UNMARKED}"
     same(s.dasd("extract", "pack.ckd", "OPEN.END", "--text"), fault(text, "ONE\nTWO\n"))
     same(s.dasd("extract", "pack.ckd", "OPEN.END", "--to", "open"), fault(text))
     is_held(s.path("open"), raw("ONE", "TWO"))
@@ -151,7 +152,7 @@ def all_of_a_volume_goes_to_a_folder_and_nothing_leaves_it(s: Scratch) -> None:
         "SYS1.MACLIB(BETA) 80 bytes",
         "%4B.%61..%61ETC%61PASSWD 80 bytes",
         "OPEN.END 160 bytes",
-        "OPEN.END: track 1 of the data set: the extents end before an end of file",
+        f"OPEN.END: track 1 of the data set: {UNMARKED}",
         "NO.FORM 80 bytes",
         "PAY.CARDS: file exists",
         "6 files, 2 findings",

@@ -1,5 +1,6 @@
 pub mod Folder
 mod Found
+mod SetUnloaded
 pub mod Steps
 mod Through
 mod Told

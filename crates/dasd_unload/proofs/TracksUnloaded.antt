@@ -1,5 +1,5 @@
 -- Tracks of a data set that were unloaded, or stopped, by what was found and what was written.
-use Rattle.std.proofs.Common.{◌≡◌, sym, subst, ℕ, true, List, Option, Some, None, Result, Ok, Err, OnOk, OnErr, IfOk, IfErr, inr}
+use Rattle.std.proofs.Common.{◌≡◌, refl, sym, subst, ℕ, true, List, Option, Some, None, Ok, inr}
 use Rattle.counted_io.specs.Streams.{IsFlushed}
 use Rattle.dasd_volumes.specs.Reading.{KnownVolume}
 use Rattle.volume_contents.specs.declared.sets.DataSet.{DataSet}
@@ -8,36 +8,30 @@ use Rattle.dasd_extract.specs.Raw.{CopiesTracks}
 use Rattle.dasd_unload.specs.declared.fault.UnloadFault.{UnloadFault}
 use Rattle.dasd_unload.specs.Unloads.{Outcome, is_of_job}
 use Rattle.dasd_unload.specs.Asked.{SetOf}
+use Rattle.dasd_unload.specs.Parts.{end_of}
 use Rattle.dasd_unload.specs.Tracks.{AskedTracks, PrintsFirstTracks, PutsTracks, StopsTracks, UnloadsTracks, WritesTracks}
-
--- what is so of a value, and what is so where there is one
-pub both_ok : {A E : Type 0} (r : Result A E) (F : Type 0) (P Q : A → Type 0) → OnOk r F → IfOk r P
-    → ((x : A) → P x → F → Q x) → IfOk r Q
-both_ok (Ok x) F P Q on if both = both x if on
-both_ok (Err e) F P Q on if both = if
-
-pub both_err : {A E : Type 0} (r : Result A E) (F : Type 0) (P Q : E → Type 0) → OnErr r F → IfErr r P
-    → ((e : E) → P e → F → Q e) → IfErr r Q
-both_err (Ok x) F P Q on if both = if
-both_err (Err e) F P Q on if both = both e if on
 
 module _ (a : AskedTracks) (v : KnownVolume) (before now : Outcome) (set : DataSet) (named : SetOf a.name v (Some set)) where
   -- to a file
   pub to_file : (path : List ℕ) → a.target ≡ Some path → now.printed ≡ before.printed
-      → (stop : Stop) → PutsTracks path set.extents.items v before.written now.written stop → UnloadsTracks a v before now stop
+      → (stop : Stop) → PutsTracks path set.extents.items v before.written now.written stop
+      → UnloadsTracks a v before now (end_of set.block stop)
   to_file path is printed stop puts = record {
     set = set;
     named = named;
     written = subst (λ t. WritesTracks t set.extents.items v before now stop) (sym is) (puts, printed);
+    part = refl;
   }
 
   -- to the writer
   pub to_writer : a.target ≡ None → now.written ≡ before.written → (stop : Stop)
-      → CopiesTracks set.extents.items v (Ok stop) before.printed now.printed → IsFlushed now.printed → UnloadsTracks a v before now stop
+      → CopiesTracks set.extents.items v (Ok stop) before.printed now.printed → IsFlushed now.printed
+      → UnloadsTracks a v before now (end_of set.block stop)
   to_writer is written stop copies flushed = record {
     set = set;
     named = named;
     written = subst (λ t. WritesTracks t set.extents.items v before now stop) (sym is) (written, copies, flushed);
+    part = refl;
   }
 
   -- or not all of them

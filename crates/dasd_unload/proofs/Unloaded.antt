@@ -31,7 +31,8 @@ use Rattle.dasd_unload.specs.declared.fault.UnloadFault.{UnloadFault}
 use Rattle.dasd_unload.specs.declared.report.Tally.{Tally}
 use Rattle.dasd_unload.specs.declared.sets.Unloaded.{Unloaded}
 use Rattle.dasd_unload.specs.Unloads.{Outcome, outcome, Unloads, file_name}
-use Rattle.dasd_unload.specs.Asked.{form_of, is_partitioned, beginning}
+use Rattle.dasd_unload.specs.Parts.{is_partitioned, written_texts}
+use Rattle.dasd_unload.specs.Asked.{form_of, beginning}
 use Rattle.dasd_unload.specs.Told.{Line, FileLine, FindingLine, finding_lines, line_text, count_line, no_line, total_text, contents_texts}
 use Rattle.dasd_unload.specs.Told.{chain_texts, directory_texts, end_texts, TellsText}
 use Rattle.dasd_unload.specs.Volumes.{Plan, Unloading, unloading, Step, Unload, Tell, Done, path_in, member_step, partitioned_steps}
@@ -67,37 +68,37 @@ module _ (r : Result0) (v : KnownVolume) (p : Plan) (name : List ℕ) (files : L
   tell_one text told counted = tell (text ∷ []) (as_one text told) (on_ok r _ counted)
 
   -- what is to be unloaded was kept out, and that was told
-  pub kept_out : (source : Wanted) (now : List Replaced) → now ≡ files
+  pub kept_out : (source : Wanted) (d : DataSetBlock) (now : List Replaced) → now ≡ files
       → TellsText r (line_text p.json (FindingLine name (codes "file exists"))) a b
       → t ≡ count_line s (FindingLine name (codes "file exists"))
-      → DoesOfVolume r v p (λ u. Unload name source ∷ []) (outcome files a) (outcome now b) s t
-  kept_out source now same_files told counted = record {
+      → DoesOfVolume r v p (λ u. Unload name source d ∷ []) (outcome files a) (outcome now b) s t
+  kept_out source d now same_files told counted = record {
     counts = counts_told r _ a b told;
     does = λ slots known.
-        one r (unloading v slots p) (record { step = Unload name source; is_kept_out = true }) (outcome files a) (outcome now b) s t
+        one r (unloading v slots p) (record { step = Unload name source d; is_kept_out = true }) (outcome files a) (outcome now b) s t
         (same_files ∙ sym (append-nil files)) (as_one (codes "file exists") told) (on_ok r _ counted);
   }
 
 -- the file came, and was told
-abbrev told_lines : (name : List ℕ) → (bytes : ℕ) → Option Stop → List Line
-told_lines name bytes stop = FileLine name bytes ∷ finding_lines name (end_texts stop)
+abbrev told_lines : (name : List ℕ) → DataSetBlock → (bytes : ℕ) → Option Stop → List Line
+told_lines name d bytes stop = FileLine name bytes ∷ finding_lines name (written_texts d stop)
 
 module _ (r : Result0) (v : KnownVolume) (p : Plan) (name : List ℕ) where
-  pub came : (path : List ℕ) (source : Wanted) (before now : List Replaced) (x : Unloaded)
+  pub came : (path : List ℕ) (source : Wanted) (d : DataSetBlock) (before now : List Replaced) (x : Unloaded)
       (a b : Stream) (s t : Tally)
       → path ≡ path_in p.folder name → Unloads path source v before now x
-      → TellsText r (flat_map (line_text p.json) (told_lines name x.bytes (Some x.stop))) a b
-      → OnOk r (t ≡ fold count_line s (told_lines name x.bytes (Some x.stop)))
-      → DoesOfVolume r v p (λ u. Unload name source ∷ []) (outcome before a) (outcome now b) s t
-  came path source before now x a b s t at file told counted = record {
+      → TellsText r (flat_map (line_text p.json) (told_lines name d x.bytes (Some x.stop))) a b
+      → OnOk r (t ≡ fold count_line s (told_lines name d x.bytes (Some x.stop)))
+      → DoesOfVolume r v p (λ u. Unload name source d ∷ []) (outcome before a) (outcome now b) s t
+  came path source d before now x a b s t at file told counted = record {
     counts = counts_told r _ a b told;
     does = λ slots known.
         let w = source_written source v.geometry slots in
         let e = file.blocks slots known in
-        let lines : told_lines name x.bytes (Some x.stop) ≡ unloaded_lines name w =
-        ap (λ n. told_lines name n (Some x.stop)) (file.count ∙ ap (λ (l : List ℕ). length l) e.bytes)
-        ∙ ap (told_lines name (length w.bytes)) e.stop in
-        one r (unloading v slots p) (record { step = Unload name source; is_kept_out = false }) (outcome before a) (outcome now b) s t
+        let lines : told_lines name d x.bytes (Some x.stop) ≡ unloaded_lines name d w =
+        ap (λ n. told_lines name d n (Some x.stop)) (file.count ∙ ap (λ (l : List ℕ). length l) e.bytes)
+        ∙ ap (told_lines name d (length w.bytes)) e.stop in
+        one r (unloading v slots p) (record { step = Unload name source d; is_kept_out = false }) (outcome before a) (outcome now b) s t
         (file.put ∙ ap (λ (q : List ℕ). with_file before q file.bytes) at
         ∙ ap (λ (l : List ℕ). with_file before (path_in p.folder name) l) e.bytes)
         (subst (λ l. TellsText r (flat_map (line_text p.json) l) a b) lines told)
@@ -105,55 +106,55 @@ module _ (r : Result0) (v : KnownVolume) (p : Plan) (name : List ℕ) where
   }
 
 -- The steps of a directory.
-module _ (v : KnownVolume) (p : Plan) (data_set : List ℕ) (extents : List Extent) (form : Form) (m : Members)
+module _ (v : KnownVolume) (p : Plan) (d : DataSetBlock) (extents : List Extent) (form : Form) (m : Members)
     (is : MembersOf extents v m) where
   abbrev told_texts : List (List ℕ)
   told_texts = directory_texts m.fault ++ end_texts (Some m.stop)
 
   abbrev of_entry : Unloading → DirectoryEntry → List Step
-  of_entry u e = member_step data_set extents form e ∷ []
+  of_entry u e = member_step d extents form e ∷ []
 
   abbrev told_steps : Unloading → List Step
-  told_steps u = Tell (file_name data_set None) told_texts ∷ flat_map (of_entry u) m.entries.items
+  told_steps u = Tell (file_name d.name None) told_texts ∷ flat_map (of_entry u) m.entries.items
 
   -- they are those that its members say
   pub are_steps : (slots : List (List ℕ)) → v.slots ≡ Some slots
-      → told_steps (unloading v slots p) ≡ partitioned_steps (unloading v slots p) data_set extents form
+      → told_steps (unloading v slots p) ≡ partitioned_steps (unloading v slots p) d extents form
   are_steps slots known =
       let w = source_written (directory extents) v.geometry slots in
       let k = is slots known in
-      let step = member_step data_set extents form in
-      ap (λ (l : List Step). Tell (file_name data_set None) told_texts ∷ l)
+      let step = member_step d extents form in
+      ap (λ (l : List Step). Tell (file_name d.name None) told_texts ∷ l)
       (flat_map_single step m.entries.items ∙ ap (map step) k.entries)
-      ∙ ap (λ (f : Option DirectoryFault). Tell (file_name data_set None) (directory_texts f ++ end_texts (Some m.stop)) ∷ map step
+      ∙ ap (λ (f : Option DirectoryFault). Tell (file_name d.name None) (directory_texts f ++ end_texts (Some m.stop)) ∷ map step
       (entries_of w.bytes).entries) k.fault
-      ∙ ap (λ (o : Option Stop). Tell (file_name data_set None) (directory_texts (entries_of w.bytes).fault ++ end_texts o) ∷ map step
+      ∙ ap (λ (o : Option Stop). Tell (file_name d.name None) (directory_texts (entries_of w.bytes).fault ++ end_texts o) ∷ map step
       (entries_of w.bytes).entries) k.stop
 
   -- what is wrong with it was told, and the members are left; or a fault stopped that
   module _ (entries : List DirectoryEntry) (are : entries ≡ m.entries.items) (files : List Replaced) (a b : Stream) (s t : Tally) where
     pub directory_told : TellsText {A = Unit {0}} (Ok tt) (flat_map (line_text p.json)
-        (finding_lines (file_name data_set None) told_texts)) a b
-        → t ≡ fold count_line s (finding_lines (file_name data_set None) told_texts)
-        → SoFar v p (λ u. flat_map (of_entry u) entries) (λ u. partitioned_steps u data_set extents form) (outcome files a)
+        (finding_lines (file_name d.name None) told_texts)) a b
+        → t ≡ fold count_line s (finding_lines (file_name d.name None) told_texts)
+        → SoFar v p (λ u. flat_map (of_entry u) entries) (λ u. partitioned_steps u d extents form) (outcome files a)
         (outcome files b) s t
     directory_told told counted =
-        of_steps v p (λ u. flat_map (of_entry u) entries) told_steps (λ u. partitioned_steps u data_set extents form) (outcome files a)
+        of_steps v p (λ u. flat_map (of_entry u) entries) told_steps (λ u. partitioned_steps u d extents form) (outcome files a)
         (outcome files b) s t are_steps
-        (with_more v p told_steps (λ u. Tell (file_name data_set None) told_texts ∷ []) (λ u. flat_map (of_entry u) entries)
+        (with_more v p told_steps (λ u. Tell (file_name d.name None) told_texts ∷ []) (λ u. flat_map (of_entry u) entries)
         (outcome files a) (outcome files a) (outcome files b) s s t
-        (subst (λ (l : List DirectoryEntry). SoFar v p (λ u. Tell (file_name data_set None) told_texts ∷ flat_map (of_entry u) l)
+        (subst (λ (l : List DirectoryEntry). SoFar v p (λ u. Tell (file_name d.name None) told_texts ∷ flat_map (of_entry u) l)
         told_steps (outcome files a) (outcome files a) s s) (sym are)
-        (nothing v p told_steps (outcome files a) s)) (tell (Ok tt) v p (file_name data_set None) files a b s t told_texts told counted))
+        (nothing v p told_steps (outcome files a) s)) (tell (Ok tt) v p (file_name d.name None) files a b s t told_texts told counted))
 
     pub directory_stopped : (f : UnloadFault) → TellsText {A = Unit {0}} (Err f)
-        (flat_map (line_text p.json) (finding_lines (file_name data_set None) told_texts)) a b
-        → DoesOfVolume {A = Unit {0}} (Err f) v p (λ u. partitioned_steps u data_set extents form) (outcome files a) (outcome files b) s t
+        (flat_map (line_text p.json) (finding_lines (file_name d.name None) told_texts)) a b
+        → DoesOfVolume {A = Unit {0}} (Err f) v p (λ u. partitioned_steps u d extents form) (outcome files a) (outcome files b) s t
     directory_stopped f told =
-        same (Err f) v p told_steps (λ u. partitioned_steps u data_set extents form) (outcome files a) (outcome files b) s t are_steps
-        (stop_in v p told_steps f (λ u. Tell (file_name data_set None) told_texts ∷ []) (λ u. flat_map (of_entry u) m.entries.items)
+        same (Err f) v p told_steps (λ u. partitioned_steps u d extents form) (outcome files a) (outcome files b) s t are_steps
+        (stop_in v p told_steps f (λ u. Tell (file_name d.name None) told_texts ∷ []) (λ u. flat_map (of_entry u) m.entries.items)
         (outcome files a) (outcome files a) (outcome files b) s s t t
-        (nothing v p told_steps (outcome files a) s) (tell (Err f) v p (file_name data_set None) files a b s t told_texts told tt))
+        (nothing v p told_steps (outcome files a) s) (tell (Err f) v p (file_name d.name None) files a b s t told_texts told tt))
 
 -- The steps of a data set: its form, and whether it has members.
 module _ (r : Result0) (v : KnownVolume) (p : Plan) (d : DataSetBlock) (extents : List Extent) (a b : Outcome) (s t : Tally) where
@@ -164,13 +165,13 @@ module _ (r : Result0) (v : KnownVolume) (p : Plan) (d : DataSetBlock) (extents 
       (λ slots known. ap (steps_of_form (unloading v slots p) d extents) (sym is)) this
 
   pub of_kind : (form : Form) (is : Bool) → is_partitioned d ≡ is
-      → DoesOfVolume r v p (λ u. if is then partitioned_steps u d.name extents form else Unload (file_name d.name None)
-      (wanted form extents beginning 65535) ∷ []) a b s t
+      → DoesOfVolume r v p (λ u. if is then partitioned_steps u d extents form else Unload (file_name d.name None)
+      (wanted form extents beginning 65535) d ∷ []) a b s t
       → DoesOfVolume r v p (λ u. steps_of_form u d extents (Some form)) a b s t
   of_kind form is e this =
       subst (λ (yes : Bool). DoesOfVolume r v p
-      (λ u. if yes then partitioned_steps u d.name extents form else Unload (file_name d.name None) (wanted form extents beginning 65535)
-      ∷ []) a b s t) (sym e) this
+      (λ u. if yes then partitioned_steps u d extents form else Unload (file_name d.name None) (wanted form extents beginning 65535)
+      d ∷ []) a b s t) (sym e) this
 
 -- Of a data set it was told if its chain is broken, and the rest was done; or a fault stopped that.
 module _ (v : KnownVolume) (p : Plan) (d : DataSetBlock) (extents : List Extent) (fault : Option ChainFault) (files : List Replaced)

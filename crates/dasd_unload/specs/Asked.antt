@@ -1,5 +1,5 @@
 -- The data set or the member that is asked for, and what of it is written.
-use Rattle.std.specs.Prelude.{◌≡◌, ◌⊎◌, ℕ, ◌==◌, Bool, true, false, not, List, [], bit_and, bytes_eq, find, Option, Some, None, option_map, Result, Ok, Err}
+use Rattle.std.specs.Prelude.{◌≡◌, ◌⊎◌, ℕ, Bool, true, false, List, [], bytes_eq, find, Option, Some, None, option_map, Result, Ok, Err}
 use Rattle.std.specs.Option.{option_copied}
 use Rattle.counted_io.specs.Streams.{Stream, TakesFront, IsFlushed}
 use Rattle.volume_labels.specs.declared.fields.Extent.{Extent}
@@ -26,6 +26,8 @@ use Rattle.dasd_extract.specs.Walk.{Wanted, Extracts, PrintsSource, source_writt
 use Rattle.dasd_jobs.specs.Written.{Replaced, with_file}
 use Rattle.dasd_unload.specs.declared.fault.UnloadFault.{UnloadFault}
 use Rattle.dasd_unload.specs.declared.sets.WantedSet.{WantedSet}
+use Rattle.dasd_unload.specs.declared.parts.End.{End}
+use Rattle.dasd_unload.specs.Parts.{is_partitioned, end_of}
 use Rattle.dasd_unload.specs.Unloads.{Outcome, CountsPrinted, is_of_job}
 
 -- blocks are written as they stand, or as lines, if the format of the data set is of some records
@@ -50,10 +52,6 @@ abbrev pub form_asked : DataSetBlock → (is_text : Bool) → (given : Option Re
 form_asked d is_text None = or_no_format (form_of d is_text)
 form_asked d true (Some given) = as_lines (layout_given (attributes_of d) given)
 form_asked d false (Some given) = Ok Raw
-
--- a data set has members
-abbrev pub is_partitioned : DataSetBlock → Bool
-is_partitioned d = not (bit_and d.organisation 0x0200 == 0)
 
 -- a data set that is asked for: its name, a member of it, whether as lines, what is given of its records, and the path of the new file for it
 pub record AskedSet : Type 0 where
@@ -109,9 +107,8 @@ abbrev pub StartsAt : KnownVolume → DataSet → (member : Option (List ℕ)) �
 StartsAt v d None start = (is_partitioned d.block ≡ false) × (start ≡ beginning)
 StartsAt v d (Some member) start = (is_partitioned d.block ≡ true) × IsMemberAt member v d.extents.items start
 
--- what is asked for, as a source of blocks
-pub record Asks (a : AskedSet) (v : KnownVolume) (s : Wanted) : Type 0 where
-  pub set : DataSet
+-- what is asked for, as a source of blocks of the data set of the name
+pub record Asks (a : AskedSet) (v : KnownVolume) (set : DataSet) (s : Wanted) : Type 0 where
   pub named : SetOf a.name v (Some set)
   pub form : form_asked set.block a.is_text a.given ≡ Ok s.form
   pub extents : s.extents ≡ set.extents.items
@@ -129,11 +126,13 @@ abbrev pub WritesTo : (target : Option (List ℕ)) → Wanted → KnownVolume �
 WritesTo (Some path) s v before now stop = PutsBlocks path s v before.written now.written stop × (now.printed ≡ before.printed)
 WritesTo None s v before now stop = (now.written ≡ before.written) × PrintsSource s v (Ok stop) before.printed now.printed × IsFlushed now.printed
 
--- what is asked for was found and written, and its blocks end so
-pub record UnloadsSet (a : AskedSet) (v : KnownVolume) (before now : Outcome) (stop : Stop) : Type 0 where
+-- what is asked for was found and written, and its blocks end so, as that part of the data set that its label says
+pub record UnloadsSet (a : AskedSet) (v : KnownVolume) (before now : Outcome) (end : End) : Type 0 where
+  pub set : DataSet
   pub source : Wanted
-  pub asks : Asks a v source
-  pub written : WritesTo a.target source v before now stop
+  pub asks : Asks a v set source
+  pub written : WritesTo a.target source v before now end.stop
+  pub part : end ≡ end_of set.block end.stop
 
 -- only the first bytes of the blocks of a source were printed, if the slots of the volume are known
 abbrev pub PrintsFirst : Wanted → KnownVolume → (before after : Stream) → Type 0
@@ -143,8 +142,9 @@ PrintsFirst s v before after = (slots : List (List ℕ)) → v.slots ≡ Some sl
 pub record PrintsSome (f : UnloadFault) (a : AskedSet) (v : KnownVolume) (before after : Stream) : Type 0 where
   pub of_job : is_of_job f ≡ true
   pub to_writer : a.target ≡ None
+  pub set : DataSet
   pub source : Wanted
-  pub asks : Asks a v source
+  pub asks : Asks a v set source
   pub front : PrintsFirst source v before after
 
 -- nothing was printed, or only the first bytes

@@ -1,13 +1,13 @@
 -- Why there is nothing to unload.
-use Rattle.std.specs.Prelude.{◌≡◌, ◌≢◌, ℕ, true, List, Option, Some, None, Result, Ok, Err}
+use Rattle.std.specs.Prelude.{◌≡◌, ℕ, true, false, List, Option, Some, None, Result, Ok, Err}
 use Rattle.dasd_volumes.specs.Reading.{KnownVolume}
 use Rattle.volume_contents.specs.declared.sets.DataSet.{DataSet}
-use Rattle.dasd_extract.specs.declared.stops.Cause.TheVariants.{EndOfFile}
-use Rattle.dasd_extract.specs.declared.stops.Stop.{Stop}
 use Rattle.dasd_unload.specs.declared.fault.UnloadFault.{UnloadFault}
 use Rattle.dasd_unload.specs.declared.fault.UnloadFault.TheVariants as fault
 use Rattle.dasd_unload.specs.Unloads.{Outcome}
-use Rattle.dasd_unload.specs.Asked.{AskedSet, SetOf, MemberOf, UnloadsSet, StopsPrinting, form_asked, is_partitioned}
+use Rattle.dasd_unload.specs.declared.parts.End.{End}
+use Rattle.dasd_unload.specs.Parts.{is_partitioned, is_whole}
+use Rattle.dasd_unload.specs.Asked.{AskedSet, SetOf, MemberOf, UnloadsSet, StopsPrinting, form_asked}
 
 -- a data set has no member of a name: it has no members, or none of them has the name
 abbrev pub HasNoMember : KnownVolume → DataSet → (member : Option (List ℕ)) → Type 0
@@ -40,14 +40,15 @@ WhyNot fault.NoMemberNamed a v = HasSet a.name v (λ d. (is_partitioned d.block 
 WhyNot (fault.Job _) a v = Unit {0}
 WhyNot (fault.NotWhole _) a v = ⊥
 
--- what is asked for was unloaded, and its blocks end so
-pub record UnloadsUpTo (IsEnd : Stop → Type 0) (a : AskedSet) (v : KnownVolume) (before now : Outcome) : Type 0 where
-  pub stop : Stop
-  pub is_end : IsEnd stop
-  pub unloads : UnloadsSet a v before now stop
+-- what is asked for was unloaded as a whole
+pub record UnloadsWhole (a : AskedSet) (v : KnownVolume) (before now : Outcome) : Type 0 where
+  pub end : End
+  pub is_all : is_whole end ≡ true
+  pub unloads : UnloadsSet a v before now end
 
--- It was unloaded up to its end of file; or up to what ends it before, which is told; or it was not, and no file came.
+-- It was unloaded up to its end of file, and nothing says that more of it is on another volume; or it is not whole, which is told; or it was
+-- not unloaded, and no file came.
 abbrev pub UnloadsOrTells : {A : Type 0} → Result A UnloadFault → AskedSet → KnownVolume → (before now : Outcome) → Type 0
-UnloadsOrTells (Ok _) a v before now = UnloadsUpTo (λ stop. stop.cause ≡ EndOfFile) a v before now
-UnloadsOrTells (Err (fault.NotWhole stop)) a v before now = (stop.cause ≢ EndOfFile) × UnloadsSet a v before now stop
+UnloadsOrTells (Ok _) a v before now = UnloadsWhole a v before now
+UnloadsOrTells (Err (fault.NotWhole end)) a v before now = (is_whole end ≡ false) × UnloadsSet a v before now end
 UnloadsOrTells (Err fault) a v before now = WhyNot fault a v × (now.written ≡ before.written) × StopsPrinting fault a v before.printed now.printed

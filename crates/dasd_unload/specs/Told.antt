@@ -1,5 +1,5 @@
 -- What is told of data sets that are unloaded: a line for each file, and one for each thing that is wrong.
-use Rattle.std.specs.Prelude.{◌≡◌, ◌⊎◌, ℕ, ◌+◌, ◌-◌, ◌^◌, ◌==◌, min, Bool, true, false, if◌then◌else◌, List, [], ◌∷◌, map, codes, Option, Some, None, Result}
+use Rattle.std.specs.Prelude.{◌≡◌, ◌⊎◌, ℕ, ◌+◌, ◌-◌, ◌^◌, ◌==◌, min, if◌then◌else◌, List, [], ◌∷◌, map, codes, Option, Some, None, Result}
 use Rattle.std.specs.Prelude.{Ok, Err}
 use Rattle.std.specs.List.{concat}
 use Rattle.std.specs.Fmt.{decimal}
@@ -10,8 +10,6 @@ use Rattle.data_sets.specs.declared.directories.DirectoryFault.TheVariants.{Used
 use Rattle.dasd_volumes.specs.Lines.{line_feed}
 use Rattle.volume_contents.specs.declared.chains.ChainFault.{ChainFault}
 use Rattle.dasd_contents.specs.Words.{chain_text}
-use Rattle.dasd_extract.specs.declared.stops.Cause.{Cause}
-use Rattle.dasd_extract.specs.declared.stops.Cause.TheVariants.{EndOfFile}
 use Rattle.dasd_extract.specs.declared.stops.Stop.{Stop}
 use Rattle.dasd_extract.specs.Stops.{stop_text}
 use Rattle.dasd_jobs.specs.declared.faults.JobFault.TheVariants as job
@@ -20,6 +18,7 @@ use Rattle.dasd_unload.specs.declared.fault.UnloadFault.TheVariants.{Job}
 use Rattle.dasd_unload.specs.declared.report.Tally.{Tally}
 use Rattle.dasd_unload.specs.declared.report.Wrong.{Wrong}
 use Rattle.dasd_unload.specs.declared.report.Wrong.TheVariants as wrong
+use Rattle.dasd_unload.specs.Parts.{is_end, end_text}
 
 -- a line: a file of this name has so many bytes, or something is wrong with what has this name
 pub data Line : Type 0 where
@@ -77,11 +76,7 @@ abbrev pub directory_texts : Option DirectoryFault → List (List ℕ)
 directory_texts None = []
 directory_texts (Some fault) = directory_text fault ∷ []
 
--- with blocks that end before their end of file
-abbrev pub is_end : Cause → Bool
-is_end EndOfFile = true
-is_end other = false
-
+-- with the blocks of a directory that end before their end of file
 abbrev pub end_texts : Option Stop → List (List ℕ)
 end_texts None = []
 end_texts (Some stop) = if is_end stop.cause then [] else stop_text stop ∷ []
@@ -93,6 +88,7 @@ wrong_text (wrong.Chain fault) = chain_text fault
 wrong_text wrong.NoRecords = codes "its format is of no records"
 wrong_text (wrong.Directory fault) = directory_text fault
 wrong_text (wrong.Ends stop) = stop_text stop
+wrong_text (wrong.NotWhole end) = end_text end
 wrong_text wrong.Exists = codes "file exists"
 
 -- What is printed.

@@ -1,11 +1,10 @@
 -- The tracks of a data set, unloaded from a volume as they stand.
-use Rattle.std.specs.Prelude.{◌≡◌, ◌≢◌, ◌⊎◌, ℕ, true, List, [], Option, Some, None, Result, Ok, Err}
+use Rattle.std.specs.Prelude.{◌≡◌, ◌⊎◌, ℕ, true, false, List, [], Option, Some, None, Result, Ok, Err}
 use Rattle.std.specs.Option.{option_copied}
 use Rattle.counted_io.specs.Streams.{Stream, TakesFront, IsFlushed}
 use Rattle.volume_labels.specs.declared.fields.Extent.{Extent}
 use Rattle.dasd_volumes.specs.Reading.{KnownVolume}
 use Rattle.volume_contents.specs.declared.sets.DataSet.{DataSet}
-use Rattle.dasd_extract.specs.declared.stops.Cause.TheVariants.{EndOfExtents}
 use Rattle.dasd_extract.specs.declared.stops.Stop.{Stop}
 use Rattle.dasd_extract.specs.Written.{Writes}
 use Rattle.dasd_extract.specs.Raw.{tracks_copied, CopiesTracks}
@@ -13,6 +12,8 @@ use Rattle.dasd_jobs.specs.Written.{Replaced, with_file}
 use Rattle.dasd_unload.specs.declared.fault.UnloadFault.{UnloadFault}
 use Rattle.dasd_unload.specs.declared.fault.UnloadFault.TheVariants as fault
 use Rattle.dasd_unload.specs.declared.tracks.WantedTracks.{WantedTracks}
+use Rattle.dasd_unload.specs.declared.parts.End.{End}
+use Rattle.dasd_unload.specs.Parts.{end_of, are_all_tracks}
 use Rattle.dasd_unload.specs.Unloads.{Outcome, is_of_job}
 use Rattle.dasd_unload.specs.Asked.{SetOf}
 
@@ -44,11 +45,12 @@ WritesTracks (Some path) extents v before now stop = PutsTracks path extents v b
 WritesTracks None extents v before now stop =
     (now.written ≡ before.written) × CopiesTracks extents v (Ok stop) before.printed now.printed × IsFlushed now.printed
 
--- the data set of the name was found, its tracks were written, and they end so
-pub record UnloadsTracks (a : AskedTracks) (v : KnownVolume) (before now : Outcome) (stop : Stop) : Type 0 where
+-- the data set of the name was found, its tracks were written, and they end so, as that part of it that its label says
+pub record UnloadsTracks (a : AskedTracks) (v : KnownVolume) (before now : Outcome) (end : End) : Type 0 where
   pub set : DataSet
   pub named : SetOf a.name v (Some set)
-  pub written : WritesTracks a.target set.extents.items v before now stop
+  pub written : WritesTracks a.target set.extents.items v before now end.stop
+  pub part : end ≡ end_of set.block end.stop
 
 -- only the first bytes of the tracks were printed, if the slots of the volume are known
 abbrev pub PrintsFirstTracks : List Extent → KnownVolume → (before after : Stream) → Type 0
@@ -78,12 +80,13 @@ WhyNoTracks (fault.NotWhole _) a v = ⊥
 
 -- all tracks were unloaded
 pub record UnloadsAllTracks (a : AskedTracks) (v : KnownVolume) (before now : Outcome) : Type 0 where
-  pub stop : Stop
-  pub is_end : stop.cause ≡ EndOfExtents
-  pub unloads : UnloadsTracks a v before now stop
+  pub end : End
+  pub is_all : are_all_tracks end ≡ true
+  pub unloads : UnloadsTracks a v before now end
 
--- All tracks were unloaded; or those up to what ends them before, which is told; or none was, and no file came.
+-- All tracks were unloaded, and nothing says that more of the data set is on another volume; or they are not all, which is told; or none was
+-- unloaded, and no file came.
 abbrev pub TracksOrTell : {A : Type 0} → Result A UnloadFault → AskedTracks → KnownVolume → (before now : Outcome) → Type 0
 TracksOrTell (Ok _) a v before now = UnloadsAllTracks a v before now
-TracksOrTell (Err (fault.NotWhole stop)) a v before now = (stop.cause ≢ EndOfExtents) × UnloadsTracks a v before now stop
+TracksOrTell (Err (fault.NotWhole end)) a v before now = (are_all_tracks end ≡ false) × UnloadsTracks a v before now end
 TracksOrTell (Err f) a v before now = WhyNoTracks f a v × (now.written ≡ before.written) × StopsTracks f a v before.printed now.printed

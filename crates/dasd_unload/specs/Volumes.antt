@@ -24,7 +24,8 @@ use Rattle.dasd_unload.specs.declared.fault.UnloadFault.{UnloadFault}
 use Rattle.dasd_unload.specs.declared.fault.UnloadFault.TheVariants.{Job}
 use Rattle.dasd_unload.specs.declared.report.Tally.{Tally}
 use Rattle.dasd_unload.specs.Unloads.{Outcome, file_name}
-use Rattle.dasd_unload.specs.Asked.{form_of, is_partitioned, beginning}
+use Rattle.dasd_unload.specs.Parts.{is_partitioned, written_texts}
+use Rattle.dasd_unload.specs.Asked.{form_of, beginning}
 use Rattle.dasd_unload.specs.Told.{Line, FileLine, finding_lines, line_text, count_line, no_line, total_text, chain_texts, end_texts, directory_texts}
 use Rattle.dasd_unload.specs.Told.{contents_texts}
 
@@ -51,28 +52,28 @@ pub record Unloading : Type 0 where
 abbrev pub unloading : KnownVolume → (slots : List (List ℕ)) → Plan → Unloading
 unloading v slots p = record { volume = v; slots = slots; plan = p }
 
--- What is done of a volume: a data set without members, or a member, is unloaded to the file of this name; or it is told what is wrong
--- with what has this name, if something is.
+-- What is done of a volume: a data set without members, or a member, is unloaded to the file of this name, by the label of the data set; or it
+-- is told what is wrong with what has this name, if something is.
 pub data Step : Type 0 where
-  Unload : (name : List ℕ) → (source : Wanted) → Step
+  Unload : (name : List ℕ) → (source : Wanted) → (label : DataSetBlock) → Step
   Tell : (name : List ℕ) → (texts : List (List ℕ)) → Step
 
-abbrev pub member_step : (data_set : List ℕ) → List Extent → Form → DirectoryEntry → Step
-member_step data_set extents form e = Unload (file_name data_set (Some e.name)) (wanted form extents e.address 65535)
+abbrev pub member_step : DataSetBlock → List Extent → Form → DirectoryEntry → Step
+member_step d extents form e = Unload (file_name d.name (Some e.name)) (wanted form extents e.address 65535) d
 
 -- what is wrong with a directory, by what was read of it, is told, and then each of its members is unloaded
-abbrev pub directory_steps : (data_set : List ℕ) → List Extent → Form → (directory : Written) → List Step
-directory_steps data_set extents form w =
-    Tell (file_name data_set None) (directory_texts (entries_of w.bytes).fault ++ end_texts w.stop) ∷ map (member_step data_set extents form)
+abbrev pub directory_steps : DataSetBlock → List Extent → Form → (directory : Written) → List Step
+directory_steps d extents form w =
+    Tell (file_name d.name None) (directory_texts (entries_of w.bytes).fault ++ end_texts w.stop) ∷ map (member_step d extents form)
     (entries_of w.bytes).entries
 
-abbrev pub partitioned_steps : Unloading → (data_set : List ℕ) → List Extent → Form → List Step
-partitioned_steps u data_set extents form = directory_steps data_set extents form (source_written (directory extents) u.volume.geometry u.slots)
+abbrev pub partitioned_steps : Unloading → DataSetBlock → List Extent → Form → List Step
+partitioned_steps u d extents form = directory_steps d extents form (source_written (directory extents) u.volume.geometry u.slots)
 
 -- a data set without members is unloaded, or the members of one that has some
 abbrev pub steps_in_form : Unloading → DataSetBlock → List Extent → Form → List Step
 steps_in_form u d extents form =
-    if is_partitioned d then partitioned_steps u d.name extents form else Unload (file_name d.name None) (wanted form extents beginning 65535) ∷ []
+    if is_partitioned d then partitioned_steps u d extents form else Unload (file_name d.name None) (wanted form extents beginning 65535) d ∷ []
 
 -- none is, where its format has no records that could be lines
 abbrev pub steps_of_form : Unloading → DataSetBlock → List Extent → Option Form → List Step
@@ -106,20 +107,21 @@ path_in folder name = folder ++ codes "/" ++ name
 
 -- the file of a step: the blocks, under the name in the folder
 abbrev pub files_of_step : Unloading → Step → (is_kept_out : Bool) → List Replaced
-files_of_step u (Unload name s) false = record { path = path_in u.plan.folder name; bytes = (source_written s u.volume.geometry u.slots).bytes } ∷ []
-files_of_step u (Unload name s) true = []
+files_of_step u (Unload name s d) false =
+    record { path = path_in u.plan.folder name; bytes = (source_written s u.volume.geometry u.slots).bytes } ∷ []
+files_of_step u (Unload name s d) true = []
 files_of_step u (Tell name texts) is_kept_out = []
 
 abbrev pub files_of : Unloading → Done → List Replaced
 files_of u d = files_of_step u d.step d.is_kept_out
 
--- what is told of it: how long its file is, and where its blocks end, if that is before their end of file; or that it is kept out
-abbrev pub unloaded_lines : (name : List ℕ) → Written → List Line
-unloaded_lines name w = FileLine name (length w.bytes) ∷ finding_lines name (end_texts w.stop)
+-- what is told of it: how long its file is, and where its blocks end, if they are not whole; or that it is kept out
+abbrev pub unloaded_lines : (name : List ℕ) → DataSetBlock → Written → List Line
+unloaded_lines name d w = FileLine name (length w.bytes) ∷ finding_lines name (written_texts d w.stop)
 
 abbrev pub lines_of_step : Unloading → Step → (is_kept_out : Bool) → List Line
-lines_of_step u (Unload name s) false = unloaded_lines name (source_written s u.volume.geometry u.slots)
-lines_of_step u (Unload name s) true = finding_lines name (codes "file exists" ∷ [])
+lines_of_step u (Unload name s d) false = unloaded_lines name d (source_written s u.volume.geometry u.slots)
+lines_of_step u (Unload name s d) true = finding_lines name (codes "file exists" ∷ [])
 lines_of_step u (Tell name texts) is_kept_out = finding_lines name texts
 
 abbrev pub lines_of : Unloading → Done → List Line

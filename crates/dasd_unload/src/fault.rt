@@ -3,7 +3,7 @@
 ghost use Rattle.std.specs.Prelude.{◌≡◌};
 ghost use Rattle.dasd_unload.specs.Unloads.{unload_fault, reading_fault};
 
-use dasd_extract::Stop;
+use crate::parts::End;
 use dasd_jobs::JobFault;
 use dasd_volumes::VolumeFault;
 use record_formats::AttributeFault;
@@ -25,9 +25,9 @@ pub enum UnloadFault {
     /// lacks a length.
     #[error("{0}")]
     Attributes(AttributeFault),
-    /// What was unloaded ends so, before its end of file.
+    /// What was unloaded ends so, before its end of file; or it is a part of a data set on several volumes.
     #[error("{0}")]
-    NotWhole(Stop),
+    NotWhole(End),
     /// A fault of the files or of the volume stopped it.
     #[error(transparent)]
     Job(JobFault),

@@ -3,12 +3,14 @@
 #![tactic(auto)]
 
 mod fault;
+mod parts;
 mod report;
 mod sets;
 mod tracks;
 mod volumes;
 
 pub use crate::fault::UnloadFault;
+pub use crate::parts::{End, Part};
 pub use crate::sets::{WantedSet, unload_set};
 pub use crate::tracks::{WantedTracks, unload_tracks};
 pub use crate::volumes::{WantedVolume, unload_volume};

@@ -6,13 +6,14 @@ ghost use Rattle.std.specs.Option.{option_copied};
 ghost use Rattle.std.specs.Io.KnownBytes.{Appends};
 ghost use Rattle.counted_io.specs.Streams.{seen_by, IsFlushed};
 ghost use Rattle.dasd_unload.specs.Told.{FileLine, FindingLine, finding_lines, line_text, count_line, no_line, total_text, wrong_text, contents_texts};
-ghost use Rattle.dasd_unload.specs.Told.{chain_texts, directory_texts, directory_text, end_texts, is_end, TellsText};
+ghost use Rattle.dasd_unload.specs.Told.{chain_texts, directory_texts, directory_text, end_texts, TellsText};
+ghost use Rattle.dasd_unload.specs.Parts.{ended_texts};
 
 use crate::fault::{NO_MEMORY, UnloadFault};
-use crate::sets::Unloaded;
+use crate::parts::{End, is_end, is_whole};
 use counted_io::{Counted, WriteFault, write_flushed, write_whole};
 use dasd_contents::Broken;
-use dasd_extract::{Cause, Members, Stop};
+use dasd_extract::{Members, Stop};
 use dasd_jobs::JobFault;
 use data_sets::DirectoryFault;
 use quantities::Quantity;
@@ -46,8 +47,10 @@ pub(crate) enum Wrong {
     NoRecords,
     /// The directory of a data set.
     Directory(DirectoryFault),
-    /// Blocks, which end before their end of file.
+    /// The blocks of a directory, which end before their end of file.
     Ends(Stop),
+    /// The blocks of a data set or of a member, which are not whole.
+    NotWhole(End),
     /// A file that is there already.
     Exists,
 }
@@ -127,23 +130,41 @@ impl Report {
         }
     }
 
-    /// A file of this name was written.
+    /// A file of this name was written, of so many bytes, whose blocks end so.
     pub(crate) fn unloaded<W: Write>(
         &mut self,
         writer: &mut Counted<W>,
         named: Named,
-        unloaded: Unloaded,
+        bytes: u64,
+        end: End,
     ) -> Result<(), UnloadFault>
         ensures text { TellsText result (flat_map (line_text (option_copied named.entry.json))
-            (FileLine named.entry.name.now unloaded.bytes ∷ finding_lines named.entry.name.now (end_texts (Some unloaded.stop))))
+            (FileLine named.entry.name.now bytes ∷ finding_lines named.entry.name.now (ended_texts end)))
             (seen_by W.contents writer.old) (seen_by W.contents writer.new) }
         ensures counted { OnOk result (self.new.tally ≡ fold count_line self.old.tally
-            (FileLine named.entry.name.now unloaded.bytes ∷ finding_lines named.entry.name.now (end_texts (Some unloaded.stop)))) }
+            (FileLine named.entry.name.now bytes ∷ finding_lines named.entry.name.now (ended_texts end))) }
     {
-        if let Err(fault) = self.file(writer, named, unloaded.bytes) {
+        if let Err(fault) = self.file(writer, named, bytes) {
             return Err(fault);
         }
-        self.ended(writer, named, unloaded.stop)
+        self.written(writer, named, end)
+    }
+
+    // The blocks of a file end so: it is something that is wrong where they are not whole.
+    fn written<W: Write>(
+        &mut self,
+        writer: &mut Counted<W>,
+        named: Named,
+        end: End,
+    ) -> Result<(), UnloadFault>
+        ensures text { TellsText result (flat_map (line_text (option_copied named.entry.json)) (finding_lines named.entry.name.now (ended_texts end)))
+            (seen_by W.contents writer.old) (seen_by W.contents writer.new) }
+        ensures counted { OnOk result (self.new.tally ≡ fold count_line self.old.tally (finding_lines named.entry.name.now (ended_texts end))) }
+    {
+        if is_whole(end) {
+            return Ok(());
+        }
+        self.finding(writer, named, Wrong::NotWhole(end))
     }
 
     // A file of this name has so many bytes.
@@ -201,7 +222,7 @@ impl Report {
         }
     }
 
-    // Blocks end here: it is something that is wrong where that is no end of file.
+    // The blocks of a directory end here: it is something that is wrong where that is no end of file.
     fn ended<W: Write>(
         &mut self,
         writer: &mut Counted<W>,
@@ -301,13 +322,6 @@ fn write_total<W: Write>(writer: &mut W, json: Option<&str>, tally: Tally) -> io
     }
 }
 
-// Whether blocks end as they must.
-fn is_end(cause: Cause) -> bool
-    ensures { result ≡ is_end cause }
-{
-    matches!(cause, Cause::EndOfFile)
-}
-
 impl fmt::Display for Wrong {
     ghost output = { λ w. Some (wrong_text w) };
 
@@ -318,6 +332,7 @@ impl fmt::Display for Wrong {
             Wrong::NoRecords => f.write_str("its format is of no records"),
             Wrong::Directory(fault) => f.write_str(directory_text(fault)),
             Wrong::Ends(stop) => write!(f, "{stop}"),
+            Wrong::NotWhole(end) => write!(f, "{end}"),
             Wrong::Exists => f.write_str("file exists"),
         }
     }

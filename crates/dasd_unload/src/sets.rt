@@ -5,14 +5,15 @@ ghost use Rattle.std.specs.Option.{option_copied};
 ghost use Rattle.counted_io.specs.Streams.{seen_by, IsFlushed};
 ghost use Rattle.dasd_extract.specs.Walk.{PrintsSource, wanted};
 ghost use Rattle.dasd_unload.specs.Unloads.{UnloadsTo, CountsPrinted, outcome, is_of_job, leaves_a_file};
-ghost use Rattle.dasd_unload.specs.Asked.{asked_by, attributes_of, beginning, form_of, form_asked, is_partitioned, SetOf, MemberOf, StartsAt, Asks, PutsBlocks, PrintsFirst};
+ghost use Rattle.dasd_unload.specs.Asked.{asked_by, attributes_of, beginning, form_of, form_asked, SetOf, MemberOf, StartsAt, Asks, PutsBlocks, PrintsFirst};
 ghost use Rattle.dasd_unload.specs.Asked.{StopsPrinting, CountsSet, UnloadsSet};
 ghost use Rattle.dasd_unload.specs.Causes.{WhyNoStart, WhyNot, UnloadsOrTells};
 
 use crate::fault::{NO_MEMORY, UnloadFault, of_reading, of_volume};
+use crate::parts::{End, end_of, is_partitioned, is_whole};
 use counted_io::{Counted, WriteFault, flush_all};
 use dasd_extract::{
-    Cause, Form, Source, Stop, data_set_name, extract, find_member, member_name, read_members,
+    Form, Source, Stop, data_set_name, extract, find_member, member_name, read_members,
 };
 use dasd_jobs::{ImageFiles, JobFault, SlotReader, begin_file, put_file};
 use data_sets::{DirectoryEntry, record_form};
@@ -21,10 +22,6 @@ use std::alloc::Global;
 use std::io::Write;
 use volume_contents::{DataSet, find, read_contents};
 use volume_labels::{DataSetBlock, Extent, RelativeAddress};
-
-/// The bit of a data set's organisation that says that it is partitioned (IBM System/360 Operating System, System Control Blocks,
-/// 'Data Set Control Block', format 1, DS1DSORG).
-const PARTITIONED: u16 = 0x0200;
 
 /// Where the blocks of a data set begin.
 const FIRST: RelativeAddress = RelativeAddress {
@@ -63,7 +60,7 @@ pub(crate) struct Unloaded {
 }
 
 /// Unloads a data set or a member of one from a volume: its blocks up to the end of file, to the writer or to a new file. What ends
-/// before that is written as far as it goes.
+/// before that is written as far as it goes, and of a data set on several volumes the part that this one has.
 ///
 /// # Errors
 ///
@@ -83,20 +80,20 @@ pub fn unload_set<F: ImageFiles, V: SlotReader, W: Write>(
     ensures kept { IfErr result (λ e. leaves_a_file e ≡ false → F.written files.new ≡ F.written files.old) }
 {
     match unload_from(alloc, files, volume, writer, set) {
-        Ok(stop) if stop.cause == Cause::EndOfFile => Ok(()),
-        Ok(stop) => Err(UnloadFault::NotWhole(stop)),
+        Ok(end) if is_whole(end) => Ok(()),
+        Ok(end) => Err(UnloadFault::NotWhole(end)),
         Err(fault) => Err(fault),
     }
 }
 
-// Unloads a data set or a member of one from a volume, and says where its blocks end, and why.
+// Unloads a data set or a member of one from a volume, and says where its blocks end, why, and which part of it they are.
 fn unload_from<F: ImageFiles, V: SlotReader, W: Write>(
     alloc: Global,
     files: &mut F,
     volume: &mut V,
     writer: &mut Counted<W>,
     set: WantedSet,
-) -> Result<Stop, UnloadFault>
+) -> Result<End, UnloadFault>
     ensures done { IfOk result (UnloadsSet (asked_by set.entry)
         (V.volume volume.old) (outcome (F.written files.old) (seen_by W.contents writer.old)) (outcome (F.written files.new) (seen_by W.contents writer.new))) }
     ensures why { IfErr result (λ e. WhyNot e (asked_by set.entry)
@@ -119,8 +116,14 @@ fn unload_from<F: ImageFiles, V: SlotReader, W: Write>(
         form: found.form,
     };
     match set.target {
-        Some(path) => put(alloc, files, volume, path, source),
-        None => print(alloc, volume, writer, source),
+        Some(path) => match put(alloc, files, volume, path, source) {
+            Ok(stop) => Ok(end_of(&found.set.block, stop)),
+            Err(fault) => Err(fault),
+        },
+        None => match print(alloc, volume, writer, source) {
+            Ok(stop) => Ok(end_of(&found.set.block, stop)),
+            Err(fault) => Err(fault),
+        },
     }
 }
 
@@ -131,7 +134,7 @@ fn find_blocks<V: SlotReader>(
     asked_for: WantedSet,
 ) -> Result<FoundBlocks, UnloadFault>
     ensures found { IfOk result (λ found. Asks (asked_by asked_for.entry)
-        (V.volume volume.old)
+        (V.volume volume.old) found.set
         (wanted found.form found.set.extents.items found.start 65535)) }
     ensures why { IfErr result (λ e. WhyNot e (asked_by asked_for.entry)
         (V.volume volume.old)) }
@@ -216,13 +219,6 @@ fn form_asked(
         Ok(layout) => Ok(Form::Text(layout)),
         Err(fault) => Err(fault),
     }
-}
-
-/// Whether a data set has members.
-pub(crate) fn is_partitioned(block: &DataSetBlock) -> bool
-    ensures { result ≡ is_partitioned block.now }
-{
-    block.organisation & PARTITIONED != 0
 }
 
 /// All blocks of a data set with these extents.

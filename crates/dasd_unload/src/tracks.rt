@@ -9,9 +9,10 @@ ghost use Rattle.dasd_unload.specs.Asked.{SetOf, CountsSet};
 ghost use Rattle.dasd_unload.specs.Tracks.{tracks_by, PutsTracks, PrintsFirstTracks, UnloadsTracks, StopsTracks, WhyNoTracks, TracksOrTell};
 
 use crate::fault::{UnloadFault, of_volume};
+use crate::parts::{End, are_all_tracks, end_of};
 use crate::sets::find_set;
 use counted_io::{Counted, WriteFault, flush_all};
-use dasd_extract::{Cause, Stop, copy_tracks};
+use dasd_extract::{Stop, copy_tracks};
 use dasd_jobs::{ImageFiles, JobFault, SlotReader, begin_file, put_file};
 use std::alloc::Global;
 use std::io::Write;
@@ -48,20 +49,20 @@ pub fn unload_tracks<F: ImageFiles, V: SlotReader, W: Write>(
     ensures kept { IfErr result (λ e. leaves_a_file e ≡ false → F.written files.new ≡ F.written files.old) }
 {
     match unload_from(alloc, files, volume, writer, set) {
-        Ok(stop) if stop.cause == Cause::EndOfExtents => Ok(()),
-        Ok(stop) => Err(UnloadFault::NotWhole(stop)),
+        Ok(end) if are_all_tracks(end) => Ok(()),
+        Ok(end) => Err(UnloadFault::NotWhole(end)),
         Err(fault) => Err(fault),
     }
 }
 
-// Unloads the tracks of a data set from a volume, and says where they end, and why.
+// Unloads the tracks of a data set from a volume, and says where they end, why, and which part of it they are.
 fn unload_from<F: ImageFiles, V: SlotReader, W: Write>(
     alloc: Global,
     files: &mut F,
     volume: &mut V,
     writer: &mut Counted<W>,
     set: WantedTracks,
-) -> Result<Stop, UnloadFault>
+) -> Result<End, UnloadFault>
     ensures done { IfOk result (UnloadsTracks (tracks_by set.entry) (V.volume volume.old)
         (outcome (F.written files.old) (seen_by W.contents writer.old)) (outcome (F.written files.new) (seen_by W.contents writer.new))) }
     ensures why { IfErr result (λ e. WhyNoTracks e (tracks_by set.entry) (V.volume volume.old)) }
@@ -77,8 +78,14 @@ fn unload_from<F: ImageFiles, V: SlotReader, W: Write>(
     };
     let extents = found.extents.as_slice();
     match set.target {
-        Some(path) => put(alloc, files, volume, path, extents),
-        None => print(alloc, volume, writer, extents),
+        Some(path) => match put(alloc, files, volume, path, extents) {
+            Ok(stop) => Ok(end_of(&found.block, stop)),
+            Err(fault) => Err(fault),
+        },
+        None => match print(alloc, volume, writer, extents) {
+            Ok(stop) => Ok(end_of(&found.block, stop)),
+            Err(fault) => Err(fault),
+        },
     }
 }
 

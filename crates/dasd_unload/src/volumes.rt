@@ -12,8 +12,9 @@ ghost use Rattle.dasd_unload.specs.Volumes.{plan, plan_of, Unload, path_in, bloc
 ghost use Rattle.dasd_unload.specs.Volumes.{CountsReport, UnloadsVolume};
 
 use crate::fault::{NO_MEMORY, UnloadFault, of_reading};
+use crate::parts::{end_of, is_partitioned};
 use crate::report::{Named, Report, Wrong};
-use crate::sets::{form_of, is_partitioned, unload_to, whole};
+use crate::sets::{form_of, unload_to, whole};
 use counted_io::Counted;
 use dasd_extract::{Form, Source, member_of, read_members};
 use dasd_jobs::{ImageFiles, JobFault, SlotReader, open_volume};
@@ -21,7 +22,7 @@ use data_sets::{DirectoryEntry, safe_name};
 use std::alloc::Global;
 use std::io::Write;
 use volume_contents::{Block, DataSet, data_set_of, read_contents};
-use volume_labels::BlockKind;
+use volume_labels::{BlockKind, DataSetBlock};
 
 /// A volume all of whose data sets are to be unloaded.
 #[derive(Clone, Copy)]
@@ -76,12 +77,13 @@ struct Opened<'a> {
     form: Form,
 }
 
-/// What is unloaded, where it goes, and the name of its file.
+/// What is unloaded, where it goes, the name of its file, and the label of its data set.
 #[derive(Clone, Copy)]
 struct Item<'a> {
     target: Target<'a>,
     name: &'a str,
     source: Source<'a>,
+    block: &'a DataSetBlock,
 }
 
 /// Unloads all data sets and members from the volume of these files, each once to a new file of a folder, under a name that can't lead
@@ -275,6 +277,7 @@ fn unload_one<F: ImageFiles, V: SlotReader, W: Write>(
         target,
         name: named.name,
         source: whole(set.extents.as_slice(), form),
+        block: &set.block,
     };
     unload_item(files, volume, writer, report, item)
 }
@@ -330,7 +333,7 @@ fn unload_members<F: ImageFiles, V: SlotReader, W: Write>(
 ) -> Result<(), UnloadFault>
     ensures does { DoesOfVolume result (V.volume volume.old)
         (plan opened.entry.target.folder.now opened.entry.target.is_text (option_copied opened.entry.target.json))
-        (λ u. partitioned_steps u opened.entry.set.now.block.name opened.entry.set.now.extents.items opened.entry.form)
+        (λ u. partitioned_steps u opened.entry.set.now.block opened.entry.set.now.extents.items opened.entry.form)
         (outcome (F.written files.old) (seen_by W.contents writer.old)) (outcome (F.written files.new) (seen_by W.contents writer.new))
         report.old.tally report.new.tally }
     ensures files { AddsIn opened.entry.target.folder.now (F.written files.old) (F.written files.new) }
@@ -365,6 +368,7 @@ fn unload_members<F: ImageFiles, V: SlotReader, W: Write>(
             target,
             name: name.as_str(),
             source: member_of(extents, *entry, form),
+            block: &set.block,
         };
         if let Err(fault) = unload_item(files, volume, writer, report, item) {
             return Err(fault);
@@ -398,7 +402,7 @@ fn unload_item<F: ImageFiles, V: SlotReader, W: Write>(
     ensures does { DoesOfVolume result (V.volume volume.old)
         (plan item.entry.target.folder.now item.entry.target.is_text (option_copied item.entry.target.json))
         (λ u. Unload item.entry.name.now
-        (wanted item.entry.source.form item.entry.source.extents.now item.entry.source.start item.entry.source.tracks) ∷ [])
+        (wanted item.entry.source.form item.entry.source.extents.now item.entry.source.start item.entry.source.tracks) item.entry.block.now ∷ [])
         (outcome (F.written files.old) (seen_by W.contents writer.old)) (outcome (F.written files.new) (seen_by W.contents writer.new))
         report.old.tally report.new.tally }
     ensures files { AddsIn item.entry.target.folder.now (F.written files.old) (F.written files.new) }
@@ -410,6 +414,7 @@ fn unload_item<F: ImageFiles, V: SlotReader, W: Write>(
         target,
         name,
         source,
+        block,
     } = item;
     let path = match path_in(target.alloc, target.folder, name) {
         Ok(path) => path,
@@ -420,7 +425,10 @@ fn unload_item<F: ImageFiles, V: SlotReader, W: Write>(
         json: target.json,
     };
     match unload_to(target.alloc, files, volume, path.as_str(), source) {
-        Ok(unloaded) => report.unloaded(writer, named, unloaded),
+        Ok(unloaded) => {
+            let end = end_of(block, unloaded.stop);
+            report.unloaded(writer, named, unloaded.bytes, end)
+        }
         Err(UnloadFault::Job(JobFault::Exists)) => report.finding(writer, named, Wrong::Exists),
         Err(fault) => Err(fault),
     }

@@ -8,7 +8,8 @@ use Rattle.dasd_volumes.specs.declared.fault.VolumeFault.TheVariants as volume
 use Rattle.dasd_volumes.specs.Printing.{PrintsText, CountsWrites}
 use Rattle.dasd_volumes.specs.Reading.{KnownVolume}
 use Rattle.volume_contents.specs.declared.sets.DataSet.{DataSet}
-use Rattle.dasd_unload.specs.Asked.{SetOf, is_partitioned}
+use Rattle.dasd_unload.specs.Asked.{SetOf}
+use Rattle.dasd_unload.specs.Parts.{is_partitioned}
 use Rattle.dasd_unload.specs.Causes.{HasSet}
 use Rattle.library_members.specs.Report.{printed}
 use Rattle.library_members.specs.Lines.{Shown}

@@ -9,7 +9,7 @@ use Rattle.dasd_volumes.specs.Lines.{line_feed}
 use Rattle.dasd_volumes.specs.Reading.{KnownVolume}
 use Rattle.volume_contents.specs.declared.blocks.Block.{Block}
 use Rattle.volume_contents.specs.Sets.{is_data_set, extents_behind}
-use Rattle.dasd_unload.specs.Asked.{is_partitioned}
+use Rattle.dasd_unload.specs.Parts.{is_partitioned}
 use Rattle.library_members.specs.Report.{Line, plain, some_wrong}
 use Rattle.library_members.specs.Lines.{Shown}
 use Rattle.library_members.specs.Members.{library_lines}

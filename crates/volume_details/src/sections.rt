@@ -7,7 +7,7 @@ ghost use Rattle.counted_io.specs.Streams.{seen_by, IsFlushed};
 ghost use Rattle.dasd_volumes.specs.Printing.{PrintsText, CountsWrites};
 ghost use Rattle.dasd_volumes.specs.Reading.{IsRead};
 ghost use Rattle.volume_contents.specs.Sets.{is_data_set};
-ghost use Rattle.dasd_unload.specs.Asked.{is_partitioned};
+ghost use Rattle.dasd_unload.specs.Parts.{is_partitioned};
 ghost use Rattle.library_members.specs.Report.{printed, Adds, AddsOf};
 ghost use Rattle.volume_details.specs.Long.{described_by};
 ghost use Rattle.volume_details.specs.Sections.{shown_by, name_line, name_lines, front_lines, described_lines, block_lines, sections, TellsWrong};

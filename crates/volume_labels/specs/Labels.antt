@@ -50,6 +50,7 @@ data_set_block_of key bytes = record {
   block_length = number_at bytes 42;
   record_length = number_at bytes 44;
   key_length = slice_index bytes 46;
+  indicators = slice_index bytes 49;
   last = relative_address_at bytes 54;
   balance = number_at bytes 57;
   first_extent = extent_at bytes 61;

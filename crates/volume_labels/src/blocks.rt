@@ -60,6 +60,8 @@ pub struct DataSetBlock {
     pub record_length: u16,
     /// The length of its keys, in bytes.
     pub key_length: u8,
+    /// Its indicators, as bits.
+    pub indicators: u8,
     /// Its last block.
     pub last: RelativeAddress,
     /// How many bytes its last track has left.
@@ -132,6 +134,7 @@ pub fn data_set_block(key: &[u8], bytes: &[u8]) -> DataSetBlock
         block_length: number_at(bytes, 42),
         record_length: number_at(bytes, 44),
         key_length: bytes[46],
+        indicators: bytes[49],
         last: relative_address_at(bytes, 54),
         balance: number_at(bytes, 57),
         first_extent: extent_at(bytes, 61),

@@ -6,7 +6,6 @@ use Rattle.dasd_unload.proofs.sets.find_blocks.Goals as goal
 
 pub returns-in-Ok-find_start-clause-found : goal.returns-in-Ok-find_start-clause-found
 returns-in-Ok-find_start-clause-found g c = record {
-  set = c.in-Some.set;
   named = rw c.in-Some.is at c.in_ok-set.ensures.found;
   form = sym c.in-Ok.ensures;
   extents = refl;
