@@ -15,7 +15,7 @@ from . import __version__, queries
 from .answers import Way
 from .database import BadCatalogue, open_to_read
 from .engines import BadEngine, engine_for
-from .names import Places, clean
+from .names import Places, clean, quantity
 from .program import NoProgram, Object, find_program
 from .report import write_report
 from .scan import Wanted, scan
@@ -156,9 +156,9 @@ def run_find(words: Words) -> int:
 def line_of_place(it: Object) -> str:
     """What stands at a place, for people."""
     if "data_set" not in it:
-        more = f"{it['model']}, {it['cylinders']} cylinders, {it['errors']} errors"
+        more = f"{it['model']}, {quantity(it['cylinders'], 'cylinder')}, {quantity(it['errors'], 'error')}"
     else:
-        size = "" if it["bytes"] is None else f", {it['bytes']} bytes"
+        size = "" if it["bytes"] is None else f", {quantity(it['bytes'], 'byte')}"
         more = f"{it['organisation']} {it['format']}{size}{'' if it['whole'] in (True, None) else ', not whole'}"
     return f"{it['path']}: {clean(queries.name_of(it))}: {more}"
 
@@ -187,7 +187,7 @@ def run_copies(words: Words) -> int:
 def lines_of_copies(it: Object) -> str:
     """A group of copies, for people."""
     places = [f"  {place['path']}: {clean(queries.name_of(place))}" for place in it["places"]]
-    return "\n".join([f"{it['count']} times the same {it['kind']} of {it['bytes']} bytes:", *places])
+    return "\n".join([f"{it['count']} times the same {it['kind']} of {quantity(it['bytes'], 'byte')}:", *places])
 
 
 def run_text(words: Words) -> int:

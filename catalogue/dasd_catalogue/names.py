@@ -97,3 +97,8 @@ class Places:
     def found(self, kept: bytes) -> bytes:
         """Where the file of a path of the database is."""
         return os.path.normpath(os.path.join(self.folder, kept))
+
+
+def quantity(number: int, noun: str) -> str:
+    """A count and its noun, in the singular where it is one; a plural ends in `s`."""
+    return f"{number} {noun}" if number == 1 else f"{number} {noun}s"

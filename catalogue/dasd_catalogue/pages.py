@@ -7,6 +7,7 @@ from typing import Protocol
 
 from . import queries
 from .markup import Child, Html, joined, link, table, tag
+from .names import quantity
 from .picture import COLOURS, picture
 from .program import Object
 from .queries import Place, described, name_of
@@ -105,8 +106,8 @@ class View:
         facts = [
             ("serial", it["serial"] or "no label"),
             ("owner", (it["owner"] or "").strip()),
-            ("drive", f"{it['model']}, {it['cylinders']} cylinders of {it['heads']} heads"),
-            ("free", "" if it["free_tracks"] is None else f"{it['free_tracks']} tracks, {it['free_blocks']} control blocks"),
+            ("drive", f"{it['model']}, {quantity(it['cylinders'], 'cylinder')} of {it['heads']} heads"),
+            ("free", "" if it["free_tracks"] is None else f"{quantity(it['free_tracks'], 'track')}, {quantity(it['free_blocks'], 'control block')}"),
             ("packed with", it["packing"]),
             ("says", it["said"].hex() if it["said"] else ""),
         ]
@@ -211,7 +212,7 @@ class View:
         """A member: its text, its copies, and others of its name."""
         it = queries.row_at(self.connection, place)
         title = name_of(described(self.connection, place))
-        size = tag("p", f"{it['size']} bytes{'' if it['whole'] else ', not whole'}", class_="soft")
+        size = tag("p", f"{quantity(it['size'], 'byte')}{'' if it['whole'] else ', not whole'}", class_="soft")
         alike = self.connection.execute(
             "SELECT volume, data_set, number FROM members WHERE name = ? AND said <> ? ORDER BY 1, 2, 3 LIMIT ?", (it["name"], it["said"], BESIDE + 1)
         ).fetchall()
@@ -238,7 +239,7 @@ class View:
     def group(self, group: queries.Copies) -> Html:
         """A group of copies."""
         places = group.places(self.connection, BESIDE + 1)
-        heads = tag("h3", f"{group.count} of {group.size} bytes", f", {group.names} names" if group.names > 1 else None)
+        heads = tag("h3", f"{group.count} of {quantity(group.size, 'byte')}", f", {group.names} names" if group.names > 1 else None)
         return tag("section", heads, self.listed(places, places[0]))
 
 

@@ -8,6 +8,7 @@ import zlib
 from collections.abc import Iterator
 
 from .markup import Child, Html, joined, tag
+from .names import quantity
 
 CAPACITY = {2311: 3625, 2314: 7294}
 COLOURS = 8
@@ -29,7 +30,7 @@ def picture(connection: sqlite3.Connection, volume: sqlite3.Row) -> Html:
     cell = max(1, min(MOST_CELL, WIDTH // cylinders))
     query = "SELECT number, name, extents, extent_types, tracks FROM data_sets WHERE volume = ? ORDER BY number"
     sets = connection.execute(query, (volume["file"],)).fetchall()
-    names = {it["number"]: f"{it['name']}, {it['tracks']} tracks" for it in sets}
+    names = {it["number"]: f"{it['name']}, {quantity(it['tracks'], 'track')}" for it in sets}
     paths = paths_of(volume, owners_of(sets, heads), cylinders, cell)
     shapes = [shape(key, places, names) for key, places in sorted(paths.items(), key=lambda it: str(it[0]))]
     box = f"0 0 {cylinders * cell} {heads * HEIGHT}"

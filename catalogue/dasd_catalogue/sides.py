@@ -8,6 +8,7 @@ from collections.abc import Iterator
 
 from . import queries
 from .markup import Child, Html, joined, link, table, tag
+from .names import quantity
 from .pages import View
 from .picture import picture
 from .queries import Place, described, name_of
@@ -54,7 +55,7 @@ def set_row(view: View, name: str, found: list[sqlite3.Row | None]) -> tuple[Chi
             continue
         place = Place(it["volume"], it["number"])
         said.append(it["said"])
-        cells.append(link(view.links.place(place), f"{it['organisation']} {it['format']}, {it['used']} of {it['tracks']} tracks"))
+        cells.append(link(view.links.place(place), f"{it['organisation']} {it['format']}, {it['used']} of {quantity(it['tracks'], 'track')}"))
     same = said[0] == said[1] and said[0] is not None
     return (name, *cells, tag("span", "the same" if same else "differs", class_="same" if same else "bad"))
 

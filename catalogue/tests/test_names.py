@@ -7,11 +7,15 @@ import unittest
 
 from archive import Case
 
-from dasd_catalogue.names import Places, clean, exact, fits, plain_name, shown, split_name
+from dasd_catalogue.names import Places, clean, exact, fits, plain_name, quantity, shown, split_name
 
 
 class Names(unittest.TestCase):
     """Names that are shown, and those of files that `dasd` makes."""
+
+    def test_one_is_counted_in_the_singular(self) -> None:
+        """And none and several in the plural."""
+        self.assertEqual([quantity(it, "track") for it in (0, 1, 2)], ["0 tracks", "1 track", "2 tracks"])
 
     def test_what_is_shown_is_printable_and_can_be_turned_back(self) -> None:
         """For bytes by chance, and for those that terminals and encodings stumble over."""

@@ -63,7 +63,7 @@ export class Contents {
     const { label, sets } = volume;
     find('contents-title').textContent = label ? `Volume ${label.serial}` : 'No volume label';
     find('free').textContent = label ?
-      [label.owner.trim() && `owner ${label.owner.trim()}`, label.freeTracks !== null && `${counted(label.freeTracks)} tracks free`]
+      [label.owner.trim() && `owner ${label.owner.trim()}`, label.freeTracks !== null && `${amount(label.freeTracks, 'track')} free`]
         .filter(Boolean).join(', ') :
       '';
     for (const id of ['take-all', 'find']) /** @type {HTMLButtonElement} */

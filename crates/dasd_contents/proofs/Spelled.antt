@@ -20,12 +20,6 @@ pub year_and_day : (wide : Bool) (d : Date) (year : ℕ) → is_date d ≡ true 
     → decimal year ++ (codes "-" ++ padded_integral (format_spec 32 0 4 3 (2 ^ 64 - 1)) false [] (decimal d.day)) ≡ day_text wide d
 year_and_day wide d year there is = rw (is, there, zeros_before d.day, append-nil (three_digits d.day)) refl
 
--- words that end with a number
-pub other_number : (found said : ℕ)
-    → decimal found ++ (codes " extents, and not " ++ decimal said) ≡ concat
-    (decimal found ∷ codes " extents, and not " ∷ decimal said ∷ [])
-other_number found said = rw (append-nil (decimal said)) refl
-
 pub unknown_format : (format : ℕ)
     → codes "control block of unknown format " ++ padded_integral (format_spec 32 0 4 2 (2 ^ 64 - 1)) false [] (digits 16 true format)
     ≡ concat (codes "control block of unknown format " ∷ hexadecimal 2 format ∷ [])

@@ -3,6 +3,7 @@ use Rattle.std.specs.Prelude.{ℕ, ◌-◌, true, false, if◌then◌else◌, Li
 use Rattle.std.specs.Prelude.{Option, Some, None}
 use Rattle.std.specs.List.{concat, flat_map}
 use Rattle.std.specs.Fmt.{decimal}
+use Rattle.quantities.specs.Quantities.{quantity_text}
 use Rattle.ckd_track.specs.declared.geometries.Geometry.{Geometry}
 use Rattle.volume_labels.specs.declared.fields.Extent.{Extent}
 use Rattle.volume_labels.specs.declared.labels.VolumeLabel.{VolumeLabel}
@@ -63,7 +64,8 @@ block_line g blocks b = if is_data_set b.kind then set_line g (data_set_block_of
 -- The free tracks, and how many control blocks are free.
 abbrev pub free_line : Geometry → List Block → ContentsBlock → List ℕ
 free_line g blocks t = concat (
-    codes "free " ∷ decimal (tracks_free g blocks) ∷ codes " tracks, " ∷ decimal t.free_blocks ∷ codes " control blocks" ∷ line_feed ∷ [])
+    codes "free " ∷ quantity_text (tracks_free g blocks) (codes "track") (codes "tracks") ∷ codes ", "
+    ∷ quantity_text t.free_blocks (codes "control block") (codes "control blocks") ∷ line_feed ∷ [])
 
 -- What is wrong, and where.
 abbrev pub finding_line : Finding → List ℕ

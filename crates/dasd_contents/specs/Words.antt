@@ -3,6 +3,7 @@ use Rattle.std.specs.Prelude.{ℕ, ◌+◌, ◌-◌, ◌==◌, Bool, false, ◌&
 use Rattle.std.specs.Prelude.{encode_utf8}
 use Rattle.std.specs.List.{concat, flat_map}
 use Rattle.std.specs.Fmt.{decimal}
+use Rattle.quantities.specs.Quantities.{quantity_text}
 use Rattle.volume_labels.specs.declared.fields.TrackAddress.{TrackAddress}
 use Rattle.volume_labels.specs.declared.fields.RecordAddress.{RecordAddress}
 use Rattle.volume_labels.specs.declared.fields.Extent.{Extent}
@@ -33,7 +34,8 @@ extent_text e = concat (track_text e.first ∷ codes " .. " ∷ track_text e.las
 
 abbrev pub piece_text : FreeTracks → List ℕ
 piece_text f = concat (
-    codes "from track " ∷ decimal f.first ∷ codes " on, " ∷ decimal f.cylinders ∷ codes " cylinders and " ∷ decimal f.tracks ∷ codes " tracks" ∷ [])
+    codes "from track " ∷ decimal f.first ∷ codes " on, " ∷ quantity_text f.cylinders (codes "cylinder") (codes "cylinders")
+    ∷ codes " and " ∷ quantity_text f.tracks (codes "track") (codes "tracks") ∷ [])
 
 -- Text in EBCDIC, as it is shown; where it is quoted, a quotation mark and a backslash stand behind a backslash, as JSON has them.
 
@@ -120,7 +122,7 @@ problem_text NoBlock = codes "record has not the lengths of a control block"
 problem_text (UnknownFormat format) = concat (codes "control block of unknown format " ∷ hexadecimal 2 format ∷ [])
 problem_text OtherKey = codes "control block has a key of another format"
 problem_text (Chain fault) = chain_text fault
-problem_text (OtherNumber found said) = concat (decimal found ∷ codes " extents, and not " ∷ decimal said ∷ [])
+problem_text (OtherNumber found said) = concat (quantity_text found (codes "extent") (codes "extents") ∷ codes ", and not " ∷ decimal said ∷ [])
 problem_text (BadExtent e) = concat (codes "extent " ∷ extent_text e ∷ codes " is no run of tracks" ∷ [])
 problem_text (ExtentOutside e) = concat (codes "extent " ∷ extent_text e ∷ codes " is not all on the volume" ∷ [])
 problem_text (Overlap e track) = concat (codes "extent " ∷ extent_text e ∷ codes " has track " ∷ decimal track ∷ codes " of an earlier one" ∷ [])

@@ -13,6 +13,7 @@ use crate::words::{Bounds, Day, Format, Organisation, Owner, Place, Text, Wrong,
 use ckd_track::Geometry;
 use counted_io::{Counted, WriteFault, write_flushed};
 use dasd_volumes::VolumeFault;
+use quantities::Quantity;
 use std::alloc::Global;
 use std::io;
 use std::io::Write;
@@ -241,8 +242,13 @@ fn write_free<W: Write>(
     ensures { OnOk result (Appends (W.contents writer.old) (W.contents writer.new) (free_line geometry blocks.now table.now)) }
 {
     let tracks = tracks_free(alloc, geometry, blocks)?;
-    let free_blocks = table.free_blocks;
-    writeln!(writer, "free {tracks} tracks, {free_blocks} control blocks")
+    let tracks = Quantity::new(tracks, "track", "tracks");
+    let blocks = Quantity::new(
+        u64::from(table.free_blocks),
+        "control block",
+        "control blocks",
+    );
+    writeln!(writer, "free {tracks}, {blocks}")
 }
 
 // The lines of what is wrong.

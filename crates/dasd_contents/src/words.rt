@@ -3,12 +3,14 @@
 ghost use Rattle.std.specs.Prelude.{◌≡◌, ◌≤◌, [], ◌∷◌, Some, length, codes};
 ghost use Rattle.std.specs.List.{concat};
 ghost use Rattle.std.specs.Fmt.{WritesOnOk, decimal};
+ghost use Rattle.quantities.specs.Quantities.{quantity_text};
 ghost use Rattle.dasd_volumes.specs.Lines.{hexadecimal};
 ghost use Rattle.dasd_contents.specs.Words.{owner_text, track_text, place_text, extent_text, piece_text, in_text, text_of, is_date, day_text, organisation_of};
 ghost use Rattle.dasd_contents.specs.Words.{unmovable, organisation_text, form_of, where_set, format_text, chain_text, problem_text, kind_text};
 
 use dasd_volumes::{Reason, TrackAddress as Address};
 use data_sets::without_blanks;
+use quantities::Quantity;
 use std::fmt;
 use std::fmt::Display;
 use volume_contents::{ChainFault, Problem};
@@ -239,10 +241,9 @@ impl Display for Piece {
             cylinders,
             tracks,
         } = self.0;
-        write!(
-            f,
-            "from track {first} on, {cylinders} cylinders and {tracks} tracks"
-        )
+        let cylinders = Quantity::new(u64::from(cylinders), "cylinder", "cylinders");
+        let tracks = Quantity::new(u64::from(tracks), "track", "tracks");
+        write!(f, "from track {first} on, {cylinders} and {tracks}")
     }
 }
 
@@ -342,9 +343,11 @@ fn write_format<W: fmt::Write>(f: &mut fmt::Formatter<W>, format: u8) -> fmt::Re
 
 // How many extents there are, and how many there should be.
 fn write_number<W: fmt::Write>(f: &mut fmt::Formatter<W>, found: usize, said: u8) -> fmt::Result
-    ensures { WritesOnOk W.write_str_gives f.old result (concat (decimal found ∷ codes " extents, and not " ∷ decimal said ∷ [])) f.new }
+    ensures { WritesOnOk W.write_str_gives f.old result
+        (concat (quantity_text found (codes "extent") (codes "extents") ∷ codes ", and not " ∷ decimal said ∷ [])) f.new }
 {
-    write!(f, "{found} extents, and not {said}")
+    let extents = Quantity::new(found as u64, "extent", "extents");
+    write!(f, "{extents}, and not {said}")
 }
 
 // An extent, and what is wrong with it.

@@ -92,7 +92,8 @@ impl fmt::Display for Reason {
                 write!(f, "its highest cylinder is {highest}, and no file follows")
             }
             Reason::NoHeader(len) => {
-                write!(f, "its length is {len} bytes, and its header has {HEADER}")
+                let bytes = Quantity::new(*len, "byte", "bytes");
+                write!(f, "its length is {bytes}, and its header has {HEADER}")
             }
             Reason::OtherLength(len, wanted) => {
                 write!(
@@ -101,9 +102,10 @@ impl fmt::Display for Reason {
                 )
             }
             Reason::Length(len, cylinder) => {
+                let bytes = Quantity::new(*len, "byte", "bytes");
                 write!(
                     f,
-                    "its length is {len} bytes, and an image is {HEADER} bytes and whole cylinders of {cylinder}"
+                    "its length is {bytes}, and an image is {HEADER} bytes and whole cylinders of {cylinder}"
                 )
             }
         }
