@@ -26,6 +26,18 @@ _dasd() {
     format:--cylinders)
         return
         ;;
+    format:--label)
+        return
+        ;;
+    format:--owner)
+        return
+        ;;
+    format:--vtoc)
+        return
+        ;;
+    format:--vtoc-at)
+        return
+        ;;
     list:--cylinder)
         return
         ;;
@@ -73,7 +85,7 @@ _dasd() {
         [ "$COMP_CWORD" -eq 2 ] && _dasd_words format list check dump compare hash vtoc extract explain assemble disassemble run help
         ;;
     format)
-        if [[ $word == -* ]]; then _dasd_words --model --cylinders --no-replace --verbose -h --help; return; fi
+        if [[ $word == -* ]]; then _dasd_words --model --cylinders --label --owner --vtoc --vtoc-at --no-replace --verbose -h --help; return; fi
         _dasd_files
         ;;
     list)

@@ -100,6 +100,7 @@ def deck_for(unit: str) -> bytes:
 COMMANDS = [
     Command("format a new file", ["format", "new.ckd", "--cylinders", "1"]),
     Command("format over a file", ["format", "one.ckd", "--cylinders", "2"]),
+    Command("format with a label", ["format", "one.ckd", "--cylinders", "1", "--label", "ABC123"]),
     Command("run", ["run", "90=one.ckd", "91=two.ckd"], deck_for("190") + deck_for("191")),
     Command("run with a trace", ["run", "--trace-to", "trace", "90=one.ckd"], deck_for("190")),
     Command("run --in-place", ["run", "--in-place", "90=one.ckd", "91=two.ckd"], deck_for("190") + deck_for("191")),

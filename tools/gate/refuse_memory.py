@@ -68,6 +68,7 @@ class Job:
 JOBS = {
     "the stored deck": Job([]),
     "format": Job(["format", "new.ckd", "--model", "2311", "--cylinders", "2"], "", NOTED),
+    "format with a label": Job(["format", "new.ckd", "--cylinders", "2", "--label", "ABC123", "--owner", "SIXAMBRA", "--vtoc", "2"], "", NOTED),
     "list": Job(["list", "old.ckd"]),
     "check": Job(["check", "old.ckd"]),
     "a deck that writes a record": Job(["run", "90=old.ckd", "91=new:2314:1"], DECK),

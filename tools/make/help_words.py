@@ -26,6 +26,10 @@ KINDS = {
     "NUMBER": NOTHING,
     "DIGITS": NOTHING,
     "FORMAT": NOTHING,
+    "SERIAL": NOTHING,
+    "TEXT": NOTHING,
+    "TRACKS": NOTHING,
+    "C:H": NOTHING,
     "BYTES": NOTHING,
 }
 

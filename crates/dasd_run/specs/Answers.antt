@@ -19,6 +19,7 @@ use Rattle.dasd_jobs.specs.Sources.{SourceFile, OfVolume}
 use Rattle.dasd_jobs.specs.Written.{Replaced, Formats}
 use Rattle.dasd_jobs.specs.declared.faults.JobFault.{JobFault}
 use Rattle.dasd_unload.specs.Unloads.{Outcome, outcome}
+use Rattle.dasd_run.specs.Labels.{FormatsWithLabel}
 use Rattle.dasd_run.specs.declared.commands.Ending.{Ending}
 use Rattle.dasd_run.specs.declared.commands.Ending.TheVariants.{Done}
 use Rattle.dasd_run.specs.declared.fault.ProgramFault.{ProgramFault}
@@ -115,6 +116,8 @@ left_of o = outcome o.written o.printed
 abbrev pub Answers : Request → Result Ending ProgramFault → (before now : Outside) → Type 0
 Answers (request.Format asked) result before now =
     FormatsVolume result asked before.written now.written before.printed now.printed × (now.read ≡ before.read)
+Answers (request.FormatLabelled asked label) result before now =
+    FormatsWithLabel result asked label before.written now.written before.printed now.printed × (now.read ≡ before.read)
 Answers (request.List paths) result before now =
     ListsVolume result (map (λ path. path.now) paths.items) before.opened now.opened before.printed now.printed × Looks before now
 Answers (request.ListPart asked part) result before now =

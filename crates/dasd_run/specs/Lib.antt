@@ -14,4 +14,5 @@ pub mod Compared
 pub mod Strict
 pub mod Loads
 pub mod Words
+pub mod Labels
 pub mod Answers

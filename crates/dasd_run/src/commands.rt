@@ -15,6 +15,7 @@ use crate::details::{list_details, list_library};
 use crate::explain::explain;
 use crate::fault::ProgramFault;
 use crate::hash::hash_volume;
+use crate::labels::format_with_label;
 use crate::list::list_part;
 use crate::runs::{Disks, build, finish, tell_running};
 use crate::strict::check_strictly;
@@ -103,6 +104,9 @@ pub fn answer<F: Traces, R: Read, W: Write, P: Progress>(
 {
     match request {
         Request::Format(asked) => format_volume(alloc, files, writer, progress, &asked),
+        Request::FormatLabelled(image, label) => {
+            format_with_label(alloc, files, writer, progress, (&image, label))
+        }
         Request::List(paths) => list_volume(alloc, files, writer, paths.as_slice()),
         Request::ListPart(volume, part) => list_part(alloc, files, writer, &volume, part),
         Request::Check(paths) => check_volume(alloc, files, writer, progress, paths.as_slice()),

@@ -16,26 +16,20 @@ use std::io::Write;
 fn lines_of(noted: Noted) -> Lines {
     match noted {
         Noted::Csw(bytes) => of_csw(Csw::from_bytes(bytes)),
-        Noted::Ending(bytes) => of_second_half(bytes),
-        Noted::Status(bytes) => of_stored(bytes),
+        Noted::Ending(bytes) => {
+            let [unit, channel, high, low] = bytes;
+            let csw = Csw::from_bytes([0, 0, 0, 0, unit, channel, high, low]);
+            of_ending(csw.unit, csw.channel, csw.count)
+        }
+        Noted::Status(bytes) => {
+            let [unit, channel] = bytes;
+            let csw = Csw::from_bytes([0, 0, 0, 0, unit, channel, 0, 0]);
+            of_status(csw.unit, csw.channel)
+        }
         Noted::Sense(bytes) => of_sense(bytes.as_slice()),
         Noted::Ccw(bytes) => of_ccw(Ccw::from_bytes(bytes)),
         Noted::Line(pasted) => of_pasted(pasted),
     }
-}
-
-// The lines of the second half of a channel status word.
-fn of_second_half(bytes: [u8; 4]) -> Lines {
-    let [unit, channel, high, low] = bytes;
-    let csw = Csw::from_bytes([0, 0, 0, 0, unit, channel, high, low]);
-    of_ending(csw.unit, csw.channel, csw.count)
-}
-
-// The lines of unit status and channel status.
-fn of_stored(bytes: [u8; 2]) -> Lines {
-    let [unit, channel] = bytes;
-    let csw = Csw::from_bytes([0, 0, 0, 0, unit, channel, 0, 0]);
-    of_status(csw.unit, csw.channel)
 }
 
 /// Prints what a number means.

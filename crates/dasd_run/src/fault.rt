@@ -7,6 +7,7 @@ use dasd_jobs::JobFault;
 use dasd_unload::UnloadFault;
 use dasd_volumes::VolumeFault;
 use dasd_words::WordFault;
+use new_labels::TableFault;
 use s360_assembler::AssemblyFault;
 use s360_channel::AttachFault;
 use s360_deck::{DeckFault, RunFault};
@@ -50,6 +51,9 @@ pub enum ProgramFault {
     /// The data set whose members are asked for has none.
     #[error("not a partitioned data set")]
     NotPartitioned,
+    /// The volume can't have such a table of contents.
+    #[error(transparent)]
+    Table(TableFault),
     /// The file of a trace can't be opened.
     #[error("trace file not opened")]
     TraceNotOpened,

@@ -9,6 +9,7 @@ mod details;
 mod explain;
 mod fault;
 mod hash;
+mod labels;
 mod list;
 mod loads;
 mod printed_paths;

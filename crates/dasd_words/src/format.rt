@@ -1,6 +1,7 @@
 //! The words of `dasd format`.
 
 use crate::commands::{NO_PATH, wrong};
+use crate::label::read_label;
 use crate::options::{ArgKind, ArgRow, CommandRow, FILE, Value, WORD, not_taken};
 use crate::requests::{NewImage, Request, WordFault};
 use crate::volumes::read_model;
@@ -46,6 +47,38 @@ pub(crate) const COMMAND: CommandRow = CommandRow {
             }),
         },
         ArgRow {
+            id: "label",
+            help: "writes a volume label with this serial number, and an empty table of contents",
+            kind: ArgKind::Valued(Value {
+                name: "SERIAL",
+                ..FILE
+            }),
+        },
+        ArgRow {
+            id: "owner",
+            help: "the owner's name in the label",
+            kind: ArgKind::Valued(Value {
+                name: "TEXT",
+                ..FILE
+            }),
+        },
+        ArgRow {
+            id: "vtoc",
+            help: "the tracks of the table of contents; without it the rest of its first cylinder",
+            kind: ArgKind::Valued(Value {
+                name: "TRACKS",
+                ..FILE
+            }),
+        },
+        ArgRow {
+            id: "vtoc-at",
+            help: "cylinder and head of its first track; without it 0:1, behind the label",
+            kind: ArgKind::Valued(Value {
+                name: "C:H",
+                ..FILE
+            }),
+        },
+        ArgRow {
             id: "no-replace",
             help: "refuses to replace a file",
             kind: ArgKind::Flag,
@@ -62,12 +95,16 @@ pub(crate) fn read<'a>(alloc: Global, options: &ArgMatches<'a>) -> Result<Reques
         .get_str("model")
         .and_then(|model| read_model(model))
         .unwrap_or(DriveModel::D2311);
-    Ok(Request::Format(NewImage {
+    let image = NewImage {
         path,
         model,
         cylinders: read_cylinders(alloc, options)?,
         replaces: !options.get_flag("no-replace"),
-    }))
+    };
+    match read_label(alloc, options, model)? {
+        Some(label) => Ok(Request::FormatLabelled(image, label)),
+        None => Ok(Request::Format(image)),
+    }
 }
 
 // The number of cylinders.

@@ -9,6 +9,7 @@ mod explain;
 mod extract;
 mod format;
 mod hash;
+mod label;
 mod list;
 mod listings;
 mod options;

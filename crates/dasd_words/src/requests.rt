@@ -3,6 +3,7 @@
 use crate::volumes::Volume;
 use arrayvec::ArrayVec;
 use ckd_track::DriveModel;
+use new_labels::NewLabel;
 use record_formats::RecordAttributes;
 use s360_explain::Pasted;
 use std::alloc::AllocError;
@@ -68,6 +69,8 @@ pub enum Noted {
 pub enum Request<'a> {
     /// Write a new image to a path.
     Format(NewImage<'a>),
+    /// Write a new image with a label and an empty table of contents to a path.
+    FormatLabelled(NewImage<'a>, NewLabel),
     /// Print the tracks and records of the image that these files hold.
     List(Vec<&'a str>),
     /// Print some of the tracks of a volume, with their records, or all as objects.

@@ -1,0 +1,4 @@
+pub mod Labels
+pub mod Records
+pub mod Texts
+pub mod Tracks
