@@ -13,6 +13,9 @@ pub mod OneMore
 pub mod AllAnswered
 pub mod PartLengths
 pub mod Removing
+pub mod AsSaved
+pub mod Backs
+pub mod Saved
 pub mod Images
 pub mod Fronts
 pub mod Slots

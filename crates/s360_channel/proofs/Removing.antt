@@ -14,7 +14,7 @@ use Rattle.s360_program.specs.Advances.{Rests}
 use Rattle.s360_program.specs.Stands.{RunningState}
 use Rattle.s360_laws.specs.declared.arm.Arm.{Arm}
 use Rattle.s360_laws.specs.declared.arm.Arm.TheVariants.{AtRest}
-use Rattle.s360_laws.specs.Machine.{Device, Machine, device_at}
+use Rattle.s360_laws.specs.Machine.{Device, Machine, device_at, with_device}
 use Rattle.s360_laws.specs.Machine as machine
 use Rattle.s360_laws.specs.Soundness.{AreDistinct}
 use Rattle.s360_laws.proofs.FindDevices.{Keeps, different, found_map, keeps_one, set_drive, distinct_map}
@@ -377,53 +377,57 @@ same_size held other h = sym (eqb-true held.track_size other.track_size (second 
     second true b h = sym h
     second false b h = absurd (cc)
 
-module _ (c : ChannelState) (m : Machine) (s : StandsFor c m) (device place : ℕ) (f : IsFree device place c) (image : ImageState) where
+-- A channel one of whose drives, which was free, is another, of the same address.
+
+module _ (c : ChannelState) (m : Machine) (s : StandsFor c m) (device place : ℕ) (f : IsFree device place c) (this : AttachedState)
+    (g : Device → Device) (keeps : Keeps g) (same : device_of this ≡ g (device_of f.attached)) (rests : Rests this.drive) where
   distinct_now : AreDistinct (devices c.drives)
   distinct_now = distinct c m s device place f.attached (attached c m s device place f)
-
-  abbrev this : AttachedState
-  this = new_attached device image
 
   abbrev drives_now : List AttachedState
   drives_now = slice_set c.drives place this
 
   abbrev change : List Device → List Device
-  change = map (changes device (packed image))
+  change = map (changes device g)
 
   now : devices drives_now ≡ change (devices c.drives)
-  now = devices_set c.drives place f.attached this (packed image) distinct_now f.is_there (ap (λ n. device_of (new_attached n image))
-      (sym f.same_device))
-      ∙ ap (λ n. map (changes n (packed image)) (devices c.drives)) f.same_device
+  now = devices_set c.drives place f.attached this g distinct_now f.is_there same
+      ∙ ap (λ n. map (changes n g) (devices c.drives)) f.same_device
 
-  shows_packed : (x : Subchannel) → Shows c m x → works_at place x ≡ false
-      → Shows (record c { drives = drives_now }) (with_pack device image m) x
-  shows_packed Idle h o = rests_changed c m drives_now change now machine.Idle h.0 (all_set c.drives place this h.1
-      (new_rests device image))
-  shows_packed (Pending d csw) h o = rests_changed c m drives_now change now (machine.Pending d csw) h.0 (all_set c.drives place this h.1
-      (new_rests device image))
-  shows_packed (Working p r) w o = works_changed c m drives_now change now c.subchannel p p r w (record {
+  shows_changed : (x : Subchannel) → Shows c m x → works_at place x ≡ false
+      → Shows (record c { drives = drives_now }) (with_device device g m) x
+  shows_changed Idle h o = rests_changed c m drives_now change now machine.Idle h.0 (all_set c.drives place this h.1 rests)
+  shows_changed (Pending d csw) h o = rests_changed c m drives_now change now (machine.Pending d csw) h.0
+      (all_set c.drives place this h.1 rests)
+  shows_changed (Working p r) w o = works_changed c m drives_now change now c.subchannel p p r w (record {
     attached = w.attached;
     is_there = get_other c.drives place p this (eqb-false p place o) ∙ w.is_there;
     same_device = refl;
     same_drive = refl;
-    others = others_put c.drives place p f.attached this f.is_there (λ n r. new_rests device image) w.others;
-  }) (changes_apart device w.attached.device (packed image) (set_drive w.drive) (λ d. refl) (λ d. refl) (λ e. absurd (other e))
-      (devices c.drives))
+    others = others_put c.drives place p f.attached this f.is_there (λ n r. rests) w.others;
+  }) (changes_apart device w.attached.device g (set_drive w.drive) keeps (λ d. refl) (λ e. absurd (other e)) (devices c.drives))
     where
       other : device ≡ w.attached.device → ⊥
       other e = eqb-false w.attached.device f.attached.device (same_places c.drives p place w.attached f.attached distinct_now w.is_there
           f.is_there ∙ o) (sym (f.same_device ∙ e))
 
-  stands_packed : StandsFor (record c { drives = drives_now }) (with_pack device image m)
-  stands_packed = record {
+  pub stands_changed : StandsFor (record c { drives = drives_now }) (with_device device g m)
+  stands_changed = record {
     number = s.number;
     few = subst (λ n. n ≤ 8) (sym (length-set c.drives place this)) s.few;
-    shows = shows_packed c.subchannel s.shows f.runs;
-    sound = sound_with m device (change m.devices) (distinct_map (changes device (packed image)) (keeps_one device (packed image)
-        (λ d. refl)) m.devices s.sound.0)
-        (λ n. found_other device n (packed image) (λ d. refl) m.devices) (off c m s device place f)
+    shows = shows_changed c.subchannel s.shows f.runs;
+    sound = sound_with m device (change m.devices) (distinct_map (changes device g) (keeps_one device g keeps) m.devices s.sound.0)
+        (λ n. found_other device n g keeps m.devices) (off c m s device place f)
         (λ p. false_is_true (sym (quiet c m s device place f) ∙ p)) s.sound;
   }
+
+module _ (c : ChannelState) (m : Machine) (s : StandsFor c m) (device place : ℕ) (f : IsFree device place c) (image : ImageState) where
+  abbrev this : AttachedState
+  this = new_attached device image
+
+  stands_packed : StandsFor (record c { drives = slice_set c.drives place this }) (with_pack device image m)
+  stands_packed = stands_changed c m s device place f this (packed image) (λ d. refl)
+      (ap (λ n. device_of (new_attached n image)) (sym f.same_device)) (new_rests device image)
 
   -- the drive may have the pack that fits
   pub may_exchange : (geometry : Geometry) → geometry ≡ image.geometry
@@ -453,7 +457,7 @@ module _ (c : ChannelState) (m : Machine) (s : StandsFor c m) (device place : �
       → ExchangesPack place image before c.drives drives → Exchanges device m image before c (record c { drives = drives })
   exchanges drives before fits r =
       let same : r.attached ≡ f.attached = inside r.attached f.attached (sym r.was ∙ f.is_there) in
-      let placed : drives ≡ drives_now =
+      let placed : drives ≡ slice_set c.drives place this =
       r.becomes ∙ ap (λ (u : AttachedState). slice_set c.drives place (record u { drive = this.drive })) same
       ∙ ap (λ n. slice_set c.drives place (record (new_attached n image) { arm = f.attached.arm })) f.same_device
       ∙ ap (λ a. slice_set c.drives place (record this { arm = a })) f.arm in

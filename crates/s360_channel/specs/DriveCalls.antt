@@ -1,10 +1,10 @@
 -- What a call does to the drive at a place in the order of attachment: the others stay.
-use Rattle.std.specs.Prelude.{◌≡◌, ◌*◌, ℕ, List, [], ◌∷◌, Bool, false, Option, Some, None, slice_get, slice_set}
+use Rattle.std.specs.Prelude.{◌≡◌, ◌*◌, ℕ, List, [], ◌∷◌, Bool, true, false, Option, Some, None, slice_get, slice_set}
 use Rattle.std.specs.List.{remove}
 use Rattle.s360_words.specs.Storage.{Storage}
 use Rattle.s360_words.specs.declared.words.Csw.{Csw}
 use Rattle.ckd_command.specs.Drive.{drive_of}
-use Rattle.ckd_drive.specs.Work.{DriveState, CallsStore, new_drive, without_sense}
+use Rattle.ckd_drive.specs.Work.{DriveState, CallsStore, has_track, new_drive, without_sense}
 use Rattle.ckd_image.specs.Image.{ImageState}
 use Rattle.s360_runs.specs.Unsaved.{has_written}
 use Rattle.s360_program.specs.Advances.{RunsOn, KeepsStorage, Cuts, CallsAtMost, Rests, TellsOf, CutTellsOf}
@@ -15,6 +15,9 @@ use Rattle.s360_program.specs.declared.program.Start.{Start}
 use Rattle.s360_laws.specs.declared.arm.Arm.{Arm}
 use Rattle.s360_laws.specs.declared.arm.Arm.TheVariants.{AtRest}
 use Rattle.s360_channel.specs.Channel.{AttachedState}
+use Rattle.s360_channel.specs.Restores.{attached_as_saved}
+use Rattle.s360_channel.specs.Saves.{drive_back, entry, has_track_of}
+use Rattle.s360_channel.specs.declared.restoring.SavedDrive.{SavedDrive}
 
 -- the drive at a place changed so, but neither its address nor its arm, nor another drive
 pub record DriveChanges (place : ℕ) (How : DriveState → DriveState → Type 0)
@@ -99,3 +102,26 @@ pub record RestsAt (place : ℕ) (old new : List AttachedState) : Type 0 where
   pub attached : AttachedState
   pub was : slice_get old place ≡ Some attached
   pub becomes : new ≡ slice_set old place (at_rest_attached attached)
+
+-- the drive at a place rests, and its volume has the track where one was saved
+abbrev pub MayRestore : SavedDrive → DriveState → Type 0
+MayRestore saved d = Rests d × (has_track d.state.volume.geometry saved.cylinder saved.head ≡ true)
+
+-- the drive at a place is as one was saved
+pub record RestoresAt (place : ℕ) (saved : SavedDrive) (old new : List AttachedState) : Type 0 where
+  pub attached : AttachedState
+  pub was : slice_get old place ≡ Some attached
+  pub becomes : new ≡ slice_set old place (attached_as_saved saved attached)
+
+-- the drive at a place rests, was saved, and its volume has the track where it was
+pub record MayBeBack (place : ℕ) (entries : List (Option (ℕ × SavedDrive))) (us : List AttachedState) : Type 0 where
+  pub attached : AttachedState
+  pub is_there : slice_get us place ≡ Some attached
+  pub rests : Rests attached.drive
+  pub track : has_track_of (entry attached.device entries) attached.drive.state.volume.geometry ≡ true
+
+-- the drive at a place is as it was saved
+pub record PutsBackAt (place : ℕ) (entries : List (Option (ℕ × SavedDrive))) (old new : List AttachedState) : Type 0 where
+  pub attached : AttachedState
+  pub was : slice_get old place ≡ Some attached
+  pub becomes : new ≡ slice_set old place (drive_back (entry attached.device entries) attached)

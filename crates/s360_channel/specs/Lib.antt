@@ -11,4 +11,6 @@ pub mod Attaches
 pub mod Ends
 pub mod Nexts
 pub mod Watched
+pub mod Restores
+pub mod Saves
 pub mod Selector

@@ -95,8 +95,8 @@ impl<S: ImageStore> Selector<S> {
         Ok(self.drives.exchange(place, image))
     }
 
-    // The place of the drive with this address, if nothing is owed of it.
-    fn free_place(&self, device: u8) -> Result<usize, DetachFault>
+    /// The place of the drive with this address, if nothing is owed of it.
+    pub(crate) fn free_place(&self, device: u8) -> Result<usize, DetachFault>
         ensures free { (s : StorageState) → IfOk result (λ place. IsFree device place (over self.now s)) }
         ensures refused { (s : StorageState) (m : Machine) → StandsFor (over self.now s) m
             → IfErr result (λ e. why_stays device m ≡ Some e) }

@@ -9,12 +9,15 @@ ghost use Rattle.s360_laws.specs.Machine.{lowest, lower, has_arrived};
 ghost use Rattle.s360_channel.specs.Channel.{is_at, device_of, new_attached, AllRest};
 ghost use Rattle.s360_channel.specs.Finishes.{images_of};
 ghost use Rattle.s360_channel.specs.DriveCalls.{DriveChanges, DriveIs, Starts, AdvancesAt, CutsAt, ArmChanges, OnlyDrive, TakesFirst, Removes, ExchangesPack};
-ghost use Rattle.s360_channel.specs.DriveCalls.{MayExchange, RestsAt, at_rest_attached};
+ghost use Rattle.s360_channel.specs.DriveCalls.{MayExchange, MayRestore, RestoresAt, RestsAt, at_rest_attached};
+ghost use Rattle.s360_channel.specs.Restores.{attached_as_saved};
+ghost use Rattle.ckd_drive.specs.Work.{has_track};
 ghost use Rattle.s360_channel.specs.Packs.{fits_drive, is_same_model};
 ghost use Rattle.s360_channel.specs.Slots.{present, is_held};
 ghost use Rattle.s360_channel.specs.Views.{drives_seen, drive_seen};
 
 use crate::attached_drive::AttachedDrive;
+use crate::restoring::SavedDrive;
 use crate::view::DriveView;
 use arrayvec::ArrayVec;
 use ckd_drive::Drive;
@@ -31,7 +34,7 @@ use std::marker::Model;
 /// blank, which a list of a fixed capacity needs, stands only behind them.
 #[derive(Drop)]
 pub(crate) struct Drives<S: ImageStore> {
-    list: ArrayVec<Option<AttachedDrive<S>>, 8>,
+    pub(crate) list: ArrayVec<Option<AttachedDrive<S>>, 8>,
 }
 
 impl<S: ImageStore> Model for Drives<S> {
@@ -143,6 +146,27 @@ impl<S: ImageStore> Drives<S> {
     {
         match &mut self.list.as_mut_slice()[place] {
             Some(attached) => attached.drive.exchange(image),
+            None => unreachable!(),
+        }
+    }
+
+    /// Whether the volume of the drive at a place has the track where one was saved.
+    pub(crate) fn has_track(&self, place: usize, saved: SavedDrive) -> bool
+        requires { place < length self.now }
+        ensures { Some result ≡ option_map (λ u. has_track u.drive.state.volume.geometry saved.cylinder saved.head)
+            (slice_get self.now place) }
+    {
+        let geometry = self.at(place).drive.geometry();
+        saved.cylinder < geometry.cylinders && saved.head < geometry.model.heads()
+    }
+
+    /// The drive at a place is as one was saved from now on.
+    pub(crate) fn restore(&mut self, place: usize, saved: SavedDrive)
+        requires { DriveIs place (MayRestore saved) self.old }
+        ensures { RestoresAt place saved self.old self.new }
+    {
+        match &mut self.list.as_mut_slice()[place] {
+            Some(attached) => restore(attached, saved),
             None => unreachable!(),
         }
     }
@@ -358,6 +382,20 @@ fn drive_of<S: ImageStore>(
         Ok(drive) => Ok(drive),
         Err(refused) => Err((AllocError, refused.value.into_image())),
     }
+}
+
+// A drive is as one was saved.
+fn restore<S: ImageStore>(attached: &mut AttachedDrive<S>, saved: SavedDrive)
+    requires { MayRestore saved attached.old.drive }
+    ensures { attached.new ≡ attached_as_saved saved attached.old }
+{
+    let restored = attached
+        .drive
+        .restore(saved.cylinder, saved.head, saved.sense);
+    let Ok(()) = restored else {
+        unreachable!();
+    };
+    attached.arm = saved.arm;
 }
 
 fn is_same_model(held: DriveModel, other: DriveModel) -> bool

@@ -62,3 +62,42 @@ pub enum ExchangeFault {
 #[derive(Clone, Copy, Debug, PartialEq, Eq, Error)]
 #[error("a storage of another size")]
 pub struct OtherSize;
+
+/// Why a drive is not put where it was. `Held` is looked for first.
+#[derive(Clone, Copy, Debug, PartialEq, Eq, Error)]
+pub enum RestoreFault {
+    /// There is no such drive, or something is owed of it.
+    #[error("{0}")]
+    Held(DetachFault),
+    /// Its volume has no such cylinder or head.
+    #[error("the volume has no such track")]
+    NoSuchTrack,
+}
+
+/// Why a channel status word does not pend. `NotIdle` is looked for first.
+#[derive(Clone, Copy, Debug, PartialEq, Eq, Error)]
+pub enum PendingFault {
+    /// A program runs, or a channel status word pends.
+    #[error("the subchannel is not available")]
+    NotIdle,
+    /// No channel stores it for this device: it lacks the channel end; or it has the device end, and the arm owes another; or neither.
+    #[error("no ending that a channel owes")]
+    NotOwed,
+}
+
+/// Why a channel is not put back as it was saved. They are looked for in this order.
+#[derive(Clone, Copy, Debug, PartialEq, Eq, Error)]
+pub enum SavedFault {
+    /// A channel program runs.
+    #[error("a channel program runs")]
+    ProgramRuns,
+    /// The drives that are attached are not those that were saved.
+    #[error("other drives were saved")]
+    OtherDrives,
+    /// A volume has no such cylinder or head.
+    #[error("a volume has no such track")]
+    NoSuchTrack,
+    /// No channel owes the channel status word that is to pend.
+    #[error("no ending that a channel owes")]
+    NotOwed,
+}

@@ -9,6 +9,7 @@ mod changes;
 mod channel;
 mod copying;
 mod drives;
+mod drives_saved;
 mod driving;
 mod ending;
 mod events_at;
@@ -17,6 +18,8 @@ mod instructions;
 mod interrupting;
 mod packs;
 mod processor;
+mod restoring;
+mod saving;
 mod selector;
 mod showing;
 mod starting;
@@ -31,7 +34,10 @@ pub use crate::asking::finds_another;
 pub use crate::channel::{Channel, Finished, Reset};
 pub use crate::driving::drive;
 pub use crate::faults::{
-    AttachFault, DetachFault, ExchangeFault, NewFault, OtherSize, OutsideStorage,
+    AttachFault, DetachFault, ExchangeFault, NewFault, OtherSize, OutsideStorage, PendingFault,
+    RestoreFault, SavedFault,
 };
+pub use crate::restoring::SavedDrive;
+pub use crate::saving::SavedChannel;
 pub use crate::selector::Selector;
 pub use crate::view::{DriveView, RunOn, SubchannelView, View, Watched};

@@ -1,4 +1,5 @@
 pub mod Fitting
+pub mod BackFits
 pub mod Quiet
 pub mod Changes
 pub mod Missing

@@ -6,5 +6,7 @@ pub mod Asked
 pub mod Interrupting
 pub mod Turns
 pub mod Packs
+pub mod Restores
+pub mod Saves
 pub mod Several
 pub mod Ending

@@ -46,3 +46,36 @@ pub enum ExchangeFault {
     #[error("{0}")]
     Refused(s360_channel::ExchangeFault),
 }
+
+/// Why a drive is not put where it was. `NoChannel` is looked for first.
+#[derive(Clone, Copy, Debug, PartialEq, Eq, Error)]
+pub enum RestoreFault {
+    /// There is no channel with the number in the high byte.
+    #[error("there is no channel with this number")]
+    NoChannel,
+    /// The channel refuses it.
+    #[error("{0}")]
+    Refused(s360_channel::RestoreFault),
+}
+
+/// Why a channel status word does not pend. `NoChannel` is looked for first.
+#[derive(Clone, Copy, Debug, PartialEq, Eq, Error)]
+pub enum PendingFault {
+    /// There is no channel with the number in the high byte.
+    #[error("there is no channel with this number")]
+    NoChannel,
+    /// The channel refuses it.
+    #[error("{0}")]
+    Refused(s360_channel::PendingFault),
+}
+
+/// Why channels are not put back as they were saved. The channels are looked at in the order of their numbers.
+#[derive(Clone, Copy, Debug, PartialEq, Eq, Error)]
+pub enum SavedFault {
+    /// A channel was saved that is not there, or is there and was not saved.
+    #[error("other channels were saved")]
+    OtherChannels,
+    /// A channel refuses it.
+    #[error("{0}")]
+    Refused(s360_channel::SavedFault),
+}

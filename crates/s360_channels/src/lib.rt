@@ -15,7 +15,9 @@ pub mod laws;
 mod packs;
 mod places;
 mod processor;
+mod restoring;
 mod running;
+mod saving;
 mod selectors;
 mod showing;
 mod shown;
@@ -23,6 +25,8 @@ mod turns;
 
 pub use crate::channels::Channels;
 pub use crate::ending::Removed;
-pub use crate::faults::{AddFault, AttachFault, DetachFault, ExchangeFault};
+pub use crate::faults::{
+    AddFault, AttachFault, DetachFault, ExchangeFault, PendingFault, RestoreFault, SavedFault,
+};
 pub use crate::interrupting::is_open;
 pub use crate::selectors::Selectors;

@@ -1,0 +1,3 @@
+pub mod Joining
+pub mod Blocks
+pub mod RoundTrip
