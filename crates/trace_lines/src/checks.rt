@@ -88,8 +88,7 @@ impl Trace {
         self.text.put(" takes ");
         self.text.number(last_charge(drive.model, key, data) as u64);
         self.text.put(" of the track, of which ");
-        self.text.number(room as u64);
-        self.text.put(" are left");
+        self.tell_quantity(room as u64, "is left", "are left");
         true
     }
 
@@ -104,7 +103,7 @@ impl Trace {
         self.text.put("the search right before it compared ");
         self.tell_compared();
         self.text
-            .put(" bytes: a write wants all of them compared and equal");
+            .put(": a write wants all of them compared and equal");
         true
     }
 
@@ -114,8 +113,8 @@ impl Trace {
             return false;
         };
         if self.passed.count < size {
-            self.text.number(self.passed.count as u64);
-            self.text.put(" bytes came of the ");
+            self.tell_quantity(self.passed.count as u64, "byte", "bytes");
+            self.text.put(" came of the ");
             self.text.number(size as u64);
             self.text.put(" of its argument");
         } else {

@@ -32,8 +32,12 @@ impl Trace {
         };
         if let Some(filled) = self.passed.filled(command, self.met) {
             self.text.put("        fills the other ");
-            self.text.number(filled as u64);
-            self.text.line(" bytes with zeros");
+            if filled == 1 {
+                self.text.line("byte with a zero");
+            } else {
+                self.text.number(filled as u64);
+                self.text.line(" bytes with zeros");
+            }
         }
     }
 
@@ -59,22 +63,37 @@ impl Trace {
             return;
         };
         if let Some(missed) = credit_of_search(command, Some(met.area)) {
-            self.leave = Leave::TooFew(missed, self.passed.count, compared_size(command, met));
+            let count = self.passed.count;
+            self.leave = Leave::TooFew(missed, count, compared_size(command, met));
             self.text.put("        leaves no credit: ");
             self.tell_compared();
-            self.text.line(" bytes were compared");
+            self.text.line(if count == 1 {
+                " was compared"
+            } else {
+                " were compared"
+            });
         }
     }
 
     /// How many bytes the search compared that was the last command, and of how many.
     pub(crate) fn tell_compared(&mut self) {
-        if let Leave::TooFew(_, compared, of) = self.leave {
+        let Leave::TooFew(_, compared, of) = self.leave else {
+            return;
+        };
+        if let Some(all) = of {
             self.text.number(compared as u64);
-            if let Some(all) = of {
-                self.text.put(" of ");
-                self.text.number(all as u64);
-            }
+            self.text.put(" of ");
+            self.tell_quantity(all as u64, "byte", "bytes");
+        } else {
+            self.tell_quantity(compared as u64, "byte", "bytes");
         }
+    }
+
+    /// A count and its noun, of one or of none and several.
+    pub(crate) fn tell_quantity(&mut self, number: u64, one: &str, many: &str) {
+        self.text.number(number);
+        self.text.put(" ");
+        self.text.put(if number == 1 { one } else { many });
     }
 
     // Keeps what is left of the track behind the record of a credit, where that is seen.
@@ -95,8 +114,8 @@ impl Trace {
     }
 
     /// A credit that is gone as the command of a word begins behind which the program goes on.
-    pub(crate) fn tell_used_credit(&mut self, at: u32, seen: &Seen) {
-        let Some(ccw) = seen.storage.ccw_at(at) else {
+    pub(crate) fn tell_used_credit(&mut self, seen: &Seen) {
+        let Some(ccw) = seen.storage.last else {
             return;
         };
         let does = if is_credited(ccw.code) {

@@ -1,21 +1,22 @@
 //! What a trace tells of a program's end.
 
-use crate::seen::{Seen, place_in};
+use crate::seen::{Seen, Went, place_in};
+use crate::stored::{last_of, next_byte};
 use crate::trace::Trace;
 use bitflags::Flags;
 use s360_explain::ChannelNames;
-use s360_program::view::{AtWork, ProgramView};
+use s360_program::view::AtWork;
 use s360_words::{BLOCK_SIZE, Ccw, ChannelStatus, Csw, UnitStatus};
 use trace_words::reasons::{self, has_unit_check};
 use trace_words::{Behind, Found, Line, found_at_end, found_so_far, just, tell_not_taken, word_at};
 
 impl Trace {
     /// The program is over that was so before its last unit.
-    pub(crate) fn ends(&mut self, before: ProgramView, seen: &Seen) {
+    pub(crate) fn ends(&mut self, before: Went, seen: &Seen) {
         let Some(csw) = seen.ended else {
             return;
         };
-        let last = csw.address.wrapping_sub(8) & 0x00FF_FFFF;
+        let last = last_of(csw);
         let was_taken = match &self.line {
             Some(line) => line.at == last,
             None => false,
@@ -29,11 +30,11 @@ impl Trace {
     // Why the channel ended the program, if it did.
     fn tell_channel(&mut self, csw: &Csw, before: AtWork, was_taken: bool, seen: &Seen) {
         if csw.channel.contains(ChannelStatus::PROGRAM_CHECK) && !was_taken {
-            let last = csw.address.wrapping_sub(8) & 0x00FF_FFFF;
+            let last = last_of(*csw);
             self.tell_check(csw.channel);
             return self
                 .text
-                .line(reasons::of_word(last, word_at(seen.storage, last)));
+                .line(reasons::of_word(last, word_at(last, seen.storage.last)));
         }
         if csw.channel.0 & !ChannelStatus::PROGRAM_CONTROLLED_INTERRUPTION.0 == 0 {
             return;
@@ -51,7 +52,7 @@ impl Trace {
         let Some(at) = next_byte(before) else {
             return self.text.line("an address under the word can't be used");
         };
-        match seen.storage.key(at) {
+        match seen.storage.key {
             Some(key) => {
                 self.text.put("the block of ");
                 self.text.address(at - at % BLOCK_SIZE);
@@ -64,7 +65,7 @@ impl Trace {
                 self.text.put("the address ");
                 self.text.address(at);
                 self.text.put(" is outside storage, which has ");
-                self.text.number(seen.storage.size() as u64);
+                self.text.number(seen.storage.size as u64);
                 self.text.put(" bytes");
             }
         }
@@ -83,7 +84,7 @@ impl Trace {
 
     // The line of the word in which a program ended; the code of its command.
     fn tell_last(&mut self, last: u32, csw: &Csw, seen: &Seen) -> u8 {
-        let word = word_at(seen.storage, last);
+        let word = word_at(last, seen.storage.last);
         match (self.line, word) {
             (Some(line), _) if line.at == last => self.tell_over(line, csw, seen),
             (None, Some(ccw)) if !csw.channel.contains(ChannelStatus::PROGRAM_CHECK) => {
@@ -202,14 +203,5 @@ impl Trace {
         self.text
             .show(&ChannelNames(ChannelStatus(channel.0 & !asked.0)));
         self.text.put(": ");
-    }
-}
-
-// Where the next byte goes or comes from, if the next unit moves one.
-fn next_byte(at_work: AtWork) -> Option<u32> {
-    match at_work {
-        AtWork::Moving(_, at) => Some(at),
-        AtWork::Looking(ccw) => Some(ccw.address),
-        AtWork::Fetching => None,
     }
 }

@@ -5,10 +5,15 @@
 mod checks;
 mod credits;
 mod ends;
+mod kept;
 mod seen;
 mod starts;
+mod stored;
 mod trace;
 mod tracer;
 
+pub use crate::kept::KeptTrace;
+pub use crate::seen::{Shown, Work, ending_of};
+pub use crate::trace::Trace;
 pub use crate::tracer::Tracer;
 pub use trace_output::{TraceFault, TracedLines};

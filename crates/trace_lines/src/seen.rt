@@ -1,20 +1,41 @@
 //! What is seen of a channel at one moment.
 
-use ckd_command::Registers;
+use crate::stored::Stored;
+use ckd_command::{Credit, Registers};
 use ckd_drive::Drive;
 use ckd_image::ImageStore;
 use ckd_position::{Area, Position};
-use s360_channel::{Channel, DriveView, SubchannelView, Watched};
+use s360_channel::{DriveView, SubchannelView, Watched};
 use s360_events::Answer;
-use s360_program::view::ProgramView;
+use s360_program::view::{AtWork, ProgramView};
 use s360_trace::Moment;
-use s360_words::{Csw, Storage, UnitStatus};
+use s360_words::{Csw, UnitStatus};
 use trace_words::reasons::has_unit_check;
+
+/// What a channel shows of itself at a moment.
+#[derive(Clone, Copy)]
+pub struct Shown<'a> {
+    /// The program that runs, and what its drive shows.
+    pub program: Option<Watched>,
+    /// That drive.
+    pub work: Option<Work<'a>>,
+    /// The ending that pends, and the low byte of its drive's address.
+    pub ended: Option<(u8, Csw)>,
+}
+
+/// The ending that pends at a subchannel, with the low byte of its drive's address.
+pub fn ending_of(subchannel: SubchannelView) -> Option<(u8, Csw)> {
+    match subchannel {
+        SubchannelView::Pending(device, csw) => Some((device, csw)),
+        _ => None,
+    }
+}
 
 /// What is seen.
 #[derive(Clone, Copy)]
 pub(crate) struct Seen<'a> {
-    pub(crate) storage: &'a Storage,
+    /// What storage has of what is looked for there.
+    pub(crate) storage: Stored,
     /// The program that runs, and what its drive shows.
     pub(crate) program: Option<ProgramView>,
     pub(crate) work: Option<Work<'a>>,
@@ -27,8 +48,8 @@ pub(crate) struct Seen<'a> {
 
 /// What the drive shows at which a program runs.
 #[derive(Clone, Copy)]
-pub(crate) struct Work<'a> {
-    pub(crate) registers: Registers,
+pub struct Work<'a> {
+    pub(crate) registers: Stood,
     /// Whether a command is at work.
     pub(crate) is_open: bool,
     /// The area at which that works, once it has found it; or the last that passed, where no command works.
@@ -36,58 +57,81 @@ pub(crate) struct Work<'a> {
     pub(crate) slot: Option<&'a [u8]>,
 }
 
-/// What is seen of a channel, whose last program was that of this drive.
-pub(crate) fn seen_of<'a, S: ImageStore>(
-    moment: Moment,
-    channel: &'a Channel<S>,
-    before: Option<u8>,
-) -> Seen<'a> {
-    let watched = channel.program();
-    let (device, ended) = match (watched, moment) {
-        (Some(watched), _) => (Some(watched.device), None),
-        (None, Moment::Behind(_, Answer::Sio(address, _))) => (Some((*address % 256) as u8), None),
-        (None, _) => ending_of(channel, before),
-    };
-    Seen {
-        storage: channel.storage(),
-        program: program_in(watched),
-        work: work_of(channel.drive_at_work()),
-        ended,
-        device,
-        drive: drive_of(channel, device),
+/// Where a drive's arm stands in a program, and what the command just before left.
+#[derive(Clone, Copy)]
+pub(crate) struct Stood {
+    pub(crate) cylinder: u16,
+    pub(crate) head: u16,
+    pub(crate) credit: Option<Credit>,
+}
+
+impl Stood {
+    /// What registers say of it.
+    fn of(registers: &Registers) -> Stood {
+        Stood {
+            cylinder: registers.cylinder,
+            head: registers.head,
+            credit: registers.credit,
+        }
     }
 }
 
-fn program_in(watched: Option<Watched>) -> Option<ProgramView> {
-    Some(watched?.program)
+/// How far a program had come at a look.
+#[derive(Clone, Copy)]
+pub(crate) struct Went {
+    /// Where the last word was whose fetch was tried, and where the next is.
+    pub(crate) last: u32,
+    pub(crate) next: u32,
+    pub(crate) at_work: AtWork,
 }
 
-// The ending that pends and its drive; without one the drive of the program before.
-fn ending_of<S: ImageStore>(channel: &Channel<S>, before: Option<u8>) -> (Option<u8>, Option<Csw>) {
-    match channel.state().subchannel {
-        SubchannelView::Pending(device, csw) => (Some(device), Some(csw)),
-        _ => (before, None),
+impl Went {
+    /// So far the program that runs has come.
+    pub(crate) fn of(running: Option<ProgramView>) -> Option<Went> {
+        let program = running?;
+        Some(Went {
+            last: program.last,
+            next: program.next,
+            at_work: program.at_work,
+        })
     }
 }
 
-fn drive_of<S: ImageStore>(channel: &Channel<S>, device: Option<u8>) -> Option<DriveView> {
-    channel.drive(device?)
+impl<'a> Work<'a> {
+    /// What this drive shows.
+    pub fn of<S: ImageStore>(drive: &'a Drive<S>) -> Work<'a> {
+        let registers = drive.registers();
+        let area = match (drive.command(), registers.position) {
+            (Some(opened), _) => opened.area,
+            (None, Position::At(area)) => Some(area),
+            (None, Position::AtIndex) => None,
+        };
+        Work {
+            registers: Stood::of(registers),
+            is_open: drive.command().is_some(),
+            area,
+            slot: drive.slot(),
+        }
+    }
 }
 
-fn work_of<'a, S: ImageStore>(drive: Option<&'a Drive<S>>) -> Option<Work<'a>> {
-    let drive = drive?;
-    let registers = *drive.registers();
-    let area = match (drive.command(), registers.position) {
-        (Some(opened), _) => opened.area,
-        (None, Position::At(area)) => Some(area),
-        (None, Position::AtIndex) => None,
-    };
-    Some(Work {
-        registers,
-        is_open: drive.command().is_some(),
-        area,
-        slot: drive.slot(),
-    })
+impl<'a> Shown<'a> {
+    /// The program that runs.
+    pub(crate) fn running(&self) -> Option<ProgramView> {
+        Some(self.program?.program)
+    }
+
+    /// The drive of which a look asks what is known, where the last program was that of this one; and the ending that is told with it.
+    pub(crate) fn of_drive(&self, moment: Moment, before: Option<u8>) -> (Option<u8>, Option<Csw>) {
+        match (self.program, moment, self.ended) {
+            (Some(watched), _, _) => (Some(watched.device), None),
+            (None, Moment::Behind(_, Answer::Sio(address, _)), _) => {
+                (Some((*address % 256) as u8), None)
+            }
+            (None, _, Some((device, csw))) => (Some(device), Some(csw)),
+            (None, _, None) => (before, None),
+        }
+    }
 }
 
 /// Where a drive's arm stands or goes to behind a command that has not failed.

@@ -84,7 +84,7 @@ impl Trace {
                 self.tell_asked(ccw);
             }
             AtWork::Fetching => {
-                if let Some(ccw) = seen.storage.ccw_at(now.last) {
+                if let Some(ccw) = seen.storage.last {
                     self.immediate(now.last, ccw, seen);
                 }
             }

@@ -1,21 +1,24 @@
 //! What a trace tells of units and events, by what is seen between them.
 
-use crate::seen::{Seen, Work};
-use ckd_command::{Credit, Registers};
+use crate::seen::{Seen, Shown, Stood, Went, Work};
+use crate::stored::{Start, Stored, last_word};
+use ckd_command::Credit;
 use ckd_position::Area;
+use s360_channel::DriveView;
 use s360_deck::AnswerLine;
 use s360_events::{Answer, Condition, Event};
+use s360_program::main_storage::MainStorage;
 use s360_program::view::{AtWork, ProgramView};
 use s360_trace::Moment;
-use s360_words::{Ccw, Storage};
+use s360_words::Ccw;
 use trace_words::{
     CHAINED, Found, Line, Met, Passed, SKIPS, Text, are_of_one_record, count_in, found_at_end,
-    found_so_far, just, tell_answer, word_at,
+    found_so_far, just, tell_answer,
 };
 
-/// What was seen, and the lines that tell of it.
+/// A trace of one channel: what was seen of it, and the lines that tell of the last look.
 #[derive(Clone, Copy)]
-pub(crate) struct Trace {
+pub struct Trace {
     /// Whether each answer is told as a deck prints it.
     with_answers: bool,
     pub(crate) text: Text,
@@ -23,8 +26,8 @@ pub(crate) struct Trace {
     pub(crate) starts: bool,
     pub(crate) fails: bool,
     /// What was seen last of the program, and the drive's registers then.
-    pub(crate) program: Option<ProgramView>,
-    pub(crate) registers: Option<Registers>,
+    pub(crate) program: Option<Went>,
+    pub(crate) registers: Option<Stood>,
     /// The drive of the last program.
     pub(crate) device: Option<u8>,
     /// The word at work.
@@ -53,24 +56,6 @@ pub(crate) enum Leave {
     TooFew(Credit, u32, Option<u32>),
 }
 
-/// The channel address word, and the first word of a program.
-#[derive(Clone, Copy)]
-pub(crate) struct Start {
-    pub(crate) address_word: u32,
-    pub(crate) word: Option<Ccw>,
-}
-
-impl Start {
-    /// What a start finds.
-    fn of(storage: &Storage) -> Start {
-        let address_word = storage.caw_word();
-        Start {
-            address_word,
-            word: word_at(storage, address_word & 0x00FF_FFFF),
-        }
-    }
-}
-
 impl Trace {
     /// Nothing was seen.
     pub(crate) fn new(with_answers: bool) -> Trace {
@@ -95,22 +80,56 @@ impl Trace {
         }
     }
 
-    /// What is seen at a moment; it is kept, to be compared with what is seen next.
-    pub(crate) fn look(&mut self, moment: Moment, seen: &Seen) {
+    /// The drive of which a look at this moment wants to see what is known: the low byte of its address.
+    pub fn wants(&self, moment: Moment, shown: &Shown) -> Option<u8> {
+        shown.of_drive(moment, self.device).0
+    }
+
+    /// Looks at a moment at what a channel shows, at the drive that is wanted, and at main storage. What is seen is kept, to be compared
+    /// with what is seen next.
+    pub fn look<M: MainStorage>(
+        &mut self,
+        moment: Moment,
+        shown: &Shown,
+        drive: Option<DriveView>,
+        storage: &M,
+    ) {
+        let (device, ended) = shown.of_drive(moment, self.device);
+        let program = shown.running();
+        let last = last_word(program, ended);
+        let seen = Seen {
+            storage: Stored::of(storage, moment, self.program, last),
+            program,
+            work: shown.work,
+            ended,
+            device,
+            drive,
+        };
+        self.see(moment, &seen);
+    }
+
+    // What is seen at a moment.
+    fn see(&mut self, moment: Moment, seen: &Seen) {
         self.starts = false;
         self.fails = false;
         match moment {
-            Moment::Before(Event::Sio(_)) => self.start = Start::of(seen.storage),
-            Moment::Before(_) => {}
+            Moment::Before(_) => self.before(seen),
             Moment::Unit => self.unit(seen),
             Moment::Behind(event, answer) => self.behind(event, answer, seen),
         }
-        self.program = seen.program;
+        self.program = Went::of(seen.program);
         self.device = seen.device;
         self.registers = match &seen.work {
             Some(work) => Some(work.registers),
             None => None,
         };
+    }
+
+    // An event is about to happen.
+    fn before(&mut self, seen: &Seen) {
+        if let Some(start) = seen.storage.start {
+            self.start = start;
+        }
     }
 
     // What is behind an event.
@@ -174,7 +193,7 @@ impl Trace {
         }
     }
 
-    fn is_elsewhere(&self, now: &Registers) -> bool {
+    fn is_elsewhere(&self, now: &Stood) -> bool {
         match &self.registers {
             Some(before) => now.cylinder != before.cylinder || now.head != before.head,
             None => false,
@@ -192,10 +211,10 @@ impl Trace {
     }
 
     // A unit behind which the program goes on.
-    fn goes_on(&mut self, before: ProgramView, now: ProgramView, seen: &Seen) {
+    fn goes_on(&mut self, before: Went, now: ProgramView, seen: &Seen) {
         match (before.at_work, now.at_work) {
             (AtWork::Fetching, _) => {
-                self.tell_used_credit(now.last, seen);
+                self.tell_used_credit(seen);
                 self.begins(now, seen);
             }
             (_, AtWork::Fetching) => self.closes(now.next != before.next, seen),
@@ -203,17 +222,12 @@ impl Trace {
             (_, AtWork::Moving(ccw, _)) if now.last != before.last => {
                 self.chains(now.last, ccw, seen);
             }
-            (work, AtWork::Moving(ccw, _)) => self.moves(work, ccw, seen),
+            (_, AtWork::Moving(_, _)) => self.moves(seen.storage.byte),
         }
     }
 
     // A byte moves: to or from the next address of a word at work, or the first of one that has just found its area.
-    fn moves(&mut self, before: AtWork, ccw: Ccw, seen: &Seen) {
-        let at = match before {
-            AtWork::Moving(_, address) => address,
-            _ => ccw.address,
-        };
-        let byte = seen.storage.byte(at);
+    fn moves(&mut self, byte: Option<u8>) {
         self.passed.passes(byte);
         if let Some(line) = &mut self.line {
             line.moves(byte);
@@ -226,7 +240,7 @@ impl Trace {
             return;
         };
         self.tell_chaining(&line);
-        match seen.storage.ccw_at(at) {
+        match seen.storage.last {
             Some(word) if word.is_transfer() => {
                 Line::of(at, word).tell(Found::Nothing, &just(""), &mut self.text);
                 if let Some(line) = &mut self.line {
@@ -241,8 +255,13 @@ impl Trace {
         }
     }
 
+    /// The lines of the last look, or of the end.
+    pub fn told(&self) -> &Text {
+        &self.text
+    }
+
     /// The line of a word that is still at work, if there is one, at the trace's end.
-    pub(crate) fn still_runs(&mut self) {
+    pub fn still_runs(&mut self) {
         self.starts = false;
         self.fails = false;
         if let Some(line) = self.line {

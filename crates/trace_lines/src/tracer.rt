@@ -1,9 +1,9 @@
 //! Who watches a channel, and writes what it sees.
 
-use crate::seen::seen_of;
+use crate::seen::{Shown, Work, ending_of};
 use crate::trace::Trace;
 use ckd_image::ImageStore;
-use s360_channel::Channel;
+use s360_channel::{Channel, DriveView};
 use s360_trace::{Moment, Watcher};
 use std::alloc::{AllocError, Global};
 use std::io::Write;
@@ -65,8 +65,29 @@ impl<W: Write + Drop> Watcher for Tracer<W> {
     fn look<S: ImageStore>(&mut self, moment: Moment, channel: &Channel<S>)
         ensures { Unit {0} }
     {
-        let seen = seen_of(moment, channel, self.trace.device);
-        self.trace.look(moment, &seen);
+        let shown = shown_of(channel);
+        let drive = drive_of(channel, self.trace.wants(moment, &shown));
+        self.trace.look(moment, &shown, drive, channel.storage());
         self.tell(matches!(moment, Moment::Unit));
     }
+}
+
+// What a channel shows of itself.
+fn shown_of<'a, S: ImageStore>(channel: &'a Channel<S>) -> Shown<'a> {
+    match (channel.program(), channel.drive_at_work()) {
+        (Some(program), Some(drive)) => Shown {
+            program: Some(program),
+            work: Some(Work::of(drive)),
+            ended: None,
+        },
+        _ => Shown {
+            program: None,
+            work: None,
+            ended: ending_of(channel.state().subchannel),
+        },
+    }
+}
+
+fn drive_of<S: ImageStore>(channel: &Channel<S>, device: Option<u8>) -> Option<DriveView> {
+    channel.drive(device?)
 }

@@ -4,6 +4,7 @@
 
 mod events;
 mod found;
+pub mod kept;
 mod line;
 mod met;
 mod passed;
@@ -18,4 +19,4 @@ pub use crate::met::{
     tell_key,
 };
 pub use crate::passed::{Passed, argument_size};
-pub use crate::text::Text;
+pub use crate::text::{ROOM, Text};

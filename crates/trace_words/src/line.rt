@@ -4,7 +4,7 @@ use crate::found::{Found, tell_found};
 use crate::text::Text;
 use ckd_sense::Command;
 use s360_explain::{UnitNames, code_name};
-use s360_words::{Ccw, Storage, UnitStatus};
+use s360_words::{Ccw, UnitStatus};
 
 /// The columns at which the parts of a line begin.
 const AT_COUNT: usize = 34;
@@ -185,12 +185,12 @@ fn tell_behind(behind: &Behind, text: &mut Text) {
     text.end();
 }
 
-/// The word at an address, unless no word can stand there.
-pub fn word_at(storage: &Storage, at: u32) -> Option<Ccw> {
+/// The word that storage has at an address, unless no word can stand there.
+pub fn word_at(at: u32, word: Option<Ccw>) -> Option<Ccw> {
     if at % 8 != 0 {
         return None;
     }
-    storage.ccw_at(at)
+    word
 }
 
 /// Tells a word that was not taken, behind the line of the one before it where it was to have a further area.

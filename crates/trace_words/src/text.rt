@@ -1,10 +1,12 @@
 //! The text of a trace that is not written yet: the lines of one look.
 
+ghost use Rattle.std.specs.Prelude.{◌≡◌, ◌≤◌, ◌++◌, drop, length};
+
 use arrayvec::ArrayString;
 use std::fmt::{Display, Write};
 
 /// More bytes than the lines of a look have: ten at most, with the names of all sense bits in one of them.
-const ROOM: usize = 2_048;
+pub const ROOM: usize = 2_048;
 
 /// Lines, the last of which may be under way.
 #[derive(Clone, Copy)]
@@ -29,6 +31,17 @@ impl Text {
     /// What there is.
     pub fn as_str(&self) -> &str {
         self.lines.as_str()
+    }
+
+    /// Puts all that there is to the front of these bytes, and answers how many those are.
+    pub fn put_into(&self, bytes: &mut [u8]) -> usize
+        requires { 2048 ≤ length bytes.old }
+        ensures put { bytes.new ≡ self.now.lines.bytes ++ drop (length self.now.lines.bytes) bytes.old }
+        ensures len { result ≡ length self.now.lines.bytes }
+    {
+        let lines = self.lines.as_str().as_bytes();
+        bytes[..lines.len()].copy_from_slice(lines);
+        lines.len()
     }
 
     /// Forgets all lines.
