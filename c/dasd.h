@@ -95,6 +95,10 @@ enum dasd_fault {
     DASD_BAD_BLOCKS = -21,      /* main storage has one key for each block of 2,048 bytes */
     DASD_OTHER_SIZE = -22,      /* the channels are for main storage of another size */
     DASD_NO_PROGRAM = -23,      /* no channel program runs on this channel */
+    DASD_NO_ROOM = -24,         /* what is to be written may have more bytes than there is room for */
+    DASD_BAD_MOMENT = -25,      /* there is no such moment, or its call answers no such thing */
+    DASD_BAD_UNTIL = -26,       /* nothing is waited for by such a bit */
+    DASD_NOT_OWED = -27,        /* a saved channel status word is no ending that its channel owes */
     /* Why files are no image, in the order in which they are looked at: */
     DASD_NOT_CKD_P370 = -32, /* not a CKD_P370 image */
     DASD_COMPRESSED = -33,   /* a compressed image, or a shadow file */
@@ -103,7 +107,17 @@ enum dasd_fault {
     DASD_TRACK_SIZE = -36,   /* a track of the drive may not fit the track size */
     DASD_SPLIT = -37,        /* the files are not those of one image, in order */
     DASD_LENGTH = -38,       /* a file's length is not that of an image */
-    DASD_STORE = -39         /* a file could not be read or written; no file in memory does so */
+    DASD_STORE = -39,        /* a file could not be read or written; no file in memory does so */
+    /* Why a saved state is not restored, in the order in which it is looked at, DASD_PROGRAM_RUNS before DASD_OTHER_DRIVES, and DASD_NOT_OWED
+     * last: */
+    DASD_NO_SAVED_STATE = -40, /* not a saved state */
+    DASD_OTHER_VERSION = -41,  /* a saved state of another version */
+    DASD_SAVED_LENGTH = -42,   /* a saved state that is cut short, or too long */
+    DASD_SAVED_SUM = -43,      /* a saved state that was changed: its checksum does not fit */
+    DASD_NOT_SOUND = -44,      /* a field of a saved state has a value that none has */
+    DASD_OTHER_CHANNELS = -45, /* a saved state of other channels */
+    DASD_OTHER_DRIVES = -46,   /* a saved state of a channel with other drives */
+    DASD_NO_TRACK = -47        /* a drive was saved at a track that its volume does not have */
 };
 
 /* The version of the library, as DASD_VERSION_NUMBER; and the number of its binary interface. */
@@ -123,6 +137,22 @@ int32_t dasd_new(dasd *d, uint32_t storage_bytes, uint8_t channels);
  * bytes and keys where it is lent, and no call of one changes the other. So a program is stepped backwards, or tried and gone back to. It
  * costs what copying all volumes does. DASD_IN_USE, `copy` holds something; DASD_NO_MEMORY. Where it is refused both are as they were. */
 int32_t dasd_copy(const dasd *d, dasd *copy);
+
+/* How many bytes a saved state has. */
+#define DASD_SAVED 538u
+
+/* Saves what the channels are between two programs, for a file: of each channel the channel status word that pends, if one does, and of
+ * each drive what its arm does, the cylinder, the head and the sense bytes. Main storage, keys and the volumes' files are not in it: save
+ * them beside it. The first DASD_SAVED of `len` bytes are written, and `written` is DASD_SAVED. DASD_PROGRAM_RUNS, a channel's program
+ * runs: run it on to its end, or halt it, and then save; DASD_NO_ROOM, `len` is less than DASD_SAVED. docs/EMBEDDING.md has the format. */
+int32_t dasd_save(const dasd *d, uint8_t *into, size_t len, size_t *written);
+
+/* Restores what was saved, where no program runs: the handle has channels of the same numbers, each with drives of the same addresses, in
+ * any order, whose volumes have the tracks where the arms were. What pends and what arms do now is lost. All is restored or nothing, and the
+ * bytes may come from a stranger: whatever they are, the channels are sound afterwards. DASD_NO_SAVED_STATE, DASD_OTHER_VERSION,
+ * DASD_SAVED_LENGTH, DASD_SAVED_SUM, DASD_NOT_SOUND; then, channel by channel, DASD_OTHER_CHANNELS, DASD_PROGRAM_RUNS, DASD_OTHER_DRIVES,
+ * DASD_NO_TRACK, DASD_NOT_OWED. */
+int32_t dasd_restore(dasd *d, const uint8_t *from, size_t len);
 
 /* Frees all that the handle holds, its volumes too, whether they were saved or not. The handle holds nothing then. */
 int32_t dasd_free(dasd *d);
@@ -162,8 +192,8 @@ typedef struct dasd_file {
 } dasd_file;
 
 /* Shows a file of a drive's volume, 0 for its first, where the drive's program does not run: that of another drive may. All that the
- * drive's programs wrote is in it. The bytes stand there, and are the volume's, until the next dasd_step, dasd_run_on, dasd_hio or
- * dasd_reset of that channel, dasd_detach or dasd_free. DASD_NO_CHANNEL, DASD_PROGRAM_RUNS, DASD_NO_DRIVE, DASD_NO_FILE. */
+ * drive's programs wrote is in it. The bytes stand there, and are the volume's, until the next dasd_step, dasd_run_on, dasd_run_until,
+ * dasd_hio or dasd_reset of that channel, dasd_detach or dasd_free. DASD_NO_CHANNEL, DASD_PROGRAM_RUNS, DASD_NO_DRIVE, DASD_NO_FILE. */
 int32_t dasd_show_file(const dasd *d, uint16_t address, uint8_t file, dasd_file *shown);
 
 /* A track of a file that was written, and where its slot lies there. */
@@ -244,6 +274,35 @@ typedef struct dasd_run {
 
 /* The same, with what the channel does behind it. DASD_NO_CHANNEL. */
 int32_t dasd_run_on(dasd *d, uint8_t channel, uint32_t units, dasd_run *ran);
+
+/* What dasd_run_until waits for: bits. */
+enum dasd_until {
+    DASD_UNTIL_ASKED = 1,    /* a word asks for an interruption (PCI), where none was asked for that is not yet taken */
+    DASD_UNTIL_CYLINDER = 2, /* the arm is at another cylinder */
+    DASD_UNTIL_TRACK = 4     /* the arm is at another cylinder, or another head is selected */
+};
+
+/* What came of dasd_run_until. */
+typedef struct dasd_progress {
+    uint64_t cylinders;  /* how many cylinders the arm crossed, in all its moves */
+    uint32_t units;      /* how many units were done */
+    uint32_t bytes;      /* how many bytes moved between drive and channel; a byte that is read and skipped is one */
+    uint32_t indexes;    /* how often the index passed a command that looked for its area, also one that found none */
+    uint32_t stored;     /* how many bytes were stored into main storage */
+    uint32_t low;        /* the lowest address that was stored into; where none was, 0 */
+    uint32_t high;       /* the highest */
+    uint8_t subchannel;  /* enum dasd_subchannel behind them, as dasd_run_on tells it */
+    uint8_t device;      /* the low byte of the address whose program that is; 0 for DASD_AVAILABLE */
+    uint8_t asked;       /* 1: a word of the program asked for an interruption that is not yet taken */
+    uint8_t stopped;     /* what happened in the last unit of what was waited for: bits of enum dasd_until; 0, nothing did */
+    uint8_t reserved[4]; /* 0 */
+} dasd_progress;
+
+/* Lets the program that runs on a channel do units as dasd_run_on, and ends also behind the first that brings what is waited for, a set of
+ * bits of enum dasd_until: so an emulator that goes by events has each in its time. With no bits it is dasd_run_on with counts. It looks at
+ * the channel behind each unit: where nothing is waited for or counted, dasd_run_on costs less. The first word of a program is fetched by
+ * Start I/O: what that asks for pends before any of these units. DASD_BAD_UNTIL, DASD_NO_CHANNEL. */
+int32_t dasd_run_until(dasd *d, uint8_t channel, uint32_t units, uint8_t until, dasd_progress *ran);
 
 /* The arm of the drive at an address has arrived: 1, if it moved, and its device end is to be stored; 0, if it did not, or there is no
  * such drive. The caller's clock says when. */
@@ -345,6 +404,69 @@ typedef struct dasd_registers {
 /* Shows what the drive of the program remembers that runs on a channel. DASD_NO_CHANNEL; DASD_NO_PROGRAM, none runs, and `shown` stays. */
 int32_t dasd_show_registers(const dasd *d, uint8_t channel, dasd_registers *shown);
 
+/* --- A trace ---
+ *
+ * The lines of `dasd run --trace` for an emulator's own log (docs/TRACING.md): for each channel command word what it asked for, met and came
+ * to; why a program failed; what a call answered. A trace is of one channel, and the library keeps nothing of it. What it has seen stands in
+ * a `dasd_trace` of the caller's, which is told before a start, behind each unit, and behind a call:
+ *
+ *     static char lines[DASD_TRACE_ROOM];
+ *     static dasd_trace trace = {lines, sizeof lines, 0, {0}};
+ *
+ *     static void look(uint8_t what, uint16_t address, int32_t answer) {
+ *         dasd_moment moment = {what, 1, address, (uint32_t)answer, 0, 0};
+ *         if (dasd_trace_look(&d, &trace, &moment) == DASD_DONE) fwrite(lines, 1, trace.length, stderr);
+ *     }
+ *     ...
+ *     look(DASD_BEFORE_SIO, 0x190, 0);
+ *     look(DASD_BEHIND_SIO, 0x190, dasd_sio(&d, 0x190));
+ *     while (dasd_step(&d, 1, 1, &done) == DASD_DONE && done) look(DASD_BEHIND_UNIT, 0, 0);
+ *     if (dasd_interrupt(&d, mask, &from) == 1) look(DASD_BEHIND_INTERRUPT, from, 1);
+ *
+ * So a program that is traced does one unit a call. Where a start or a unit is passed over, lines are wanting or untrue until the next start
+ * that is looked at, and nothing else comes of it. */
+
+/* When a trace looks. Behind a call `answer` is what that answered; one that was refused is not told, DASD_BAD_MOMENT. */
+enum dasd_when {
+    DASD_BEFORE_SIO = 0,  /* dasd_sio is about to be called for this address */
+    DASD_BEHIND_UNIT = 1, /* the channel's program has done a unit */
+    DASD_BEHIND_SIO = 2,  /* behind dasd_sio, dasd_tio, dasd_hio, dasd_tch: the condition code */
+    DASD_BEHIND_TIO = 3,
+    DASD_BEHIND_HIO = 4,
+    DASD_BEHIND_TCH = 5,
+    DASD_BEHIND_STEP = 6,      /* so many units were done, 65,535 at most, behind the last of which it has looked */
+    DASD_BEHIND_RUN = 7,       /* the same, with another word and any number */
+    DASD_BEHIND_ARRIVE = 8,    /* behind dasd_arrive: 1 or 0 */
+    DASD_BEHIND_INTERRUPT = 9, /* behind dasd_interrupt: 1, from this address, or 0 */
+    DASD_BEHIND_RESET = 10,    /* behind dasd_reset: 0; or 1, with the track that is lost */
+    DASD_AT_END = 11           /* the trace ends: a word that is still at work is told */
+};
+
+/* A moment. */
+typedef struct dasd_moment {
+    uint8_t what;            /* enum dasd_when */
+    uint8_t channel;         /* the number of the channel that is looked at */
+    uint16_t address;        /* of a call that has one; of a track that a reset has lost */
+    uint32_t answer;         /* of a call */
+    uint16_t cylinder, head; /* of a track that a reset has lost */
+} dasd_moment;
+
+/* Room for the lines of any look. */
+#define DASD_TRACE_ROOM 2048
+
+/* A trace of one channel. It is copied by `=`, with lines of its own, as a handle is by dasd_copy; and begins anew with zeros in `kept`. */
+typedef struct dasd_trace {
+    char *lines;       /* where the lines of a look go */
+    size_t size;       /* how many bytes may stand there, DASD_TRACE_ROOM or more */
+    size_t length;     /* how many the lines of the last look have; each ends in a line feed, and no zero stands behind them */
+    uint64_t kept[32]; /* what it has seen: the library's. All zero it is nothing */
+} dasd_trace;
+
+/* Looks at a channel at a moment, and puts the lines that tell of it at `lines`; often there are none. The bytes behind
+ * them stay. What does not fit is not cut: DASD_NO_ROOM comes for a size below DASD_TRACE_ROOM, whatever the lines are.
+ * DASD_NO_CHANNEL, DASD_BAD_MOMENT, DASD_NO_ROOM, in this order. */
+int32_t dasd_trace_look(const dasd *d, dasd_trace *trace, const dasd_moment *moment);
+
 /* --- Main storage --- */
 
 /* Main storage: `len` bytes at `at`. */
@@ -379,8 +501,8 @@ int32_t dasd_set_key(dasd *d, uint32_t at, uint8_t key);
  * share and move them. Whatever differs from what the call before left is what the processor stored, also while programs run.
  *
  * All calls above that need no storage take such a handle as any other. Those that do answer DASD_NO_STORAGE: dasd_sio, dasd_tio,
- * dasd_hio, dasd_step, dasd_run_on, dasd_interrupt, and all below 'Main storage'. The calls here take also a handle that owns storage,
- * which then stays as it is.
+ * dasd_hio, dasd_step, dasd_run_on, dasd_run_until, dasd_interrupt, dasd_trace_look, and all below 'Main storage'. The calls here take also
+ * a handle that owns storage, which then stays as it is.
  *
  * WHAT THE CALLER OWES beside the rules above, and nothing checks: neither pointer is null; `bytes` leads to `size` bytes that may be
  * written, and `keys` to `blocks` bytes; the two do not overlap; and while a call runs nobody else reads or writes the bytes, or writes
@@ -401,14 +523,16 @@ typedef struct dasd_memory {
 int32_t dasd_new_lent(dasd *d, uint32_t storage_bytes, uint8_t channels);
 
 /* The calls above of these names, over this memory. DASD_BAD_SIZE, no main storage has so many bytes; DASD_BAD_BLOCKS; DASD_OTHER_SIZE;
- * in this order, behind DASD_NOTHING_HELD and before all others. `ran->units` says before dasd_lent_run_on how many units are done at
- * most, and behind it how many were; and so does `*units` of dasd_lent_step. Of a call that is refused it stays. */
+ * in this order, behind DASD_NOTHING_HELD and before all others. `ran->units` says before dasd_lent_run_on and dasd_lent_run_until how many
+ * units are done at most, and behind it how many were; and so does `*units` of dasd_lent_step. Of a call that is refused it stays. */
 int32_t dasd_lent_sio(dasd *d, dasd_memory *memory, uint16_t address);
 int32_t dasd_lent_tio(dasd *d, dasd_memory *memory, uint16_t address);
 int32_t dasd_lent_hio(dasd *d, dasd_memory *memory, uint16_t address);
 int32_t dasd_lent_step(dasd *d, dasd_memory *memory, uint8_t channel, uint32_t *units);
 int32_t dasd_lent_run_on(dasd *d, dasd_memory *memory, uint8_t channel, dasd_run *ran);
+int32_t dasd_lent_run_until(dasd *d, dasd_memory *memory, uint8_t channel, uint8_t until, dasd_progress *ran);
 int32_t dasd_lent_interrupt(dasd *d, dasd_memory *memory, uint8_t channels, uint16_t *address);
+int32_t dasd_lent_trace_look(const dasd *d, dasd_memory *memory, dasd_trace *trace, const dasd_moment *moment);
 
 #ifdef __cplusplus
 }

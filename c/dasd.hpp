@@ -34,6 +34,7 @@
 #include <initializer_list>
 #include <memory>
 #include <optional>
+#include <string_view>
 #include <type_traits>
 #include <utility>
 #include <vector>
@@ -124,6 +125,10 @@ inline constexpr Told faults[] = {
     {DASD_BAD_BLOCKS, "DASD_BAD_BLOCKS", "main storage has one key for each block of 2,048 bytes"},
     {DASD_OTHER_SIZE, "DASD_OTHER_SIZE", "the channels are for main storage of another size"},
     {DASD_NO_PROGRAM, "DASD_NO_PROGRAM", "no channel program runs on this channel"},
+    {DASD_NO_ROOM, "DASD_NO_ROOM", "what is to be written may have more bytes than there is room for"},
+    {DASD_BAD_MOMENT, "DASD_BAD_MOMENT", "there is no such moment, or its call answers no such thing"},
+    {DASD_BAD_UNTIL, "DASD_BAD_UNTIL", "nothing is waited for by such a bit"},
+    {DASD_NOT_OWED, "DASD_NOT_OWED", "a saved channel status word is no ending that its channel owes"},
     {DASD_NOT_CKD_P370, "DASD_NOT_CKD_P370", "not a CKD_P370 image"},
     {DASD_COMPRESSED, "DASD_COMPRESSED", "a compressed image, or a shadow file"},
     {DASD_DEVICE_TYPE, "DASD_DEVICE_TYPE", "neither a 2311 nor a 2314"},
@@ -132,6 +137,14 @@ inline constexpr Told faults[] = {
     {DASD_SPLIT, "DASD_SPLIT", "the files are not those of one image, in order"},
     {DASD_LENGTH, "DASD_LENGTH", "a file's length is not that of an image"},
     {DASD_STORE, "DASD_STORE", "a file could not be read or written; no file in memory does so"},
+    {DASD_NO_SAVED_STATE, "DASD_NO_SAVED_STATE", "not a saved state"},
+    {DASD_OTHER_VERSION, "DASD_OTHER_VERSION", "a saved state of another version"},
+    {DASD_SAVED_LENGTH, "DASD_SAVED_LENGTH", "a saved state that is cut short, or too long"},
+    {DASD_SAVED_SUM, "DASD_SAVED_SUM", "a saved state that was changed: its checksum does not fit"},
+    {DASD_NOT_SOUND, "DASD_NOT_SOUND", "a field of a saved state has a value that none has"},
+    {DASD_OTHER_CHANNELS, "DASD_OTHER_CHANNELS", "a saved state of other channels"},
+    {DASD_OTHER_DRIVES, "DASD_OTHER_DRIVES", "a saved state of a channel with other drives"},
+    {DASD_NO_TRACK, "DASD_NO_TRACK", "a drive was saved at a track that its volume does not have"},
 };
 
 constexpr const Told *told_of(std::int32_t code) noexcept {
@@ -275,8 +288,8 @@ class Channels {
     void detach(std::uint16_t address) { detail::done(dasd_detach(held(), address)); }
 
     /* A file of a drive's volume, 0 for its first, where the drive's program does not run: that of another drive may. Its bytes stand there
-     * until the next step, run_on, hio or reset of that channel, detach or free. DASD_NO_CHANNEL, DASD_PROGRAM_RUNS, DASD_NO_DRIVE,
-     * DASD_NO_FILE. */
+     * until the next step, run_on, run_until, hio or reset of that channel, detach or free. DASD_NO_CHANNEL, DASD_PROGRAM_RUNS,
+     * DASD_NO_DRIVE, DASD_NO_FILE. */
     File file(std::uint16_t address, std::uint8_t place = 0) {
         dasd_file shown{};
         detail::done(dasd_show_file(held(), address, place, &shown));
@@ -291,6 +304,24 @@ class Channels {
         dasd_changed next{};
         while (detail::done(dasd_next_changed(held(), address, place, since, &next)) == 1) tracks.push_back(next);
         return tracks;
+    }
+
+    /* What the channels are between two programs, as bytes for a file: main storage, keys and volumes are saved beside it. DASD_PROGRAM_RUNS;
+     * std::bad_alloc. */
+    std::vector<std::uint8_t> save() {
+        std::vector<std::uint8_t> saved(DASD_SAVED);
+        std::size_t written = 0;
+        detail::done(dasd_save(held(), saved.data(), saved.size(), &written));
+        saved.resize(written);
+        return saved;
+    }
+
+    /* Restores what was saved, all or nothing, over the same channels and drives, where no program runs. DASD_NO_SAVED_STATE,
+     * DASD_OTHER_VERSION, DASD_SAVED_LENGTH, DASD_SAVED_SUM, DASD_NOT_SOUND, DASD_OTHER_CHANNELS, DASD_PROGRAM_RUNS, DASD_OTHER_DRIVES,
+     * DASD_NO_TRACK, DASD_NOT_OWED. */
+    void restore(Bytes saved) {
+        const std::uint8_t none = 0;
+        detail::done(dasd_restore(held(), saved.empty() ? &none : saved.data(), saved.size()));
     }
 
     /* What is known of a drive without a channel program. DASD_NO_CHANNEL, DASD_NO_DRIVE. */
@@ -424,6 +455,14 @@ class Subsystem : public Channels {
         return ran;
     }
 
+    /* The same, and it ends also behind the first unit that brings what is waited for, bits of enum dasd_until; with counts of what the units
+     * came to. DASD_BAD_UNTIL, DASD_NO_CHANNEL. */
+    dasd_progress run_until(std::uint8_t channel, std::uint32_t units, std::uint8_t until) {
+        dasd_progress ran{};
+        detail::done(dasd_run_until(held(), channel, units, until, &ran));
+        return ran;
+    }
+
     /* The processor takes an interruption from the channel with the lowest number, of this set, that has one: its address, and its channel
      * status word is stored at 64; nothing, where there is none. For the set, give the system mask of the program status word. */
     std::optional<std::uint16_t> interrupt(std::uint8_t channels = all_channels) {
@@ -516,12 +555,69 @@ class LentSubsystem : public Channels {
         detail::done(dasd_lent_run_on(held(), detail::Lent(memory).get(), channel, &ran));
         return ran;
     }
+    dasd_progress run_until(const Memory &memory, std::uint8_t channel, std::uint32_t units, std::uint8_t until) {
+        dasd_progress ran{};
+        ran.units = units;
+        detail::done(dasd_lent_run_until(held(), detail::Lent(memory).get(), channel, until, &ran));
+        return ran;
+    }
 
     std::optional<std::uint16_t> interrupt(const Memory &memory, std::uint8_t channels = all_channels) {
         std::uint16_t address = 0;
         if (detail::done(dasd_lent_interrupt(held(), detail::Lent(memory).get(), channels, &address)) == 0) return std::nullopt;
         return address;
     }
+};
+
+/* --- A trace --- */
+
+/* A trace of one channel, by looks: the lines of `dasd run --trace` for a log of the program's own. It is told before each start, behind each
+ * unit, and behind each call whose line is wanted:
+ *
+ *     libdasd::Trace trace(1);
+ *     log << trace.look(disks, DASD_BEFORE_SIO, drive);
+ *     log << trace.look(disks, DASD_BEHIND_SIO, drive, disks.sio(drive));
+ *     while (disks.step(1, 1) == 1) log << trace.look(disks, DASD_BEHIND_UNIT);
+ *
+ * What it has seen is in it, and nowhere else: it is copied as any value, as where a subsystem is, and a new one has seen nothing. */
+class Trace {
+  public:
+    explicit Trace(std::uint8_t channel) noexcept : number(channel) {}
+
+    /* Looks at its channel, which it never changes: the lines that tell of the moment, often none, which stay until the next look. Behind a
+     * call `address` and `answer` are the call's: 1 and the address for an interruption that was taken. DASD_NO_CHANNEL, DASD_BAD_MOMENT. */
+    std::string_view look(Subsystem &disks, dasd_when what, std::uint16_t address = 0, std::uint32_t answer = 0) {
+        const dasd_moment moment = at(what, address, answer);
+        return lines([&](dasd_trace *trace) { return dasd_trace_look(checked(disks), trace, &moment); });
+    }
+
+    /* The same where main storage is lent, which stays as it is. What is said at a LentSubsystem is thrown too. */
+    std::string_view look(LentSubsystem &disks, const Memory &memory, dasd_when what, std::uint16_t address = 0, std::uint32_t answer = 0) {
+        const dasd_moment moment = at(what, address, answer);
+        detail::Lent lent(memory);
+        return lines([&](dasd_trace *trace) { return dasd_lent_trace_look(checked(disks), lent.get(), trace, &moment); });
+    }
+
+  private:
+    dasd_moment at(dasd_when what, std::uint16_t address, std::uint32_t answer) const noexcept {
+        return {static_cast<std::uint8_t>(what), number, address, answer, 0, 0};
+    }
+
+    static dasd *checked(Channels &disks) {
+        if (!disks) throw Fault(DASD_NOTHING_HELD);
+        return disks.get();
+    }
+
+    template <class Call> std::string_view lines(Call call) {
+        seen.lines = room.data();
+        seen.size = room.size();
+        detail::done(call(&seen));
+        return {room.data(), seen.length};
+    }
+
+    std::uint8_t number;
+    dasd_trace seen{};
+    std::array<char, DASD_TRACE_ROOM> room{};
 };
 
 } // namespace with_std_span or with_own_span

@@ -9,7 +9,9 @@ EMULATOR is one of
   protocol=COMMAND    a program that speaks the plain protocol
   python=FILE:CLASS   an adapter of one's own: a class in a file of Python
   library=FILE        the C library, by ctypes; lent=FILE, over main storage that is lent, and is moved between any two calls;
-                      copied=FILE and lent-copied=FILE, with a copy behind each event, which goes on
+                      copied=FILE and lent-copied=FILE, with a copy behind each event, which goes on; restored=FILE and
+                      lent-restored=FILE, whose state is saved behind each event behind which no program runs, and new channels,
+                      to which it is restored, go on
   hercules[=PROGRAM]  Hercules 3.13; hercules-seek-first puts a Seek before each program that begins with none
 
 Files and options may stand in any order. Status 1 where a vector comes out wrong, 2 for bad words."""

@@ -8,18 +8,33 @@ import glob
 import hashlib
 import os
 import re
-import shutil
-import subprocess
-import sys
-import tempfile
 import unittest
+import zlib
 from pathlib import Path
 from typing import Callable, Iterator, List, Optional, Sequence, Tuple, Union
 
 import dasd
-from dasd import _library
 
 READ_R0 = bytes.fromhex("1600020020000010")
+
+# What a search of record 0 and a read behind it are told as: a start that is accepted and one that is not, three bytes, where the trace ends and
+# goes on, and what is asked behind the end.
+TRACE = """\
+SIO 190 CC 0, started
+TCH CC 2, a program runs
+SIO 190 CC 2, the channel is busy
+ 000100 31 Search ID Equal            5 <000200 000000       R0                                            still runs
+ 000100 31 Search ID Equal            5 <000200 0000000000   R0 0000000000 KL 0 DL 8 equal        SM CE DE skips one
+        leaves a credit: R0, whose ID was found equal
+        takes the credit away: R0, whose ID was found equal
+ 000110 06 Read Data                  8 >000300 000000000000 R0 0000000000 KL 0 DL 8              CE DE    left 0
+INT 190 CE DE; last word 000110; residual count 0; key 0
+TIO 190 CC 0, available
+HIO 190 CC 1, status stored: none
+ARRIVE 190: no arm was in motion
+INT none
+RESET
+"""
 
 
 #: What makes channels of these numbers over main storage of so many bytes.
@@ -74,6 +89,23 @@ class Calls(unittest.TestCase):
             self.refused("NO_CHANNEL", disks.registers, 2)
             disks.run_on(1, 1000)
             self.assertEqual((disks.program(1), disks.registers(1)), (None, None))
+
+    def test_a_trace(self) -> None:
+        with self.made() as disks:
+            # Search ID Equal for record 0, Transfer In Channel back to it, Read Data
+            disks.storage[0x100:0x118] = bytes.fromhex("310002004000000508000100000000000600030000000008")
+            lines: List[str] = []
+            trace = dasd.Trace(disks, 1, lines.append)
+            self.assertEqual((trace.sio(0x190), trace.tch(), trace.sio(0x190), trace.run_on(3).units), (0, 2, 2, 3))
+            trace.end()
+            self.assertEqual((trace.run_on(1000)[1:], trace.interrupt()), ((dasd.Subchannel.ENDED, 0x90, False), 0x190))
+            self.assertEqual((trace.tio(0x190), trace.hio(0x190), trace.arrive(0x190), trace.interrupt()), (0, 1, False, None))
+            self.assertIsNone(trace.reset())
+            self.assertEqual("".join(lines), TRACE)
+            self.refused("BAD_MOMENT", trace.look, dasd.When.BEHIND_STEP, 0, 65536)
+            self.refused("NO_CHANNEL", dasd.Trace(disks, 2, print).end)
+            self.assertRaises(ValueError, trace.look, dasd.When.BEHIND_RUN, 0, -1)
+        self.refused("NOTHING_HELD", trace.end)
 
     def test_a_volume_goes_from_one_to_another(self) -> None:
         with self.made() as disks, self.maker(4096, 0) as others:
@@ -142,6 +174,24 @@ class Calls(unittest.TestCase):
         self.refused("BAD_CHANNELS", self.maker, 4096, 7)
         self.refused("BAD_CHANNELS", self.maker, 4096)
 
+    def test_a_state_is_saved_and_restored(self) -> None:
+        with self.made() as disks, self.made() as others:
+            disks.storage[0x100:0x110] = bytes.fromhex("0700020060000006ff00020020000001")  # Seek, and no command
+            disks.storage[0x200:0x206] = bytes.fromhex("000000010003")
+            self.assertEqual(disks.sio(0x190), 0)
+            self.refused("PROGRAM_RUNS", disks.save)
+            disks.run_on(1, 1000)
+            saved = disks.save()
+            self.assertEqual((len(saved), saved[:9]), (538, b"DASDSAVE\x01"))
+            self.assertEqual(int.from_bytes(saved[-4:], "big"), zlib.adler32(saved[:-4]))
+            channel, drive = saved[9 + 75 : 9 + 150], saved[9 + 75 + 11 : 9 + 75 + 19]
+            self.assertEqual((channel[:2].hex(), channel[7:9].hex(), drive.hex()), ("0290", "0e00", "0190000100038000"))
+            others.restore(memoryview(saved))
+            self.assertEqual((others.save(), others.drive(0x190)), (saved, disks.drive(0x190)))
+            self.assertEqual((others.interrupt(), others.interrupt(), disks.interrupt()), (0x190, None, 0x190))
+            for data, name in (b"", "NO_SAVED_STATE"), (saved[:-1], "SAVED_LENGTH"), (saved[:-1] + b"x", "SAVED_SUM"):
+                self.refused(name, others.restore, data)
+
     def test_several_channels(self) -> None:
         with self.maker(65536, 1, 2) as disks:
             disks.attach_new(0x190, 2314, 2)
@@ -169,6 +219,33 @@ class Calls(unittest.TestCase):
             self.assertEqual(disks.channel(1).asked, True)
             self.assertEqual((disks.interrupt(), disks.run_on(1, 0).asked), (0x190, False))
 
+    def test_a_run_until_something_happens(self) -> None:
+        with self.made() as disks:
+            # Seek to cylinder 1, and Read R0 to 200, which asks
+            disks.storage[0x100:0x110] = bytes.fromhex("0700030040000006 1600020028000010")
+            disks.storage[0x300:0x306] = bytes.fromhex("000000010000")
+            self.assertEqual(disks.sio(0x190), 0)
+            self.refused("BAD_UNTIL", disks.run_until, 1, 1000, 8)
+            self.refused("BAD_UNTIL", disks.run_until, 1, 1000, 1 << 32)
+            self.refused("NO_CHANNEL", disks.run_until, 3, 1000)
+            ran = disks.run_until(1, 1000, dasd.Until.CYLINDER | dasd.Until.TRACK)
+            self.assertEqual((ran.units, ran.bytes, ran.cylinders, ran.range), (7, 6, 1, None))
+            self.assertEqual(ran.stopped, dasd.Until.CYLINDER | dasd.Until.TRACK)
+            ran = disks.run_until(1, 1000, dasd.Until.ASKED)
+            self.assertEqual((ran.units, ran.asked, ran.stopped, disks.interrupt()), (1, True, dasd.Until.ASKED, 0x190))
+            wanted = (17, dasd.Subchannel.ENDED, 0x90, False, dasd.Until.NOTHING, 16, 0, 0, 16, (0x200, 0x20F))
+            self.assertEqual(disks.run_until(1, 1000), wanted)
+            self.assertEqual(disks.run_until(1, 1000).units, 0)
+
+    def test_a_run_until_something_happens_in_pieces(self) -> None:
+        with self.made() as disks:
+            # No-Operation, Sense of one byte to 300, and Transfer in Channel back to the first: a program without an end
+            disks.storage[0x100:0x118] = bytes.fromhex("0300000040000001 0400030060000001 0800010000000000")
+            self.assertEqual(disks.sio(0x190), 0)
+            ran = disks.run_until(1, 2_500_000, dasd.Until.ASKED)
+            self.assertEqual((ran.units, ran.bytes, ran.stored, ran.range), (2_500_000, 500_000, 500_000, (0x300, 0x300)))
+            self.assertEqual((ran.subchannel, ran.stopped, disks.hio(0x190)), (dasd.Subchannel.WORKING, dasd.Until.NOTHING, 2))
+
     def test_units_that_are_done_in_pieces(self) -> None:
         with self.made() as disks, self.made() as others:
             # No-Operation, and Transfer in Channel back to it: a program without an end
@@ -179,33 +256,6 @@ class Calls(unittest.TestCase):
             self.assertEqual(others.step(1, 2_500_000), 2_500_000)
             self.assertEqual((disks.hio(0x190), others.hio(0x190), disks.tio(0x190), others.tio(0x190)), (2, 2, 1, 1))
             self.assertEqual(disks.storage, others.storage)
-
-
-class Places(unittest.TestCase):
-    """Where the library is looked for: what DASD_LIBRARY names, then beside the module, then by the loader's name."""
-
-    def found(self, folder: str, named: Optional[str]) -> str:
-        """Where the module in a folder looks, with this in DASD_LIBRARY."""
-        environment = {key: it for key, it in os.environ.items() if key != "DASD_LIBRARY"}
-        if named is not None:
-            environment["DASD_LIBRARY"] = named
-        asked = [sys.executable, "-c", "import _library; print(_library.place())"]
-        return subprocess.run(asked, cwd=folder, env=environment, check=True, capture_output=True, text=True).stdout.strip()
-
-    def test_places_in_their_order(self) -> None:
-        with tempfile.TemporaryDirectory() as folder:
-            shutil.copy(_library.__file__, folder)
-            self.assertEqual(self.found(folder, None), "libdasd.so.1")
-            carried = Path(folder).resolve() / "libdasd.so.1"
-            carried.touch()
-            self.assertEqual(self.found(folder, None), str(carried))
-            self.assertEqual(self.found(folder, "/there/libdasd.so"), "/there/libdasd.so")
-            self.assertEqual(self.found(folder, ""), str(carried))
-
-    def test_no_library_is_an_import_error(self) -> None:
-        environment = dict(os.environ, DASD_LIBRARY="/nowhere/libdasd.so.1", PYTHONPATH=str(Path(_library.__file__).parent.parent))
-        ended = subprocess.run([sys.executable, "-c", "import dasd"], env=environment, capture_output=True, text=True, check=False)
-        self.assertEqual((ended.returncode, "ImportError: libdasd is not to be had" in ended.stderr), (1, True))
 
 
 # The vectors: the lines are described in conformance/FORMAT.md.

@@ -61,6 +61,10 @@ class Moved(Kept):
         self.move()
         return super().run_on(channel, units)
 
+    def run_until(self, channel: int, units: int, until: int = dasd.Until.NOTHING) -> dasd.Progress:
+        self.move()
+        return super().run_until(channel, units, until)
+
     def interrupt(self, mask: int = dasd.ALL_CHANNELS) -> Optional[int]:
         self.move()
         return super().interrupt(mask)

@@ -1,6 +1,6 @@
 #!/usr/bin/env python3
 """Tests of what the module dasd keeps from a program: memory that was freed, calls that meet, and numbers that are cut. The library is
-found as in test_dasd.py."""
+found as in test_dasd.py; where it is looked for is tested here too."""
 
 from __future__ import annotations
 
@@ -8,19 +8,24 @@ import array
 import copy
 import ctypes
 import gc
+import os
 import pickle
 import re
+import shutil
 import signal
+import subprocess
 import sys
+import tempfile
 import threading
 import time
 import unittest
 import unittest.mock
 import weakref
 from pathlib import Path
-from typing import Callable, List, Sequence, Tuple
+from typing import Callable, List, Optional, Sequence, Tuple
 
 import dasd
+from dasd import _library
 
 Call = Callable[..., object]
 READ_R0 = bytes.fromhex("1600020020000010")
@@ -74,6 +79,7 @@ class Numbers(unittest.TestCase):
             self.refused("NO_FILE", disks.changed, 0x190, 0, beyond)
             self.refused("BAD_KEY", disks.set_key, 0, 3 + beyond)
             of_channels: Sequence[Tuple[Call, List[object]]] = [(disks.run_on, [1]), (disks.step, [1]), (disks.reset, []), (disks.channel, [])]
+            of_channels = [*of_channels, (disks.run_until, [1])]
             for call, behind in of_channels:
                 self.refused("NO_CHANNEL", call, 1 + beyond, *behind)
             of_storage: Sequence[Tuple[Call, List[object]]] = [(disks.peek, [1]), (disks.poke, [b"a"]), (disks.key, []), (disks.set_key, [1])]
@@ -91,6 +97,7 @@ class Numbers(unittest.TestCase):
         calls: List[Tuple[Call, List[object]]] = [(call, [at]) for call in of_addresses for at in (0x10190, -1, 1 << 64)]
         calls += [(disks.attach, [0x10191]), (disks.attach_new, [0x10191, 2314, 1])]
         calls += [(call, [1, units]) for call in (disks.run_on, disks.step) for units in (1 << 32, -1)]
+        calls += [(disks.run_until, [1, units]) for units in (1 << 32, -1)]
         calls += [(call, [mask]) for call in (disks.is_pending, disks.interrupt) for mask in (0x1FE, -1)]
         calls += [(disks.peek, [0, -1])]
         calls += [(disks.changed, [address, since]) for address, since in ((0x10190, 0), (-1, 0), (0x190, -1), (0x190, 1 << 64))]
@@ -279,6 +286,33 @@ class Lives(unittest.TestCase):
         finally:
             sys.setswitchinterval(interval)
         self.assertEqual(during, [0])
+
+
+class Places(unittest.TestCase):
+    """Where the library is looked for: what DASD_LIBRARY names, then beside the module, then by the loader's name."""
+
+    def found(self, folder: str, named: Optional[str]) -> str:
+        """Where the module in a folder looks, with this in DASD_LIBRARY."""
+        environment = {key: it for key, it in os.environ.items() if key != "DASD_LIBRARY"}
+        if named is not None:
+            environment["DASD_LIBRARY"] = named
+        asked = [sys.executable, "-c", "import _library; print(_library.place())"]
+        return subprocess.run(asked, cwd=folder, env=environment, check=True, capture_output=True, text=True).stdout.strip()
+
+    def test_places_in_their_order(self) -> None:
+        with tempfile.TemporaryDirectory() as folder:
+            shutil.copy(_library.__file__, folder)
+            self.assertEqual(self.found(folder, None), "libdasd.so.1")
+            carried = Path(folder).resolve() / "libdasd.so.1"
+            carried.touch()
+            self.assertEqual(self.found(folder, None), str(carried))
+            self.assertEqual(self.found(folder, "/there/libdasd.so"), "/there/libdasd.so")
+            self.assertEqual(self.found(folder, ""), str(carried))
+
+    def test_no_library_is_an_import_error(self) -> None:
+        environment = dict(os.environ, DASD_LIBRARY="/nowhere/libdasd.so.1", PYTHONPATH=str(Path(_library.__file__).parent.parent))
+        ended = subprocess.run([sys.executable, "-c", "import dasd"], env=environment, capture_output=True, text=True, check=False)
+        self.assertEqual((ended.returncode, "ImportError: libdasd is not to be had" in ended.stderr), (1, True))
 
 
 if __name__ == "__main__":

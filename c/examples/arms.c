@@ -36,7 +36,7 @@ void arms_tick(machine *m) {
         arm *a = &m->arms[i];
         if (!a->moves || m->clock < a->arrives) continue;
         a->moves = 0;
-        dasd_arrive(&m->d, a->address);
+        tell_log(m, DASD_BEHIND_ARRIVE, a->address, dasd_arrive(&m->d, a->address));
     }
 }
 

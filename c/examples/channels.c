@@ -25,7 +25,7 @@ static void tell_ready(machine *m, uint8_t status, int is_whole) {
 int start_io(machine *m, uint16_t address) {
     if (address == CONSOLE) return console_start(m);
     if (is_ready(m, address)) return tell_ready(m, DEVICE_END | BUSY, 0), 1;
-    int code = lent_or_own_sio(m, address);
+    int code = logged_sio(m, address);
     if (code == 0) m->works |= (uint8_t)DASD_CHANNEL(channel_of(address));
     if (code == 1) look_at_arms(m); /* a Recalibrate, say, that ended at once */
     return code;
@@ -34,12 +34,12 @@ int start_io(machine *m, uint16_t address) {
 int test_io(machine *m, uint16_t address) {
     if (address == CONSOLE) return console_test(m);
     if (is_ready(m, address)) return tell_ready(m, DEVICE_END, 1), 1;
-    return lent_or_own_tio(m, address);
+    return tell_log(m, DASD_BEHIND_TIO, address, lent_or_own_tio(m, address));
 }
 
 int halt_io(machine *m, uint16_t address) {
     if (address == CONSOLE) return 0;
-    int code = lent_or_own_hio(m, address);
+    int code = tell_log(m, DASD_BEHIND_HIO, address, lent_or_own_hio(m, address));
     if (code == 2) { /* the program was cut */
         m->works &= (uint8_t)~DASD_CHANNEL(channel_of(address));
         look_at_arms(m);
@@ -47,13 +47,15 @@ int halt_io(machine *m, uint16_t address) {
     return code;
 }
 
-int test_channel(machine *m, uint16_t address) { return channel_of(address) == channel_of(CONSOLE) ? 0 : dasd_tch(&m->d, address); }
+int test_channel(machine *m, uint16_t address) {
+    return channel_of(address) == channel_of(CONSOLE) ? 0 : tell_log(m, DASD_BEHIND_TCH, address, dasd_tch(&m->d, address));
+}
 
 /* --- The clock. A slice is short, so that an interruption that a program asks for is taken while the program runs --- */
 
 static void run_channel(machine *m, uint8_t channel) {
     dasd_run ran;
-    if (lent_or_own_run_on(m, channel, m->units_a_tick, &ran) != DASD_DONE || ran.subchannel == DASD_WORKING) return;
+    if (logged_run_on(m, channel, m->units_a_tick, &ran) != DASD_DONE || ran.subchannel == DASD_WORKING) return;
     m->works &= (uint8_t)~DASD_CHANNEL(channel);
     look_at_arms(m);
 }
@@ -81,9 +83,13 @@ static int ready_interrupts(machine *m, uint16_t *address) {
     return 1;
 }
 
+static int drive_interrupts(machine *m, uint16_t *address) {
+    return lent_or_own_interrupt(m, address) == 1 && tell_log(m, DASD_BEHIND_INTERRUPT, *address, 1);
+}
+
 int take_interruption(machine *m) {
     uint16_t address;
-    if (!console_interrupts(m, &address) && lent_or_own_interrupt(m, &address) != 1 && !ready_interrupts(m, &address)) return 0;
+    if (!console_interrupts(m, &address) && !drive_interrupts(m, &address) && !ready_interrupts(m, &address)) return 0;
     m->length = 0;
     interrupt(m, address, IO_OLD, IO_NEW);
     return 1;
@@ -97,7 +103,7 @@ enum { SLICE = 65536, MOST_SLICES = 256 };
 void reset(machine *m) {
     dasd_track unsaved; /* no file in memory refuses to be written */
     for (uint8_t channel = 0; channel < 7; channel++)
-        if (CHANNELS & DASD_CHANNEL(channel)) dasd_reset(&m->d, channel, &unsaved);
+        if (CHANNELS & DASD_CHANNEL(channel)) tell_log(m, DASD_BEHIND_RESET, (uint16_t)(channel << 8), dasd_reset(&m->d, channel, &unsaved));
     m->works = 0;
     m->ready = 0;
     m->console.is_busy = m->console.pends = 0;
@@ -111,10 +117,11 @@ int load(machine *m, uint16_t address) {
     /* the word lies where its own bytes will come to: it has been fetched by then */
     memcpy(m->storage, read_ipl, 8);
     put_word(m->storage + CAW, 0);
-    if (lent_or_own_sio(m, address) != 0) return -1;
+    if (logged_sio(m, address) != 0) return -1;
     for (int slice = 0; slice < MOST_SLICES && ran.subchannel == DASD_WORKING; slice++)
-        if (lent_or_own_run_on(m, channel_of(address), SLICE, &ran) != DASD_DONE) return -1;
-    if (lent_or_own_tio(m, address) != 1 || m->storage[CSW + 4] != 0x0C || m->storage[CSW + 5] != 0) return -1;
+        if (logged_run_on(m, channel_of(address), SLICE, &ran) != DASD_DONE) return -1;
+    if (tell_log(m, DASD_BEHIND_TIO, address, lent_or_own_tio(m, address)) != 1 || m->storage[CSW + 4] != 0x0C || m->storage[CSW + 5] != 0)
+        return -1;
     look_at_arms(m);
     load_psw(m, 0);
     m->storage[2] = (uint8_t)(address >> 8);

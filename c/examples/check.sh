@@ -28,6 +28,16 @@ cmp "$folder/work.ckd" "$folder/work.own"
 # the file has the program, which was read to 1000 from the volume, and its last channel status word; and is taken once more as it is
 cmp -n 16 -i 4096:0 "$folder/storage" "$folder/utility.bin"
 "$s360" --lend "$folder/storage" 190="$folder/resident.ckd" 191="$folder/work.ckd" 2>/dev/null | diff "$folder/again" -
+# with a log the same words are typed and the same volumes saved, and the log is the same over both kinds of main storage: from its loading on
+for lend in "" "--lend"; do
+    "$mkvolumes" "$folder/utility.bin" "$folder/resident.ckd" "$folder/work.ckd"
+    rm -f "$folder/storage"
+    # shellcheck disable=SC2086 # a word and its file, or none
+    "$s360" $lend ${lend:+"$folder/storage"} --log "$folder/log$lend" 190="$folder/resident.ckd" 191="$folder/work.ckd" 2>/dev/null | diff "$folder/typed" -
+    cmp "$folder/work.ckd" "$folder/work.own"
+done
+diff "$folder/log" "$folder/log--lend"
+sed -n 3,13p "$folder/log" | diff "$here/logged.txt" -
 # a file of another size is no main storage
 status=0
 "$s360" --lend "$folder/utility.bin" 190="$folder/resident.ckd" 191="$folder/work.ckd" 2>/dev/null || status=$?
@@ -56,6 +66,7 @@ refuses 2 'no program was loaded' 190="$folder/work.ckd"
 refuses 2 '^usage: s360'
 refuses 2 '^usage: s360' --lend "$folder/storage"
 refuses 2 '^usage: s360' --again
+refuses 2 'none/log: No such file or directory' --log "$folder/none/log" 190="$folder/resident.ckd"
 refuses 2 '^usage: s360' PACK01="$folder/work.ckd"
 # a program that waits for what never comes: a pack that is not on the shelf is asked for in vain
 "$(dirname "$mkvolumes")/mkpacks" "$folder/copier.bin" "$folder/resident.ckd" "$folder/source.ckd" "$folder/first.ckd" "$folder/second.ckd"

@@ -1,10 +1,11 @@
-/* s360 [--lend FILE | --keep FILE] [--again TICK] ADDRESS=VOLUME.. [SERIAL=VOLUME..] - loads a program from the first of these volumes, and
- * runs it until the processor waits and takes no more interruptions. A volume is mounted on the drive of an address, or stands on the shelf
- * for the operator, who knows it by its serial number. What the program types comes to standard output. Volumes that were changed are saved.
+/* s360 [--lend FILE | --keep FILE] [--again TICK] [--log FILE] ADDRESS=VOLUME.. [SERIAL=VOLUME..] - loads a program from the first of these
+ * volumes, and runs it until the processor waits and takes no more interruptions. A volume is mounted on the drive of an address, or stands
+ * on the shelf for the operator, who knows it by its serial number. What the program types comes to standard output. Volumes that were changed
+ * are saved.
  *
  * Main storage is the library's, and with `--keep` is written to a file at the end. With `--lend` it is a file, which is mapped, and has
  * afterwards what the program left. With `--again` all is copied at that tick of the clock, and the machine goes back there from its end
- * and comes to it once more: what it types from there on stands there twice.
+ * and comes to it once more: what it types from there on stands there twice. With `--log` a file is told what the channel programs did.
  *
  * Status 0: the program ended at address 0. 1: it did not, or something could not be saved. 2: it was not loaded. */
 #include <errno.h>
@@ -17,13 +18,13 @@ enum { LOADED_AND_ENDED = 0, NOT_ENDED = 1, NOT_LOADED = 2 };
 static const uint64_t MOST_TICKS = 1000000000;
 
 typedef struct words {
-    const char *lent, *kept;
+    const char *lent, *kept, *log;
     uint64_t again;
     char **volumes;
 } words;
 
 static int usage(void) {
-    fprintf(stderr, "usage: s360 [--lend FILE | --keep FILE] [--again TICK] ADDRESS=VOLUME.. [SERIAL=VOLUME..]\n");
+    fprintf(stderr, "usage: s360 [--lend FILE | --keep FILE] [--again TICK] [--log FILE] ADDRESS=VOLUME.. [SERIAL=VOLUME..]\n");
     return -1;
 }
 
@@ -37,6 +38,7 @@ static int read_words(char **given, words *w) {
         if (!given[1]) return usage();
         if (!strcmp(given[0], "--lend")) w->lent = given[1];
         else if (!strcmp(given[0], "--keep")) w->kept = given[1];
+        else if (!strcmp(given[0], "--log")) w->log = given[1];
         else if (!strcmp(given[0], "--again")) w->again = strtoull(given[1], NULL, 10);
         else return usage();
     }
@@ -105,15 +107,17 @@ static int play(machine *m, const words *w) {
 
 int main(int argc, char **argv) {
     static machine m;
-    words w = {NULL, NULL, 0, NULL};
+    words w = {NULL, NULL, NULL, 0, NULL};
     (void)argc;
     if (read_words(argv + 1, &w)) return NOT_LOADED;
     if (dasd_interface() != DASD_INTERFACE) return complain("the library", "it has another interface"), NOT_LOADED;
     if (open_storage(&m, w.lent)) return complain(w.lent ? w.lent : "main storage", strerror(errno)), NOT_LOADED;
+    if (w.log && !(m.log = fopen(w.log, "w"))) return complain(w.log, strerror(errno)), NOT_LOADED;
     m.console.paper = stdout;
     m.units_a_tick = 3; /* at 312,000 bytes a second */
     int status = play(&m, &w);
     free_volumes(&m);
+    if (m.log && (ferror(m.log) | fclose(m.log))) status = NOT_ENDED;
     if (close_storage(&m)) status = NOT_ENDED;
     return status;
 }

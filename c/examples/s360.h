@@ -9,6 +9,7 @@
  *   arms that move, and arrive by their distance                                            arms.c
  *   another device beside the library's, on a channel of its own                            console.c
  *   packs that an operator changes while the machine runs                                   operator.c, volumes.c
+ *   what channel programs did, and why one failed, in a log                                 log.c
  *   the whole machine is copied in the middle of its run, and gone back to                  again.c
  *   a volume's file is read, and saved: by its changed tracks alone, or whole               files.c, volumes.c
  *
@@ -84,6 +85,8 @@ typedef struct machine {
     arm arms[MOST_DRIVES];
     int arm_count;
     console console;
+    FILE *log; /* where it is told what channel programs did, or NULL */
+    dasd_trace traces[7];
     volume volumes[MOST_VOLUMES];
     int volume_count;
     /* what the operator was asked for last, and when it is done */
@@ -136,8 +139,15 @@ int32_t lent_or_own_tio(machine *m, uint16_t address);
 int32_t lent_or_own_hio(machine *m, uint16_t address);
 int32_t lent_or_own_run_on(machine *m, uint8_t channel, uint32_t units, dasd_run *ran);
 int32_t lent_or_own_interrupt(machine *m, uint16_t *address);
+int32_t lent_or_own_trace_look(machine *m, dasd_trace *trace, const dasd_moment *moment);
 int32_t storage_key_of(machine *m, uint32_t at);
 int32_t set_storage_key(machine *m, uint32_t at, uint8_t key);
+
+/* log.c: tells the log, if there is one, of a call for an address and what that answered, which is handed on; a start with what is told before
+ * it; units of a channel's program, which are done one by one where there is a log. */
+int32_t tell_log(machine *m, enum dasd_when what, uint16_t address, int32_t answer);
+int32_t logged_sio(machine *m, uint16_t address);
+int32_t logged_run_on(machine *m, uint8_t channel, uint32_t units, dasd_run *ran);
 
 /* console.c: the same for the console. */
 int console_start(machine *m);

@@ -62,6 +62,10 @@ int32_t lent_or_own_interrupt(machine *m, uint16_t *address) {
     return m->lends ? dasd_lent_interrupt(&m->d, &m->memory, m->mask, address) : dasd_interrupt(&m->d, m->mask, address);
 }
 
+int32_t lent_or_own_trace_look(machine *m, dasd_trace *trace, const dasd_moment *moment) {
+    return m->lends ? dasd_lent_trace_look(&m->d, &m->memory, trace, moment) : dasd_trace_look(&m->d, trace, moment);
+}
+
 int32_t storage_key_of(machine *m, uint32_t at) {
     if (!m->lends) return dasd_key(&m->d, at);
     return at < m->size ? m->keys[at / BLOCK] : DASD_OUTSIDE_STORAGE;

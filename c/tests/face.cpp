@@ -85,6 +85,52 @@ void a_program_is_shown_while_it_runs() {
     CHECK(!disks.program(1) && !disks.registers(1));
 }
 
+// A search of record 0 and a read behind it, as they are told; and a copy of a trace and of what it looks at, which go on as they would have.
+void a_program_is_traced() {
+    const std::string told = R"(SIO 190 CC 0, started
+ 000100 31 Search ID Equal            5 <000200 0000000000   R0 0000000000 KL 0 DL 8 equal        SM CE DE skips one
+        leaves a credit: R0, whose ID was found equal
+        takes the credit away: R0, whose ID was found equal
+ 000110 06 Read Data                  8 >000300 000000000000 R0 0000000000 KL 0 DL 8              CE DE    left 0
+)";
+    Subsystem disks = made({0x31, 0, 2, 0, 0x40, 0, 0, 5, 8, 0, 1, 0, 0, 0, 0, 0, 6, 0, 3, 0, 0, 0, 0, 8});
+    libdasd::Trace trace(1);
+    std::string lines(trace.look(disks, DASD_BEFORE_SIO, drive));
+    const int started = disks.sio(drive);
+    lines += trace.look(disks, DASD_BEHIND_SIO, drive, static_cast<std::uint32_t>(started));
+    for (int i = 0; i < 3 && disks.step(1, 1) == 1; i++) lines += trace.look(disks, DASD_BEHIND_UNIT);
+    Subsystem copy = disks.copy();
+    libdasd::Trace again = trace;
+    std::string others = lines;
+    while (disks.step(1, 1) == 1) lines += trace.look(disks, DASD_BEHIND_UNIT);
+    while (copy.step(1, 1) == 1) others += again.look(copy, DASD_BEHIND_UNIT);
+    CHECK(lines == told && others == told);
+    CHECK(refused([&] { (void)trace.look(disks, DASD_BEHIND_STEP, 0, 65536); }) == DASD_BAD_MOMENT);
+    CHECK(refused([&] { (void)libdasd::Trace(2).look(disks, DASD_AT_END); }) == DASD_NO_CHANNEL);
+    disks.free();
+    CHECK(refused([&] { (void)trace.look(disks, DASD_AT_END); }) == DASD_NOTHING_HELD);
+    Octets bytes(65536), keys(32);
+    LentSubsystem lent(65536, libdasd::channel_set({1}));
+    CHECK(again.look(lent, Memory{bytes, keys}, DASD_BEHIND_INTERRUPT) == "INT none\n");
+    CHECK(refused([&] { (void)again.look(lent, Memory{bytes, Bytes(keys.data(), 31)}, DASD_AT_END); }) == DASD_BAD_BLOCKS);
+}
+
+// Seek to cylinder 1, and Read R0 to 200, which asks.
+const Octets moves = {7, 0, 3, 0, 0x40, 0, 0, 6, 0x16, 0, 2, 0, 0x28, 0, 0, 16};
+
+void a_program_runs_until() {
+    Subsystem disks = made(moves);
+    disks.poke(0x300, Octets{0, 0, 0, 1, 0, 0});
+    CHECK(disks.sio(drive) == 0 && refused([&] { (void)disks.run_until(1, 1000, 8); }) == DASD_BAD_UNTIL);
+    auto ran = disks.run_until(1, 1000, DASD_UNTIL_CYLINDER);
+    CHECK(ran.units == 7 && ran.bytes == 6 && ran.cylinders == 1 && ran.stored == 0 && ran.stopped == DASD_UNTIL_CYLINDER);
+    ran = disks.run_until(1, 1000, DASD_UNTIL_ASKED | DASD_UNTIL_TRACK);
+    CHECK(ran.units == 1 && ran.stopped == DASD_UNTIL_ASKED && ran.asked == 1 && disks.interrupt() == drive);
+    ran = disks.run_until(1, 1000, 0);
+    CHECK(ran.subchannel == DASD_ENDED && ran.device == 0x90 && ran.bytes == 16 && ran.stored == 16 && ran.low == 0x200 && ran.high == 0x20F);
+    CHECK(refused([&] { (void)disks.run_until(3, 1, 0); }) == DASD_NO_CHANNEL);
+}
+
 void a_volume_goes_from_one_to_another() {
     Subsystem disks = made(read_r0), others(4096, DASD_CHANNEL(0));
     Octets image = image_of(disks);
@@ -200,6 +246,7 @@ void refuses_all(Subsystem &none) {
     CHECK(refused([&] { none.tio(drive); }) == DASD_NOTHING_HELD && refused([&] { none.hio(drive); }) == DASD_NOTHING_HELD);
     CHECK(refused([&] { none.tch(drive); }) == DASD_NOTHING_HELD && refused([&] { (void)none.step(1, 1); }) == DASD_NOTHING_HELD);
     CHECK(refused([&] { (void)none.run_on(1, 1); }) == DASD_NOTHING_HELD && refused([&] { (void)none.arrive(drive); }) == DASD_NOTHING_HELD);
+    CHECK(refused([&] { (void)none.run_until(1, 1, 0); }) == DASD_NOTHING_HELD);
     CHECK(refused([&] { (void)none.is_pending(); }) == DASD_NOTHING_HELD && refused([&] { (void)none.interrupt(); }) == DASD_NOTHING_HELD);
     CHECK(refused([&] { (void)none.reset(1); }) == DASD_NOTHING_HELD && refused([&] { (void)none.channel(1); }) == DASD_NOTHING_HELD);
     CHECK(refused([&] { (void)none.storage(); }) == DASD_NOTHING_HELD && refused([&] { none.peek(0, image); }) == DASD_NOTHING_HELD);
@@ -223,6 +270,19 @@ void a_copy_goes_its_own_way() {
     CHECK(second.tio(drive) == 0 && refused([] { Subsystem().copy(); }) == DASD_NOTHING_HELD);
     const LentSubsystem lent(4096, libdasd::channel_set({1}));
     CHECK(lent.copy().tch(drive) == 0 && refused([] { LentSubsystem().copy(); }) == DASD_NOTHING_HELD);
+}
+
+// Between two programs, by bytes.
+void a_state_is_saved_and_restored() {
+    Subsystem disks = made(seek), others = made(seek);
+    CHECK(disks.sio(drive) == 0 && refused([&] { disks.save(); }) == DASD_PROGRAM_RUNS);
+    while (disks.run_on(1, 1000).subchannel == DASD_WORKING) {
+    }
+    const Octets saved = disks.save();
+    CHECK(saved.size() == DASD_SAVED);
+    others.restore(saved);
+    CHECK(others.save() == saved && others.drive(drive).arm == DASD_IN_MOTION && others.interrupt() == drive);
+    CHECK(refused([&] { others.restore({}); }) == DASD_NO_SAVED_STATE);
 }
 
 void owners() {
@@ -308,6 +368,9 @@ void storage_is_lent() {
     const Memory part = {{large.data() + 65537, 65536}, kept.keys};
     CHECK(kept.disks.sio(part, drive) == 0 && kept.disks.run_on(part, 1, 1000).subchannel == DASD_ENDED && kept.disks.interrupt(part) == drive);
     CHECK(large[65537 + 0x45] == 0x10 && large[65536] == 0 && large[2 * 65536 + 1] == 0); // protection check
+    kept.keys[0] = 1;
+    CHECK(kept.disks.sio(part, drive) == 0 && kept.disks.run_until(part, 1, 5, DASD_UNTIL_ASKED).high == 0x204);
+    CHECK(kept.disks.run_until(part, 1, 1000, 0).low == 0x205 && kept.disks.interrupt(part) == drive);
     CHECK(dasd_sio(kept.disks.get(), drive) == DASD_NO_STORAGE);
 }
 
@@ -316,6 +379,7 @@ std::int32_t all_refused(LentSubsystem &disks, const Memory &memory) {
     const std::int32_t code = refused([&] { disks.sio(memory, drive); });
     const bool same = code == refused([&] { disks.tio(memory, drive); }) && code == refused([&] { disks.hio(memory, drive); }) &&
                       code == refused([&] { (void)disks.step(memory, 1, 1); }) && code == refused([&] { (void)disks.run_on(memory, 1, 1); }) &&
+                      code == refused([&] { (void)disks.run_until(memory, 1, 1, 0); }) &&
                       code == refused([&] { (void)disks.interrupt(memory); });
     return same ? code : DASD_DONE;
 }
@@ -413,6 +477,8 @@ int main(int count, char **words) { // NOLINT(bugprone-exception-escape)
     if (count == 2 && !std::strcmp(words[1], "texts")) return texts();
     a_record_is_read();
     a_program_is_shown_while_it_runs();
+    a_program_is_traced();
+    a_program_runs_until();
     a_volume_goes_from_one_to_another();
     a_file_is_kept_by_its_changed_tracks();
     a_volume_in_several_files();
@@ -421,6 +487,7 @@ int main(int count, char **words) { // NOLINT(bugprone-exception-escape)
     storage_is_the_callers();
     no_bytes();
     a_copy_goes_its_own_way();
+    a_state_is_saved_and_restored();
     owners();
     storage_is_lent();
     what_is_not_lent();

@@ -96,6 +96,8 @@ int32_t moved_step(dasd *d, uint8_t channel, uint32_t units, uint32_t *done) {
     return code;
 }
 
+int32_t moved_trace_look(dasd *d, dasd_trace *trace, const dasd_moment *moment) { return dasd_lent_trace_look(d, moved(d), trace, moment); }
+
 static int is_inside(const dasd_memory *m, uint32_t at, size_t len) { return len <= m->size && at <= m->size - len; }
 
 int32_t moved_peek(dasd *d, uint32_t at, uint8_t *into, size_t len) {

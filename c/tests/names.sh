@@ -1,6 +1,6 @@
 #!/bin/sh
 # names.sh ARCHIVE [SHARED]: both show exactly the calls of the archive's header, dasd.h for libdasd.a, and want nothing but the C library's
-# few functions.
+# few functions; and no fault of dasd.h has the number of one of dasd_drive.h.
 set -eu
 archive=$1 shared=${2-}
 here=$(dirname "$0")
@@ -22,5 +22,17 @@ comm -13 "$work/known" "$work/wanted" > "$work/unknown"
 if [ -s "$work/unknown" ]; then
     echo "names.sh: $archive wants what it should not:" >&2
     cat "$work/unknown" >&2
+    exit 1
+fi
+
+# a program with both libraries tells faults by their numbers
+for header in dasd dasd_drive; do
+    sed -n 's/^ *DASD_[A-Z_0-9]* = \(-[0-9]*\).*/\1/p' "$here/../$header.h" | sort > "$work/$header"
+    test -s "$work/$header"
+done
+comm -12 "$work/dasd" "$work/dasd_drive" > "$work/both"
+if [ -s "$work/both" ]; then
+    echo "names.sh: dasd.h and dasd_drive.h have faults of the same number:" >&2
+    cat "$work/both" >&2
     exit 1
 fi

@@ -1,7 +1,8 @@
-/* vectors FOLDER [copies] - plays all vectors of a folder through dasd.h: each deck over its volumes, and compares the answers, the fault
- * of the deck's text, and the images that are left with what the vector says. For each file it prints how many come out as they must, and
+/* vectors FOLDER [copies|restores] - plays all vectors of a folder through dasd.h: each deck over its volumes, and compares the answers, the
+ * fault of the deck's text, and the images that are left with what the vector says. For each file it prints how many come out as they must, and
  * for each that does not why. Status 1 where one does not. With `copies` behind each event of a deck the handle is copied, freed, and the
- * copy goes on in its place.
+ * copy goes on in its place. With `restores` behind each event behind which no program runs the channel is saved and reset, its volumes are
+ * taken off and put on anew, and what was saved is restored.
  *
  * The lines of a vector are described in conformance/FORMAT.md. */
 #define _POSIX_C_SOURCE 200809L
@@ -47,8 +48,8 @@ typedef struct vector {
 } vector;
 
 static const char *folder;
-static int copies;    /* the copy goes on behind each event */
-static char why[256]; /* how the vector that was played last differs */
+static enum { ALONE, COPIES, RESTORES } between; /* what is done behind each event */
+static char why[256];                            /* how the vector that was played last differs */
 
 static int differs(const char *form, ...) {
     va_list arguments;
@@ -188,6 +189,35 @@ static int goes_on_as_a_copy(dasd *d) {
     return dasd_free(&first) == DASD_DONE;
 }
 
+/* A drive's volume is taken off, and put on again as it is. */
+static int is_put_on_again(dasd *d, uint16_t address) {
+    dasd_file shown;
+    dasd_bytes files[FILES];
+    uint8_t *bytes[FILES];
+    size_t count = 0;
+    for (; count < FILES && dasd_show_file(d, address, (uint8_t)count, &shown) == DASD_DONE; count++) {
+        if ((bytes[count] = malloc(shown.len)) == NULL) stop("no memory", "a volume");
+        memcpy(bytes[count], shown.at, shown.len);
+        files[count].at = bytes[count];
+        files[count].len = shown.len;
+    }
+    int done = dasd_detach(d, address) == DASD_DONE && dasd_attach(d, address, files, count) == DASD_DONE;
+    while (count) free(bytes[--count]);
+    return done;
+}
+
+/* What was saved of the channel, where no program runs, is restored to drives that were put on anew. */
+static int goes_on_as_saved(dasd *d, const vector *v) {
+    uint8_t saved[DASD_SAVED];
+    size_t written = 0;
+    dasd_track unsaved;
+    const int32_t code = dasd_save(d, saved, sizeof saved, &written);
+    if (code == DASD_PROGRAM_RUNS) return 1;
+    int done = code == DASD_DONE && dasd_reset(d, v->channel, &unsaved) == 0;
+    for (size_t i = 0; i < v->volume_count && done; i++) done = is_put_on_again(d, (uint16_t)(v->channel << 8 | v->volumes[i].unit));
+    return done && dasd_restore(d, saved, written) == DASD_DONE;
+}
+
 /* Plays the deck; where a line is faulty, none of it. */
 static int plays_deck(dasd *d, const vector *v) {
     static event events[MOST_LINES];
@@ -204,7 +234,8 @@ static int plays_deck(dasd *d, const vector *v) {
         play(d, v->channel, &events[i], answer);
         answer[strcspn(answer, "\n")] = '\0';
         if (strcmp(answer, v->answers[i]) != 0) return differs("answer %zu: %s, not %s", i + 1, answer, v->answers[i]);
-        if (copies && !goes_on_as_a_copy(d)) return differs("answer %zu: there is no copy", i + 1);
+        if (between == COPIES && !goes_on_as_a_copy(d)) return differs("answer %zu: there is no copy", i + 1);
+        if (between == RESTORES && !goes_on_as_saved(d, v)) return differs("answer %zu: what was saved is not restored", i + 1);
     }
     return 1;
 }
@@ -301,15 +332,17 @@ static void play_group(const char *path) {
 }
 
 int main(int argc, char **argv) {
+    static const char *const told[] = {"", ", with a copy behind each event", ", saved and restored where no program runs"};
     char pattern[1024];
     glob_t found;
-    if (argc < 2 || argc > 3 || (argc == 3 && strcmp(argv[2], "copies") != 0)) stop("usage", "vectors FOLDER [copies]");
+    if (argc == 3 && !strcmp(argv[2], "copies")) between = COPIES;
+    else if (argc == 3 && !strcmp(argv[2], "restores")) between = RESTORES;
+    else if (argc != 2) stop("usage", "vectors FOLDER [copies|restores]");
     folder = argv[1];
-    copies = argc == 3;
     snprintf(pattern, sizeof pattern, "%s/*.vectors", folder);
     if (glob(pattern, 0, NULL, &found)) stop("no vectors", folder);
     for (size_t i = 0; i < found.gl_pathc; i++) play_group(found.gl_pathv[i]);
     globfree(&found);
-    printf("%d of %d vectors come out as they must%s\n", right_ones, all, copies ? ", with a copy behind each event" : "");
+    printf("%d of %d vectors come out as they must%s\n", right_ones, all, told[between]);
     return right_ones == all && all > 0 ? EXIT_SUCCESS : EXIT_FAILURE;
 }

@@ -24,6 +24,8 @@ from __future__ import annotations
 
 from ._library import INTERFACE
 from ._subsystem import ALL_CHANNELS, BytesLike, Channels, LentSubsystem, Subsystem, WritableBytes, channel_set, check, library_version
+from ._trace import Trace, When
+from ._until import Progress, Until
 from ._words import (
     Area,
     Arm,
@@ -65,13 +67,17 @@ __all__ = [
     "LentSubsystem",
     "Phase",
     "Program",
+    "Progress",
     "Registers",
     "Run",
     "Subchannel",
     "Subsystem",
+    "Trace",
     "Track",
+    "Until",
     "Version",
     "VolumeFile",
+    "When",
     "WritableBytes",
     "channel_set",
     "check",

@@ -55,16 +55,16 @@ class Handle:
             self._refuse_while_copying()
             return done(getattr(calls, "dasd_" + name)(self._at, *arguments))
 
-    def in_pieces(self, units: int, some: Callable[[int], int]) -> int:
-        """Has so many units done, or fewer where the program ends, by calls of `some` with a number of them each, which answers how many it
-        did. Between two of these other threads of Python run, and signals are seen, but no other thread's call of this handle comes."""
+    def in_pieces(self, units: int, some: Callable[[int], int], ends: Callable[[], bool] = lambda: False) -> int:
+        """Has so many units done, or fewer where the program or the run ends, by calls of `some` with a number of them each, which answers how
+        many it did. Between two of these other threads of Python run, and signals are seen, but no other thread's call of this handle comes."""
         did = 0
         with self._lock:
             while True:
                 asked = min(units - did, UNITS_AT_ONCE)
                 part = some(asked)
                 did += part
-                if part < asked or did == units:
+                if part < asked or did == units or ends():
                     return did
 
     def file(self, address: int, place: int) -> Tuple[bytes, int]:
@@ -95,6 +95,12 @@ class Handle:
             finally:
                 self._is_copying = False
 
+    def save(self) -> bytes:
+        """What the channels are between two programs, as bytes."""
+        into, written = ctypes.create_string_buffer(_library.SAVED), ctypes.c_size_t()
+        self.call("save", into, _library.SAVED, ctypes.byref(written))
+        return into.raw[: written.value]
+
     def _refuse_while_copying(self) -> None:
         """Raises a RuntimeError where this very thread copies a file: a signal's handler or a finalizer might else free what is copied."""
         if self._is_copying:
@@ -116,6 +122,10 @@ class Handle:
         """The same, with what the channel does behind them."""
         self.call("run_on", channel, units, ctypes.byref(ran))
         return int(ran.units)
+
+    def run_until(self, channel: int, units: int, until: int, ran: _library.Progress) -> None:
+        """The same until one of these bits happens, with what the units come to."""
+        self.call("run_until", channel, units, until, ctypes.byref(ran))
 
     def peek(self, at: int, count: int) -> bytes:
         """A copy of so many bytes from an address on."""
@@ -202,6 +212,10 @@ class LentHandle(Handle):
         ran.units = units
         self.over("run_on", channel, ctypes.byref(ran))
         return int(ran.units)
+
+    def run_until(self, channel: int, units: int, until: int, ran: _library.Progress) -> None:
+        ran.units = units
+        self.over("run_until", channel, until, ctypes.byref(ran))
 
     def _within(self, at: int, count: int) -> memoryview:
         """So many bytes from an address on."""

@@ -13,6 +13,9 @@ INTERFACE = 1
 #: How many bytes of main storage have a key in common.
 BLOCK = 2048
 
+#: How many bytes a saved state has.
+SAVED = 538
+
 
 class Handle(ctypes.Structure):
     """What a caller holds of a subsystem; all zero it holds nothing."""
@@ -59,6 +62,25 @@ class Ran(ctypes.Structure):
         ("device", ctypes.c_uint8),
         ("asked", ctypes.c_uint8),
         ("reserved", ctypes.c_uint8),
+    ]
+
+
+class Progress(ctypes.Structure):
+    """What came of a run until something happens."""
+
+    _fields_ = [
+        ("cylinders", ctypes.c_uint64),
+        ("units", ctypes.c_uint32),
+        ("bytes", ctypes.c_uint32),
+        ("indexes", ctypes.c_uint32),
+        ("stored", ctypes.c_uint32),
+        ("low", ctypes.c_uint32),
+        ("high", ctypes.c_uint32),
+        ("subchannel", ctypes.c_uint8),
+        ("device", ctypes.c_uint8),
+        ("asked", ctypes.c_uint8),
+        ("stopped", ctypes.c_uint8),
+        ("reserved", ctypes.c_uint8 * 4),
     ]
 
 
@@ -120,6 +142,34 @@ class Registers(ctypes.Structure):
     ]
 
 
+#: Room for the lines of any look, and how many numbers a trace keeps.
+TRACE_ROOM, TRACE_KEPT = 2048, 32
+
+
+class Moment(ctypes.Structure):
+    """A moment at which a trace looks."""
+
+    _fields_ = [
+        ("what", ctypes.c_uint8),
+        ("channel", ctypes.c_uint8),
+        ("address", ctypes.c_uint16),
+        ("answer", ctypes.c_uint32),
+        ("cylinder", ctypes.c_uint16),
+        ("head", ctypes.c_uint16),
+    ]
+
+
+class Trace(ctypes.Structure):
+    """A trace of one channel: where its lines go, and what it has seen."""
+
+    _fields_ = [
+        ("lines", ctypes.c_void_p),
+        ("size", ctypes.c_size_t),
+        ("length", ctypes.c_size_t),
+        ("kept", ctypes.c_uint64 * TRACE_KEPT),
+    ]
+
+
 class State(ctypes.Structure):
     """A channel, as it is shown."""
 
@@ -143,6 +193,8 @@ _U8, _U16, _U32, _U64, _SIZE = ctypes.c_uint8, ctypes.c_uint16, ctypes.c_uint32,
 _CALLS: Dict[str, List[Any]] = {
     "new": [_U32, _U8],
     "copy": [_to(Handle)],
+    "save": [ctypes.c_char_p, _SIZE, ctypes.POINTER(_SIZE)],
+    "restore": [ctypes.c_char_p, _SIZE],
     "free": [],
     "attach": [_U16, _to(Bytes), _SIZE],
     "attach_new": [_U16, _U16, _U16],
@@ -156,6 +208,7 @@ _CALLS: Dict[str, List[Any]] = {
     "tch": [_U16],
     "step": [_U8, _U32, ctypes.POINTER(_U32)],
     "run_on": [_U8, _U32, _to(Ran)],
+    "run_until": [_U8, _U32, _U8, _to(Progress)],
     "arrive": [_U16],
     "is_pending": [_U8],
     "interrupt": [_U8, ctypes.POINTER(_U16)],
@@ -163,6 +216,7 @@ _CALLS: Dict[str, List[Any]] = {
     "show_channel": [_U8, _to(State)],
     "show_program": [_U8, _to(Program)],
     "show_registers": [_U8, _to(Registers)],
+    "trace_look": [_to(Trace), _to(Moment)],
     "show_storage": [_to(Storage)],
     "peek": [_U32, ctypes.c_char_p, _SIZE],
     "poke": [_U32, ctypes.c_char_p, _SIZE],
@@ -174,7 +228,9 @@ _CALLS: Dict[str, List[Any]] = {
     "lent_hio": [_to(Memory), _U16],
     "lent_step": [_to(Memory), _U8, ctypes.POINTER(_U32)],
     "lent_run_on": [_to(Memory), _U8, _to(Ran)],
+    "lent_run_until": [_to(Memory), _U8, _U8, _to(Progress)],
     "lent_interrupt": [_to(Memory), _U8, ctypes.POINTER(_U16)],
+    "lent_trace_look": [_to(Memory), _to(Trace), _to(Moment)],
 }
 
 

@@ -10,6 +10,7 @@ from typing import NoReturn, Optional, Sequence, Tuple, Type, TypeVar, Union
 
 from . import _library
 from ._handle import Handle, Lent, LentHandle, calls, done
+from ._until import Progress, Sum, Until
 from ._words import (
     Area,
     Arm,
@@ -264,6 +265,17 @@ class Channels:
         did = handle.in_pieces(_number("units", units, _U32), lambda most: handle.run_on(number, most, ran))
         return Run(did, Subchannel(ran.subchannel), ran.device, ran.asked == 1)
 
+    def run_until(self, channel: int, units: int, until: int = Until.NOTHING) -> Progress:
+        """The same, and it ends also behind the first unit that brings what is waited for; with counts of what the units came to.
+        BAD_UNTIL, NO_CHANNEL."""
+        handle, number, bits, ran = self._handle, _refusable(channel, _U8, _U8), _refusable(until, _U8, _U8), Sum()
+
+        def some(most: int) -> int:
+            handle.run_until(number, most, bits, ran.last)
+            return ran.add()
+
+        return ran.whole(handle.in_pieces(_number("units", units, _U32), some, lambda: bool(ran.last.stopped)))
+
     def arrive(self, address: int) -> bool:
         """The arm of a drive has arrived: whether it moved, so that its device end is to be stored. The caller's clock says when."""
         return self._call("arrive", _number("address", address, _U16)) == 1
@@ -308,6 +320,15 @@ class Channels:
         seen = (Area(r.area), r.passed, r.lap, r.mask, r.mask_set == 1)
         return Registers(r.cylinder, r.head, *seen, Credit(r.credit), r.credited, bytes(r.sense))
 
+    def look(self, trace: _library.Trace, when: int, channel: int, call: Tuple[int, int], track: Optional[Track]) -> None:
+        """Looks at a channel for a Trace, at a moment: behind a call of this address, which answered this, or lost a track. Nothing changes.
+        NO_CHANNEL, BAD_MOMENT."""
+        told = (_number("when", when, _U8), _refusable(channel, _U8, _U8), _number("address", call[0], _U16), _number("answer", call[1], _U32))
+        moment = _library.Moment(*told, track.cylinder if track else 0, track.head if track else 0)
+        if track:
+            moment.address = track.address
+        self._handle.over("trace_look", ctypes.byref(trace), ctypes.byref(moment))
+
     def _is_shown(self, name: str, channel: int, shown: ctypes.Structure) -> bool:
         """Whether a program runs on a channel, of which this call has shown something."""
         try:
@@ -317,6 +338,21 @@ class Channels:
                 return False
             raise
         return True
+
+    # What the channels are between two programs
+
+    def save(self) -> bytes:
+        """What the channels are between two programs, as bytes for a file: of each what pends, and of its drives what the arms do, the
+        cylinders, the heads and the sense bytes. Main storage, keys and the volumes' files are saved beside it. PROGRAM_RUNS: run the
+        program on to its end, or halt it, and then save."""
+        return self._handle.save()
+
+    def restore(self, saved: BytesLike) -> None:
+        """Restores what was saved, all or nothing, over channels of the same numbers with drives of the same addresses, where no program
+        runs. The bytes may come from a stranger. NO_SAVED_STATE, OTHER_VERSION, SAVED_LENGTH, SAVED_SUM, NOT_SOUND; then, channel by channel,
+        OTHER_CHANNELS, PROGRAM_RUNS, OTHER_DRIVES, NO_TRACK, NOT_OWED."""
+        data = _bytes_of(saved)
+        self._handle.call("restore", data, len(data))
 
     # Main storage, with the bounds looked at
 

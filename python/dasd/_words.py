@@ -32,6 +32,10 @@ class FaultCode(enum.IntEnum):
     BAD_BLOCKS = -21
     OTHER_SIZE = -22
     NO_PROGRAM = -23
+    NO_ROOM = -24
+    BAD_MOMENT = -25
+    BAD_UNTIL = -26
+    NOT_OWED = -27
     NOT_CKD_P370 = -32
     COMPRESSED = -33
     DEVICE_TYPE = -34
@@ -40,6 +44,14 @@ class FaultCode(enum.IntEnum):
     SPLIT = -37
     LENGTH = -38
     STORE = -39
+    NO_SAVED_STATE = -40
+    OTHER_VERSION = -41
+    SAVED_LENGTH = -42
+    SAVED_SUM = -43
+    NOT_SOUND = -44
+    OTHER_CHANNELS = -45
+    OTHER_DRIVES = -46
+    NO_TRACK = -47
 
 
 _TEXTS = {
@@ -66,6 +78,10 @@ _TEXTS = {
     FaultCode.BAD_BLOCKS: "main storage has one key for each block of 2,048 bytes",
     FaultCode.OTHER_SIZE: "the channels are for main storage of another size",
     FaultCode.NO_PROGRAM: "no channel program runs on this channel",
+    FaultCode.NO_ROOM: "what is to be written may have more bytes than there is room for",
+    FaultCode.BAD_MOMENT: "there is no such moment, or its call answers no such thing",
+    FaultCode.BAD_UNTIL: "nothing is waited for by such a bit",
+    FaultCode.NOT_OWED: "a saved channel status word is no ending that its channel owes",
     FaultCode.NOT_CKD_P370: "not a CKD_P370 image",
     FaultCode.COMPRESSED: "a compressed image, or a shadow file",
     FaultCode.DEVICE_TYPE: "neither a 2311 nor a 2314",
@@ -74,6 +90,14 @@ _TEXTS = {
     FaultCode.SPLIT: "the files are not those of one image, in order",
     FaultCode.LENGTH: "a file's length is not that of an image",
     FaultCode.STORE: "a file could not be read or written; no file in memory does so",
+    FaultCode.NO_SAVED_STATE: "not a saved state",
+    FaultCode.OTHER_VERSION: "a saved state of another version",
+    FaultCode.SAVED_LENGTH: "a saved state that is cut short, or too long",
+    FaultCode.SAVED_SUM: "a saved state that was changed: its checksum does not fit",
+    FaultCode.NOT_SOUND: "a field of a saved state has a value that none has",
+    FaultCode.OTHER_CHANNELS: "a saved state of other channels",
+    FaultCode.OTHER_DRIVES: "a saved state of a channel with other drives",
+    FaultCode.NO_TRACK: "a drive was saved at a track that its volume does not have",
 }
 
 

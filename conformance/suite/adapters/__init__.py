@@ -29,8 +29,8 @@ class Emulator:
 
 def make(spec: str, seconds: Optional[float] = None) -> Emulator:
     """The emulator that a word names: `model`, `dasd=COMMAND`, `dasd-traced=COMMAND`, `protocol=COMMAND`, `python=FILE:CLASS`,
-    `library=FILE`, `lent=FILE`, `copied=FILE`, `lent-copied=FILE`, `hercules` or `hercules=PROGRAM`. One that is a program may be silent for
-    so many seconds; without a number, for those of its adapter."""
+    `library=FILE`, `lent=FILE`, `copied=FILE`, `lent-copied=FILE`, `restored=FILE`, `lent-restored=FILE`, `hercules` or `hercules=PROGRAM`.
+    One that is a program may be silent for so many seconds; without a number, for those of its adapter."""
     kind, _, rest = spec.partition("=")
     patience: Dict[str, float] = {} if seconds is None else {"seconds": seconds}
     if kind == "model":
@@ -57,6 +57,12 @@ def make(spec: str, seconds: Optional[float] = None) -> Emulator:
     if kind == "lent-copied":
         from .lent import LentCopiedEmulator
         return LentCopiedEmulator(rest or None)
+    if kind == "restored":
+        from .library import RestoredEmulator
+        return RestoredEmulator(rest or None)
+    if kind == "lent-restored":
+        from .lent import LentRestoredEmulator
+        return LentRestoredEmulator(rest or None)
     if kind in ("hercules", "hercules-seek-first"):
         from .hercules import HerculesEmulator
         return HerculesEmulator(rest or "hercules", seek_first=kind != "hercules", **patience)

@@ -7,9 +7,9 @@ from __future__ import annotations
 
 from typing import Any, Optional
 
-from .library import LibraryEmulator
+from ..vectors import Vector
+from .library import BLOCK, LibraryEmulator, RestoredEmulator
 
-BLOCK = 2048
 # The calls that need main storage.
 NEEDING = ("sio", "tio", "hio", "step", "interrupt")
 
@@ -55,10 +55,19 @@ class LentCopiedEmulator(LibraryEmulator):
         self.name += ", main storage lent, a copy behind each event"
         self.subsystem = over_lent(self.dasd)
 
-    def behind_event(self, channels: Any) -> Any:
+    def behind_event(self, channels: Any, vector: Vector) -> Any:
         size = len(channels.storage)
         with channels:
             keys = bytearray(channels.key(at) for at in range(0, size, BLOCK))
             second = channels.copy(bytearray(channels.storage), keys)
             channels.storage[:] = b"\xA5" * size
         return second
+
+
+class LentRestoredEmulator(RestoredEmulator):
+    """The library over lent main storage, saved and restored where no program runs."""
+
+    def __init__(self, file: Optional[str] = None) -> None:
+        super().__init__(file)
+        self.name += ", main storage lent"
+        self.subsystem = over_lent(self.dasd)

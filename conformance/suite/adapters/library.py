@@ -14,6 +14,8 @@ from ..vectors import HERE, Outcome, Vector
 from ..volumes import BadImage, Volume
 from . import Emulator
 
+# Each so many bytes of main storage have a key.
+BLOCK = 2048
 MODULE = os.path.join(os.path.dirname(HERE), "python")
 
 
@@ -57,7 +59,7 @@ class LibraryEmulator(Emulator):
         player, answers = Player(self.dasd, channels, vector.channel), []
         for event in events:
             answers.append(getattr(player, event.name.lower())(event))
-            player.channels = self.behind_event(player.channels)
+            player.channels = self.behind_event(player.channels, vector)
         with player.channels as last:
             last.reset(vector.channel)
             try:
@@ -66,7 +68,7 @@ class LibraryEmulator(Emulator):
                 return Outcome(broke="an image is spoilt: %s" % why)
         return Outcome(answers, None, after)
 
-    def behind_event(self, channels: Any) -> Any:
+    def behind_event(self, channels: Any, vector: Vector) -> Any:
         """What goes on behind an event: the same channels."""
         return channels
 
@@ -78,9 +80,36 @@ class CopiedEmulator(LibraryEmulator):
         super().__init__(file)
         self.name += ", a copy behind each event"
 
-    def behind_event(self, channels: Any) -> Any:
+    def behind_event(self, channels: Any, vector: Vector) -> Any:
         with channels:
             return channels.copy()
+
+
+class RestoredEmulator(LibraryEmulator):
+    """The library, whose channels are saved behind each event behind which no program runs, and closed. New channels go on, over main
+    storage and volumes with the same bytes, to which the saved state is restored."""
+
+    def __init__(self, file: Optional[str] = None) -> None:
+        super().__init__(file)
+        self.name += ", saved and restored between programs"
+
+    def behind_event(self, channels: Any, vector: Vector) -> Any:
+        try:
+            saved = channels.save()
+        except self.dasd.Fault as fault:
+            if fault.name != "PROGRAM_RUNS":
+                raise
+            return channels
+        with channels:
+            second = self.subsystem(vector.storage, vector.channel)
+            second.poke(0, channels.peek(0, vector.storage))
+            for at in range(0, vector.storage, BLOCK):
+                second.set_key(at, channels.key(at))
+            for unit, volume in vector.before().items():
+                address = vector.channel << 8 | unit
+                second.attach(address, *(bytes(channels.file(address, at)[0]) for at in range(len(volume.tracks_in))))
+        second.restore(saved)
+        return second
 
 
 class Player:

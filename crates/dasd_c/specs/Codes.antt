@@ -12,7 +12,8 @@ use Rattle.dasd_subsystem.specs.declared.refusal.Refusal.{Refusal}
 use Rattle.dasd_subsystem.specs.declared.refusal.Refusal.TheVariants as refusal
 
 -- DASD_NOTHING_HELD, DASD_IN_USE, DASD_OUTSIDE_STORAGE, DASD_BAD_SIZE, DASD_BAD_KEY, DASD_BAD_MODEL, DASD_NO_CHANNEL, DASD_NO_DRIVE,
--- DASD_NO_FILE, DASD_PROGRAM_RUNS, DASD_NO_STORAGE, DASD_BAD_BLOCKS, DASD_OTHER_SIZE, DASD_NO_PROGRAM
+-- DASD_NO_FILE, DASD_PROGRAM_RUNS, DASD_NO_STORAGE, DASD_BAD_BLOCKS, DASD_OTHER_SIZE, DASD_NO_PROGRAM, DASD_NO_ROOM, DASD_BAD_MOMENT,
+-- DASD_BAD_UNTIL
 abbrev pub nothing_held : ℤ
 nothing_held = neg_ℤ (pos 1)
 
@@ -54,6 +55,15 @@ other_size = neg_ℤ (pos 22)
 
 abbrev pub no_program : ℤ
 no_program = neg_ℤ (pos 23)
+
+abbrev pub no_room : ℤ
+no_room = neg_ℤ (pos 24)
+
+abbrev pub bad_moment : ℤ
+bad_moment = neg_ℤ (pos 25)
+
+abbrev pub bad_until : ℤ
+bad_until = neg_ℤ (pos 26)
 
 -- a condition code
 abbrev pub number_of : ConditionCode → ℤ

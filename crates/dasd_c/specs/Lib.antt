@@ -6,3 +6,6 @@ pub mod Attaching
 pub mod Copying
 pub mod Watching
 pub mod Saving
+pub mod Tracing
+pub mod Until
+pub mod States

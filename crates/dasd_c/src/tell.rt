@@ -5,7 +5,9 @@ ghost use Rattle.s360_laws.specs.Events as machine;
 ghost use Rattle.s360_laws.specs.declared.condition.ConditionCode.TheVariants as code;
 ghost use Rattle.s360_events.specs.Seen.{condition_seen, status_seen, csw_seen};
 ghost use Rattle.dasd_c.specs.Codes.{code_of, address_from, detach_code, refusal_code};
+ghost use Rattle.dasd_c.specs.Tracing.{look_code};
 
+use channel_traces::LookFault;
 use ckd_image::MountFault;
 use dasd_subsystem::Refusal;
 use s360_channel::DetachFault as WhyStays;
@@ -85,6 +87,15 @@ pub(crate) const OTHER_SIZE: i32 = -22;
 /// No channel program runs on this channel.
 pub(crate) const NO_PROGRAM: i32 = -23;
 
+/// What is to be written may have more bytes than there is room for.
+pub(crate) const NO_ROOM: i32 = -24;
+
+/// There is no such moment, or no such answer to its event.
+pub(crate) const BAD_MOMENT: i32 = -25;
+
+/// Nothing is waited for by such a bit.
+pub(crate) const BAD_UNTIL: i32 = -26;
+
 /// Why something was not made, attached, or is no image.
 pub(crate) fn of_refusal(refusal: Refusal) -> i32
     ensures { result ≡ refusal_code refusal }
@@ -120,6 +131,17 @@ pub(crate) fn of_detach(fault: DetachFault) -> i32
         DetachFault::Refused(WhyStays::ProgramRuns) => PROGRAM_RUNS,
         DetachFault::Refused(WhyStays::EndingPends) => ENDING_PENDS,
         DetachFault::Refused(WhyStays::DeviceEndOwed) => DEVICE_END_OWED,
+    }
+}
+
+/// Why a look was not taken.
+pub(crate) fn of_look(fault: LookFault) -> i32
+    ensures { result ≡ look_code fault }
+{
+    match fault {
+        LookFault::NoChannel => NO_CHANNEL,
+        LookFault::BadMoment => BAD_MOMENT,
+        LookFault::NoRoom => NO_ROOM,
     }
 }
 

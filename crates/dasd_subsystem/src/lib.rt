@@ -5,16 +5,22 @@
 mod attaching;
 mod changed;
 mod copying;
+mod glances;
 mod making;
 mod mounting;
 mod refusal;
+mod saving;
 mod shown;
 mod subsystem;
+mod until;
 mod watched;
 
 pub use crate::changed::{ShownTrack, next_changed};
+pub use crate::glances::Glance;
 pub use crate::mounting::check;
 pub use crate::refusal::Refusal;
+pub use crate::saving::RestoreRefusal;
 pub use crate::shown::{ShownChannel, ShownDrive, seen};
 pub use crate::subsystem::Subsystem;
+pub use crate::until::{Counts, Progress, Until, Wanted, run_until};
 pub use crate::watched::{ShownProgram, ShownRegisters};

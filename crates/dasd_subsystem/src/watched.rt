@@ -79,7 +79,7 @@ fn phase_of(work: AtWork) -> u8
 }
 
 // The word at work; zeros where one is fetched.
-fn word_of(work: AtWork) -> Ccw
+pub(crate) fn word_of(work: AtWork) -> Ccw
     ensures { result ≡ word_of work }
 {
     match work {
@@ -94,7 +94,7 @@ fn word_of(work: AtWork) -> Ccw
     }
 }
 
-fn place_of(work: AtWork) -> u32
+pub(crate) fn place_of(work: AtWork) -> u32
     ensures { result ≡ place_of work }
 {
     match work {

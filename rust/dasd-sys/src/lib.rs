@@ -18,6 +18,8 @@ use core::ffi::c_void;
 
 /// The number of the binary interface that these declarations are.
 pub const DASD_INTERFACE: u32 = 1;
+/// How many bytes a saved state has.
+pub const DASD_SAVED: usize = 538;
 
 /// What a call answers that was done and has nothing to say.
 pub const DASD_DONE: i32 = 0;
@@ -129,6 +131,43 @@ pub struct dasd_run {
     pub reserved: u8,
 }
 
+/// [`dasd_run_until`] waits for a word that asks for an interruption, where none was asked for that is not yet taken.
+pub const DASD_UNTIL_ASKED: u8 = 1;
+/// It waits for the arm at another cylinder.
+pub const DASD_UNTIL_CYLINDER: u8 = 2;
+/// It waits for the arm at another cylinder, or another head that is selected.
+pub const DASD_UNTIL_TRACK: u8 = 4;
+
+/// What came of [`dasd_run_until`].
+#[repr(C)]
+#[derive(Clone, Copy, Debug, Default)]
+pub struct dasd_progress {
+    /// How many cylinders the arm crossed, in all its moves.
+    pub cylinders: u64,
+    /// How many units were done.
+    pub units: u32,
+    /// How many bytes moved between drive and channel; a byte that is read and skipped is one.
+    pub bytes: u32,
+    /// How often the index passed a command that looked for its area, also one that found none.
+    pub indexes: u32,
+    /// How many bytes were stored into main storage.
+    pub stored: u32,
+    /// The lowest address that was stored into; where none was, 0.
+    pub low: u32,
+    /// The highest.
+    pub high: u32,
+    /// What the channel does behind them, as in [`dasd_run`].
+    pub subchannel: u8,
+    /// The low byte of the address whose program that is; 0 where the channel is available.
+    pub device: u8,
+    /// 1: a word of the program asked for an interruption that is not yet taken.
+    pub asked: u8,
+    /// What happened in the last unit of what was waited for: bits; 0, nothing did.
+    pub stopped: u8,
+    /// 0.
+    pub reserved: [u8; 4],
+}
+
 /// A track that was written and could not be saved.
 #[repr(C)]
 #[derive(Clone, Copy, Debug, Default)]
@@ -222,6 +261,42 @@ pub struct dasd_registers {
     pub reserved: [u8; 3],
 }
 
+/// Room for the lines of any look.
+pub const DASD_TRACE_ROOM: usize = 2048;
+
+/// A moment at which a trace looks.
+#[repr(C)]
+#[derive(Clone, Copy, Debug, Default)]
+pub struct dasd_moment {
+    /// 0: Start I/O is about to be called. 1: the channel's program has done a unit. Behind a call: 2 Start I/O, 3 Test I/O, 4 Halt I/O, 5 Test
+    /// Channel, 6 a step, 7 a run, 8 an arrival, 9 an interruption, 10 a reset. 11: the trace ends.
+    pub what: u8,
+    /// The number of the channel that is looked at.
+    pub channel: u8,
+    /// The address of a call that has one; of a track that a reset has lost.
+    pub address: u16,
+    /// What the call answered.
+    pub answer: u32,
+    /// The cylinder of a track that a reset has lost.
+    pub cylinder: u16,
+    /// Its head.
+    pub head: u16,
+}
+
+/// A trace of one channel. What it has seen is in it; with zeros in `kept` that is nothing.
+#[repr(C)]
+#[derive(Clone, Copy, Debug)]
+pub struct dasd_trace {
+    /// Where the lines of a look go; not null.
+    pub lines: *mut u8,
+    /// How many bytes may stand there, [`DASD_TRACE_ROOM`] or more.
+    pub size: usize,
+    /// How many the lines of the last look have.
+    pub length: usize,
+    /// What it has seen: the library's.
+    pub kept: [u64; 32],
+}
+
 extern "C" {
     /// The version of the library: major, minor and patch, in 16 bits, 8 and 8.
     pub fn dasd_version() -> u32;
@@ -231,6 +306,10 @@ extern "C" {
     pub fn dasd_new(d: *mut dasd, storage_bytes: u32, channels: u8) -> i32;
     /// Makes a handle that holds nothing hold a second of all that this one holds, also in the middle of channel programs.
     pub fn dasd_copy(d: *mut dasd, copy: *mut dasd) -> i32;
+    /// Saves what the channels are between two programs in the first [`DASD_SAVED`] of `len` bytes.
+    pub fn dasd_save(d: *mut dasd, into: *mut u8, len: usize, written: *mut usize) -> i32;
+    /// Restores what was saved, all or nothing, over the same channels and drives, where no program runs.
+    pub fn dasd_restore(d: *mut dasd, from: *const u8, len: usize) -> i32;
     /// Frees all that the handle holds, its volumes too, whether they were saved or not.
     pub fn dasd_free(d: *mut dasd) -> i32;
     /// Whether these files, one to eight in their order, are an image. It needs no handle.
@@ -242,7 +321,8 @@ extern "C" {
     /// Takes a drive off its channel, and frees its volume.
     pub fn dasd_detach(d: *mut dasd, address: u16) -> i32;
     /// Shows a file of a drive's volume, 0 for its first, where the drive's program does not run. Its bytes stand there until the next
-    /// [`dasd_step`], [`dasd_run_on`], [`dasd_hio`] or [`dasd_reset`] of that channel, [`dasd_detach`] or [`dasd_free`].
+    /// [`dasd_step`], [`dasd_run_on`], [`dasd_run_until`], [`dasd_hio`] or [`dasd_reset`] of that channel, [`dasd_detach`] or
+    /// [`dasd_free`].
     pub fn dasd_show_file(d: *mut dasd, address: u16, file: u8, shown: *mut dasd_file) -> i32;
     /// Shows the first track of a file, from `next` of it on, that was written since the file's `changes` was `since`: 1; or 0, where
     /// there is none. What is passed over holds what it held then.
@@ -261,6 +341,9 @@ extern "C" {
     pub fn dasd_step(d: *mut dasd, channel: u8, units: u32, done: *mut u32) -> i32;
     /// The same, with what the channel does behind it.
     pub fn dasd_run_on(d: *mut dasd, channel: u8, units: u32, ran: *mut dasd_run) -> i32;
+    /// The same, and it ends also behind the first unit that brings what is waited for, a set of the bits [`DASD_UNTIL_ASKED`],
+    /// [`DASD_UNTIL_CYLINDER`] and [`DASD_UNTIL_TRACK`].
+    pub fn dasd_run_until(d: *mut dasd, channel: u8, units: u32, until: u8, ran: *mut dasd_progress) -> i32;
     /// The arm of the drive at an address has arrived: 1, if it moved; 0, if it did not, or there is no such drive.
     pub fn dasd_arrive(d: *mut dasd, address: u16) -> i32;
     /// Whether [`dasd_interrupt`] would take an interruption from one of these channels now: 1 or 0.
@@ -275,6 +358,8 @@ extern "C" {
     pub fn dasd_show_program(d: *mut dasd, channel: u8, shown: *mut dasd_program) -> i32;
     /// Shows what the drive of that program remembers beside its volume.
     pub fn dasd_show_registers(d: *mut dasd, channel: u8, shown: *mut dasd_registers) -> i32;
+    /// Looks at a channel at a moment, for a trace, and puts the lines that tell of it to its place for them; what stands behind them stays.
+    pub fn dasd_trace_look(d: *mut dasd, trace: *mut dasd_trace, moment: *const dasd_moment) -> i32;
     /// Shows where main storage lies. Between two calls its bytes are the caller's; they stay where they are until [`dasd_free`].
     pub fn dasd_show_storage(d: *mut dasd, shown: *mut dasd_storage) -> i32;
     /// Copies bytes of storage from an address on.
@@ -297,6 +382,10 @@ extern "C" {
     pub fn dasd_lent_step(d: *mut dasd, memory: *mut dasd_memory, channel: u8, units: *mut u32) -> i32;
     /// As [`dasd_run_on`], over main storage that is lent: `units` of `ran` is how many units are done at most, and then how many were.
     pub fn dasd_lent_run_on(d: *mut dasd, memory: *mut dasd_memory, channel: u8, ran: *mut dasd_run) -> i32;
+    /// As [`dasd_run_until`], over main storage that is lent: `units` of `ran` is how many units are done at most, and then how many were.
+    pub fn dasd_lent_run_until(d: *mut dasd, memory: *mut dasd_memory, channel: u8, until: u8, ran: *mut dasd_progress) -> i32;
     /// As [`dasd_interrupt`], over main storage that is lent.
     pub fn dasd_lent_interrupt(d: *mut dasd, memory: *mut dasd_memory, channels: u8, address: *mut u16) -> i32;
+    /// As [`dasd_trace_look`], over main storage that is lent, and that stays as it is.
+    pub fn dasd_lent_trace_look(d: *mut dasd, memory: *mut dasd_memory, trace: *mut dasd_trace, moment: *const dasd_moment) -> i32;
 }

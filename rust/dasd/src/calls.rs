@@ -1,12 +1,12 @@
 //! The calls of a subsystem while its storage is lent.
 
-use crate::{Address, Answer, Changed, ChannelSet, Condition, Csw, DriveModel, DriveView, Event, Fault, File, RunOn, Status, Subsystem, View};
+use crate::{Address, Answer, Changed, ChannelSet, Condition, Csw, DriveModel, DriveView, Event, Fault, File, Progress, RunOn, Status, Subsystem, Until, View};
 use std::marker::PhantomData;
 
 /// The calls of a [`Subsystem`] whose main storage is lent beside them ([`Subsystem::lend`]). They stay in the thread of that storage.
 #[derive(Debug)]
 pub struct Calls<'a> {
-    disks: &'a mut Subsystem,
+    pub(crate) disks: &'a mut Subsystem,
     stays_in_its_thread: PhantomData<*const ()>,
 }
 
@@ -59,6 +59,7 @@ calls! {
     csw() -> Csw;
     step(channel: u8, units: u32) -> Result<u32, Fault>;
     run_on(channel: u8, units: u32) -> Result<RunOn, Fault>;
+    run_until(channel: u8, units: u32, until: Until) -> Result<Progress, Fault>;
     arrive(address: Address) -> bool;
     is_pending(channels: ChannelSet) -> bool;
     interrupt(channels: ChannelSet) -> Option<(Address, Csw)>;

@@ -89,6 +89,14 @@ faults! {
     OtherSize = -22,
     /// no channel program runs on this channel
     NoProgram = -23,
+    /// what is to be written may have more bytes than there is room for
+    NoRoom = -24,
+    /// there is no such moment, or its call answers no such thing
+    BadMoment = -25,
+    /// nothing is waited for by such a bit
+    BadUntil = -26,
+    /// a saved channel status word is no ending that its channel owes
+    NotOwed = -27,
     /// not a CKD_P370 image
     NotCkdP370 = -32,
     /// a compressed image, or a shadow file
@@ -105,6 +113,22 @@ faults! {
     Length = -38,
     /// a file could not be read or written; no file in memory does so
     Store = -39,
+    /// not a saved state
+    NoSavedState = -40,
+    /// a saved state of another version
+    OtherVersion = -41,
+    /// a saved state that is cut short, or too long
+    SavedLength = -42,
+    /// a saved state that was changed: its checksum does not fit
+    SavedSum = -43,
+    /// a field of a saved state has a value that none has
+    NotSound = -44,
+    /// a saved state of other channels
+    OtherChannels = -45,
+    /// a saved state of a channel with other drives
+    OtherDrives = -46,
+    /// a drive was saved at a track that its volume does not have
+    NoTrack = -47,
 }
 
 impl Error for Fault {}

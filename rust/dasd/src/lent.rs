@@ -6,7 +6,7 @@ use dasd_sys as sys;
 
 const CSW: usize = 64;
 
-fn memory(bytes: &mut [u8], keys: &[u8]) -> sys::dasd_memory {
+pub(crate) fn memory(bytes: &mut [u8], keys: &[u8]) -> sys::dasd_memory {
     sys::dasd_memory { bytes: bytes.as_mut_ptr(), size: bytes.len(), keys: keys.as_ptr(), blocks: keys.len() }
 }
 

@@ -27,6 +27,8 @@ mod events;
 mod lent;
 mod subsystem;
 mod fault;
+mod trace;
+mod until;
 mod watching;
 mod words;
 
@@ -34,5 +36,7 @@ pub use crate::calls::Calls;
 pub use crate::subsystem::{check, version, Changed, ChangedTrack, DriveView, File, Lent, LentSubsystem, Owned, RunOn, Subsystem, View};
 pub use crate::events::{Answer, Event};
 pub use crate::fault::Fault;
+pub use crate::trace::{Moment, Trace};
+pub use crate::until::{Progress, Until};
 pub use crate::watching::{Area, Credit, Phase, Program, Registers};
 pub use crate::words::{Address, Arm, ChannelSet, Condition, Csw, DriveModel, Status, SubchannelView};

@@ -153,6 +153,29 @@ impl<Storage> Subsystem<Storage> {
         Self::made(|handle| unsafe { sys::dasd_copy(from, handle) })
     }
 
+    /// What the channels are between two programs, as bytes for a file: of each what pends, and of its drives what the arms do, the
+    /// cylinders, the heads and the sense bytes. Main storage, keys and the volumes' files are saved beside it.
+    ///
+    /// # Errors
+    ///
+    /// `ProgramRuns`: run the program on to its end, or halt it, and then save.
+    pub fn save(&mut self) -> Result<[u8; sys::DASD_SAVED], Fault> {
+        let (mut into, mut written) = ([0; sys::DASD_SAVED], 0);
+        done(unsafe { sys::dasd_save(&mut *self.handle, into.as_mut_ptr(), into.len(), &mut written) })?;
+        Ok(into)
+    }
+
+    /// Restores what was saved, all or nothing, over channels of the same numbers with drives of the same addresses, where no program
+    /// runs. What pends and what arms do now is lost. The bytes may come from a stranger.
+    ///
+    /// # Errors
+    ///
+    /// `NoSavedState`, `OtherVersion`, `SavedLength`, `SavedSum`, `NotSound`; then, channel by channel, `OtherChannels`, `ProgramRuns`,
+    /// `OtherDrives`, `NoTrack`, `NotOwed`.
+    pub fn restore(&mut self, saved: &[u8]) -> Result<(), Fault> {
+        done(unsafe { sys::dasd_restore(&mut *self.handle, saved.as_ptr(), saved.len()) }).map(drop)
+    }
+
     /// Attaches a drive with the volume that these files, one to eight in their order, hold. They are copied. The arm is at rest at
     /// cylinder 0 and head 0, and the sense bytes are zero. Also while a program runs.
     ///

@@ -1,6 +1,6 @@
 //! Each call once, and what the library refuses.
 
-use dasd::{check, version, Address, Arm, Changed, ChannelSet, Subsystem, Condition, DriveModel, Fault, Phase, SubchannelView};
+use dasd::{check, version, Address, Arm, Changed, ChannelSet, Subsystem, Condition, DriveModel, Fault, Phase, Progress, SubchannelView, Until};
 
 const DRIVE: Address = Address(0x190);
 
@@ -54,6 +54,34 @@ fn a_program_is_shown_while_it_runs() {
 }
 
 #[test]
+fn a_program_runs_until_something_happens() {
+    let mut disks = made();
+    // Seek to cylinder 1, and Read R0 to 200, which asks
+    disks.poke(0x100, &[7, 0, 3, 0, 0x40, 0, 0, 6, 0x16, 0, 2, 0, 0x28, 0, 0, 16]).unwrap();
+    disks.poke(0x300, &[0, 0, 0, 1, 0, 0]).unwrap();
+    assert_eq!((disks.sio(DRIVE), disks.run_until(2, 1, Until::NOTHING)), (Condition::Zero, Err(Fault::NoChannel)));
+    let moves = Until { cylinder: true, track: true, ..Until::NOTHING };
+    let before = Progress {
+        units: 7,
+        bytes: 6,
+        indexes: 0,
+        cylinders: 1,
+        stored: 0,
+        range: None,
+        subchannel: SubchannelView::Working(0x90, false),
+        stopped: moves,
+    };
+    assert_eq!(disks.run_until(1, 1000, moves), Ok(before));
+    let (_, mut calls) = disks.lend();
+    let asks = Until { asked: true, ..Until::NOTHING };
+    let ran = calls.run_until(1, 1000, asks).unwrap();
+    assert_eq!((ran.units, ran.stopped, ran.subchannel), (1, asks, SubchannelView::Working(0x90, true)));
+    let ran = disks.run_until(1, 1000, Until::NOTHING).unwrap();
+    assert_eq!((ran.units, ran.bytes, ran.stored, ran.range), (17, 16, 16, Some((0x200, 0x20F))));
+    assert_eq!((ran.subchannel, ran.stopped), (SubchannelView::Pending(0x90), Until::NOTHING));
+}
+
+#[test]
 fn a_copy_goes_its_own_way() {
     let mut disks = made();
     assert_eq!((disks.sio(DRIVE), disks.step(1, 5)), (Condition::Zero, Ok(5)));
@@ -67,6 +95,23 @@ fn a_copy_goes_its_own_way() {
     assert_eq!(disks.file(DRIVE, 0).unwrap().bytes, second.file(DRIVE, 0).unwrap().bytes);
     drop(disks);
     assert_eq!((second.tio(DRIVE), second.storage()[0x207]), (Condition::Zero, 8));
+}
+
+#[test]
+fn a_state_is_saved_and_restored() {
+    let (mut disks, mut others) = (made(), made());
+    disks.storage()[0x100..0x110].copy_from_slice(b"\x07\0\x02\0\x60\0\0\x06\xFF\0\x02\0\x20\0\0\x01"); // Seek, and no command
+    disks.storage()[0x200..0x206].copy_from_slice(&[0, 0, 0, 1, 0, 3]);
+    assert_eq!((disks.sio(DRIVE), disks.save()), (Condition::Zero, Err(Fault::ProgramRuns)));
+    disks.run_on(1, 1000).unwrap();
+    let saved = disks.save().unwrap();
+    assert_eq!((&saved[..9], &saved[9 + 75 + 11..9 + 75 + 19]), (&b"DASDSAVE\x01"[..], &[1, 0x90, 0, 1, 0, 3, 0x80, 0][..]));
+    assert_eq!((others.restore(&saved), others.save()), (Ok(()), Ok(saved)));
+    assert_eq!(others.drive(DRIVE), disks.drive(DRIVE));
+    assert_eq!(others.interrupt(ChannelSet::ALL), disks.interrupt(ChannelSet::ALL));
+    for (bytes, why) in [(&b""[..], Fault::NoSavedState), (&saved[1..], Fault::NoSavedState), (&saved[..537], Fault::SavedLength)] {
+        assert_eq!(others.restore(bytes), Err(why));
+    }
 }
 
 #[test]

@@ -1,6 +1,6 @@
 //! Main storage that each call is lent.
 
-use dasd::{Address, ChannelSet, Condition, DriveModel, Fault, LentSubsystem, SubchannelView};
+use dasd::{Address, ChannelSet, Condition, DriveModel, Fault, LentSubsystem, SubchannelView, Until};
 
 const DRIVE: Address = Address(0x190);
 const RECORD_0: [u8; 16] = [0, 0, 0, 0, 0, 0, 0, 8, 0, 0, 0, 0, 0, 0, 0, 0];
@@ -64,6 +64,17 @@ fn keys_are_asked() {
 }
 
 #[test]
+fn a_program_runs_until_something_happens() {
+    let (mut disks, mut bytes, keys) = made();
+    assert_eq!(disks.sio(&mut bytes, &keys, DRIVE), Ok(Condition::Zero));
+    let ran = disks.run_until(&mut bytes, &keys, 1, 5, Until { asked: true, ..Until::NOTHING }).unwrap();
+    assert_eq!((ran.units, ran.range, ran.stopped), (5, Some((0x200, 0x204)), Until::NOTHING));
+    let ran = disks.run_until(&mut bytes, &keys, 1, 1000, Until::NOTHING).unwrap();
+    assert_eq!((ran.bytes, ran.range, ran.subchannel), (11, Some((0x205, 0x20F)), SubchannelView::Pending(0x90)));
+    assert_eq!(disks.run_until(&mut bytes, &keys, 3, 1, Until::NOTHING), Err(Fault::NoChannel));
+}
+
+#[test]
 fn refusals() {
     let (mut disks, mut bytes, keys) = made();
     let before = bytes.clone();
@@ -82,7 +93,7 @@ fn refusals() {
         let (storage, keys) = (&mut large[..size], &many[..blocks]);
         assert_eq!((disks.sio(storage, keys, DRIVE).err(), disks.tio(storage, keys, DRIVE).err()), (Some(fault), Some(fault)));
         assert_eq!((disks.hio(storage, keys, DRIVE).err(), disks.step(storage, keys, 1, 1)), (Some(fault), Err(fault)));
-        assert_eq!(disks.run_on(storage, keys, 1, 1), Err(fault));
+        assert_eq!((disks.run_on(storage, keys, 1, 1), disks.run_until(storage, keys, 1, 1, Until::NOTHING)), (Err(fault), Err(fault)));
         assert_eq!(disks.interrupt(storage, keys, ChannelSet::ALL), Err(fault));
     }
     assert!(large.iter().all(|byte| *byte == 0));

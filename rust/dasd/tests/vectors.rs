@@ -1,6 +1,6 @@
 //! Plays the vectors of the folder that DASD_VECTORS names; their lines are described in conformance/FORMAT.md. The digests
-//! of images are those of `sha256sum`. Main storage is the subsystem's, or is lent; and either goes on as it is behind each event,
-//! or a copy of it does.
+//! of images are those of `sha256sum`. Main storage is the subsystem's, or is lent; and behind each event either goes on as it is, or a
+//! copy of it does, or it is saved and restored.
 
 use dasd::{Address, Answer, ChannelSet, Condition, Csw, DriveModel, Event, LentSubsystem, Status, Subsystem};
 use std::fs;
@@ -229,12 +229,44 @@ fn whole<Storage>(disks: &mut Subsystem<Storage>, address: Address) -> Vec<u8> {
     bytes
 }
 
-/// How a vector comes out otherwise than it must. With `copies` a copy goes on behind each event.
-fn difference<P: Player>(lines: &[(&str, &str)], folder: &Path, copies: bool) -> Option<String> {
+/// What is done behind each event of a deck.
+#[derive(Clone, Copy, PartialEq)]
+enum Between {
+    Nothing,
+    /// A copy goes on.
+    Copies,
+    /// Where no program runs, the channel is saved and reset, its volumes are taken off and put on anew, and what was saved is restored.
+    Restores,
+}
+
+fn restored<Storage>(disks: &mut Subsystem<Storage>, channel: u8, drives: &[Address]) {
+    let saved = match disks.save() {
+        Err(dasd::Fault::ProgramRuns) => return,
+        saved => saved.unwrap(),
+    };
+    assert_eq!(disks.reset(channel).unwrap(), None);
+    for &drive in drives {
+        let mut files = Vec::new();
+        while let Ok(file) = disks.file(drive, files.len() as u8) {
+            files.push(file.bytes.to_vec());
+        }
+        disks.detach(drive).unwrap();
+        disks.attach(drive, &files.iter().map(Vec::as_slice).collect::<Vec<_>>()).unwrap();
+    }
+    disks.restore(&saved).unwrap();
+}
+
+fn address_of(channel: u8, volume: &str) -> Address {
+    Address(u16::from(channel) << 8 | u16::from_str_radix(volume.split_once(' ').unwrap().0, 16).unwrap())
+}
+
+/// How a vector comes out otherwise than it must.
+fn difference<P: Player>(lines: &[(&str, &str)], folder: &Path, between: Between) -> Option<String> {
     let all = |word: &'static str| lines.iter().filter(move |line| line.0 == word).map(|line| line.1);
     let channel: u8 = all("channel").next()?.parse().ok()?;
     let mut player = P::new(all("storage").next()?.parse().ok()?, channel);
     all("volume").for_each(|volume| attach(player.disks(), channel, volume, folder));
+    let drives: Vec<_> = all("volume").map(|volume| address_of(channel, volume)).collect();
     let deck = lines.iter().filter_map(|(word, rest)| match *word {
         ">" => Some(rest.as_bytes().to_vec()),
         ">hex" | ">end" => bytes_of(rest),
@@ -248,8 +280,10 @@ fn difference<P: Player>(lines: &[(&str, &str)], folder: &Path, copies: bool) ->
     let mut answers = Vec::new();
     for event in events.unwrap_or_default().iter().flatten() {
         answers.push(line(&player.react(channel, event)));
-        if copies {
-            player = player.copied();
+        match between {
+            Between::Nothing => {}
+            Between::Copies => player = player.copied(),
+            Between::Restores => restored(player.disks(), channel, &drives),
         }
     }
     if let Some((answer, wanted)) = answers.iter().zip(all("<")).find(|(answer, wanted)| answer.as_str() != *wanted) {
@@ -264,7 +298,7 @@ fn difference<P: Player>(lines: &[(&str, &str)], folder: &Path, copies: bool) ->
     wrong.map(str::to_string).or_else(|| (answers.len() != all("<").count()).then(|| "another number of answers".into()))
 }
 
-fn all_come_out<P: Player>(how: &str, copies: bool) {
+fn all_come_out<P: Player>(how: &str, between: Between) {
     let Ok(folder) = std::env::var("DASD_VECTORS") else { return };
     let folder = Path::new(&folder);
     let (mut count, mut wrong) = (0, Vec::new());
@@ -278,7 +312,7 @@ fn all_come_out<P: Player>(how: &str, copies: bool) {
             let (name, rest) = vector.split_once('\n').unwrap();
             let lines: Vec<_> = rest.lines().filter_map(|line| line.strip_prefix("  ")).map(|line| line.split_once(' ').unwrap_or((line, ""))).collect();
             count += 1;
-            wrong.extend(difference::<P>(&lines, folder, copies).map(|how| format!("{group} {name}: {how}")));
+            wrong.extend(difference::<P>(&lines, folder, between).map(|how| format!("{group} {name}: {how}")));
         }
     }
     println!("rust: {} of {count} vectors come out as they must{how}", count - wrong.len());
@@ -288,20 +322,30 @@ fn all_come_out<P: Player>(how: &str, copies: bool) {
 
 #[test]
 fn all_come_out_as_they_must() {
-    all_come_out::<Subsystem>("", false);
+    all_come_out::<Subsystem>("", Between::Nothing);
 }
 
 #[test]
 fn all_come_out_with_a_copy_behind_each_event() {
-    all_come_out::<Subsystem>(", with a copy behind each event", true);
+    all_come_out::<Subsystem>(", with a copy behind each event", Between::Copies);
 }
 
 #[test]
 fn all_come_out_over_storage_that_is_lent() {
-    all_come_out::<Lending>(" over storage that is lent", false);
+    all_come_out::<Lending>(" over storage that is lent", Between::Nothing);
 }
 
 #[test]
 fn all_come_out_over_storage_that_is_lent_with_a_copy_behind_each_event() {
-    all_come_out::<Lending>(" over storage that is lent, with a copy behind each event", true);
+    all_come_out::<Lending>(" over storage that is lent, with a copy behind each event", Between::Copies);
+}
+
+#[test]
+fn all_come_out_saved_and_restored_where_no_program_runs() {
+    all_come_out::<Subsystem>(", saved and restored where no program runs", Between::Restores);
+}
+
+#[test]
+fn all_come_out_over_storage_that_is_lent_saved_and_restored() {
+    all_come_out::<Lending>(" over storage that is lent, saved and restored where no program runs", Between::Restores);
 }
