@@ -41,8 +41,12 @@ class Target:
 X86 = Target(LINUX, "x86_64.s")
 ARM = Target("aarch64-unknown-linux-gnu", "aarch64.s")
 WINDOWS = Target("x86_64-w64-windows-gnu", "x86_64-windows.o")
-# What is made of the library's crate and of the program's: how the files begin, and for what.
-MADE = {"dasd_c": ("libdasd", (X86, ARM, WINDOWS)), "dasd_cmd": ("dasd", (X86, ARM))}
+# What is made of the crates of the library, of the program and of a drive alone: how the files begin, and for what.
+MADE = {
+    "dasd_c": ("libdasd", (X86, ARM, WINDOWS)),
+    "dasd_cmd": ("dasd", (X86, ARM)),
+    "lone_drive_c": ("libdasd_drive", (X86, ARM, WINDOWS)),
+}
 WASM = "libdasd.wasm"
 
 PROCESSOR = r' "(?:target-cpu|target-features|tune-cpu)"="[^"]*"'
@@ -138,7 +142,7 @@ def compile_anew(module: Path, target: Target, made: Path) -> None:
 
 
 def compile_heap(made: Path) -> None:
-    """Compiles the three functions by which the library takes memory on Windows."""
+    """Compiles the three functions by which the libraries take memory on Windows."""
     with tempfile.TemporaryDirectory() as name:
         folder = Path(name)
         (folder / "heap.ll").write_bytes((HERE / "tarball" / "c" / "heap-windows.ll").read_bytes())
@@ -161,7 +165,7 @@ def compile_wasm(modules: Path, made: Path) -> None:
 
 
 def compile_all(modules: Path, made: Path) -> None:
-    """Compiles both modules of a folder for all targets, two at a time, into another folder."""
+    """Compiles the modules of a folder for all targets, two at a time, into another folder."""
     made.mkdir(parents=True, exist_ok=True)
     with ThreadPoolExecutor(max_workers=2) as pool:
         waited = [

@@ -32,7 +32,7 @@ def names_of_compiled(compiled: Path) -> list[str]:
     found = []
     with tempfile.TemporaryDirectory() as folder:
         for file in sorted(it for it in compiled.iterdir() if it.suffix != ".wasm"):
-            crate = "dasd_c" if file.name.startswith("libdasd-") else "dasd_cmd"
+            crate = next((crate for crate, (prefix, _) in compiling.MADE.items() if file.name.startswith(f"{prefix}-")), "dasd_c")
             made = wanted.assembled(file, Path(folder)) if file.suffix == ".s" else file if file.name.startswith("lib") else None
             parts = [crate, "compilers", *(["windows"] if "windows" in file.name else [])]
             if made is not None:
@@ -44,7 +44,7 @@ def names_of_compiled(compiled: Path) -> list[str]:
 def notices(texts: dict[str, str], is_writing: bool) -> list[str]:
     """Whether THIRD_PARTY is what the modules' names give."""
     try:
-        made = third_party.notices(texts["dasd_c"], texts["dasd_cmd"])
+        made = third_party.notices(texts["dasd_c"] + texts["lone_drive_c"], texts["dasd_cmd"])
     except third_party.NotKnown as why:
         return [f"THIRD_PARTY: {why}"]
     if is_writing:
@@ -54,7 +54,7 @@ def notices(texts: dict[str, str], is_writing: bool) -> list[str]:
 
 
 def texts_of(modules: Path) -> dict[str, str]:
-    """Both modules as text."""
+    """The modules as text."""
     with tempfile.TemporaryDirectory() as folder:
         return {crate: compiling.text_of(modules / f"{crate}.bc", Path(folder)) for crate in compiling.MADE}
 

@@ -79,7 +79,7 @@ def heads_in(text: str, crates: set[str]) -> list[tuple[str, str]]:
 
 
 def notices(library: str, program: str) -> str:
-    """The whole file, of the text of both modules."""
+    """The whole file, of the text of the libraries' modules and of the program's."""
     in_library, in_program = crates_in(library) - own_crates(), crates_in(program) - own_crates()
     both = sorted(in_library | in_program)
     ported = [it for it in both if it not in OF_THE_KIT]

@@ -23,8 +23,8 @@ ALSO = (
 # What of these wants the kit or the repository's tools, or is for the repository alone.
 LEFT_OUT = (
     *("c/Makefile", "c/.gitignore", "c/tests/install.sh", "c/tests/compiled.sh", "c/tests/newer.sh"),
-    # a drive alone, whose library no release has yet
-    *("c/dasd_drive.h", "c/examples/little_channel.c", "c/examples/little_channel.txt", "c/tests/drive.c", "c/tests/drive_stage.c"),
+    # which plays rows of the repository
+    "c/tests/drive_stage.c",
     *("sample/make_sample.py", "sample/test_sample.py"),
 )
 SAMPLE = TOP / "sample" / "make_sample.py"
