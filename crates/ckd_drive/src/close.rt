@@ -139,7 +139,9 @@ impl<S: ImageStore> Job<S> {
         let registers = &mut self.registers;
         match &self.progress.place {
             Transfer::Sense(_) => close_area(opened, registers, false),
-            Transfer::Read(_, no_data) | Transfer::Fill(_, no_data) => close_area(
+            Transfer::Read(_, no_data)
+            | Transfer::Fill(_, no_data)
+            | Transfer::Filled(_, Written::Area(no_data)) => close_area(
                 opened, registers, *no_data,
             ),
             Transfer::Filled(_, written) => written_ends(opened, registers, *written),

@@ -111,6 +111,8 @@ impl<S: ImageStore> Drive<S> {
     /// why. The track is loaded where it is not at hand, and one that was written is saved before the next head's
     /// (component descriptions, 'Multiple-Track Operation' and 'No Record Found'). A command that has found its area looks
     /// at no track: the look says how many bytes more may pass.
+    // In line, where it is known mostly which of the two it is.
+    #[inline(always)]
     pub fn look(&mut self) -> Look
         requires { is_working self.old.work ≡ true }
         ensures state { self.new ≡ with_image (after_look (fault_met self.old self.new) self.old) self.new.image }
@@ -118,16 +120,29 @@ impl<S: ImageStore> Drive<S> {
         ensures calls { CallsStore (look_loads self.old) (look_saves self.old) self.old self.new }
         ensures reported { Reports (self.new.work ≡ Over failed_ending) self.old self.new }
     {
+        if let Stage::Passing = self.stage {
+            look::make_ready(
+                tables::action_of(self.job.opened.command),
+                &mut self.job.progress,
+            );
+            return Look::Ready(self.job.progress.left);
+        }
+        self.look_for_area()
+    }
+
+    // The look of a command that has not found its area.
+    #[inline(never)]
+    fn look_for_area(&mut self) -> Look
+        requires working { is_working self.old.work ≡ true }
+        requires looking { passes_now self.old.work ≡ false }
+        ensures state { self.new ≡ with_image (after_look (fault_met self.old self.new) self.old) self.new.image }
+        ensures answer { result ≡ answer_of_look self.new.work }
+        ensures calls { CallsStore (look_loads self.old) (look_saves self.old) self.old self.new }
+        ensures reported { Reports (self.new.work ≡ Over failed_ending) self.old self.new }
+    {
         match self.stage {
-            Stage::Idle | Stage::Ended | Stage::InMotion | Stage::Failed => unreachable!(),
-            Stage::Passing => {
-                look::make_ready(
-                    tables::action_of(self.job.opened.command),
-                    &mut self.job.progress,
-                );
-                return Look::Ready(self.job.progress.left);
-            }
             Stage::Looking => {}
+            _ => unreachable!(),
         }
         self.stage = self.job.look(&mut self.mark);
         self.job.passed = Trace::new();

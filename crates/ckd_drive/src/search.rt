@@ -9,6 +9,8 @@ ghost use Rattle.ckd_command.specs.Tables.{aim, action_of, extent_of};
 ghost use Rattle.ckd_position.specs.Contents.{is_readable};
 ghost use Rattle.ckd_slot.specs.Cache.{slot_at_hand};
 ghost use Rattle.ckd_track.specs.Track.{track_of};
+ghost use Rattle.ckd_position.specs.declared.areas.Kind.TheVariants.{Key as Keys};
+ghost use Rattle.ckd_sense.specs.declared.commands.Command.TheVariants.{SearchKeyEqual};
 ghost use Rattle.ckd_drive.specs.Invariant.{own_track};
 ghost use Rattle.ckd_drive.specs.Jobs.{half_done, IsUnlike, IsUnlikeBy};
 ghost use Rattle.ckd_drive.specs.Searches.{TellsSearch, TellsCode, Turns, turned, turned_to, fails_at_once, searched_by};
@@ -108,6 +110,69 @@ impl<S: ImageStore> Job<S> {
         (passed, position)
     }
 
+    // The same, with the first area by itself: of each other it is known then which of its record's areas passed last. Each search
+    // is leaner so but Search Identifier Equal.
+    #[inline(always)]
+    fn pass_on(&self, sought: Sought, wanted: &[u8], most: u32) -> (u32, Position)
+        requires arm { IsAtTrack self.now.cache.image.geometry self.now.registers }
+        requires aim { aim sought.command ≡ Aims sought.kind }
+        requires search { action_of sought.command ≡ Search }
+        requires extent { extent_of sought.command ≡ sought.extent }
+        ensures most { result.0 ≤ most }
+        ensures unlike { Turns (λ p. IsUnlike (turned_to p (half_done self.now)) sought.command sought.kind wanted.now)
+            self.now.registers.position result.0 result.1 }
+        ensures tells { 0 < length wanted.now → result.0 < most
+            → TellsSearch (turned_to result.1 (half_done self.now)) sought.command wanted.now false }
+    {
+        let position = self.registers.position;
+        let geometry = self.cache.geometry();
+        let track = geometry.track_at(self.registers.cylinder, self.registers.head);
+        let Some(buffer) = self.cache.at_hand(track) else {
+            return (0, position);
+        };
+        if !buffer.is_readable() {
+            return (0, position);
+        }
+        if most == 0 {
+            return (0, position);
+        }
+        let Some(first) = self.unlike(buffer, position, sought, wanted) else {
+            return (0, position);
+        };
+        let (mut area, mut passed) = (first, 1);
+        while most > passed {
+            let Some(next) = self.unlike(buffer, Position::At(area), sought, wanted) else {
+                return (passed, Position::At(area));
+            };
+            area = next;
+            passed += 1;
+        }
+        (passed, Position::At(area))
+    }
+
+    // The same, of Search Key Equal, by which a table of contents is looked through: its comparison is known then as it is compiled.
+    // By itself, so that the loops of the other searches are as lean as without it.
+    #[inline(never)]
+    fn pass_keys(&self, wanted: &[u8], most: u32) -> (u32, Position)
+        requires arm { IsAtTrack self.now.cache.image.geometry self.now.registers }
+        ensures most { result.0 ≤ most }
+        ensures unlike { Turns (λ p. IsUnlike (turned_to p (half_done self.now)) SearchKeyEqual Keys wanted.now)
+            self.now.registers.position result.0 result.1 }
+        ensures tells { 0 < length wanted.now → result.0 < most
+            → TellsSearch (turned_to result.1 (half_done self.now)) SearchKeyEqual wanted.now false }
+    {
+        let (command, kind, extent) = (Command::SearchKeyEqual, Kind::Key, Extent::Key);
+        self.pass_on(
+            Sought {
+                command,
+                kind,
+                extent,
+            },
+            wanted,
+            most,
+        )
+    }
+
     // The same, with a loop for each of the searches that systems make most: what it looks for is known then as it is compiled.
     #[inline(always)]
     fn pass_sought(&self, sought: Sought, wanted: &[u8], most: u32) -> (u32, Position)
@@ -122,9 +187,9 @@ impl<S: ImageStore> Job<S> {
             → TellsSearch (turned_to result.1 (half_done self.now)) sought.command wanted.now false }
     {
         let command = sought.command;
-        match (sought.kind, sought.extent) {
-            (Kind::AnyCount, Extent::Identifier) => {
-                self.pass_unlike(
+        match (command, sought.kind, sought.extent) {
+            (_, Kind::AnyCount, Extent::Identifier) => {
+                self.pass_on(
                     Sought {
                         command,
                         kind: Kind::AnyCount,
@@ -134,7 +199,8 @@ impl<S: ImageStore> Job<S> {
                     most,
                 )
             }
-            (Kind::Key, Extent::Key) => self.pass_unlike(
+            (Command::SearchKeyEqual, Kind::Key, Extent::Key) => self.pass_keys(wanted, most),
+            (_, Kind::Key, Extent::Key) => self.pass_on(
                 Sought {
                     command,
                     kind: Kind::Key,
@@ -143,7 +209,7 @@ impl<S: ImageStore> Job<S> {
                 wanted,
                 most,
             ),
-            _ => self.pass_unlike(sought, wanted, most),
+            _ => self.pass_on(sought, wanted, most),
         }
     }
 

@@ -2,11 +2,11 @@ use Rattle.std.proofs.Common.{refl}
 use Rattle.ckd_drive.specs.Jobs.{half_done, parts_held}
 use Rattle.ckd_drive.specs.declared.answers.Stage.TheVariants.{Looking}
 use Rattle.ckd_drive.proofs.Reported.{look_reports}
-use Rattle.ckd_drive.proofs.drive.Drive.look.Goals as goal
+use Rattle.ckd_drive.proofs.drive.Drive.look_for_area.Goals as goal
 use Rattle.ckd_drive.proofs.Looks.{has_looked}
 
-pub invariant_of-self-2 : goal.invariant_of-self-2
-invariant_of-self-2 g c = rw c.new-self-inside.ensures c.look-self-inside.ensures.stands
+pub invariant_of-self : goal.invariant_of-self
+invariant_of-self g c = rw c.new-self-inside.ensures c.look-self-inside.ensures.stands
 
 pub returns : goal.returns
 returns g c =
