@@ -1,17 +1,13 @@
 -- A channel that becomes what one was between two programs.
-use Rattle.std.proofs.Common.{◌≡◌, ◌∙◌, ap, refl, sym, subst, ℕ, ◌+◌, ◌==◌, ◌&&◌, Bool, true, false, cond, List, Some, None}
+use Rattle.std.proofs.Common.{◌≡◌, ◌∙◌, ap, refl, sym, subst, ℕ, ◌==◌, Bool, true, List, Some, None}
 use Rattle.std.proofs.lemmas.Bool.{and_parts, eqb-true}
-use mathlib.Core.Bool.{beq}
-use Rattle.std.specs.Prelude.{find, not, option_map, position, slice_get, slice_set}
+use Rattle.std.specs.Prelude.{find, option_map, position, slice_get, slice_set}
 use Rattle.ckd_drive.specs.Work.{has_track}
 use Rattle.s360_program.specs.Advances.{Rests}
 use Rattle.s360_words.specs.declared.words.Csw.{Csw}
-use Rattle.s360_words.specs.declared.flags.TheConstants.UnitStatus.{CHANNEL_END, DEVICE_END}
-use Rattle.s360_runs.specs.Status.{tells}
 use Rattle.s360_laws.specs.Machine.{Device, Machine, device_at}
 use Rattle.s360_laws.specs.Soundness.{AreDistinct, arm_owes, device_owes}
 use Rattle.s360_laws.specs.declared.arm.Arm.{Arm}
-use Rattle.s360_laws.specs.declared.arm.Arm.TheVariants.{AtRest, InMotion, Arrived}
 use Rattle.s360_channel.specs.Channel.{AttachedState, ChannelState, Shows, StandsFor, is_at}
 use Rattle.s360_channel.specs.DriveCalls.{DriveIs, MayRestore, RestoresAt}
 use Rattle.s360_channel.specs.Packs.{IsFree}

@@ -16,6 +16,7 @@ pub mod Removing
 pub mod AsSaved
 pub mod Backs
 pub mod Saved
+pub mod Returning
 pub mod Images
 pub mod Fronts
 pub mod Slots

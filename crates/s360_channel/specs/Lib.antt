@@ -13,4 +13,5 @@ pub mod Nexts
 pub mod Watched
 pub mod Restores
 pub mod Saves
+pub mod Returns
 pub mod Selector

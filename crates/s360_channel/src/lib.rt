@@ -38,6 +38,6 @@ pub use crate::faults::{
     RestoreFault, SavedFault,
 };
 pub use crate::restoring::SavedDrive;
-pub use crate::saving::SavedChannel;
+pub use crate::saving::{SavedChannel, what_was_saved_comes_back};
 pub use crate::selector::Selector;
 pub use crate::view::{DriveView, RunOn, SubchannelView, View, Watched};

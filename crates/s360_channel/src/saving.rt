@@ -4,6 +4,7 @@ ghost use Rattle.std.specs.Prelude.{◌≡◌, None, Some, length, filter, is_so
 ghost use Rattle.s360_words.specs.Storage.{Storage as StorageState};
 ghost use Rattle.s360_laws.specs.Machine.{Machine};
 ghost use Rattle.s360_channel.specs.Channel.{StandsFor};
+ghost use Rattle.s360_channel.specs.Returns.{WhatWasSavedComesBack, machine_saved};
 ghost use Rattle.s360_channel.specs.Saves.{entry, is_ending, is_ending_of, machine_back, may_pend, owes, put_back, saved_of, subchannel_back, why_not_back};
 ghost use Rattle.s360_channel.specs.Selector.{KeepsSelector, over};
 
@@ -44,6 +45,14 @@ impl SavedChannel {
 impl<S: ImageStore> Selector<S> {
     /// All of the selector between two programs; none while one runs.
     pub fn saved(&self) -> Option<SavedChannel>
+        ensures saved { result ≡ saved_of self.now }
+        ensures shows { (s : StorageState) (m : Machine) → StandsFor (over self.now s) m → result ≡ machine_saved m }
+    {
+        self.all_saved()
+    }
+
+    // The same, as it is kept.
+    fn all_saved(&self) -> Option<SavedChannel>
         ensures { result ≡ saved_of self.now }
     {
         let pending = match &self.subchannel {
@@ -159,3 +168,9 @@ fn owes(arm: Arm) -> bool
         Arm::InMotion | Arm::Arrived => true,
     }
 }
+
+/// Law: what was saved of a machine makes it of any other with the same channel, storage, addresses and volumes. So a channel that is put
+/// back stands for the machine that was saved.
+pub fn what_was_saved_comes_back()
+    ensures { WhatWasSavedComesBack }
+{}

@@ -20,11 +20,11 @@ back_length [] cs = refl
 back_length (v ∷ vs) [] = refl
 back_length (v ∷ vs) (c ∷ cs) = ap suc (back_length vs cs)
 
-none_first : (a b : Option SavedFault) → first_of a b ≡ None → (a ≡ None) × (b ≡ None)
+pub none_first : (a b : Option SavedFault) → first_of a b ≡ None → (a ≡ None) × (b ≡ None)
 none_first None b h = (refl, h)
 none_first (Some why) b h = none_is_some (sym h)
 
-not_refused : (x : Option WhyElsewhere) → option_map Refused x ≡ None → x ≡ None
+pub not_refused : (x : Option WhyElsewhere) → option_map Refused x ≡ None → x ≡ None
 not_refused None h = refl
 not_refused (Some why) h = none_is_some (sym h)
 

@@ -1,5 +1,6 @@
 pub mod Fitting
 pub mod BackFits
+pub mod StandBack
 pub mod Quiet
 pub mod Changes
 pub mod Missing

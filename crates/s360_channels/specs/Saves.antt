@@ -1,8 +1,13 @@
 -- Several channels between two programs as they are saved, and channels that are put back so.
-use Rattle.std.specs.Prelude.{◌≡◌, ℕ, List, [], ◌∷◌, Option, Some, None, option_map}
-use Rattle.s360_channel.specs.Saves.{put_back, saved_of, why_not_back}
-use Rattle.s360_channel.specs.Selector.{SelectorState}
+use Rattle.std.specs.Prelude.{◌≡◌, ℕ, List, [], ◌∷◌, Option, Some, None, option_map, slice_index_or}
+use Rattle.s360_words.specs.Storage.{Storage}
+use Rattle.s360_laws.specs.Machine.{Machine}
+use Rattle.s360_channel.specs.Channel.{StandsFor}
+use Rattle.s360_channel.specs.Returns.{machine_saved}
+use Rattle.s360_channel.specs.Saves.{machine_back, put_back, saved_of, why_not_back}
+use Rattle.s360_channel.specs.Selector.{SelectorState, over}
 use Rattle.s360_channel.specs.declared.saving.SavedChannel.{SavedChannel}
+use Rattle.s360_channels.specs.Channels.{numbered}
 use Rattle.s360_channels.specs.declared.faults.SavedFault.{SavedFault}
 use Rattle.s360_channels.specs.declared.faults.SavedFault.TheVariants.{OtherChannels, Refused}
 
@@ -49,3 +54,25 @@ abbrev pub all_back : List (Option SavedChannel) → List (Option SelectorState)
 all_back [] cs = cs
 all_back (saved ∷ others) [] = []
 all_back (saved ∷ others) (c ∷ cs) = back_at saved c ∷ all_back others cs
+
+-- The same of machines, one for each channel, over whatever storage.
+
+-- a number's channel over this storage stands for a machine; where there is no such channel, nothing does
+abbrev pub StandsAt : Option SelectorState → Storage → Machine → Type 0
+StandsAt None s m = ⊥
+StandsAt (Some c) s m = StandsFor (over c s) m
+
+-- what is saved by the channels' numbers is what is saved of every machine that a channel stands for
+abbrev pub AllShow : List (Option SavedChannel) → List (Option SelectorState) → Type 0
+AllShow saved cs = (number : ℕ) (s : Storage) (m : Machine) → StandsAt (numbered number cs) s m
+    → Some (slice_index_or saved number None) ≡ option_map Some (machine_saved m)
+
+-- a machine as its channel was saved, if that was
+abbrev pub machine_back_at : Option SavedChannel → Machine → Machine
+machine_back_at None m = m
+machine_back_at (Some saved) m = machine_back saved m
+
+-- each channel stands for the machine as it was saved, of every machine that it stood for
+abbrev pub AllStandBack : List (Option SavedChannel) → (old new : List (Option SelectorState)) → Type 0
+AllStandBack saved old new = (number : ℕ) (s : Storage) (m : Machine) → StandsAt (numbered number old) s m
+    → StandsAt (numbered number new) s (machine_back_at (slice_index_or saved number None) m)

@@ -1,7 +1,7 @@
 //! Channels between two programs are saved as a value, and put back.
 
-ghost use Rattle.std.specs.Prelude.{◌≡◌, None, length, OnErr, OnOk, IfErr};
-ghost use Rattle.s360_channels.specs.Saves.{all_back, all_saved, back_at, saved_at, why_not_all, why_not_at};
+ghost use Rattle.std.specs.Prelude.{◌≡◌, None, length, OnErr, OnOk, IfErr, IfSome};
+ghost use Rattle.s360_channels.specs.Saves.{AllShow, AllStandBack, all_back, all_saved, back_at, saved_at, why_not_all, why_not_at};
 
 use crate::faults::SavedFault;
 use crate::selectors::Selectors;
@@ -11,6 +11,14 @@ use s360_channel::{SavedChannel, Selector};
 impl<S: ImageStore> Selectors<S> {
     /// All of the channels between two programs, by their numbers, beside main storage and the volumes; none while a program runs.
     pub fn saved(&self) -> Option<[Option<SavedChannel>; 7]>
+        ensures saved { result ≡ all_saved self.now.channels }
+        ensures shows { IfSome result (λ saved. AllShow saved self.now.channels) }
+    {
+        self.all_saved()
+    }
+
+    // The same, as it is kept.
+    fn all_saved(&self) -> Option<[Option<SavedChannel>; 7]>
         ensures { result ≡ all_saved self.now.channels }
     {
         let [zero, one, two, three, four, five, six] = &self.list;
@@ -33,6 +41,7 @@ impl<S: ImageStore> Selectors<S> {
     /// `OtherChannels`, and what a channel refuses; nothing has changed.
     pub fn restore(&mut self, saved: &[Option<SavedChannel>; 7]) -> Result<(), SavedFault>
         ensures restored { OnOk result (self.new ≡ record self.old { channels = all_back saved.now self.old.channels }) }
+        ensures stand { OnOk result (AllStandBack saved.now self.old.channels self.new.channels) }
         ensures allowed { OnOk result (why_not_all saved.now self.old.channels ≡ None) }
         ensures refused { IfErr result (λ e. why_not_all saved.now self.old.channels ≡ Some e) }
         ensures stays { OnErr result (self.new ≡ self.old) }
