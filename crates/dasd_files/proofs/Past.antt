@@ -1,10 +1,10 @@
 -- What a file held at each number, and when its parts were written.
-use Rattle.std.proofs.Common.{◌≡◌, ◌⊎◌, inl, inr, ℕ, ◌+◌, ◌-◌, ◌*◌, ◌<◌, ◌≤◌, suc, List, ◌++◌, length, take, drop, replicate, get_or}
-use Rattle.std.proofs.Common.{min, ◌∙◌, ap, arith}
+use Rattle.std.proofs.Common.{◌≡◌, ◌⊎◌, inl, inr, ℕ, ◌+◌, ◌-◌, ◌*◌, ◌/◌, ◌%◌, ◌<◌, ◌≤◌, suc, min, ◌∙◌, ap, arith}
+use Rattle.std.proofs.Common.{List, ◌++◌, length, take, drop, replicate, get_or}
 use Rattle.std.proofs.Common.{length-append, length-drop, length-take-le, get_or-take, get_or-drop, mul-le-mul_right, suc-mul, add-mul}
-use Rattle.std.proofs.Common.{one-mul, le_trans, div-mul-le_self}
+use Rattle.std.proofs.Common.{one-mul, le_trans, div-mul-le_self, div-add-mod'}
 use Rattle.std.proofs.lemmas.List.{get_or_append_left, get_or-append_right, get_or-replicate, length-replicate}
-use Rattle.std.proofs.lemmas.Nat.{le-div}
+use Rattle.std.proofs.lemmas.Nat.{div-mul-add, le-div}
 use Rattle.std.proofs.lemmas.Bool.{cases_lt}
 use Rattle.ckd_image.specs.Store.{overwritten}
 use Rattle.dasd_files.specs.Parts.{PartsState, IsUnwritten, marked, numbered, part_of, parts_to}
@@ -72,6 +72,21 @@ part_high p end i some h =
     let below = div-mul-le_self (i + p.lead) p.size in
     let next = suc-mul q p.size in
     le-div (suc q) (end + p.lead + (p.size - 1)) p.size some (omega (arith, below, next, some, h))
+
+-- bytes that lie in one part mark that part alone
+pub one_part : (p : PartsState) (at len number : ℕ) → 0 < p.size → 0 < (at + p.lead) % p.size + len → (at + p.lead) % p.size + len ≤ p.size
+    → part_of p at < length p.numbers
+    → record p { numbers = numbered p.numbers (part_of p at) (part_of p at + 1) number } ≡ marked p at len number
+one_part p at len number some any within there =
+    let q = part_of p at in
+    let rest = (at + p.lead) % p.size + len - 1 in
+    let start = div-add-mod' (at + p.lead) p.size in
+    let next = suc-mul q p.size in
+    let to : parts_to p.lead p.size (at + len) ≡ suc q =
+    ap (λ n. n / p.size) (omega (arith, start, next, some, any)) ∙ div-mul-add (suc q) p.size rest (omega (arith, any, within)) in
+    let end : q + 1 ≡ min (parts_to p.lead p.size (at + len)) (length p.numbers) = omega (arith, to, there) in
+    ap (λ from. record p { numbers = numbered p.numbers from (q + 1) number }) {x = q} {y = min q (q + 1)} (omega arith)
+    ∙ ap (λ to. record p { numbers = numbered p.numbers (min q to) to number }) end
 
 -- a part's number behind a mark: this one where it was marked, else what it was
 abbrev marked_to : PartsState → (at len : ℕ) → ℕ

@@ -46,8 +46,24 @@ impl Parts {
         })
     }
 
-    /// So many bytes from a place on were written, as the number moved on to this one.
+    /// So many bytes from a place on were written, as the number moved on to this one. Most writes lie in one part.
     pub(crate) fn mark(&mut self, at: usize, len: usize, number: u64)
+        requires few { at + len < 2 ^ 63 }
+        ensures { self.new ≡ marked self.old at len number }
+    {
+        let size = self.size as usize;
+        let from = at + self.lead as usize;
+        let part = from / size;
+        let reach = from % size + len;
+        if reach > 0 && reach <= size && part < self.numbers.len() {
+            set_number(self.numbers.as_mut_slice(), part, number);
+            return;
+        }
+        self.mark_each(at, len, number);
+    }
+
+    // The same, of however many parts.
+    fn mark_each(&mut self, at: usize, len: usize, number: u64)
         requires few { at + len < 2 ^ 63 }
         ensures { self.new ≡ marked self.old at len number }
     {
@@ -89,6 +105,14 @@ impl Parts {
             numbers: Vec::from_slice(alloc, &self.numbers)?,
         })
     }
+}
+
+// The number at a place is this one.
+fn set_number(numbers: &mut [u64], at: usize, number: u64)
+    requires there { at < length numbers.old }
+    ensures { numbers.new ≡ numbered numbers.old at (at + 1) number }
+{
+    numbers[at] = number;
 }
 
 // Numbers from one place to before another are this one.
