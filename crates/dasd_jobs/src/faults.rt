@@ -47,7 +47,7 @@ pub(crate) fn of_read(fault: FileFault) -> JobFault
 }
 
 /// What a fault of a file that is replaced is to a job.
-pub(crate) fn of_write(fault: FileFault) -> JobFault
+pub fn of_write(fault: FileFault) -> JobFault
     ensures { result ≡ writing_fault fault }
 {
     match fault {

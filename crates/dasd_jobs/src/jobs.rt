@@ -64,8 +64,12 @@ pub fn format_file<F: ImageFiles, W: Write, P: Progress>(
     }
 }
 
-// The line that says what was formatted. Nothing is shown meanwhile.
-fn write_formatted<W: Write, P: Progress>(
+/// Writes the line that says what was formatted, and flushes it. Nothing is shown meanwhile.
+///
+/// # Errors
+///
+/// A write failed, or the flush.
+pub fn write_formatted<W: Write, P: Progress>(
     writer: &mut Counted<W>,
     _progress: &P,
     volume: NewVolume,
@@ -84,8 +88,8 @@ fn write_formatted<W: Write, P: Progress>(
     write_flushed(writer, line.as_bytes())
 }
 
-// The number of a drive's model.
-fn model_number(model: DriveModel) -> &'static str
+/// The number of a drive's model.
+pub fn model_number(model: DriveModel) -> &'static str
     ensures { result.now ≡ model_digits model }
 {
     match model {

@@ -1,24 +1,21 @@
 //! The format of a volume with a label.
 
 ghost use Rattle.std.specs.Prelude.{◌≡◌, [], false, IfOk, OnOk};
-ghost use Rattle.counted_io.specs.Streams.{seen_by, WritesWhole, IsFlushed};
+ghost use Rattle.counted_io.specs.Streams.{seen_by, IsFlushed};
 ghost use Rattle.ckd_track.specs.Geometry.{new_geometry};
-ghost use Rattle.dasd_jobs.specs.Causes.{writing_fault};
-ghost use Rattle.dasd_jobs.specs.Lines.{formatted_line, model_digits};
+ghost use Rattle.dasd_jobs.specs.Lines.{formatted_line};
 ghost use Rattle.new_labels.specs.Labels.{Fits, table_fault_of};
 ghost use Rattle.labelled_volumes.specs.Files.{labelled_file};
 ghost use Rattle.labelled_volumes.specs.Formats.{FormatsLabelled, WritesLabelled};
 
 use crate::writes::write_labelled;
-use arrayvec::ArrayString;
 use ckd_track::{DriveModel, Geometry};
-use counted_io::{Counted, WriteFault, write_flushed};
-use dasd_jobs::{FileFault, ImageFiles, JobFault, Progress, Stage};
+use counted_io::{Counted, WriteFault};
+use dasd_jobs::{ImageFiles, JobFault, NewVolume, Progress, Stage, of_write, write_formatted};
 use dasd_volumes::is_large;
 use new_labels::{NewLabel, TableFault, table_fault};
 use std::alloc::Global;
 use std::io::Write;
-use text_lines::put_decimal;
 use thiserror::Error;
 
 /// What is formatted: a new volume with a label, and whether it may take the place of a file.
@@ -75,9 +72,22 @@ pub fn format_labelled<F: ImageFiles, W: Write, P: Progress>(
     if let Err(fault) = written {
         return Err(FormatFault::Job(fault));
     }
-    match write_formatted(writer, progress, volume) {
+    match write_formatted(writer, progress, without_label(volume)) {
         Ok(()) => Ok(()),
         Err(WriteFault) => Err(FormatFault::Job(JobFault::Write)),
+    }
+}
+
+// The same volume, as one without a label.
+fn without_label<'a>(volume: &LabelledVolume<'a>) -> NewVolume<'a>
+    ensures model { result.model ≡ volume.now.model }
+    ensures cylinders { result.cylinders ≡ volume.now.cylinders }
+{
+    NewVolume {
+        path: volume.path,
+        model: volume.model,
+        cylinders: volume.cylinders,
+        replaces: volume.replaces,
     }
 }
 
@@ -140,47 +150,5 @@ fn write_new<F: ImageFiles>(
             Err(fault) => Err(of_write(fault)),
         },
         Err(_) => Err(JobFault::Write),
-    }
-}
-
-// What a fault of a file that is replaced is to a job.
-fn of_write(fault: FileFault) -> JobFault
-    ensures { result ≡ writing_fault fault }
-{
-    match fault {
-        FileFault::OutOfMemory => JobFault::OutOfMemory,
-        FileFault::Refused => JobFault::Write,
-        FileFault::InUse | FileFault::Twice => JobFault::InUse,
-        FileFault::Exists => JobFault::Exists,
-    }
-}
-
-// The line that says what was formatted. Nothing is shown meanwhile.
-fn write_formatted<W: Write, P: Progress>(
-    writer: &mut Counted<W>,
-    _progress: &P,
-    volume: &LabelledVolume,
-) -> Result<(), WriteFault>
-    requires { P.is_shown _progress.now ≡ false }
-    ensures written { WritesWhole result (seen_by W.contents writer.old) (seen_by W.contents writer.new)
-        (formatted_line volume.now.model volume.now.cylinders) }
-    ensures flushed { OnOk result (IsFlushed (seen_by W.contents writer.new)) }
-{
-    let mut line: ArrayString<40> = ArrayString::new();
-    line.push_str("formatted ");
-    line.push_str(model_number(volume.model));
-    line.push_str(" ");
-    put_decimal(&mut line, u32::from(volume.cylinders));
-    line.push_str(" cylinders\n");
-    write_flushed(writer, line.as_bytes())
-}
-
-// The number of a drive's model.
-fn model_number(model: DriveModel) -> &'static str
-    ensures { result.now ≡ model_digits model }
-{
-    match model {
-        DriveModel::D2311 => "2311",
-        DriveModel::D2314 => "2314",
     }
 }
