@@ -129,7 +129,7 @@ _dasd() {
         _dasd_files
         ;;
     run)
-        if [[ $word == -* ]]; then _dasd_words --storage --channel --deck --no-save --in-place --trace --trace-to --trace-only --trace-last --trace-answers --trace-whole --verbose -h --help; return; fi
+        if [[ $word == -* ]]; then _dasd_words --storage --channel --deck --no-save --replace --trace --trace-to --trace-only --trace-last --trace-answers --trace-whole --verbose -h --help; return; fi
         if [ "$word" = = ]; then word='' before='='; fi
         [ "$before" = = ] && _dasd_files
         ;;

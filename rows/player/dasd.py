@@ -185,6 +185,11 @@ class DasdRow:
             return False
         return True
 
+    def saved(self, name: str) -> str:
+        """The file that was saved as this one came: itself, or the one whose journal it is."""
+        number = name.removeprefix(".dasd+")
+        return next((it.name for it in self.folder.iterdir() if str(it.stat().st_ino) == number), name)
+
     # --- commands ---
 
     def command(self, words: list[str]) -> None:
@@ -200,7 +205,7 @@ class DasdRow:
             before = self.stamps()
             out, told = self.run(words, dict(self.environment, FAIL_NAME=traces, PUTS=str(puts)))
             behind = self.stamps()
-            order = [Path(it).name for it in puts.read_text().splitlines()]
+            order = [self.saved(Path(it).name) for it in puts.read_text().splitlines()]
         others = [it for it in behind if it != traces and it not in order and behind[it] != before.get(it)]
         self.replaced = [it for it in order if it in behind] + sorted(others)
         self.shown = [it.decode("ascii") for it in SHOWN.findall(told)]

@@ -15,7 +15,7 @@ programs. Wanted is:
   the next command that writes a file into that folder removes it, and says so.
 - Where a file takes its place, it was synced before that. Its folder is synced right behind it where it replaces a file, before anything is
   written or gets another name; and once behind all where files are new.
-- A file that keeps its place (`run --in-place`) has its old bytes until its journal, `.dasd+` and its number, stands beside it. From then on it
+- A file that keeps its place (`run`) has its old bytes until its journal, `.dasd+` and its number, stands beside it. From then on it
   counts as new: what a reader finds there is whole, and the next run ends what was begun, says so and leaves no journal. The journal was synced before it
   got its name, its folder behind that and before the file is written, the file before the journal goes, and the folder once more.
 
@@ -84,7 +84,8 @@ class Command:
 
     def read_faults(self) -> tuple[str, ...]:
         """What a fault of a read is called."""
-        return READ_FAULTS + SAVE_FAULTS if "--in-place" in self.words else READ_FAULTS
+        in_place = self.words[0] == "run" and "--replace" not in self.words
+        return READ_FAULTS + SAVE_FAULTS if in_place else READ_FAULTS
 
     def signals(self) -> list[str]:
         """The signals by which it is ended at each call."""
@@ -103,7 +104,7 @@ COMMANDS = [
     Command("format with a label", ["format", "one.ckd", "--cylinders", "1", "--label", "ABC123"]),
     Command("run", ["run", "90=one.ckd", "91=two.ckd"], deck_for("190") + deck_for("191")),
     Command("run with a trace", ["run", "--trace-to", "trace", "90=one.ckd"], deck_for("190")),
-    Command("run --in-place", ["run", "--in-place", "90=one.ckd", "91=two.ckd"], deck_for("190") + deck_for("191")),
+    Command("run --replace", ["run", "--replace", "90=one.ckd", "91=two.ckd"], deck_for("190") + deck_for("191")),
     Command("list", ["list", "pack.ckd"]),
     Command("list a pipe", ["list", "/dev/stdin"], volume(cylinders=2)),
     Command("check", ["check", "pack.ckd"]),
@@ -306,6 +307,7 @@ class Syncs:
     owed: dict[str, str] = field(default_factory=dict)  # the folder of each file that took its place, or of a journal that went
     replaced: str = ""  # the file that replaced another one, or the journal that came or went, until its folder is synced
     written: set[str] = field(default_factory=set)  # files that were written since they were synced
+    over: set[str] = field(default_factory=set)  # those that were written since the last journal came
     wrong: list[str] = field(default_factory=list)
 
     def sync(self, path: str) -> None:
@@ -320,10 +322,11 @@ class Syncs:
         """Bytes are written into a file."""
         self.synced.discard(path)
         self.written.add(path)
+        self.over.add(path)
 
     def end(self, journal: str) -> None:
         """A journal is taken away, so its file has what it held."""
-        self.wrong += [f"{journal} was taken away before {file} was synced" for file in sorted(self.written - {""})]
+        self.wrong += [f"{journal} was taken away before {file} was synced" for file in sorted(self.written & self.over)]
         self.owed[journal] = os.path.normpath(os.path.dirname(journal) or ".")
         self.replaced = journal
 
@@ -342,6 +345,7 @@ class Syncs:
             self.wrong.append(f"{folder} was synced before {path} came to it")
         self.owed[path] = folder
         self.replaced = path if replaces else ""
+        self.over.clear()
 
 
 def unsynced(lines: list[str]) -> list[str]:

@@ -4,7 +4,7 @@ Each row makes files, runs commands and says what they print, end with and leave
 pipes, odd names and files that are no images; kills, runs at once and traces in tools/gate/real_runs.py, `dasd extract` in
 tools/gate/real_extracts.py, record formats that are given and tracks as they stand in tools/gate/real_formats.py, strict checks, dumps and
 comparisons in tools/gate/real_archives.py, findings in tools/gate/real_findings.py, hashes of data sets and members in
-tools/gate/real_hashes.py, files that are written in place in tools/gate/real_in_place.py, new volumes with a label in
+tools/gate/real_hashes.py, links and files that are written in place in tools/gate/real_in_place.py, new volumes with a label in
 tools/gate/real_labels.py, odd lengths in tools/gate/real_lengths.py, lists in tools/gate/real_lists.py, options of checks, dumps and runs in
 tools/gate/real_options.py, data sets that share cylinders, tracks that have alternates and parts of data sets in tools/gate/real_packs.py,
 and what is told beside a fault's line in tools/gate/real_reasons.py. A row that needs root, a small file system of its own or a device,
@@ -46,7 +46,7 @@ from tools.gate import (
     real_reasons,
     real_runs,
 )
-from tools.gate.scratch_files import ANSWERS, ONE_VOLUME, ROWS, WRITE, How, Scratch, Skipped, fault, header, is_held, row, same, small_disk, volume, wrote
+from tools.gate.scratch_files import ANSWERS, ONE_VOLUME, ROWS, WAYS, WRITE, How, Scratch, Skipped, fault, header, is_held, row, same, small_disk, volume, wrote
 
 
 # The modules whose rows stand in ROWS with those below.
@@ -65,51 +65,6 @@ OTHERS = (
     real_reasons,
     real_runs,
 )
-
-
-# Links.
-
-
-@row
-def symbolic_link_stays_a_link(s: Scratch) -> None:
-    s.put("target.ckd", volume())
-    s.path("link.ckd").symlink_to("target.ckd")
-    same(s.write("90=link.ckd"), wrote())
-    same(os.readlink(s.path("link.ckd")), "target.ckd")
-    is_held(s.path("target.ckd"), volume(data="D5D6D7D8"))
-    same(s.dasd("format", "link.ckd", "--cylinders", "2"), (0, "formatted 2311 2 cylinders\n", ""))
-    same(os.readlink(s.path("link.ckd")), "target.ckd")
-    is_held(s.path("target.ckd"), volume(cylinders=2))
-    same(s.names(), ["link.ckd", "target.ckd"])
-
-
-@row
-def link_to_another_folder(s: Scratch) -> None:
-    s.path("there").mkdir()
-    s.put("there/target.ckd", volume())
-    s.path("link.ckd").symlink_to("there/target.ckd")
-    same(s.write("90=link.ckd"), wrote())
-    is_held(s.path("there/target.ckd"), volume(data="D5D6D7D8"))
-    same((s.names(), os.listdir(s.path("there"))), (["link.ckd", "there"], ["target.ckd"]))
-
-
-@row
-def link_to_nothing_and_loop_of_links(s: Scratch) -> None:
-    s.path("nothing.ckd").symlink_to("nowhere.ckd")
-    s.path("loop.ckd").symlink_to("loop.ckd")
-    for name in ("nothing.ckd", "loop.ckd"):
-        same(s.dasd("format", name, "--cylinders", "1"), fault("write fault"))
-        same(s.dasd("run", f"90={name}"), fault("read fault"))
-        same(s.dasd("list", name), fault("read fault"))
-    same(s.names(), ["loop.ckd", "nothing.ckd"])
-
-
-@row
-def hard_link_keeps_the_old_bytes_at_its_other_name(s: Scratch) -> None:
-    os.link(s.put("one.ckd", volume()), s.path("other.ckd"))
-    same(s.write("90=one.ckd"), wrote())
-    is_held(s.path("one.ckd"), volume(data="D5D6D7D8"))
-    is_held(s.path("other.ckd"), volume())
 
 
 # What is no regular file.
@@ -164,9 +119,10 @@ def standard_input_is_not_replaced(s: Scratch) -> None:
 @row
 def mode_is_kept(s: Scratch) -> None:
     for mode in (0o600, 0o640, 0o666, 0o755):
-        s.put("vol.ckd", volume()).chmod(mode)
-        same(s.write("90=vol.ckd"), wrote())
-        same(oct(s.path("vol.ckd").stat().st_mode & 0o7777), oct(mode))
+        for way in WAYS:
+            s.put("vol.ckd", volume()).chmod(mode)
+            same(s.write(*way, "90=vol.ckd"), wrote())
+            same(oct(s.path("vol.ckd").stat().st_mode & 0o7777), oct(mode))
         same(s.dasd("format", "vol.ckd", "--cylinders", "1")[0], 0)
         same(oct(s.path("vol.ckd").stat().st_mode & 0o7777), oct(mode))
 
@@ -181,17 +137,19 @@ def new_file_has_the_mode_of_new_files(s: Scratch) -> None:
 def owner_is_kept(s: Scratch) -> None:
     if os.geteuid() != 0:
         raise Skipped("no other owner without root")
-    os.chown(s.put("vol.ckd", volume()), 1000, 1001)
-    s.path("vol.ckd").chmod(0o600)
-    same(s.write("90=vol.ckd"), wrote())
-    found = s.path("vol.ckd").stat()
-    same((found.st_uid, found.st_gid, found.st_mode & 0o7777), (1000, 1001, 0o600))
+    for way in WAYS:
+        os.chown(s.put("vol.ckd", volume()), 1000, 1001)
+        s.path("vol.ckd").chmod(0o600)
+        same(s.write(*way, "90=vol.ckd"), wrote())
+        found = s.path("vol.ckd").stat()
+        same((found.st_uid, found.st_gid, found.st_mode & 0o7777), (1000, 1001, 0o600))
 
 
 @row
 def file_that_may_not_be_written_is_not_replaced(s: Scratch) -> None:
     s.put("vol.ckd", volume()).chmod(0o444)
-    same(s.write("90=vol.ckd"), fault("write fault", ANSWERS.format(unit="190")))
+    for way in WAYS:
+        same(s.write(*way, "90=vol.ckd"), fault("write fault", ANSWERS.format(unit="190")))
     same(s.dasd("format", "vol.ckd", "--cylinders", "2"), fault("write fault"))
     is_held(s.path("vol.ckd"), volume())
     same(s.dasd("run", "90=vol.ckd", deck="SIO 190\n")[0], 0)
@@ -204,7 +162,8 @@ def folder_that_may_not_be_written(s: Scratch) -> None:
     how = How(is_nobodys=os.geteuid() == 0)
     s.folder.chmod(0o755 if how.is_nobodys else 0o555)
     try:
-        same(s.write("90=vol.ckd", how=how), fault("write fault", ANSWERS.format(unit="190")))
+        for way in WAYS:
+            same(s.write(*way, "90=vol.ckd", how=how), fault("write fault", ANSWERS.format(unit="190")))
         same(s.dasd("format", "vol.ckd", "--cylinders", "2", how=how), fault("write fault"))
         same(s.dasd("format", "new.ckd", "--cylinders", "2", how=how), fault("write fault"))
     finally:
@@ -218,8 +177,9 @@ def disk_that_is_full(s: Scratch) -> None:
     told = "write fault\n  small/vol.ckd: No space left on device"
     with small_disk(s) as small:
         s.put("small/vol.ckd", volume())
-        same(s.write("90=small/vol.ckd"), fault("write fault", ANSWERS.format(unit="190")))
-        same(s.write("--verbose", "90=small/vol.ckd"), fault(told, ANSWERS.format(unit="190")))
+        for way in WAYS:
+            same(s.write(*way, "90=small/vol.ckd"), fault("write fault", ANSWERS.format(unit="190")))
+            same(s.write(*way, "--verbose", "90=small/vol.ckd"), fault(told, ANSWERS.format(unit="190")))
         same(s.dasd("format", "--verbose", "small/vol.ckd", "--cylinders", "2"), fault(told))
         is_held(s.path("small/vol.ckd"), volume())
         same(os.listdir(small), ["vol.ckd"])

@@ -1,4 +1,4 @@
-"""Rows of tools/gate/real_files.py: `dasd run --in-place`, journals of saves that were cut off, and links to names that are no text."""
+"""Rows of tools/gate/real_files.py: links, files that `dasd run` writes in place, journals of saves that were cut off, and links to names that are no text."""
 # pylint: disable=missing-function-docstring  # the name of a row says what it is
 
 import os
@@ -10,9 +10,9 @@ from pathlib import Path
 
 from conformance.suite.volumes import HEADER
 from tools.common.images import slot_at
-from tools.gate.scratch_files import ANSWERS, WRITE, How, Scratch, Skipped, fault, header, is_held, row, same, small_disk, volume, waiting_run, wrote
+from tools.gate.scratch_files import ANSWERS, WAYS, WRITE, How, Scratch, Skipped, fault, header, is_held, row, same, small_disk, volume, waiting_run, wrote
 
-IN_PLACE = "--in-place"
+REPLACE = "--replace"
 VERBOSE = "--verbose"
 OLD, NEW = volume(), volume(data="D5D6D7D8")
 ENDED = "  {}: a save of it was cut off, and is ended\n"
@@ -33,6 +33,53 @@ def cut_off(s: Scratch, name: str = "vol.ckd") -> Path:
     return journal(s, s.put(name, NEW[:half] + OLD[half:]).name, NEW, OLD)
 
 
+# Links.
+
+
+@row
+def symbolic_link_stays_a_link(s: Scratch) -> None:
+    s.path("link.ckd").symlink_to("target.ckd")
+    for way in WAYS:
+        s.put("target.ckd", volume())
+        same(s.write(*way, "90=link.ckd"), wrote())
+        same(os.readlink(s.path("link.ckd")), "target.ckd")
+        is_held(s.path("target.ckd"), volume(data="D5D6D7D8"))
+    same(s.dasd("format", "link.ckd", "--cylinders", "2"), (0, "formatted 2311 2 cylinders\n", ""))
+    same(os.readlink(s.path("link.ckd")), "target.ckd")
+    is_held(s.path("target.ckd"), volume(cylinders=2))
+    same(s.names(), ["link.ckd", "target.ckd"])
+
+
+@row
+def link_to_another_folder(s: Scratch) -> None:
+    s.path("there").mkdir()
+    s.path("link.ckd").symlink_to("there/target.ckd")
+    for way in WAYS:
+        s.put("there/target.ckd", volume())
+        same(s.write(*way, "90=link.ckd"), wrote())
+        is_held(s.path("there/target.ckd"), volume(data="D5D6D7D8"))
+        same((s.names(), os.listdir(s.path("there"))), (["link.ckd", "there"], ["target.ckd"]))
+
+
+@row
+def link_to_nothing_and_loop_of_links(s: Scratch) -> None:
+    s.path("nothing.ckd").symlink_to("nowhere.ckd")
+    s.path("loop.ckd").symlink_to("loop.ckd")
+    for name in ("nothing.ckd", "loop.ckd"):
+        same(s.dasd("format", name, "--cylinders", "1"), fault("write fault"))
+        same(s.dasd("run", f"90={name}"), fault("read fault"))
+        same(s.dasd("list", name), fault("read fault"))
+    same(s.names(), ["loop.ckd", "nothing.ckd"])
+
+
+@row
+def hard_link_of_a_file_that_is_replaced_keeps_the_old_bytes(s: Scratch) -> None:
+    os.link(s.put("one.ckd", volume()), s.path("other.ckd"))
+    same(s.write("--replace", "90=one.ckd"), wrote())
+    is_held(s.path("one.ckd"), volume(data="D5D6D7D8"))
+    is_held(s.path("other.ckd"), volume())
+
+
 # What is kept.
 
 
@@ -44,12 +91,12 @@ def file_that_is_written_in_place_stays_the_same_file(s: Scratch) -> None:
     if os.geteuid() == 0:
         os.chown(s.path("vol.ckd"), 1000, 1001)
     before = s.path("vol.ckd").stat()
-    same(s.write(IN_PLACE, "90=vol.ckd"), wrote())
+    same(s.write("90=vol.ckd"), wrote())
     after = s.path("vol.ckd").stat()
     same([after[at] for at in range(6)], [before[at] for at in range(6)], "mode, number, device, links, owner and group")
     is_held(s.path("vol.ckd"), NEW)
     is_held(s.path("there/other.ckd"), NEW)
-    same(s.write(IN_PLACE, "90=there/other.ckd", data="01020304"), wrote())
+    same(s.write("90=there/other.ckd", data="01020304"), wrote())
     is_held(s.path("vol.ckd"), volume(data="01020304"))
     same((s.names(), os.listdir(s.path("there"))), (["there", "vol.ckd"], ["other.ckd"]))
 
@@ -70,7 +117,7 @@ def access_list_and_extended_attribute_are_kept_in_place(s: Scratch) -> None:
 
     before = kept()
     same(("user:1000:rw-" in before[0], 'user.note="mine"' in before[1]), (True, True))
-    same(s.write(IN_PLACE, "90=vol.ckd"), wrote())
+    same(s.write("90=vol.ckd"), wrote())
     same(kept(), before)
     is_held(s.path("vol.ckd"), NEW)
 
@@ -81,7 +128,7 @@ def link_is_written_through_in_place(s: Scratch) -> None:
     s.put("there/target.ckd", OLD)
     s.path("link.ckd").symlink_to("there/target.ckd")
     number = s.path("there/target.ckd").stat().st_ino
-    same(s.write(IN_PLACE, "90=link.ckd"), wrote())
+    same(s.write("90=link.ckd"), wrote())
     same((os.readlink(s.path("link.ckd")), s.path("there/target.ckd").stat().st_ino), ("there/target.ckd", number))
     is_held(s.path("there/target.ckd"), NEW)
     same((s.names(), os.listdir(s.path("there"))), (["link.ckd", "there"], ["target.ckd"]))
@@ -93,7 +140,7 @@ def image_in_two_files_is_written_in_place(s: Scratch) -> None:
     s.put("a.ckd", header("2311", 1, 1) + whole[HEADER:middle])
     s.put("b.ckd", header("2311", 2, 0) + whole[middle:])
     numbers = [s.path(name).stat().st_ino for name in ("a.ckd", "b.ckd")]
-    same(s.write(IN_PLACE, "90=a.ckd", "90=b.ckd"), wrote())
+    same(s.write("90=a.ckd", "90=b.ckd"), wrote())
     is_held(s.path("a.ckd"), header("2311", 1, 1) + volume(cylinders=2, data="D5D6D7D8")[HEADER:])
     is_held(s.path("b.ckd"), header("2311", 2, 0) + whole[middle:])
     same([s.path(name).stat().st_ino for name in ("a.ckd", "b.ckd")], numbers)
@@ -104,9 +151,9 @@ def image_in_two_files_is_written_in_place(s: Scratch) -> None:
 
 
 @row
-def in_place_and_no_save_are_refused_together(s: Scratch) -> None:
+def replace_and_no_save_are_refused_together(s: Scratch) -> None:
     s.put("vol.ckd", OLD)
-    status, out, told = s.write(IN_PLACE, "--no-save", "90=vol.ckd")
+    status, out, told = s.write(REPLACE, "--no-save", "90=vol.ckd")
     same((status, out, "cannot be used with" in told), (2, "", True))
     is_held(s.path("vol.ckd"), OLD)
 
@@ -115,10 +162,10 @@ def in_place_and_no_save_are_refused_together(s: Scratch) -> None:
 def file_that_can_not_be_written_in_place_stays_as_it_was(s: Scratch) -> None:
     answers = ANSWERS.format(unit="190")
     s.put("vol.ckd", OLD).chmod(0o444)
-    same(s.write(IN_PLACE, "90=vol.ckd"), fault("write fault", answers))
+    same(s.write("90=vol.ckd"), fault("write fault", answers))
     s.path("vol.ckd").chmod(0o666)
-    with waiting_run(s, IN_PLACE, "90=vol.ckd") as (run, deck):
-        same(s.write(IN_PLACE, "90=vol.ckd"), fault("image in use"))
+    with waiting_run(s, "90=vol.ckd") as (run, deck):
+        same(s.write("90=vol.ckd"), fault("image in use"))
         deck.close()
         run.communicate(timeout=60)
     how = How(is_nobodys=os.geteuid() == 0)
@@ -126,7 +173,7 @@ def file_that_can_not_be_written_in_place_stays_as_it_was(s: Scratch) -> None:
     try:
         warned = "  vol.ckd: what the deck changes can't be saved: Permission denied\n"
         told = f"{warned}dasd: write fault\n  vol.ckd: Permission denied\n"
-        same(s.write(VERBOSE, IN_PLACE, "90=vol.ckd", how=how), (1, answers, told))
+        same(s.write(VERBOSE, "90=vol.ckd", how=how), (1, answers, told))
     finally:
         s.folder.chmod(0o700)
     is_held(s.path("vol.ckd"), OLD)
@@ -138,7 +185,7 @@ def full_disk_leaves_a_file_in_place_as_it_was(s: Scratch) -> None:
     with small_disk(s) as small:
         s.put("small/vol.ckd", OLD)
         told = "write fault\n  small/vol.ckd: No space left on device"
-        same(s.write(VERBOSE, IN_PLACE, "90=small/vol.ckd"), fault(told, ANSWERS.format(unit="190")))
+        same(s.write(VERBOSE, "90=small/vol.ckd"), fault(told, ANSWERS.format(unit="190")))
         is_held(s.path("small/vol.ckd"), OLD)
         same(os.listdir(small), ["vol.ckd"])
 
@@ -167,7 +214,7 @@ def volume_whose_save_was_cut_off_is_read_whole(s: Scratch) -> None:
 
 @row
 def save_that_was_cut_off_is_ended_by_the_next_run(s: Scratch) -> None:
-    for words in (["run", VERBOSE, "90=vol.ckd"], ["run", VERBOSE, IN_PLACE, "90=vol.ckd"], ["run", VERBOSE, "90=link.ckd"]):
+    for words in (["run", VERBOSE, "90=vol.ckd"], ["run", VERBOSE, REPLACE, "90=vol.ckd"], ["run", VERBOSE, "90=link.ckd"]):
         cut_off(s)
         if not s.path("link.ckd").is_symlink():
             s.path("link.ckd").symlink_to("vol.ckd")
@@ -202,7 +249,7 @@ def journal_that_does_not_fit_is_refused_by_name(s: Scratch) -> None:
         same(s.dasd(*words, VERBOSE, "90=vol.ckd" if words == ["run"] else "vol.ckd"), wanted, words[0])
     is_held(s.path("vol.ckd"), volume(data="01020304"))
     beside.unlink()
-    same(s.write(IN_PLACE, "90=vol.ckd"), wrote())
+    same(s.write("90=vol.ckd"), wrote())
     is_held(s.path("vol.ckd"), NEW)
 
 
@@ -231,7 +278,7 @@ def link_of_the_name_of_a_journal_is_none(s: Scratch) -> None:
     s.put("precious", b"precious")
     s.path(f".dasd+{number}").symlink_to("precious")
     same(s.dasd("check", VERBOSE, "vol.ckd"), (0, "0 findings\n", ""))
-    same(s.write(IN_PLACE, "90=vol.ckd"), wrote())
+    same(s.write("90=vol.ckd"), wrote())
     is_held(s.path("precious"), b"precious")
     is_held(s.path("vol.ckd"), NEW)
     same(s.names(), ["precious", "vol.ckd"])
@@ -244,7 +291,7 @@ def killed_runs_in_place_leave_the_old_volume_or_the_new_one(s: Scratch) -> None
     for turn in range(20):
         with open(s.path("vol.ckd"), "r+b") as file:
             file.write(old)
-        run = s.begin("run", IN_PLACE, "90=vol.ckd", deck=WRITE.format(data="D5D6D7D8", unit="190"))
+        run = s.begin("run", "90=vol.ckd", deck=WRITE.format(data="D5D6D7D8", unit="190"))
         time.sleep(turn * turn * 0.0004)
         run.send_signal(signal.SIGKILL)
         run.communicate()
@@ -270,16 +317,16 @@ def file_whose_name_is_no_text_is_read_and_written_through_a_link(s: Scratch) ->
     number = s.put(name, OLD).stat().st_ino
     s.path("link.ckd").symlink_to(name)
     same(s.dasd("check", "link.ckd"), (0, "0 findings\n", ""))
-    why = "it leads to a name that is not UTF-8: run --in-place writes there"
+    why = "it leads to a name that is not UTF-8: run without --replace writes there"
     warned = f"  link.ckd: what the deck changes can't be saved: {why}\n"
     answers = ANSWERS.format(unit="190")
-    same(s.write(VERBOSE, "90=link.ckd"), (1, answers, f"{warned}dasd: write fault\n  link.ckd: {why}\n"))
+    same(s.write(VERBOSE, REPLACE, "90=link.ckd"), (1, answers, f"{warned}dasd: write fault\n  link.ckd: {why}\n"))
     same(s.dasd("format", VERBOSE, "link.ckd"), fault(f"write fault\n  link.ckd: {why}"))
     is_held(s.path(name), OLD)
-    same(s.write(VERBOSE, IN_PLACE, "90=link.ckd"), wrote())
+    same(s.write(VERBOSE, "90=link.ckd"), wrote())
     is_held(s.path(name), NEW)
     same((s.path(name).stat().st_ino, os.readlink(s.path("link.ckd"))), (number, name))
     journal(s, name, OLD, NEW)
-    same(s.dasd("run", VERBOSE, IN_PLACE, "90=link.ckd"), (0, "", ENDED.format("link.ckd")))
+    same(s.dasd("run", VERBOSE, "90=link.ckd"), (0, "", ENDED.format("link.ckd")))
     is_held(s.path(name), OLD)
     same(len(s.names()), 2)

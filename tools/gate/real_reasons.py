@@ -11,7 +11,7 @@ import time
 
 from tools.gate.scratch_files import ANSWERS, NOBODY, WRITE, How, Scratch, Skipped, fault, is_held, row, same, volume, waiting_run
 
-VERBOSE = "--verbose"
+VERBOSE, REPLACE = "--verbose", "--replace"
 # A group that nobody is in.
 OTHER_GROUP = 1001
 
@@ -19,11 +19,11 @@ OTHER_GROUP = 1001
 # Before a deck is run.
 
 
-def is_warned(s: Scratch, why: str, how: How) -> None:
+def is_warned(s: Scratch, why: str, how: How, *words: str) -> None:
     """A run that can't save its volume says so before it has its deck; what is there stays."""
     os.mkfifo(s.path("deck"), 0o666)
     s.path("deck").chmod(0o666)
-    run = s.start("run", VERBOSE, "--deck", "deck", "90=own/vol.ckd", how=how)
+    run = s.start("run", VERBOSE, *words, "--deck", "deck", "90=own/vol.ckd", how=how)
     assert run.stderr is not None
     with open(s.path("deck"), "wb", buffering=0) as deck:
         same(run.stderr.readline().decode(), f"  own/vol.ckd: what the deck changes can't be saved: {why}\n")
@@ -62,12 +62,12 @@ def owner_and_group_that_can_not_be_kept_are_told_before_the_deck(s: Scratch) ->
     put_own(s, 0o666)
     s.folder.chmod(0o755)
     os.chown(s.path("own"), NOBODY, NOBODY)
-    is_warned(s, "Operation not permitted", How(is_nobodys=True))
+    is_warned(s, "Operation not permitted", How(is_nobodys=True), REPLACE)
     same(os.listdir(s.path("own")), ["vol.ckd"])
 
 
 @row
-def file_of_another_user_is_saved_with_its_group(s: Scratch) -> None:
+def file_of_another_user_is_replaced_with_its_group(s: Scratch) -> None:
     if os.geteuid() != 0:
         raise Skipped("no other user without root")
     put_own(s, 0o664)
@@ -75,7 +75,7 @@ def file_of_another_user_is_saved_with_its_group(s: Scratch) -> None:
     os.chown(s.path("own"), NOBODY, OTHER_GROUP)
     s.path("own").chmod(0o2755)  # new files have the folder's group
     told = f"  own/vol.ckd: it was user 0's, and is user {NOBODY}'s now; its group is kept\n"
-    plays: list[tuple[list[str], str, str]] = [([], "D5D6D7D8", ""), ([VERBOSE], "C1C2C3C4", told)]
+    plays: list[tuple[list[str], str, str]] = [([REPLACE], "D5D6D7D8", ""), ([VERBOSE, REPLACE], "C1C2C3C4", told)]
     for words, data, said in plays:
         os.chown(s.path("own/vol.ckd"), 0, NOBODY)
         s.path("own/vol.ckd").chmod(0o6664)
@@ -95,7 +95,23 @@ def file_of_another_user_where_names_are_its_owners_is_told_before_the_deck(s: S
     s.folder.chmod(0o755)
     os.chown(s.path("own/vol.ckd"), 0, NOBODY)
     s.path("own").chmod(0o1777)
-    is_warned(s, "Operation not permitted", How(is_nobodys=True))
+    is_warned(s, "Operation not permitted", How(is_nobodys=True), REPLACE)
+    same(os.listdir(s.path("own")), ["vol.ckd"])
+
+
+@row
+def file_of_another_user_stays_his(s: Scratch) -> None:
+    if os.geteuid() != 0:
+        raise Skipped("no other user without root")
+    put_own(s, 0o664)
+    s.folder.chmod(0o755)
+    os.chown(s.path("own/vol.ckd"), 0, NOBODY)
+    for mode, data in ((0o777, "D5D6D7D8"), (0o1777, "C1C2C3C4")):
+        s.path("own").chmod(mode)
+        same(s.write(VERBOSE, "90=own/vol.ckd", data=data, how=How(is_nobodys=True)), (0, ANSWERS.format(unit="190"), ""))
+        is_held(s.path("own/vol.ckd"), volume(data=data))
+        found = s.path("own/vol.ckd").stat()
+        same((found.st_uid, found.st_gid, oct(found.st_mode & 0o7777)), (0, NOBODY, oct(0o664)), "whose it is, and its mode")
     same(os.listdir(s.path("own")), ["vol.ckd"])
 
 
@@ -212,7 +228,7 @@ def control_characters_of_a_name_are_not_written_to_a_terminal(s: Scratch) -> No
 def names_that_are_no_text_are_refused(s: Scratch) -> None:
     name, held = os.fsdecode(b"caf\xe9.ckd"), volume()
     s.put(name, held)
-    way = "a link to the file that has another name (ln -s) is read by each command, and run --in-place writes through it"
+    way = "a link to the file that has another name (ln -s) is read by each command, and run writes through it"
     for words, number, shown in ((["check", name], 2, ""), (["run", "--no-save", f"90={name}"], 3, "90="), (["format", name], 2, "")):
         told = f"error: word {number} is not UTF-8: {shown}caf\\xE9.ckd; {way}\n"
         same(s.dasd(*words), (2, "", told), " ".join(words[:1]))

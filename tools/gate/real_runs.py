@@ -36,9 +36,9 @@ def killed_formats_leave_the_old_file_or_the_new_one(s: Scratch) -> None:
 
 
 @row
-def killed_runs_leave_the_old_file_or_the_new_one(s: Scratch) -> None:
+def killed_runs_that_replace_leave_the_old_file_or_the_new_one(s: Scratch) -> None:
     old, new = volume(cylinders=100), volume(cylinders=100, data="D5D6D7D8")
-    kill_at_moments(s, ["run", "90=vol.ckd"], WRITE.format(data="D5D6D7D8", unit="190"), old, new)
+    kill_at_moments(s, ["run", "--replace", "90=vol.ckd"], WRITE.format(data="D5D6D7D8", unit="190"), old, new)
 
 
 # One user at a time.

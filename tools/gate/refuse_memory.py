@@ -72,7 +72,7 @@ JOBS = {
     "list": Job(["list", "old.ckd"]),
     "check": Job(["check", "old.ckd"]),
     "a deck that writes a record": Job(["run", "90=old.ckd", "91=new:2314:1"], DECK),
-    "a deck whose volume is saved in place": Job(["run", "--in-place", "90=old.ckd", "91=new:2314:1"], DECK),
+    "a deck whose volume is replaced": Job(["run", "--replace", "90=old.ckd", "91=new:2314:1"], DECK),
     "a deck that is traced": Job(["run", "--trace-to", TRACE, "90=old.ckd"], DECK),
     "a deck of a text in words": Job(["assemble"], TEXT),
     "a deck in words": Job(["disassemble"], DECK),

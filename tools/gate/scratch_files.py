@@ -24,6 +24,8 @@ STEP 100
 INT
 """
 ANSWERS = "STORE OK\n" * 4 + "SIO {unit} CC 0\nSTEP 20\nINT {unit} 00000418 0C000000\n"
+# How a run saves its files: each in its place, and by new files.
+WAYS: tuple[tuple[str, ...], ...] = ((), ("--replace",))
 # What is remarked of each image in several files.
 ONE_VOLUME = "  a command takes one volume: several paths are the files of one image, in order\n"
 # What a command did: its status, what it printed, and what it said on standard error.

@@ -1,28 +1,20 @@
 //! `dasd` formats, lists and checks CKD_P370 disk images, and runs decks of channel instructions over them.
 #![tactic(auto)]
 
-mod drafts;
 mod faults;
-mod host;
-mod leftovers;
-mod locks;
-mod reading;
-mod remarks;
 mod terminal;
-mod traces;
 
 ghost use Rattle.std.specs.Prelude.{◌≡◌};
 ghost use Rattle.std.specs.Process.{exit_status};
 ghost use Rattle.dasd_cmd.specs.Ends.{ended_status};
 
 use crate::faults::{note_rule, write_fault, write_reach};
-use crate::host::HostFiles;
-use crate::remarks::{Remarks, Shown};
 use crate::terminal::{HostInput, HostOutput, TerminalLine};
 use counted_io::Counted;
 use dasd_jobs::{ImageFiles, JobFault};
 use dasd_run::{Ending, ProgramFault, obey};
 use dasd_words::is_comparison;
+use host_files::{HostFiles, Remarks, Shown};
 use std::alloc::{AllocError, Global};
 use std::env::{self, Env, FillError};
 use std::fmt;
@@ -40,7 +32,7 @@ INT
 
 /// What is said of a word that is no text, behind it.
 const NO_TEXT: &str =
-    "a link to the file that has another name (ln -s) is read by each command, and run --in-place writes through it";
+    "a link to the file that has another name (ln -s) is read by each command, and run writes through it";
 
 /// The most bytes of a word that is no text which are shown.
 const SHOWN: usize = 4_096;

@@ -3,9 +3,9 @@
 ghost use Rattle.std.specs.Prelude.{◌≡◌, false};
 ghost use Rattle.std.specs.Io.{WritesAtMost};
 
-use crate::remarks::{ERASE_BEHIND, Remarks};
 use dasd_jobs::{Progress, Stage};
 use file_journals::Notes;
+use host_files::{ERASE_BEHIND, Remarks};
 use std::io;
 use std::io::{ErrorKind, Read, Write};
 

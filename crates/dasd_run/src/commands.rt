@@ -19,13 +19,14 @@ use crate::labels::format_with_label;
 use crate::list::list_part;
 use crate::runs::{Disks, build, finish, tell_running};
 use crate::strict::check_strictly;
-use crate::traces::{Traces, begin_trace, end_trace};
+use crate::traces::{begin_trace, end_trace};
 use crate::unload::{extract_set, extract_tracks, extract_volume};
 use crate::vtoc::list_contents;
 use crate::words::{assemble_text, disassemble_deck};
 use counted_io::{Counted, WriteFault, write_flushed};
 use dasd_jobs::{
-    ImageFiles, JobFault, NewVolume, Progress, SavePlan, check_files, format_file, list_files,
+    ImageFiles, JobFault, NewVolume, Progress, SavePlan, Traces, check_files, format_file,
+    list_files,
 };
 use dasd_words::{DeckRun, NewImage, Request, Volume, WordFault, read_words};
 use s360_deck::RunFault;

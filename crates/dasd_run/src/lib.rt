@@ -26,4 +26,3 @@ mod words;
 pub use crate::commands::{Ending, answer, obey};
 pub use crate::fault::ProgramFault;
 pub use crate::runs::{Disks, build, finish};
-pub use crate::traces::Traces;

@@ -6,34 +6,12 @@ ghost use Rattle.dasd_run.specs.Faults.{keeps_files, opening_fault};
 
 use crate::fault::ProgramFault;
 use crate::remarks::Remark;
-use dasd_jobs::{FileFault, ImageFiles};
+use dasd_jobs::{FileFault, Traces};
 use dasd_words::{AskedTrace, DeckRun, TraceTarget, VolumeSource};
 use s360_deck::RunFault;
 use std::alloc::Global;
 use std::io::Write;
 use trace_lines::{TracedLines, Tracer};
-
-/// Files, and what a trace can be written to beside them.
-pub trait Traces: ImageFiles {
-    /// What takes the lines of a trace.
-    type Sink: Write + Drop;
-
-    /// Opens standard error or a file for a trace. A file that is not there is made; one that is there keeps its bytes until the
-    /// trace is first written or flushed, and is locked. `beside` are the other files that are used.
-    ///
-    /// # Errors
-    ///
-    /// The host can't open the file for writing; it is one of those beside it, also by another name, or standard input or output;
-    /// another program has locked it; or there is no memory.
-    fn open_trace(
-        &mut self,
-        alloc: Global,
-        target: TraceTarget,
-        beside: &[&str],
-    ) -> Result<Self::Sink, FileFault>
-        ensures kept { Self.written self.new ≡ Self.written self.old }
-        ensures same { Self.opened self.new ≡ Self.opened self.old };
-}
 
 /// The trace that a run asks for, before anything else of it is opened.
 ///
@@ -53,13 +31,17 @@ pub(crate) fn begin_trace<F: Traces>(
         return Ok(None);
     };
     let beside = paths_of(alloc, asked)?;
-    if let TraceTarget::File(path) = trace.target {
+    let path = match trace.target {
+        TraceTarget::StandardError => None,
+        TraceTarget::File(path) => Some(path),
+    };
+    if let Some(path) = path {
         if beside.iter().any(|other| *other == path) {
             files.remark(&Remark::Used(path));
             return Err(ProgramFault::TraceInUse);
         }
     }
-    match files.open_trace(alloc, trace.target, beside.as_slice()) {
+    match files.open_trace(alloc, path, beside.as_slice()) {
         Ok(sink) => Ok(Some(Tracer::new(alloc, sink, lines_of(&trace))?)),
         Err(fault) => Err(of_opening(fault)),
     }

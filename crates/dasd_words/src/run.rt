@@ -25,7 +25,7 @@ const MOST_LINES: u32 = 100_000;
 /// The command, with its options.
 pub(crate) const COMMAND: CommandRow = CommandRow {
     name: "run",
-    about: "Runs a deck of channel instructions, and replaces the images that it changed",
+    about: "Runs a deck of channel instructions, and saves the images that it changed",
     usage: None,
     after_help: DECK_TABLE,
     args: &[
@@ -58,8 +58,8 @@ pub(crate) const COMMAND: CommandRow = CommandRow {
             kind: ArgKind::Flag,
         },
         ArgRow {
-            id: "in-place",
-            help: "writes over the bytes of an image that was changed, which stays the same file, behind a journal beside it",
+            id: "replace",
+            help: "puts a new file in the place of an image that was changed, and does not write over its bytes",
             kind: ArgKind::FlagWithout(&["no-save"]),
         },
         ArgRow {
@@ -117,7 +117,7 @@ pub(crate) fn read<'a>(alloc: Global, options: &ArgMatches<'a>) -> Result<Reques
         channel: read_channel(alloc, options)?,
         deck: options.get_str("deck"),
         saves: !options.get_flag("no-save"),
-        in_place: options.get_flag("in-place"),
+        in_place: !options.get_flag("replace"),
         trace: read_trace(alloc, options)?,
         volumes: read_volumes(alloc, words)?,
     }))

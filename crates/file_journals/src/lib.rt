@@ -4,11 +4,13 @@
 
 mod bytes;
 mod journals;
+mod leftovers;
 mod notes;
 mod places;
 mod saves;
 
 pub use crate::journals::{Journal, SaveFault};
+pub use crate::leftovers::{NAME_BEGIN, clear_folder};
 pub use crate::notes::{Notes, Told};
 pub use crate::places::{folder_of, home_of};
 pub use crate::saves::{open_target, whole_file};

@@ -3,7 +3,6 @@
 ghost use Rattle.std.specs.Prelude.{◌≡◌, [], IfOk};
 
 use crate::drafts::{HostDraft, Old, note_folder, sync_folders};
-use crate::leftovers::clear_folder;
 use crate::locks::{
     Locked, find_old, is_locked, keep, list_done, mark_done, open_locked, open_trace_file,
     try_to_write,
@@ -11,10 +10,8 @@ use crate::locks::{
 use crate::reading::{HostFile, read_some};
 use crate::remarks::Remarks;
 use crate::traces::{TraceFile, TraceOutput};
-use dasd_jobs::{FileFault, ImageFiles, SavePlan, Sources, Written};
-use dasd_run::Traces;
-use dasd_words::TraceTarget;
-use file_journals::{Notes, SaveFault, folder_of, whole_file};
+use dasd_jobs::{FileFault, ImageFiles, SavePlan, Sources, Traces, Written};
+use file_journals::{Notes, SaveFault, clear_folder, folder_of, whole_file};
 use std::alloc::Global;
 use std::fs::File;
 use std::io::{BufWriter, Error, ErrorKind};
@@ -23,7 +20,7 @@ use std::{fmt, io};
 
 /// The files of the host, and what is remarked of them.
 #[derive(Drop)]
-pub(crate) struct HostFiles<'a> {
+pub struct HostFiles<'a> {
     host: &'a HostRuntime,
     written: Written,
     opened: Sources,
@@ -41,7 +38,7 @@ pub(crate) struct HostFiles<'a> {
 
 impl<'a> HostFiles<'a> {
     /// The files of this host, none of which was written yet.
-    pub(crate) fn new(host: &'a HostRuntime, remarks: &'a Remarks<'a>) -> HostFiles<'a>
+    pub fn new(host: &'a HostRuntime, remarks: &'a Remarks<'a>) -> HostFiles<'a>
         ensures written { result.written.files ≡ [] }
         ensures opened { result.opened.files ≡ [] }
     {
@@ -59,17 +56,17 @@ impl<'a> HostFiles<'a> {
     }
 
     /// Whether remarks are told: the words ask for them, or somebody sits at standard error.
-    pub(crate) fn tells(&self) -> bool {
+    pub fn tells(&self) -> bool {
         self.is_verbose || self.remarks.is_terminal()
     }
 
     /// Clears the line of a terminal that shows how far a file is read.
-    pub(crate) fn clear_line(&self) {
+    pub fn clear_line(&self) {
         self.remarks.clear_line();
     }
 
     /// Tells what was remarked, on standard error.
-    pub(crate) fn print_remarks(&self) {
+    pub fn print_remarks(&self) {
         self.remarks.print();
     }
 
@@ -132,7 +129,7 @@ impl<'a> HostFiles<'a> {
         };
         let folder = folder_of(beside).as_str().to_string(self.host.alloc())?;
         if !is_among(self.cleared.as_slice(), folder.as_str()) {
-            clear_folder(self.host, self.remarks, Path::new(folder.as_str()))?;
+            clear_folder(self.remarks, Path::new(folder.as_str()))?;
             self.cleared.push(folder)?;
         }
         HostDraft::begin(self.host, self.remarks, path, old)
@@ -289,12 +286,12 @@ impl<'a> Traces for HostFiles<'a> {
     fn open_trace(
         &mut self,
         alloc: Global,
-        target: TraceTarget,
+        path: Option<&str>,
         beside: &[&str],
     ) -> Result<BufWriter<TraceOutput<'a>>, FileFault> {
-        let output = match target {
-            TraceTarget::StandardError => TraceOutput::StandardError(self.host),
-            TraceTarget::File(path) => {
+        let output = match path {
+            None => TraceOutput::StandardError(self.host),
+            Some(path) => {
                 match open_trace_file(self.host, &mut self.locked, path, beside) {
                     Ok((file, is_regular)) => {
                         let Ok(path) = path.to_string(alloc) else {

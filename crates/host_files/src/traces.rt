@@ -8,7 +8,7 @@ use std::io::{ErrorKind, Write};
 
 /// Standard error, or a file.
 #[derive(Drop)]
-pub(crate) enum TraceOutput<'a> {
+pub enum TraceOutput<'a> {
     /// Standard error of this host.
     StandardError(&'a HostRuntime),
     /// A file that was opened for the trace.
@@ -17,7 +17,7 @@ pub(crate) enum TraceOutput<'a> {
 
 /// A file that takes a trace in the place of what it held. Why it takes nothing more is remarked.
 #[derive(Drop)]
-pub(crate) struct TraceFile<'a> {
+pub struct TraceFile<'a> {
     file: File,
     path: String,
     remarks: &'a Remarks<'a>,

@@ -190,7 +190,7 @@ fn target_of(host: &HostRuntime, path: &str, in_place: bool) -> io::Result<PathB
     }
     match fs::canonicalize(host, path) {
         Err(fault) if fault.kind() == ErrorKind::InvalidFilename => {
-            Err(wrong("it leads to a name that is not UTF-8: run --in-place writes there"))
+            Err(wrong("it leads to a name that is not UTF-8: run without --replace writes there"))
         }
         found => found,
     }

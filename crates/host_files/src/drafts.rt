@@ -5,16 +5,13 @@ ghost use Rattle.std.specs.Prelude.{◌≡◌, [], length, IfOk};
 use crate::locks::wrong;
 use crate::remarks::Remarks;
 use ckd_image::{ImageStore, StoreFault};
-use file_journals::{Journal, Notes, SaveFault, Told, folder_of};
+use file_journals::{Journal, NAME_BEGIN, Notes, SaveFault, Told, folder_of};
 use ghost_data::{Count, Trace};
 use std::fs::{self, File, Metadata, OpenOptions, Permissions, TryLockError};
 use std::io::{Error, ErrorKind, Write};
 use std::os::unix::fs::{MetadataExt, OpenOptionsExt, PermissionsExt, fchown};
 use std::path::{Path, PathBuf};
 use std::{fmt, io, process};
-
-/// What the name of a new file begins with, before the number of its program and a number of its own.
-pub(crate) const NAME_BEGIN: &str = ".dasd-";
 
 /// How many names are tried for a new file.
 const NAMES: u32 = 1_000;
@@ -39,7 +36,7 @@ pub(crate) struct Old {
 
 /// A new file that is written beside the one that it replaces, under a name of its own, and then takes its place, or becomes the journal
 /// of one that keeps its place. Where that does not come about it is removed.
-pub(crate) struct HostDraft<'a> {
+pub struct HostDraft<'a> {
     host: &'a HostRuntime,
     remarks: &'a Remarks<'a>,
     file: File,

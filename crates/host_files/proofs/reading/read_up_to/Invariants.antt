@@ -1,5 +1,5 @@
 use Rattle.std.proofs.Common.{◌≤◌, length}
-use Rattle.dasd_cmd.proofs.reading.read_up_to.Given as goal
+use Rattle.host_files.proofs.reading.read_up_to.Given as goal
 
 -- no more bytes than were asked for
 abbrev pub invariant-loop : goal.invariant-loop

@@ -8,7 +8,7 @@ use std::fmt;
 use std::io::{Error, ErrorKind, IsTerminal};
 
 /// What erases the rest of a terminal's line.
-pub(crate) const ERASE_BEHIND: &str = "\u{1B}[K";
+pub const ERASE_BEHIND: &str = "\u{1B}[K";
 
 /// So many bytes are a step of the line that shows how far a file is read.
 const STEP: u64 = 1 << 22;
@@ -20,7 +20,7 @@ const MEGABYTE: u64 = 1 << 20;
 /// shows how far a large file is read, unless the command shows what it is about itself. All stands in cells, so that a file that was
 /// opened and one that is written tell theirs themselves.
 #[derive(Drop)]
-pub(crate) struct Remarks<'a> {
+pub struct Remarks<'a> {
     host: &'a HostRuntime,
     alloc: Global,
     lines: RefCell<String>,
@@ -32,7 +32,7 @@ pub(crate) struct Remarks<'a> {
 
 impl<'a> Remarks<'a> {
     /// No remark, on the standard error of this host.
-    pub(crate) fn new(host: &'a HostRuntime) -> Remarks<'a> {
+    pub fn new(host: &'a HostRuntime) -> Remarks<'a> {
         let alloc = host.alloc();
         Remarks {
             host,
@@ -46,12 +46,12 @@ impl<'a> Remarks<'a> {
     }
 
     /// Whether somebody sits at standard error.
-    pub(crate) fn is_terminal(&self) -> bool {
+    pub fn is_terminal(&self) -> bool {
         self.is_terminal
     }
 
     /// The command shows itself what it is about.
-    pub(crate) fn show_stages(&self) {
+    pub fn show_stages(&self) {
         self.clear_line();
         self.has_stages.set(true);
     }
@@ -69,7 +69,7 @@ impl<'a> Remarks<'a> {
     }
 
     /// Clears the line that shows how far a file is read, before something else is written.
-    pub(crate) fn clear_line(&self) {
+    pub fn clear_line(&self) {
         if self.is_shown.get() {
             let _ = eprint!(self.host; "\r{ERASE_BEHIND}");
             self.is_shown.set(false);
@@ -101,7 +101,7 @@ impl<'a> Remarks<'a> {
     }
 
     /// All of them, two blanks before each; none where there is no memory for them.
-    pub(crate) fn text(&self) -> Option<String> {
+    pub fn text(&self) -> Option<String> {
         match self.lines.try_borrow() {
             Ok(lines) => lines.as_str().to_string(self.alloc).ok(),
             Err(_) => None,
@@ -190,7 +190,7 @@ fn words_of(text: &str) -> &str {
 /// A text whose control characters but the ends of lines are shown by their numbers, as `\x1B`, so that no name of a file writes on a
 /// terminal what it likes.
 #[derive(Clone, Copy)]
-pub(crate) struct Shown<'a>(pub(crate) &'a str);
+pub struct Shown<'a>(pub &'a str);
 
 impl fmt::Display for Shown<'_> {
     fn fmt<W: fmt::Write>(&self, f: &mut fmt::Formatter<W>) -> fmt::Result {

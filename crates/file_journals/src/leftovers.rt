@@ -1,13 +1,14 @@
 //! New files that a program left behind which was killed as it wrote them.
 
-use crate::drafts::NAME_BEGIN;
-use crate::remarks::Remarks;
-use file_journals::Notes;
+use crate::notes::Notes;
 use std::fs::{self, DirEntry, File};
 use std::io::{self, ErrorKind};
 use std::os::unix::fs::MetadataExt;
 use std::path::Path;
 use std::{fmt, process};
+
+/// What the name of a new file begins with, before the number of its program and a number of its own.
+pub const NAME_BEGIN: &str = ".dasd-";
 
 /// Removes from a folder the new files that programs left which were killed before these took their places, and remarks each. A file
 /// whose program still runs, which is locked, or which the host does not give away, stays.
@@ -15,18 +16,14 @@ use std::{fmt, process};
 /// # Errors
 ///
 /// There is no memory to look at the folder.
-pub(crate) fn clear_folder(
-    host: &HostRuntime,
-    remarks: &Remarks,
-    folder: Path<'_>,
-) -> io::Result<()> {
-    let entries = match fs::read_dir(host, folder) {
+pub fn clear_folder<N: Notes>(notes: &N, folder: Path<'_>) -> io::Result<()> {
+    let entries = match fs::read_dir(notes.host(), folder) {
         Ok(entries) => entries,
         Err(fault) => return unless_memory(fault),
     };
     for entry in entries {
         match entry {
-            Ok(entry) => clear(host, remarks, &entry),
+            Ok(entry) => clear(notes, &entry),
             Err(fault) => unless_memory(fault)?,
         }
     }
@@ -42,7 +39,8 @@ fn unless_memory(fault: io::Error) -> io::Result<()> {
 }
 
 // Removes a file that was left.
-fn clear(host: &HostRuntime, remarks: &Remarks, entry: &DirEntry) {
+fn clear<N: Notes>(notes: &N, entry: &DirEntry) {
+    let host = notes.host();
     let Some(number) = program_of(entry.file_name()) else {
         return;
     };
@@ -52,7 +50,7 @@ fn clear(host: &HostRuntime, remarks: &Remarks, entry: &DirEntry) {
     }
     if let Some(_locked) = lock_left(host, path) {
         if fs::remove_file(host, path.as_str()).is_ok() {
-            remarks.note(&Removed(path.as_str()));
+            notes.note(&Removed(path.as_str()));
         }
     }
 }

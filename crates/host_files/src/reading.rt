@@ -100,7 +100,7 @@ enum FileBytes {
 
 /// A file that was opened to be read. Where its bytes can't be, it remarks where and why.
 #[derive(Drop)]
-pub(crate) struct HostFile<'a> {
+pub struct HostFile<'a> {
     bytes: FileBytes,
     path: String,
     remarks: &'a Remarks<'a>,
