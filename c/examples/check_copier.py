@@ -4,8 +4,8 @@ what was worked out by hand.
 
     check_copier.py S360 MKPACKS COPIER LISTING FOLDER
 
-Each is done with main storage that is the library's, and with a file that is mapped and lent; and with a copy of the whole machine that
-is taken at some tick and gone back to."""
+Each is done with main storage that is the library's, and with a file that is mapped and lent; with a copy of the whole machine that is taken
+at some tick and gone back to; and in two parts, the second of which goes on with the machine that the first saved."""
 
 import argparse
 import subprocess
@@ -99,24 +99,40 @@ class Check:
         return {name: (self.folder / name).read_bytes() for name in PACKS}
 
     def run(self, words: List[str]) -> Tuple[str, str]:
-        """Runs the copier: what it types, and what is said beside it."""
-        resident, source, first, second = (self.folder / name for name in PACKS)
-        volumes = [f"190={resident}", f"191={source}", f"290={first}", f"COPY02={second}"]
-        done = subprocess.run([self.s360, *words, *volumes], capture_output=True, text=True, check=False)
+        """Runs the emulator: what it types, and what is said beside it."""
+        done = subprocess.run([self.s360, *words], capture_output=True, text=True, check=False)
         expect("the status", (done.returncode, done.stderr if done.returncode else ""), (0, ""))
         return done.stdout, done.stderr
+
+    def volumes(self) -> List[str]:
+        """The words for the volumes."""
+        resident, source, first, second = (self.folder / name for name in PACKS)
+        return [f"190={resident}", f"191={source}", f"290={first}", f"COPY02={second}"]
+
+    def check_end(self, what: str, before: Dict[str, bytes]) -> None:
+        """What a run has left in main storage and on its packs, which were so before."""
+        check_storage((self.folder / "main.storage").read_bytes(), self.labels)
+        after = {name: with_track(image, 2, 0, written_track()) if name in COPIES else image for name, image in before.items()}
+        for name, image in self.packs().items():
+            expect(f"{what}: {name}", image == after[name], True)
 
     def check(self, how: str, again: int) -> None:
         """One run over new packs, by `--keep` or by `--lend`."""
         before = self.make()
-        storage = self.folder / "main.storage"
-        text, said = self.run([how, str(storage), *(["--again", str(again)] if again else [])])
+        text, said = self.run([how, str(self.folder / "main.storage"), *(["--again", str(again)] if again else []), *self.volumes()])
         typed(text, again > 0)
         expect("saved", said.splitlines(), [f"s360: {self.folder / name} is saved" for name in COPIES])
-        check_storage(storage.read_bytes(), self.labels)
-        after = {name: with_track(image, 2, 0, written_track()) if name in COPIES else image for name, image in before.items()}
-        for name, image in self.packs().items():
-            expect(f"{how} {again}: {name}", image == after[name], True)
+        self.check_end(f"{how} {again}", before)
+
+    def check_parts(self, how: str, tick: int) -> None:
+        """The same in two parts, of which the first ends at a tick, and the second begins with the machine that was saved there."""
+        before = self.make()
+        state = str(self.folder / "main.state")
+        first, said = self.run(["--suspend", str(tick), state, *self.volumes()])
+        expect("saved", said.splitlines()[-1], f"s360: {state} is saved")
+        second, _ = self.run(["--resume", state, how, str(self.folder / "main.storage")])
+        typed(first + second, False)
+        self.check_end(f"{how} in parts at {tick}", before)
 
 
 def main() -> int:
@@ -131,6 +147,8 @@ def main() -> int:
             # ticks at which both channels work for the first pack, the operator is on his way, and both channels work for the second
             for again in (0, 539700, 2800000, 4366100):
                 check.check(how, again)
+                if again:
+                    check.check_parts(how, again)
     except Wrong as wrong:
         print(f"check_copier.py: {wrong}", file=sys.stderr)
         return 1

@@ -1,5 +1,5 @@
 /* files.c - a volume's file is read whole, and saved by its changed tracks, in place, so that nobody is told of it before they are on the
- * disk; or whole, so that whoever looks finds the old file or the new one, and no half of either. */
+ * disk; or whole, so that whoever looks finds the old file or the new one, and no half of either. So is a saved machine. */
 #define _XOPEN_SOURCE 700
 #include <errno.h>
 #include <fcntl.h>
@@ -91,20 +91,34 @@ static int sync_folder_of(const char *path) {
     return bad;
 }
 
-/* The new bytes go into a file of their own in the same folder, with the old one's permissions; once they are on the disk, the name is
- * turned to it. A symbolic link is followed first, so that it stays one. */
-int save_file(const char *path, const uint8_t *bytes, size_t len) {
-    struct stat old;
-    char beside[4096];
+/* The name of the file: a symbolic link is followed, so that it stays one. A file that is not there yet gets the name that is given. */
+static char *real_name(const char *path) {
     char *real = realpath(path, NULL);
+    return real || errno != ENOENT ? real : strdup(path);
+}
+
+/* The permissions of the file, or those of a new one. */
+static mode_t mode_of(const char *path) {
+    struct stat old;
+    if (stat(path, &old) == 0) return old.st_mode & 07777;
+    mode_t mask = umask(0);
+    umask(mask);
+    return 0666 & ~mask;
+}
+
+/* The new bytes go into a file of their own in the same folder, with the old one's permissions; once they are on the disk, the name is
+ * turned to it. */
+int save_file(const char *path, const uint8_t *bytes, size_t len) {
+    char beside[4096];
+    char *real = real_name(path);
     if (!real) return -1;
-    if (snprintf(beside, sizeof beside, "%s.XXXXXX", real) >= (int)sizeof beside || stat(real, &old) < 0) {
+    if (snprintf(beside, sizeof beside, "%s.XXXXXX", real) >= (int)sizeof beside) {
         free(real);
-        return -1;
+        return errno = ENAMETOOLONG, -1;
     }
     int fd = mkstemp(beside), bad = fd < 0;
     if (!bad) {
-        bad = write_all(fd, bytes, len) || fchmod(fd, old.st_mode & 07777) || fsync(fd);
+        bad = write_all(fd, bytes, len) || fchmod(fd, mode_of(real)) || fsync(fd);
         bad = close(fd) || bad;
         bad = bad || rename(beside, real);
         int why = errno;

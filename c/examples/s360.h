@@ -11,6 +11,7 @@
  *   packs that an operator changes while the machine runs                                   operator.c, volumes.c
  *   what channel programs did, and why one failed, in a log                                 log.c
  *   the whole machine is copied in the middle of its run, and gone back to                  again.c
+ *   the whole machine is saved in a file, and made anew from that another day               suspend.c
  *   a volume's file is read, and saved: by its changed tracks alone, or whole               files.c, volumes.c
  *
  * 'PoO' is IBM System/360 Principles of Operation, A22-6821. */
@@ -50,14 +51,17 @@ typedef struct arm {
 } arm;
 
 /* A volume: its file, and where it is. A mounted one's bytes are the library's; another stands on the shelf. */
+enum { MOST_PATH = 1024 };
+
 typedef struct volume {
-    const char *path;
+    char path[MOST_PATH];
     char serial[7];   /* by which the operator knows a pack of the shelf */
     uint16_t address; /* of the drive on which it is mounted; 0: it is on the shelf */
     uint8_t *bytes;   /* on the shelf: its file */
     size_t len;       /* of that file */
     uint64_t changes; /* the number of its changes as it was mounted, or saved */
     int is_changed;   /* it was changed before that, and not saved */
+    uint32_t sum;     /* of its file, in a machine that is saved: a checksum */
 } volume;
 
 enum { MOST_VOLUMES = 16, MOST_DRIVES = 8 };
@@ -85,7 +89,8 @@ typedef struct machine {
     arm arms[MOST_DRIVES];
     int arm_count;
     console console;
-    FILE *log; /* where it is told what channel programs did, or NULL */
+    FILE *log;  /* where it is told what channel programs did, or NULL */
+    FILE *told; /* where it is told which volumes are saved, and why one is refused, or NULL */
     dasd_trace traces[7];
     volume volumes[MOST_VOLUMES];
     int volume_count;
@@ -158,8 +163,8 @@ void console_tick(machine *m);
 void operator_reads(machine *m, const char *line);
 void operator_tick(machine *m);
 
-/* volumes.c: a volume is read from its file, to the shelf; is mounted on a drive, and taken off it again; -1 where that was refused, which
- * is said on standard error. The one that is mounted on a drive, or has a serial number, or NULL. All that were changed are saved; and all
+/* volumes.c: a volume is read from its file, to the shelf; is mounted on a drive, and taken off it again; -1 where that was refused, and it
+ * is told why. The one that is mounted on a drive, or has a serial number, or NULL. All that were changed are saved; and all
  * on the shelf are given back. */
 volume *read_volume(machine *m, const char *path, const char *serial);
 int mount(machine *m, volume *v, uint16_t address);
@@ -175,9 +180,15 @@ int keep(machine *m, machine *kept);
 int go_back(machine *m, machine *kept);
 void drop(machine *kept);
 
+/* suspend.c: the machine goes on until no channel program runs, saves its volumes, and then itself in a file. A machine of which nothing is
+ * made yet but where it types and tells becomes what was saved there, with main storage as open_storage makes it. NULL, or why not: then
+ * that machine is as it was, and so is the file that main storage was to be lent from. */
+const char *suspend(machine *m, const char *path);
+const char *resume(machine *m, const char *path, const char *lent);
+
 /* files.c: a whole file in memory, which is freed by free; a file of so many bytes, opened to be written in place, bytes of it written, and
- * all of that brought to the disk, unless it went bad, and closed; a file written beside an old one and put in its place. NULL and -1 where
- * the system refused, as errno says. */
+ * all of that brought to the disk, unless it went bad, and closed; a file written beside an old one, if there is one, and put in its place.
+ * NULL and -1 where the system refused, as errno says. */
 uint8_t *read_file(const char *path, size_t *len);
 int open_to_save(const char *path, size_t len);
 int write_at(int fd, size_t at, const uint8_t *bytes, size_t len);

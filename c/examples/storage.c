@@ -43,8 +43,11 @@ int open_storage(machine *m, const char *path) {
 }
 
 int close_storage(machine *m) {
+    int is_mapped = m->lends && m->storage;
+    uint8_t *at = m->storage;
     dasd_free(&m->d);
-    return m->lends && m->storage ? munmap(m->storage, STORAGE) : 0;
+    m->storage = NULL;
+    return is_mapped ? munmap(at, STORAGE) : 0;
 }
 
 int32_t lent_or_own_sio(machine *m, uint16_t address) { return m->lends ? dasd_lent_sio(&m->d, &m->memory, address) : dasd_sio(&m->d, address); }

@@ -6,24 +6,25 @@
 
 #include "s360.h"
 
-static int complain(const volume *v, const char *why) {
-    fprintf(stderr, "s360: %s: %s\n", v->path, why);
+static int complain(const machine *m, const volume *v, const char *why) {
+    if (m->told) fprintf(m->told, "s360: %s: %s\n", v->path, why);
     return -1;
 }
 
-static int complain_of_fault(const volume *v, int fault) {
+static int complain_of_fault(const machine *m, const volume *v, int fault) {
     char why[64];
     snprintf(why, sizeof why, "refused with %d", fault);
-    return complain(v, why);
+    return complain(m, v, why);
 }
 
 volume *read_volume(machine *m, const char *path, const char *serial) {
     volume *v = &m->volumes[m->volume_count];
     if (m->volume_count == MOST_VOLUMES) return NULL;
-    *v = (volume){.path = path};
+    *v = (volume){.address = 0};
     snprintf(v->serial, sizeof v->serial, "%s", serial);
+    if (snprintf(v->path, sizeof v->path, "%s", path) >= (int)sizeof v->path) return complain(m, v, strerror(ENAMETOOLONG)), NULL;
     v->bytes = read_file(path, &v->len);
-    if (!v->bytes) return complain(v, strerror(errno)), NULL;
+    if (!v->bytes) return complain(m, v, strerror(errno)), NULL;
     m->volume_count++;
     return v;
 }
@@ -33,7 +34,7 @@ int mount(machine *m, volume *v, uint16_t address) {
     dasd_file shown;
     const dasd_bytes file = {v->bytes, v->len};
     int code = dasd_attach(&m->d, address, &file, 1);
-    if (code != DASD_DONE) return complain_of_fault(v, code);
+    if (code != DASD_DONE) return complain_of_fault(m, v, code);
     free(v->bytes);
     v->bytes = NULL;
     v->address = address;
@@ -89,12 +90,12 @@ static int save_tracks(machine *m, const volume *v, const dasd_file *shown) {
 static int save(machine *m, volume *v) {
     dasd_file shown = {v->bytes, v->len, v->changes};
     int code = v->address ? dasd_show_file(&m->d, v->address, 0, &shown) : DASD_DONE;
-    if (code != DASD_DONE) return complain_of_fault(v, code);
+    if (code != DASD_DONE) return complain_of_fault(m, v, code);
     if (shown.changes == v->changes && !v->is_changed) return 0;
-    if (v->is_changed ? save_file(v->path, shown.at, shown.len) : save_tracks(m, v, &shown)) return complain(v, strerror(errno));
+    if (v->is_changed ? save_file(v->path, shown.at, shown.len) : save_tracks(m, v, &shown)) return complain(m, v, strerror(errno));
     v->changes = shown.changes;
     v->is_changed = 0;
-    fprintf(stderr, "s360: %s is saved\n", v->path);
+    if (m->told) fprintf(m->told, "s360: %s is saved\n", v->path);
     return 0;
 }
 
