@@ -21,6 +21,10 @@ use Rattle.dasd_extract.specs.Written.{Written, nothing, these_bytes, stopped, b
 abbrev pub is_control : ℕ → Bool
 is_control c = nat_lt c 32 || (nat_le 127 c && nat_lt c 160)
 
+-- a printing character of ASCII is text as it is, in one byte
+abbrev pub is_printing : ℕ → Bool
+is_printing c = nat_le 32 c && nat_lt c 127
+
 -- a byte of EBCDIC as text
 abbrev pub text_character : ℕ → ℕ
 text_character b = if is_control (character_of b) then 0xFFFD else character_of b

@@ -8,7 +8,7 @@ ghost use Rattle.dasd_extract.specs.Blocks.{line_of, piece_text, lines_written, 
 ghost use Rattle.dasd_extract.specs.Blocks.{number_of};
 
 use crate::stops::{Cause, Stop, stop_at};
-use crate::texts::write_text;
+use crate::texts::{write_text, write_text_line};
 use ckd_track::TrackView;
 use data_sets::{DIRECTORY_BLOCK, Piece, RecordForm, Segment, next_record, without_blanks};
 use record_formats::{Layout, is_longer};
@@ -43,8 +43,7 @@ pub enum Form {
 fn write_line<W: Write>(writer: &mut W, bytes: &[u8]) -> io::Result<()>
     ensures { OnOk result (Appends (W.contents writer.old) (W.contents writer.new) (line_of bytes.now)) }
 {
-    write_text(writer, without_blanks(bytes))?;
-    writer.write_all(b"\n")
+    write_text_line(writer, without_blanks(bytes))
 }
 
 // Writes a record of a block, or a segment of one.

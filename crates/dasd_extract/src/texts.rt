@@ -1,9 +1,11 @@
 //! Bytes of EBCDIC are written as text.
 
-ghost use Rattle.std.specs.Prelude.{◌≡◌, ◌+◌, ◌*◌, ◌≤◌, ◌++◌, ◌&&◌, true, nat_le, nat_lt, length, take, encode_utf8, OnOk};
+ghost use Rattle.std.specs.Prelude.{◌≡◌, ◌+◌, ◌*◌, ◌≤◌, [], ◌∷◌, ◌++◌, true, length, map, take, encode_utf8, OnOk};
+ghost use Rattle.std.specs.List.{list_all};
 ghost use Rattle.std.specs.Io.KnownBytes.{Appends};
 ghost use Rattle.arrayvec.specs.ArrayVec.{array_vec_len};
-ghost use Rattle.dasd_extract.specs.Blocks.{is_control, text_character, text_of};
+ghost use Rattle.volume_labels.specs.Ebcdic.{character_of};
+ghost use Rattle.dasd_extract.specs.Blocks.{is_control, is_printing, text_character, text_of};
 
 use arrayvec::ArrayVec;
 use std::io;
@@ -29,12 +31,27 @@ pub(crate) fn write_text<W: Write>(writer: &mut W, bytes: &[u8]) -> io::Result<(
     Ok(())
 }
 
+/// Writes bytes of EBCDIC as text, and a line feed behind it.
+pub(crate) fn write_text_line<W: Write>(writer: &mut W, bytes: &[u8]) -> io::Result<()>
+    ensures { OnOk result (Appends (W.contents writer.old) (W.contents writer.new) (text_of bytes.now ++ 10 ∷ [])) }
+{
+    if bytes.len() < CHUNK {
+        let mut line = [b' '; CHUNK];
+        if translate(&mut line, bytes) {
+            line[bytes.len()] = b'\n';
+            return writer.write_all(&line[..=bytes.len()]);
+        }
+    }
+    write_text(writer, bytes)?;
+    writer.write_all(b"\n")
+}
+
 // Writes a few bytes as text. Most texts are printing characters of ASCII alone, which are bytes of UTF-8 as they are.
 fn write_chunk<W: Write>(writer: &mut W, bytes: &[u8]) -> io::Result<()>
     requires { length bytes.now ≤ 128 }
     ensures { OnOk result (Appends (W.contents writer.old) (W.contents writer.new) (text_of bytes.now)) }
 {
-    let mut characters = [0; CHUNK];
+    let mut characters = [b' '; CHUNK];
     if translate(&mut characters, bytes) {
         writer.write_all(&characters[..bytes.len()])
     } else {
@@ -42,23 +59,39 @@ fn write_chunk<W: Write>(writer: &mut W, bytes: &[u8]) -> io::Result<()>
     }
 }
 
-// Puts the character of each byte into the room, from its front on; whether all are printing ones of ASCII, and so are the text.
+// Puts the character of each byte into the room, from its front on; whether all there are printing ones of ASCII, and so are the text.
 fn translate(characters: &mut [u8; CHUNK], bytes: &[u8]) -> bool
     requires { length bytes.now ≤ 128 }
     ensures { result ≡ true → take (length bytes.now) characters.new ≡ text_of bytes.now }
 {
-    let mut are_ascii = true;
+    look_up(characters, bytes);
+    are_printing(characters)
+}
+
+// Puts the character of each byte into the room, from its front on.
+fn look_up(characters: &mut [u8; CHUNK], bytes: &[u8])
+    requires { length bytes.now ≤ 128 }
+    ensures { take (length bytes.now) characters.new ≡ map character_of bytes.now }
+{
     for i in 0..bytes.len() {
-        let character = character(bytes[i]);
-        are_ascii &= is_printing(character);
-        characters[i] = character;
+        characters[i] = character(bytes[i]);
     }
-    are_ascii
+}
+
+// Whether all are printing ones of ASCII. It looks at each, so that it takes no branch for one.
+fn are_printing(characters: &[u8; CHUNK]) -> bool
+    ensures { result ≡ list_all is_printing characters.now }
+{
+    let mut printing = true;
+    for i in 0..CHUNK {
+        printing &= is_printing(characters[i]);
+    }
+    printing
 }
 
 // Whether a character is a printing one of ASCII.
 fn is_printing(character: u8) -> bool
-    ensures { result ≡ (nat_le 32 character && nat_lt character 127) }
+    ensures { result ≡ is_printing character }
 {
     character >= 32 && character < 127
 }

@@ -1,3 +1,4 @@
+mod Blanks
 mod Entries
 mod Extents
 mod Sharing

@@ -10,3 +10,11 @@ invariant-loop-kept l = (l.kept ≤ length l.bytes) × (l.kept + suffix_len is_b
 
 abbrev pub decreases-loop-kept : goal.decreases-loop-kept
 decreases-loop-kept l = l.kept
+
+-- the same, a byte after another
+abbrev pub invariant-loop-kept-2 : goal.invariant-loop-kept-2
+invariant-loop-kept-2 l = (l.kept ≤ length l.bytes) × (l.kept + suffix_len is_blank l.bytes ≡ length l.bytes + suffix_len is_blank
+    (take l.kept l.bytes))
+
+abbrev pub decreases-loop-kept-2 : goal.decreases-loop-kept-2
+decreases-loop-kept-2 l = l.kept
