@@ -1,0 +1,9 @@
+pub mod Areas
+pub mod Filled
+pub mod Fitting
+pub mod Fronts
+pub mod Takes
+pub mod Ends
+pub mod Spelled
+pub mod Extracted
+pub mod Last

@@ -1,0 +1,44 @@
+-- What is extracted of a data set that was loaded, by the definitions of the reader.
+use Rattle.std.specs.Prelude.{◌≡◌, ℕ, ◌-◌, ◌≤◌, ◌<◌, List, slice_index_or, [], Some}
+use Rattle.ckd_track.specs.declared.model.DriveModel.{DriveModel}
+use Rattle.ckd_track.specs.declared.geometries.Geometry.{Geometry}
+use Rattle.ckd_track.specs.Model.{heads_of}
+use Rattle.ckd_track.specs.Geometry.{tracks_of}
+use Rattle.volume_labels.specs.declared.fields.Extent.{Extent}
+use Rattle.volume_labels.specs.declared.fields.RelativeAddress.{RelativeAddress}
+use Rattle.data_sets.specs.declared.addresses.TrackPlace.{TrackPlace}
+use Rattle.data_sets.specs.declared.addresses.TrackPlace.TheVariants as place
+use Rattle.data_sets.specs.Addresses as addresses
+use Rattle.dasd_extract.specs.declared.stops.Cause.TheVariants.{EndOfFile}
+use Rattle.dasd_extract.specs.declared.blocks.Form.TheVariants.{Raw}
+use Rattle.dasd_extract.specs.Written.{Written, stop_at}
+use Rattle.dasd_extract.specs.Walk.{wanted, source_written}
+use Rattle.data_set_blocks.specs.Blocks.{areas_of}
+use Rattle.data_set_blocks.specs.Tracks.{left_behind, loaded_slot}
+
+-- the volume has this track, with as many as go on it of the areas that are left
+abbrev pub IsLoadedAt : Geometry → (slots : List (List ℕ)) → (left : List (List ℕ)) → TrackPlace → Type 0
+IsLoadedAt g slots left (place.Track n) = (n < tracks_of g) × (slice_index_or slots n [] ≡ loaded_slot g n left)
+IsLoadedAt g slots left place.PastEnd = ⊥
+IsLoadedAt g slots left place.BadExtent = ⊥
+
+-- The first tracks of the extents, as many as that, have these areas: each what is left behind those before it.
+abbrev pub IsLoaded : Geometry → List Extent → (slots : List (List ℕ)) → (areas : List (List ℕ)) → (tracks : ℕ) → Type 0
+IsLoaded g extents slots areas tracks =
+    (i : ℕ) → i < tracks → IsLoadedAt g slots (left_behind g.model areas i) (addresses.track_of (heads_of g.model) extents i)
+
+-- the first block of a data set
+abbrev pub first_block : RelativeAddress
+first_block = record { track = 0; number = 0 }
+
+-- these bytes are written, and then an end of file on this track
+abbrev pub ended_by_file : (bytes : List ℕ) → (last : ℕ) → Written
+ended_by_file bytes last = record { bytes = bytes; stop = Some (stop_at last EndOfFile) }
+
+-- Wherever these tracks are on a volume, what the reader writes of the data set's blocks as they stand is all of the bytes and nothing
+-- else, and it ends with the end of file on the last of the tracks.
+abbrev pub IsReadBack : DriveModel → (size : ℕ) → (bytes : List ℕ) → (tracks : ℕ) → Type 0
+IsReadBack model size bytes tracks =
+    (g : Geometry) (extents : List Extent) (slots : List (List ℕ)) (most : ℕ) → g.model ≡ model → tracks ≤ most
+    → IsLoaded g extents slots (areas_of size bytes) tracks
+    → source_written (wanted Raw extents first_block most) g slots ≡ ended_by_file bytes (tracks - 1)

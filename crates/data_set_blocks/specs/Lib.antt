@@ -1,0 +1,5 @@
+pub mod Blocks
+pub mod Tracks
+pub mod Writing
+pub mod Extracted
+pub mod Faults

@@ -1,0 +1,5 @@
+pub mod Runs
+pub mod Blocks
+pub mod Tables
+pub mod Extents
+pub mod FreeSpace
