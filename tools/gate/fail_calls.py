@@ -66,6 +66,8 @@ READ_FAULTS = ("read fault", "no file of this name could be read")
 SAVE_FAULTS = ("write fault",)
 # The signals by which a command is ended: that of `kill -9`; where it writes files, also those of `kill`, of Ctrl-C, and of a terminal that is gone.
 KILLED = "killed by "
+# The commands that change a volume.
+CHANGES = ("rename", "relabel")
 KILL = ["KILL"]
 SIGNALS = [*KILL, "TERM", "INT", "HUP"]
 CALL = re.compile(r"^(?P<name>\w+)\((?P<words>.*)\)\s+= (?P<answer>-?\d+)")
@@ -84,12 +86,12 @@ class Command:
 
     def read_faults(self) -> tuple[str, ...]:
         """What a fault of a read is called."""
-        in_place = self.words[0] == "run" and "--replace" not in self.words
+        in_place = self.words[0] in ("run", *CHANGES) and "--replace" not in self.words
         return READ_FAULTS + SAVE_FAULTS if in_place else READ_FAULTS
 
     def signals(self) -> list[str]:
         """The signals by which it is ended at each call."""
-        writes = self.words[0] in ("format", "run") or "--to" in self.words or "--all" in self.words
+        writes = self.words[0] in ("format", "run", *CHANGES) or "--to" in self.words or "--all" in self.words
         return SIGNALS if writes else KILL
 
 
@@ -117,6 +119,9 @@ COMMANDS = [
     Command("extract", ["extract", "pack.ckd", "PAY.CARDS", "--text"]),
     Command("extract to a file", ["extract", "pack.ckd", "SYS1.MACLIB(BETA)", "--to", "beta"]),
     Command("extract --all", ["extract", "--all", "out", "pack.ckd"]),
+    Command("rename", ["rename", "pack.ckd", "PAY.CARDS", "PAY.OLD"]),
+    Command("rename --replace", ["rename", "--replace", "pack.ckd", "PAY.CARDS", "PAY.OLD"]),
+    Command("relabel", ["relabel", "pack.ckd", "--label", "ABC123", "--owner", "SIXAMBRA"]),
     Command("explain", ["explain", "csw", "00000428", "0E000320"]),
     Command("assemble", ["assemble"], b" ORG X'48'\n DC A(START)\nSTART TIC START\n SIO 190\n"),
     Command("assemble with a file", ["assemble"], b" LOAD C'core'\n SHOW 0 4\n"),

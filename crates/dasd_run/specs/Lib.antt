@@ -1,5 +1,6 @@
 pub mod Faults
 pub mod Built
+pub mod Changes
 pub mod Decks
 pub mod Outside
 pub mod Runs

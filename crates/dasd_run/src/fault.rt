@@ -14,6 +14,7 @@ use s360_deck::{DeckFault, RunFault};
 use s360_disassembler::DisassemblyFault;
 use std::alloc::AllocError;
 use thiserror::Error;
+use volume_changes::Refusal;
 
 /// Why `dasd` did not do what it was asked, or not to its end.
 #[derive(Debug, Drop, Error)]
@@ -54,6 +55,9 @@ pub enum ProgramFault {
     /// The volume can't have such a table of contents.
     #[error(transparent)]
     Table(TableFault),
+    /// A volume is not changed as it was asked, and stays as it was.
+    #[error(transparent)]
+    Change(Refusal),
     /// The file of a trace can't be opened.
     #[error("trace file not opened")]
     TraceNotOpened,

@@ -3,6 +3,7 @@
 #![tactic(auto)]
 
 mod archive;
+mod changes;
 mod commands;
 mod decks;
 mod details;

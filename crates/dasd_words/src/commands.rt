@@ -2,7 +2,7 @@
 
 use crate::options::{CommandRow, VERBOSE, command, with_arg};
 use crate::requests::{Asked, Request, WordFault};
-use crate::{archive, assembler, explain, extract, format, hash, list, run, vtoc};
+use crate::{archive, assembler, changes, explain, extract, format, hash, list, run, vtoc};
 use clap::error::ErrorKind;
 use clap::{ArgMatches, Command, Error};
 use std::alloc::{AllocError, Global};
@@ -10,7 +10,7 @@ use std::alloc::{AllocError, Global};
 pub(crate) const NO_PATH: &str = "error: no path\n";
 
 /// The commands over volumes, in the order of the help.
-static VOLUME_COMMANDS: [CommandRow; 8] = [
+static VOLUME_COMMANDS: [CommandRow; 10] = [
     format::COMMAND,
     list::COMMAND,
     archive::CHECK,
@@ -19,6 +19,8 @@ static VOLUME_COMMANDS: [CommandRow; 8] = [
     hash::COMMAND,
     vtoc::COMMAND,
     extract::COMMAND,
+    changes::RENAME,
+    changes::RELABEL,
 ];
 
 /// The commands over decks, in the order of the help.
@@ -112,6 +114,8 @@ fn read_request<'a>(
         "hash" => hash::read(alloc, options),
         "vtoc" => vtoc::read(alloc, options),
         "extract" => extract::read(alloc, options),
+        "rename" => changes::read_rename(alloc, options),
+        "relabel" => changes::read_relabel(alloc, options),
         "explain" => explain::read(alloc, options),
         "assemble" => Ok(assembler::read_assemble(options)),
         "disassemble" => Ok(assembler::read_disassemble(options)),

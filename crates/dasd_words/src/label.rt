@@ -1,4 +1,4 @@
-//! The words of a label of `dasd format`.
+//! The words of a label: of `dasd format`, and of `dasd relabel`.
 
 use crate::commands::wrong;
 use crate::options::not_taken;
@@ -7,6 +7,9 @@ use ckd_track::DriveModel;
 use clap::ArgMatches;
 use new_labels::{NewLabel, owner_of, serial_of};
 use std::alloc::Global;
+
+/// A blank in EBCDIC.
+const BLANK: u8 = 0x40;
 
 /// Where the table of contents begins without the word for it: behind the track of the label.
 const TABLE_START: &str = "0:1";
@@ -29,16 +32,10 @@ pub(crate) fn read_label(
     options: &ArgMatches,
     model: DriveModel,
 ) -> Result<Option<NewLabel>, WordFault> {
-    let Some(serial) = options.get_str("label") else {
+    let Some(serial) = read_serial(alloc, options)? else {
         return without_label(alloc, options);
     };
-    let Some(serial) = serial_of(serial) else {
-        return Err(not_taken(alloc, "label", SERIAL_RULE, serial));
-    };
-    let owner = options.get_str("owner").unwrap_or("");
-    let Some(owner) = owner_of(owner) else {
-        return Err(not_taken(alloc, "owner", OWNER_RULE, owner));
-    };
+    let owner = read_owner(alloc, options)?.unwrap_or([BLANK; 10]);
     let start = options.get_str("vtoc-at").unwrap_or(TABLE_START);
     let Some((cylinder, head)) = read_start(start, model) else {
         return Err(not_taken(alloc, "vtoc-at", START_RULE, start));
@@ -52,6 +49,34 @@ pub(crate) fn read_label(
         first,
         tracks: read_tracks(alloc, options, model.heads().saturating_sub(head))?,
     }))
+}
+
+/// The serial number that is given, if one is.
+pub(crate) fn read_serial(
+    alloc: Global,
+    options: &ArgMatches,
+) -> Result<Option<[u8; 6]>, WordFault> {
+    let Some(word) = options.get_str("label") else {
+        return Ok(None);
+    };
+    match serial_of(word) {
+        Some(serial) => Ok(Some(serial)),
+        None => Err(not_taken(alloc, "label", SERIAL_RULE, word)),
+    }
+}
+
+/// The owner's name that is given, if one is.
+pub(crate) fn read_owner(
+    alloc: Global,
+    options: &ArgMatches,
+) -> Result<Option<[u8; 10]>, WordFault> {
+    let Some(word) = options.get_str("owner") else {
+        return Ok(None);
+    };
+    match owner_of(word) {
+        Some(owner) => Ok(Some(owner)),
+        None => Err(not_taken(alloc, "owner", OWNER_RULE, word)),
+    }
 }
 
 // The words that go with a label are not there without one.

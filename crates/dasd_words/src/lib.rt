@@ -3,6 +3,7 @@
 
 mod archive;
 mod assembler;
+mod changes;
 mod commands;
 mod decks;
 mod explain;
@@ -28,6 +29,7 @@ pub use crate::refused::{
 pub use crate::requests::{
     Asked, AskedTrace, ComparedVolumes, DeckRun, DetailedVolume, DumpedPart, ExtractedSet,
     ExtractedTracks, ExtractedVolume, HashedVolume, ListedLibrary, ListedPart, NewImage, Noted,
-    Numbers, PrintedVolume, Request, SetName, StrictCheck, TraceTarget, WordFault,
+    Numbers, PrintedVolume, RelabelledVolume, RenamedSet, Request, SetName, StrictCheck,
+    TraceTarget, WordFault,
 };
 pub use crate::volumes::{Volume, VolumeSource};

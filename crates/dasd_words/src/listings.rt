@@ -17,8 +17,8 @@ pub(crate) const PATHS: ArgRow = ArgRow {
     kind: ArgKind::Words(ValueParser::String, 1, MOST_FILES),
 };
 
-// The files that such a command is asked of.
-fn read<'a>(alloc: Global, options: &ArgMatches<'a>) -> Result<Vec<&'a str>, WordFault> {
+/// The files that such a command is asked of.
+pub(crate) fn read<'a>(alloc: Global, options: &ArgMatches<'a>) -> Result<Vec<&'a str>, WordFault> {
     match options.get_strs("PATH") {
         Some(words) => read_paths(alloc, words),
         None => Err(wrong(alloc, NO_PATH)),

@@ -97,6 +97,10 @@ pub enum Request<'a> {
     ExtractTracks(ExtractedTracks<'a>),
     /// Take all data sets out of a volume.
     ExtractAll(ExtractedVolume<'a>),
+    /// Give a data set of a volume another name.
+    Rename(RenamedSet<'a>),
+    /// Change what the label of a volume says.
+    Relabel(RelabelledVolume<'a>),
     /// Say in words what a number means.
     Explain(Noted),
     /// Print the deck of a text in words, which is the file at this path, or standard input.
@@ -229,6 +233,32 @@ pub struct ExtractedVolume<'a> {
     pub is_text: bool,
     /// Whether each line of what is printed is an object of JSON.
     pub json: bool,
+}
+
+/// A data set of a volume that gets another name.
+#[derive(Drop)]
+pub struct RenamedSet<'a> {
+    /// The files of the image.
+    pub paths: Vec<&'a str>,
+    /// Whether a new file takes the place of each that changed; if not, each keeps its place.
+    pub replaces: bool,
+    /// The name that it has.
+    pub old: &'a str,
+    /// The name that it gets.
+    pub new: &'a str,
+}
+
+/// A volume whose label says something else later: each where it is given.
+#[derive(Drop)]
+pub struct RelabelledVolume<'a> {
+    /// The files of the image.
+    pub paths: Vec<&'a str>,
+    /// Whether a new file takes the place of each that changed; if not, each keeps its place.
+    pub replaces: bool,
+    /// The serial number, in EBCDIC.
+    pub serial: Option<[u8; 6]>,
+    /// The owner's name, in EBCDIC.
+    pub owner: Option<[u8; 10]>,
 }
 
 /// The name of a data set or of a member of one.

@@ -1,0 +1,55 @@
+-- What is changed of the volume of an image in memory.
+use Rattle.std.specs.Prelude.{◌≡◌, ℕ, List, Option, Some, None, Result, Ok, Err}
+use Rattle.ckd_image.specs.Image.{ImageState}
+use Rattle.counted_io.specs.declared.writing.WriteFault.{WriteFault}
+use Rattle.ckd_track.specs.declared.geometries.Geometry.{Geometry}
+use Rattle.dasd_jobs.specs.declared.faults.JobFault.{JobFault}
+use Rattle.dasd_jobs.specs.declared.faults.JobFault.TheVariants as job
+use Rattle.dasd_volumes.specs.declared.fault.VolumeFault.{VolumeFault}
+use Rattle.dasd_volumes.specs.declared.fault.VolumeFault.TheVariants as volume
+use Rattle.volume_changes.specs.declared.refusal.Refusal.{Refusal}
+use Rattle.volume_changes.specs.Volumes.{renamed, relabelled}
+use Rattle.changed_volumes.specs.declared.fault.ChangeFault.{ChangeFault}
+use Rattle.changed_volumes.specs.declared.fault.ChangeFault.TheVariants as fault
+use Rattle.changed_volumes.specs.declared.images.VolumeChange.{VolumeChange}
+use Rattle.changed_volumes.specs.declared.images.VolumeChange.TheVariants.{Rename, Relabel}
+
+-- what becomes of the slots of a volume, or why not
+abbrev pub Changing : Type 0
+Changing = Geometry → (slots : List (List ℕ)) → Result (List (List ℕ)) Refusal
+
+abbrev pub changed_by : VolumeChange → Changing
+changed_by (Rename old new) = renamed old new
+changed_by (Relabel fields) = relabelled fields
+
+-- an image of a volume of the same size in the same files, which may have other slots
+pub record IsSameImage (before now : ImageState) : Type 0 where
+  pub geometry : now.geometry ≡ before.geometry
+  pub lasting : now.lasting ≡ before.lasting
+
+-- there is no memory, or a slot in memory is not read or written
+abbrev pub IsHindered : JobFault → Type 0
+IsHindered job.OutOfMemory = Unit {0}
+IsHindered job.Store = Unit {0}
+IsHindered f = ⊥
+
+abbrev pub IsHinderedBy : ChangeFault → Type 0
+IsHinderedBy (fault.Job f) = IsHindered f
+IsHinderedBy f = ⊥
+
+-- Why a volume in memory is not changed: it is refused so, or something hinders it.
+abbrev pub IsRefused : ChangeFault → Result (List (List ℕ)) Refusal → Type 0
+IsRefused (fault.Refused refusal) changed = changed ≡ Err refusal
+IsRefused (fault.Job f) changed = IsHindered f
+IsRefused (fault.Save f) changed = ⊥
+
+-- what a fault of a volume that is read of memory is
+abbrev pub reading_fault : VolumeFault → ChangeFault
+reading_fault volume.OutOfMemory = fault.Job job.OutOfMemory
+reading_fault volume.Store = fault.Job job.Store
+reading_fault volume.Write = fault.Job job.Store
+
+-- what a line that is written, or not, is
+abbrev pub written_line : Result (Unit {0}) WriteFault → Result (Unit {0}) ChangeFault
+written_line (Ok done) = Ok done
+written_line (Err f) = Err (fault.Job job.Write)

@@ -1,0 +1,111 @@
+-- What a change of a volume in files leaves and prints.
+use Rattle.std.specs.Prelude.{◌≡◌, ◌⊎◌, ℕ, Bool, true, false, List, [], ◌∷◌, if◌then◌else◌, codes, Result, Ok, Err}
+use Rattle.std.specs.List.{concat}
+use Rattle.std.specs.Fmt.{decimal}
+use Rattle.counted_io.specs.Streams.{Stream, Takes, TakesFront, NoneFailed, OneFailed}
+use Rattle.ckd_track.specs.declared.geometries.Geometry.{Geometry}
+use Rattle.ckd_image.specs.Image.{ImageState, HoldsImage}
+use Rattle.dasd_extract.specs.Names.{Names, is_name}
+use Rattle.dasd_jobs.specs.Back.{WritesBack}
+use Rattle.dasd_jobs.specs.Lines.{model_digits}
+use Rattle.dasd_jobs.specs.Sources.{SourceFile, ReadsWhole}
+use Rattle.dasd_jobs.specs.Unopened.{NotRead}
+use Rattle.dasd_jobs.specs.Written.{Replaced}
+use Rattle.dasd_jobs.specs.declared.faults.JobFault.{JobFault}
+use Rattle.dasd_jobs.specs.declared.faults.JobFault.TheVariants.{Write}
+use Rattle.dasd_jobs.specs.declared.files.SavePlan.{SavePlan}
+use Rattle.dasd_jobs.specs.declared.files.SavePlan.TheVariants.{Replaced as by_new, InPlace}
+use Rattle.volume_changes.specs.declared.refusal.Refusal.{Refusal}
+use Rattle.volume_changes.specs.declared.refusal.Refusal.TheVariants.{NoName, NoDataSet}
+use Rattle.volume_changes.specs.Names.{is_set_name}
+use Rattle.volume_changes.specs.Volumes.{renamed}
+use Rattle.changed_volumes.specs.declared.fault.ChangeFault.{ChangeFault}
+use Rattle.changed_volumes.specs.declared.fault.ChangeFault.TheVariants as fault
+use Rattle.changed_volumes.specs.Changes.{Changing, IsSameImage, IsHindered}
+
+-- how the files are saved: a new one takes the place of each, where that is asked, and else each keeps its place
+abbrev pub plan_of : (replaces : Bool) → SavePlan
+plan_of replaces = if replaces then by_new else InPlace
+
+-- what is outside of a change: the files that were opened, those that were written, and what was printed
+pub record Around : Type 0 where
+  pub opened : List SourceFile
+  pub written : List Replaced
+  pub printed : Stream
+
+-- the files at these paths were read whole, and no other was opened: they hold this image
+pub record ReadsImage (paths : List (List ℕ)) (i : ImageState) (before now : List SourceFile) : Type 0 where
+  pub holds : HoldsImage i.lasting.origins i
+  pub whole : ReadsWhole paths i.lasting.origins before now
+
+-- The volume in the files at these paths became this one, and the files of it that changed were written; or those before one of them, at
+-- which it stopped.
+pub record SavesChanged {A : Type 0} (result : Result A JobFault) (change : Changing) (paths : List (List ℕ)) (g : Geometry)
+    (opened_before opened : List SourceFile) (before now : List Replaced) : Type 0 where
+  pub image : ImageState
+  pub changed : ImageState
+  pub reads : ReadsImage paths image opened_before opened
+  pub geometry : image.geometry ≡ g
+  pub same : IsSameImage image changed
+  pub slots : change image.geometry image.slots ≡ Ok changed.slots
+  pub saves : WritesBack result paths changed before now
+
+-- the volume in the files is not changed, for this reason
+pub record Refuses (refusal : Refusal) (change : Changing) (paths : List (List ℕ)) (before now : List SourceFile) : Type 0 where
+  pub image : ImageState
+  pub reads : ReadsImage paths image before now
+  pub refused : change image.geometry image.slots ≡ Err refusal
+
+-- the files are not read; or they are, and something hinders the change
+abbrev pub Hinders : JobFault → (paths : List (List ℕ)) → (before now : List SourceFile) → Type 0
+Hinders f paths before now = NotRead f paths before now ⊎ (IsHindered f × (i : ImageState) × ReadsImage paths i before now)
+
+-- A volume in files is changed and saved; or it is saved in part; or it stays, and no file is written.
+abbrev pub ChangesFiles : Result Geometry ChangeFault → Changing → (paths : List (List ℕ)) → (opened_before opened : List SourceFile)
+    → (before now : List Replaced) → Type 0
+ChangesFiles (Ok g) change paths opened_before opened before now = SavesChanged {A = Unit {0}} (Ok tt) change paths g opened_before opened before now
+ChangesFiles (Err (fault.Save f)) change paths opened_before opened before now =
+    (g : Geometry) × SavesChanged {A = Unit {0}} (Err f) change paths g opened_before opened before now
+ChangesFiles (Err (fault.Refused refusal)) change paths opened_before opened before now =
+    Refuses refusal change paths opened_before opened × (now ≡ before)
+ChangesFiles (Err (fault.Job f)) change paths opened_before opened before now = Hinders f paths opened_before opened × (now ≡ before)
+
+-- The same, and a line is printed; with a write fault it may be only its beginning, and a write or a flush has failed. With every other
+-- fault nothing is printed.
+abbrev pub TellsChange : {A : Type 0} → Result A ChangeFault → Changing → (paths : List (List ℕ)) → (line : Geometry → List ℕ) → (before now : Around)
+    → Type 0
+TellsChange (Ok _) change paths line before now =
+    (g : Geometry) × ChangesFiles (Ok g) change paths before.opened now.opened before.written now.written
+    × Takes before.printed now.printed (line g) × NoneFailed before.printed now.printed
+TellsChange (Err f) change paths line before now =
+    (ChangesFiles (Err f) change paths before.opened now.opened before.written now.written × (now.printed ≡ before.printed))
+    ⊎ ((f ≡ fault.Job Write) × (g : Geometry) × ChangesFiles (Ok g) change paths before.opened now.opened before.written now.written
+    × TakesFront before.printed now.printed (line g) × OneFailed before.printed now.printed)
+
+-- what a rename prints
+abbrev pub renamed_line : (old new : List ℕ) → List ℕ
+renamed_line old new = concat (codes "renamed " ∷ old ∷ codes " to " ∷ new ∷ (10 ∷ []) ∷ [])
+
+-- what a change of the label prints
+abbrev pub relabelled_line : Geometry → List ℕ
+relabelled_line g =
+    concat (codes "relabelled " ∷ model_digits g.model ∷ codes " " ∷ decimal g.cylinders ∷ codes " cylinders" ∷ (10 ∷ []) ∷ [])
+
+-- these texts are names: the old one may stand on a volume, and the new one may be given to a data set
+pub record AreNames (old new old_name new_name : List ℕ) : Type 0 where
+  pub may_be_given : is_set_name new ≡ true
+  pub of_old : Names old old_name
+  pub of_new : Names new new_name
+
+-- why names are refused before a file is opened
+abbrev pub NoNames : Refusal → (old new : List ℕ) → Type 0
+NoNames NoName old new = is_set_name new ≡ false
+NoNames NoDataSet old new = (is_set_name new ≡ true) × (is_name 44 old ≡ false)
+NoNames refusal old new = ⊥
+
+-- A data set of the volume in files gets another name; or the names are refused, and no file is opened or written and nothing printed.
+abbrev pub RenamesSet : {A : Type 0} → Result A ChangeFault → (paths : List (List ℕ)) → (old new : List ℕ) → (before now : Around) → Type 0
+RenamesSet result paths old new before now =
+    ((refusal : Refusal) × (result ≡ Err (fault.Refused refusal)) × NoNames refusal old new × (now ≡ before))
+    ⊎ ((old_name new_name : List ℕ) × AreNames old new old_name new_name
+    × TellsChange result (renamed old_name new_name) paths (λ g. renamed_line old new) before now)

@@ -1,0 +1,12 @@
+//! Volumes in files that are changed: a data set gets another name, or the volume label other fields. The files are read whole, and those
+//! that changed are saved as a run saves them.
+#![tactic(auto)]
+
+mod fault;
+mod images;
+mod lines;
+mod saves;
+
+pub use crate::fault::ChangeFault;
+pub use crate::images::{VolumeChange, read_said, write_change};
+pub use crate::saves::{ChangedVolume, NewName, relabel_volume, rename_data_set, save_plan};

@@ -1,0 +1,145 @@
+//! A volume in files that is changed and saved.
+
+ghost use Rattle.std.specs.Prelude.{◌≡◌, map, OnOk};
+ghost use Rattle.counted_io.specs.Streams.{seen_by, IsFlushed};
+ghost use Rattle.volume_changes.specs.Volumes.{relabelled};
+ghost use Rattle.changed_volumes.specs.Changes.{changed_by};
+ghost use Rattle.changed_volumes.specs.Files.{plan_of, ChangesFiles, TellsChange, RenamesSet, relabelled_line};
+
+use crate::fault::{ChangeFault, of_line};
+use crate::images::{VolumeChange, change_image};
+use crate::lines::{write_relabelled, write_renamed};
+use ckd_track::Geometry;
+use counted_io::Counted;
+use dasd_extract::data_set_name;
+use dasd_jobs::{ImageFiles, SavePlan, read_image, write_back};
+use std::alloc::Global;
+use std::io::Write;
+use volume_changes::{LabelFields, Refusal, new_set_name};
+
+/// A volume in files, and how they are saved.
+#[derive(Clone, Copy)]
+pub struct ChangedVolume<'a> {
+    /// The paths of its files, in their order.
+    pub paths: &'a [&'a str],
+    /// Whether a new file takes the place of each that changed; if not, each keeps its place.
+    pub replaces: bool,
+}
+
+/// The names of a data set that is renamed.
+#[derive(Clone, Copy)]
+pub struct NewName<'a> {
+    /// The one that it has.
+    pub old: &'a str,
+    /// The one that it gets.
+    pub new: &'a str,
+}
+
+/// Gives a data set of the volume in files another name, saves the files that changed, and prints what was renamed. The files are locked and
+/// read whole before.
+///
+/// # Errors
+///
+/// The new name is none, or no volume has the old one, before a file is opened. The files are not read; the volume has no label, no table of
+/// contents or no data set of the old name, or one of the new name; or there is no memory: no file is written. A file can't be saved: it
+/// holds what it held, and so do those behind it. Of all these nothing is printed. Or the line can't be written, and the files are saved.
+pub fn rename_data_set<F: ImageFiles, W: Write>(
+    alloc: Global,
+    files: &mut F,
+    writer: &mut Counted<W>,
+    volume: &ChangedVolume,
+    names: &NewName,
+) -> Result<(), ChangeFault>
+    ensures renames { RenamesSet result (map (λ path. path.now) volume.now.paths.now) names.now.old.now names.now.new.now
+        (record {
+          opened = F.opened files.old;
+          written = F.written files.old;
+          printed = seen_by W.contents writer.old;
+        })
+        (record {
+          opened = F.opened files.new;
+          written = F.written files.new;
+          printed = seen_by W.contents writer.new;
+        }) }
+    ensures flushed { OnOk result (IsFlushed (seen_by W.contents writer.new)) }
+{
+    let Some(new) = new_set_name(names.new) else {
+        return Err(ChangeFault::Refused(Refusal::NoName));
+    };
+    let Some(old) = data_set_name(names.old) else {
+        return Err(ChangeFault::Refused(Refusal::NoDataSet));
+    };
+    match change_files(alloc, files, volume, &VolumeChange::Rename(old, new)) {
+        Ok(_) => of_line(write_renamed(writer, names)),
+        Err(fault) => Err(fault),
+    }
+}
+
+/// Writes other fields into the label of the volume in files, and a new serial number into the format 1 blocks of the data sets that began on
+/// it; saves the files that changed, and prints what was relabelled. The files are locked and read whole before.
+///
+/// # Errors
+///
+/// The files are not read, the volume has no label, or there is no memory: no file is written. A file can't be saved: it holds what it held,
+/// and so do those behind it. Of all these nothing is printed. Or the line can't be written, and the files are saved.
+pub fn relabel_volume<F: ImageFiles, W: Write>(
+    alloc: Global,
+    files: &mut F,
+    writer: &mut Counted<W>,
+    volume: &ChangedVolume,
+    fields: LabelFields,
+) -> Result<(), ChangeFault>
+    ensures relabels { TellsChange result (relabelled fields) (map (λ path. path.now) volume.now.paths.now) relabelled_line
+        (record {
+          opened = F.opened files.old;
+          written = F.written files.old;
+          printed = seen_by W.contents writer.old;
+        })
+        (record {
+          opened = F.opened files.new;
+          written = F.written files.new;
+          printed = seen_by W.contents writer.new;
+        }) }
+    ensures flushed { OnOk result (IsFlushed (seen_by W.contents writer.new)) }
+{
+    match change_files(alloc, files, volume, &VolumeChange::Relabel(fields)) {
+        Ok(geometry) => of_line(write_relabelled(writer, geometry)),
+        Err(fault) => Err(fault),
+    }
+}
+
+// Changes the volume in files, and saves those of them that changed.
+fn change_files<F: ImageFiles>(
+    alloc: Global,
+    files: &mut F,
+    volume: &ChangedVolume,
+    change: &VolumeChange,
+) -> Result<Geometry, ChangeFault>
+    ensures { ChangesFiles result (changed_by change.now) (map (λ path. path.now) volume.now.paths.now)
+        (F.opened files.old) (F.opened files.new) (F.written files.old) (F.written files.new) }
+{
+    files.plan_saving(save_plan(volume));
+    let mut image = match read_image(alloc, files, volume.paths) {
+        Ok(image) => image,
+        Err(fault) => return Err(ChangeFault::Job(fault)),
+    };
+    let geometry = image.geometry();
+    if let Err(fault) = change_image(alloc, &mut image, change) {
+        return Err(fault);
+    }
+    match write_back(alloc, files, volume.paths, image) {
+        Ok(()) => Ok(geometry),
+        Err(fault) => Err(ChangeFault::Save(fault)),
+    }
+}
+
+/// How the files of a volume are saved.
+pub fn save_plan(volume: &ChangedVolume) -> SavePlan
+    ensures { result ≡ plan_of volume.now.replaces }
+{
+    if volume.replaces {
+        SavePlan::Replaced
+    } else {
+        SavePlan::InPlace
+    }
+}

@@ -1,0 +1,38 @@
+-- What commands do that change a volume.
+use Rattle.std.specs.Prelude.{◌≡◌, List, map, Result, Ok, Err, OnOk}
+use Rattle.counted_io.specs.Streams.{IsFlushed}
+use Rattle.changed_volumes.specs.declared.fault.ChangeFault.{ChangeFault}
+use Rattle.changed_volumes.specs.declared.fault.ChangeFault.TheVariants as change
+use Rattle.changed_volumes.specs.Files.{Around, RenamesSet, TellsChange, relabelled_line}
+use Rattle.dasd_run.specs.declared.commands.Ending.{Ending}
+use Rattle.dasd_run.specs.declared.commands.Ending.TheVariants.{Done}
+use Rattle.dasd_run.specs.declared.fault.ProgramFault.{ProgramFault}
+use Rattle.dasd_run.specs.declared.fault.ProgramFault.TheVariants as fault
+use Rattle.dasd_run.specs.Outside.{Outside}
+use Rattle.dasd_words.specs.declared.requests.RelabelledVolume.{RelabelledVolume}
+use Rattle.dasd_words.specs.declared.requests.RenamedSet.{RenamedSet}
+use Rattle.volume_changes.specs.Volumes.{relabelled}
+
+-- how a command ends where a change of a volume ended so
+abbrev pub change_ending : {A : Type 0} → Result A ChangeFault → Result Ending ProgramFault
+change_ending (Ok _) = Ok Done
+change_ending (Err (change.Refused refusal)) = Err (fault.Change refusal)
+change_ending (Err (change.Job f)) = Err (fault.Job f)
+change_ending (Err (change.Save f)) = Err (fault.Save f)
+
+-- what of the outside a change speaks of
+abbrev pub around : Outside → Around
+around o = record { opened = o.opened; written = o.written; printed = o.printed }
+
+-- the data set that is asked for is renamed, and its line printed and flushed
+abbrev pub RenamesAsked : Result Ending ProgramFault → RenamedSet → (before now : Around) → Type 0
+RenamesAsked result asked before now =
+    (job : Result (Unit {0}) ChangeFault) × (result ≡ change_ending job)
+    × RenamesSet job (map (λ path. path.now) asked.paths.items) asked.old.now asked.new.now before now × OnOk job (IsFlushed now.printed)
+
+-- the label of the volume that is asked for is changed, and its line printed and flushed
+abbrev pub RelabelsAsked : Result Ending ProgramFault → RelabelledVolume → (before now : Around) → Type 0
+RelabelsAsked result asked before now =
+    (job : Result (Unit {0}) ChangeFault) × (result ≡ change_ending job)
+    × TellsChange job (relabelled (record { serial = asked.serial; owner = asked.owner })) (map (λ path. path.now) asked.paths.items)
+    relabelled_line before now × OnOk job (IsFlushed now.printed)

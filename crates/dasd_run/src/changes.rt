@@ -1,0 +1,90 @@
+//! Volumes in files that are changed.
+
+ghost use Rattle.std.specs.Prelude.{◌≡◌, true, IfErr};
+ghost use Rattle.counted_io.specs.Streams.{seen_by};
+ghost use Rattle.dasd_run.specs.Changes.{change_ending, RenamesAsked, RelabelsAsked};
+ghost use Rattle.dasd_run.specs.Faults.{keeps_files};
+
+use crate::commands::Ending;
+use crate::fault::ProgramFault;
+use changed_volumes::{ChangeFault, ChangedVolume, NewName, relabel_volume, rename_data_set};
+use counted_io::Counted;
+use dasd_jobs::ImageFiles;
+use dasd_words::{RelabelledVolume, RenamedSet};
+use std::alloc::Global;
+use std::io::Write;
+use volume_changes::LabelFields;
+
+// How a command ends that changed a volume.
+fn change_ending(changed: Result<(), ChangeFault>) -> Result<Ending, ProgramFault>
+    ensures { result ≡ change_ending changed }
+{
+    match changed {
+        Ok(()) => Ok(Ending::Done),
+        Err(ChangeFault::Refused(refusal)) => Err(ProgramFault::Change(refusal)),
+        Err(ChangeFault::Job(fault)) => Err(ProgramFault::Job(fault)),
+        Err(ChangeFault::Save(fault)) => Err(ProgramFault::Save(fault)),
+    }
+}
+
+/// Gives a data set of the volume of its files another name.
+pub(crate) fn rename_set<F: ImageFiles, W: Write>(
+    alloc: Global,
+    files: &mut F,
+    writer: &mut Counted<W>,
+    asked: &RenamedSet,
+) -> Result<Ending, ProgramFault>
+    ensures keeps { IfErr result (λ e. keeps_files e ≡ true → F.written files.new ≡ F.written files.old) }
+    ensures renames { RenamesAsked result asked.now
+        (record {
+          opened = F.opened files.old;
+          written = F.written files.old;
+          printed = seen_by W.contents writer.old;
+        })
+        (record {
+          opened = F.opened files.new;
+          written = F.written files.new;
+          printed = seen_by W.contents writer.new;
+        }) }
+{
+    let volume = ChangedVolume {
+        paths: asked.paths.as_slice(),
+        replaces: asked.replaces,
+    };
+    let names = NewName {
+        old: asked.old,
+        new: asked.new,
+    };
+    change_ending(rename_data_set(alloc, files, writer, &volume, &names))
+}
+
+/// Changes what the label of the volume of its files says.
+pub(crate) fn relabel<F: ImageFiles, W: Write>(
+    alloc: Global,
+    files: &mut F,
+    writer: &mut Counted<W>,
+    asked: &RelabelledVolume,
+) -> Result<Ending, ProgramFault>
+    ensures keeps { IfErr result (λ e. keeps_files e ≡ true → F.written files.new ≡ F.written files.old) }
+    ensures relabels { RelabelsAsked result asked.now
+        (record {
+          opened = F.opened files.old;
+          written = F.written files.old;
+          printed = seen_by W.contents writer.old;
+        })
+        (record {
+          opened = F.opened files.new;
+          written = F.written files.new;
+          printed = seen_by W.contents writer.new;
+        }) }
+{
+    let volume = ChangedVolume {
+        paths: asked.paths.as_slice(),
+        replaces: asked.replaces,
+    };
+    let fields = LabelFields {
+        serial: asked.serial,
+        owner: asked.owner,
+    };
+    change_ending(relabel_volume(alloc, files, writer, &volume, fields))
+}

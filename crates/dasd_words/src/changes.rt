@@ -1,0 +1,103 @@
+//! The words of `dasd rename` and `dasd relabel`.
+
+use crate::commands::wrong;
+use crate::label::{read_owner, read_serial};
+use crate::listings::{PATHS, read, read_paths};
+use crate::options::{ArgKind, ArgRow, CommandRow, FILE, Value, WORDS};
+use crate::requests::{RelabelledVolume, RenamedSet, Request, WordFault};
+use clap::ArgMatches;
+use std::alloc::Global;
+
+/// The name of the words of a rename.
+const PATHS_AND_NAMES: &str = "WORD";
+
+const NO_NAMES: &str =
+    "error: rename takes the files of an image, and behind them the name of a data set and its new one\n";
+
+const NO_FIELD: &str = "error: relabel takes --label, --owner or both\n";
+
+/// The option for files that don't keep their place.
+const REPLACE: ArgRow = ArgRow {
+    id: "replace",
+    help: "puts a new file in the place of an image that was changed, and does not write over its bytes",
+    kind: ArgKind::Flag,
+};
+
+/// The command that gives a data set another name.
+pub(crate) const RENAME: CommandRow = CommandRow {
+    name: "rename",
+    about: "Gives a data set of a volume another name",
+    usage: Some("dasd rename [OPTIONS] PATH.. OLD NEW"),
+    after_help: "Example: dasd rename pack.ckd PAYROLL PAYROLL.OLD",
+    args: &[
+        ArgRow {
+            id: PATHS_AND_NAMES,
+            help: "the files of an image, and behind them the name of a data set and its new one",
+            kind: WORDS,
+        },
+        REPLACE,
+    ],
+};
+
+/// The command that changes a volume label.
+pub(crate) const RELABEL: CommandRow = CommandRow {
+    name: "relabel",
+    about: "Changes the serial number of a volume, or its owner",
+    usage: None,
+    after_help: "Example: dasd relabel pack.ckd --label WORK02",
+    args: &[
+        PATHS,
+        ArgRow {
+            id: "label",
+            help: "the serial number in the volume label, and in those of the data sets that began on the volume",
+            kind: ArgKind::Valued(Value {
+                name: "SERIAL",
+                ..FILE
+            }),
+        },
+        ArgRow {
+            id: "owner",
+            help: "the owner's name in the volume label",
+            kind: ArgKind::Valued(Value {
+                name: "TEXT",
+                ..FILE
+            }),
+        },
+        REPLACE,
+    ],
+};
+
+/// What a rename is asked: the last two words are the names, and all before them are paths.
+pub(crate) fn read_rename<'a>(
+    alloc: Global,
+    options: &ArgMatches<'a>,
+) -> Result<Request<'a>, WordFault> {
+    let words = options.get_strs(PATHS_AND_NAMES).unwrap_or(&[]);
+    match words {
+        [paths @ .., old, new] if !paths.is_empty() => Ok(Request::Rename(RenamedSet {
+            paths: read_paths(alloc, paths)?,
+            replaces: options.get_flag("replace"),
+            old,
+            new,
+        })),
+        _ => Err(wrong(alloc, NO_NAMES)),
+    }
+}
+
+/// What a relabel is asked: a serial number, an owner or both.
+pub(crate) fn read_relabel<'a>(
+    alloc: Global,
+    options: &ArgMatches<'a>,
+) -> Result<Request<'a>, WordFault> {
+    let serial = read_serial(alloc, options)?;
+    let owner = read_owner(alloc, options)?;
+    if serial.is_none() && owner.is_none() {
+        return Err(wrong(alloc, NO_FIELD));
+    }
+    Ok(Request::Relabel(RelabelledVolume {
+        paths: read(alloc, options)?,
+        replaces: options.get_flag("replace"),
+        serial,
+        owner,
+    }))
+}

@@ -1,0 +1,4 @@
+pub mod Blocks
+pub mod Labels
+pub mod Names
+pub mod Volumes

@@ -1,0 +1,15 @@
+//! What is changed of a volume with a label and a table of contents: which records have another key and other data afterwards, and why a
+//! volume is not changed so. Functions over slots and over what a volume says, which know no image.
+#![tactic(auto)]
+
+mod blocks;
+mod labels;
+mod names;
+mod refusal;
+mod renames;
+
+pub use crate::blocks::{BlockChange, write_block};
+pub use crate::labels::{LabelFields, serial_change, write_label};
+pub use crate::names::new_set_name;
+pub use crate::refusal::Refusal;
+pub use crate::renames::plan_rename;
