@@ -120,6 +120,58 @@ enum dasd_fault {
     DASD_NO_TRACK = -47        /* a drive was saved at a track that its volume does not have */
 };
 
+/* The sentence of a number of enum dasd_fault, as it stands there; of DASD_DONE that it was done, and of a number that is none of them that it
+ * is no fault. The text stays. It is the header's own: the library exports no such name. */
+static inline const char *dasd_fault_text(int32_t code) {
+    switch (code) {
+    case DASD_DONE: return "it was done";
+    case DASD_NOTHING_HELD: return "the handle holds nothing: it was not made, or was freed";
+    case DASD_IN_USE: return "the handle holds something already";
+    case DASD_NO_MEMORY: return "memory was refused";
+    case DASD_OUTSIDE_STORAGE: return "a byte lies outside main storage";
+    case DASD_BAD_SIZE: return "storage has a multiple of 2,048 bytes, from 4,096 to 16,777,216";
+    case DASD_BAD_CHANNELS: return "the set is not one of the channels 0 to 6";
+    case DASD_BAD_KEY: return "a storage key is 0 to 15";
+    case DASD_BAD_MODEL: return "a drive's model is 2311 or 2314";
+    case DASD_NO_CYLINDERS: return "a volume has 1 to 65,535 cylinders";
+    case DASD_NO_CHANNEL: return "there is no channel of this number";
+    case DASD_NO_DRIVE: return "no drive with this address is attached";
+    case DASD_ADDRESS_TAKEN: return "a drive with this address is attached";
+    case DASD_FULL: return "eight drives are attached to this channel";
+    case DASD_NO_FILES: return "an image has at least one file";
+    case DASD_TOO_MANY_FILES: return "an image has at most eight files";
+    case DASD_NO_FILE: return "the drive's image has no such file";
+    case DASD_PROGRAM_RUNS: return "a channel program runs";
+    case DASD_ENDING_PENDS: return "the channel status word of this drive's program is not yet stored";
+    case DASD_DEVICE_END_OWED: return "this drive's arm moves, or has arrived and has not interrupted";
+    case DASD_NO_STORAGE: return "the handle owns no main storage: each call is lent it";
+    case DASD_BAD_BLOCKS: return "main storage has one key for each block of 2,048 bytes";
+    case DASD_OTHER_SIZE: return "the channels are for main storage of another size";
+    case DASD_NO_PROGRAM: return "no channel program runs on this channel";
+    case DASD_NO_ROOM: return "what is to be written may have more bytes than there is room for";
+    case DASD_BAD_MOMENT: return "there is no such moment, or its call answers no such thing";
+    case DASD_BAD_UNTIL: return "nothing is waited for by such a bit";
+    case DASD_NOT_OWED: return "a saved channel status word is no ending that its channel owes";
+    case DASD_NOT_CKD_P370: return "not a CKD_P370 image";
+    case DASD_COMPRESSED: return "a compressed image, or a shadow file";
+    case DASD_DEVICE_TYPE: return "neither a 2311 nor a 2314";
+    case DASD_HEADS: return "the number of heads is not the drive's";
+    case DASD_TRACK_SIZE: return "a track of the drive may not fit the track size";
+    case DASD_SPLIT: return "the files are not those of one image, in order";
+    case DASD_LENGTH: return "a file's length is not that of an image";
+    case DASD_STORE: return "a file could not be read or written; no file in memory does so";
+    case DASD_NO_SAVED_STATE: return "not a saved state";
+    case DASD_OTHER_VERSION: return "a saved state of another version";
+    case DASD_SAVED_LENGTH: return "a saved state that is cut short, or too long";
+    case DASD_SAVED_SUM: return "a saved state that was changed: its checksum does not fit";
+    case DASD_NOT_SOUND: return "a field of a saved state has a value that none has";
+    case DASD_OTHER_CHANNELS: return "a saved state of other channels";
+    case DASD_OTHER_DRIVES: return "a saved state of a channel with other drives";
+    case DASD_NO_TRACK: return "a drive was saved at a track that its volume does not have";
+    default: return "no fault of this library";
+    }
+}
+
 /* The version of the library, as DASD_VERSION_NUMBER; and the number of its binary interface. */
 uint32_t dasd_version(void);
 uint32_t dasd_interface(void);

@@ -76,7 +76,7 @@ refuses() {
 }
 
 # a volume that is none, one that is not there, a folder; one from which nothing is loaded; and words that are none
-refuses 2 'utility.bin: refused with -32' 190="$folder/utility.bin" 191="$folder/work.ckd"
+refuses 2 'utility.bin: refused with -32: not a CKD_P370 image' 190="$folder/utility.bin" 191="$folder/work.ckd"
 refuses 2 'none.ckd: No such file or directory' 190="$folder/none.ckd"
 refuses 2 'Is a directory' 190="$folder"
 refuses 2 'no program was loaded' 190="$folder/work.ckd"

@@ -242,7 +242,8 @@ static const char *make_anew(machine *m, uint8_t *saved, size_t len, const char 
     if ((why = get_packs(m, &it))) return why;
     if (open_storage(m, lent)) return strerror(errno);
     if ((why = mount_packs(m, &it))) return why;
-    if (dasd_restore(&m->d, saved + HEAD, DASD_SAVED) != DASD_DONE) return "the library refuses its channels";
+    const int32_t code = dasd_restore(&m->d, saved + HEAD, DASD_SAVED);
+    if (code != DASD_DONE) return dasd_fault_text(code);
     memcpy(m->storage, saved + STORAGE_AT, STORAGE);
     get_fields(m, saved, len);
     for (uint32_t i = 0; i < BLOCKS; i++) set_storage_key(m, i * BLOCK, m->keys[i]);

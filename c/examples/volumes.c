@@ -12,8 +12,8 @@ static int complain(const machine *m, const volume *v, const char *why) {
 }
 
 static int complain_of_fault(const machine *m, const volume *v, int fault) {
-    char why[64];
-    snprintf(why, sizeof why, "refused with %d", fault);
+    char why[128];
+    snprintf(why, sizeof why, "refused with %d: %s", fault, dasd_fault_text(fault));
     return complain(m, v, why);
 }
 

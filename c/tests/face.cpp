@@ -425,6 +425,7 @@ void faults() {
     }
     CHECK(std::string(Fault(DASD_FULL).name()) == "DASD_FULL" && std::string(libdasd::fault_name(-99)) == "?");
     CHECK(std::string(libdasd::fault_text(0)) == "it was done" && std::string(libdasd::fault_text(-99)) == "no fault of this library");
+    for (std::int32_t code = -99; code <= 0; code++) CHECK(!std::strcmp(libdasd::fault_text(code), dasd_fault_text(code)));
     CHECK(libdasd::version() == DASD_VERSION_NUMBER && libdasd::interface_number() == DASD_INTERFACE);
 }
 

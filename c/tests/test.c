@@ -491,6 +491,8 @@ static void memory(void) {
 int main(void) {
     unsigned major, minor, patch;
     CHECK(sscanf(DASD_VERSION, "%u.%u.%u", &major, &minor, &patch) == 3 && (major << 16 | minor << 8 | patch) == DASD_VERSION_NUMBER);
+    CHECK(!strcmp(dasd_fault_text(DASD_NO_TRACK), "a drive was saved at a track that its volume does not have"));
+    CHECK(!strcmp(dasd_fault_text(DASD_DONE), "it was done") && !strcmp(dasd_fault_text(-99), "no fault of this library"));
     no_operation();
     write_and_read();
     two_files();

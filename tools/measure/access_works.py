@@ -56,6 +56,8 @@ class Access:
     words: bytearray = field(default_factory=bytearray)
     operands: bytearray = field(default_factory=lambda: bytearray(bytes(2) + address(CYLINDER, 0)))
     key: int = 0
+    # At so many drives by turns, each with such a volume; `number` counts the records of all.
+    drives: int = 1
     # What the last word leaves of its count, and whether a word asked for an interruption that none took.
     left: int = 0
     asks: bool = False
@@ -133,7 +135,9 @@ def searches() -> list[Access]:
     for number in range(CARDS):
         at_random.seek().search(SEARCH_ID, found + bytes([number * 17 % CARDS + 1])).add(READ_DATA, BUFFER, CARD)
         in_turn.find(number + 1).add(READ_DATA, BUFFER, CARD)
-    return [*works, at_random, in_turn]
+    by_turns = Access("Seek, Search ID, Read Data, eight drives by turns", CARD_RECORDS, "record found and read", 8, drives=8)
+    by_turns.seek().find(1).add(READ_DATA, BUFFER, CARD)
+    return [*works, at_random, in_turn, by_turns]
 
 
 def reads() -> list[Access]:

@@ -25,7 +25,7 @@ from tools.measure.access_works import Access
 
 BUILT = TOP / "crates/dasd_cmd/out/dasd_cmd"
 STORAGE = 0x200000
-DRIVE = "190"
+DRIVE = 0x190
 # How often a program is run, in the shorter and in the longer deck.
 FEW, MANY = 3, 6
 MOST_STEPS = 8
@@ -47,24 +47,26 @@ def deck(work: Access, times: int, steps: int) -> str:
     lines = stores(access_works.OPERANDS, bytes(work.operands)) + stores(access_works.WORDS, bytes(work.words))
     lines += [f"KEY {at:X} {work.key:X}" for at in range(0, STORAGE, 2048)] if work.key else []
     lines += stores(0x48, work.address_word())
-    lines += [f"SIO {DRIVE}", *["STEP 65535"] * steps, f"TIO {DRIVE}"] * times
+    turn = [it for unit in range(work.drives) for it in (f"SIO {DRIVE + unit:X}", *["STEP 65535"] * steps, f"TIO {DRIVE + unit:X}")]
+    lines += turn * times
     return "\n".join(lines) + "\n"
 
 
 def played(program: Path, work: Access, times: int, steps: int) -> tuple[int, bool]:
     """What a program executes that plays the deck, and whether each run ended as it must."""
     with tempfile.TemporaryDirectory() as name:
-        volume = Path(name, "volume")
-        volume.write_bytes(work.image())
-        words = ["valgrind", "--tool=callgrind", "--callgrind-out-file=/dev/null", str(program)]
-        words += ["run", "--storage", str(STORAGE), f"90={volume}"]
+        words = ["valgrind", "--tool=callgrind", "--callgrind-out-file=/dev/null", str(program), "run", "--storage", str(STORAGE)]
+        for unit in range(DRIVE % 256, DRIVE % 256 + work.drives):
+            volume = Path(name, f"volume{unit:X}")
+            volume.write_bytes(work.image())
+            words.append(f"{unit:X}={volume}")
         environment = {**os.environ, "GLIBC_TUNABLES": hercules.TUNABLES}
         done = subprocess.run(words, input=deck(work, times, steps), capture_output=True, text=True, env=environment, check=False)
     found = COLLECTED.search(done.stderr)
     if done.returncode or not found:
         raise NotCounted(f"{work.name}: {program}: status {done.returncode}\n{done.stderr[-400:]}")
     status = work.status_word().hex().upper()
-    wanted = [f"TIO {DRIVE} CC 1 {status[:8]} {status[8:]}"] * times
+    wanted = [f"TIO {DRIVE + unit:X} CC 1 {status[:8]} {status[8:]}" for unit in range(work.drives)] * times
     return int(found[1]), [it for it in done.stdout.splitlines() if it.startswith("TIO")] == wanted
 
 
@@ -81,8 +83,8 @@ def program_count(program: Path, work: Access) -> float:
 def hercules_storage(work: Access, times: int) -> bytes:
     """Storage as Hercules' processor begins: its list has the program so often."""
     storage = bytearray(hercules.SIZE)
-    if work.key:
-        raise NotCounted("its processor's program sets no keys")
+    if work.key or work.drives > 1:
+        raise NotCounted("its processor's program sets no keys, and starts one drive")
     for at, digits in hercules.PROCESSOR.items():
         spelled = bytes.fromhex(digits)
         storage[at : at + len(spelled)] = spelled
@@ -128,7 +130,7 @@ def row(work: Access, programs: list[Path], base: list[float], is_beside: bool) 
     """The line of a work: each count for each record, and the counts of the others as parts of the first."""
     with ThreadPoolExecutor(4) as pool:
         counts = list(pool.map(lambda it: program_count(it, work), programs))
-    each: list[float | None] = [(count - less) / work.number for count, less in zip(counts, base)]
+    each: list[float | None] = [(count - less * work.drives) / work.number for count, less in zip(counts, base)]
     if is_beside:
         count = by_hercules(work)
         each.append(None if count is None else count / work.number)
