@@ -149,8 +149,10 @@ class Reader:
         self.environment = {**found, **python, "PKG_CONFIG_PATH": str(put_library(room))}
 
     def prepare(self, page: str) -> None:
-        """The files that a help names, since a help can't make them: two packs of which one was changed, and a deck."""
+        """The files that a help names, since a help can't make them: a pack with a data set, two of which one was changed, and a deck."""
         if page == HELP:
+            words = ["dasd", "rename", "pack.ckd", "SAMPLE.JOBS", "PAYROLL"]
+            subprocess.run(words, cwd=self.folder, env=self.environment, stdout=subprocess.DEVNULL, check=True)
             for name in ("monday.ckd", "tuesday.ckd"):
                 shutil.copy(self.folder / "pack.ckd", self.folder / name)
             shutil.copy(TOP / "sample/decks/three-records.deck", self.folder / "deck.txt")
