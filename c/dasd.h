@@ -18,8 +18,8 @@
  *
  * WHAT THE CALLER OWES, and nothing checks:
  *   1. A pointer leads to a value of its type, and a pointer and a length to so many bytes. No two arguments of a call overlap, and
- *      none lies in the main storage or in a volume's file that a call has shown. A pointer to bytes is not null, even where there
- *      are none.
+ *      none lies in the main storage or in a volume's file that a call has shown. A pointer to bytes may be null where there are
+ *      none, and then counts as none ('No bytes', below); no other pointer is null.
  *   2. A handle is DASD_NOTHING before its first use, and its fields are left alone. While it holds something it may be moved: its bytes
  *      are copied, and the old ones no longer used, or made DASD_NOTHING. A second one of the same is made by dasd_copy alone.
  *   3. A handle is in one call at a time, also where the call takes it as `const`. Between two calls it may go to another thread, by
@@ -585,6 +585,61 @@ int32_t dasd_lent_run_on(dasd *d, dasd_memory *memory, uint8_t channel, dasd_run
 int32_t dasd_lent_run_until(dasd *d, dasd_memory *memory, uint8_t channel, uint8_t until, dasd_progress *ran);
 int32_t dasd_lent_interrupt(dasd *d, dasd_memory *memory, uint8_t channels, uint16_t *address);
 int32_t dasd_lent_trace_look(const dasd *d, dasd_memory *memory, dasd_trace *trace, const dasd_moment *moment);
+
+/* --- No bytes ---
+ *
+ * The library's own calls take no null pointer. Those that are given bytes or files are made through these, by the same names: a null pointer
+ * counts as no bytes, and leads to one that nobody looks at. They are the header's own, and the library exports none of them. */
+
+/* The bytes, or where there are none a byte that nobody looks at. */
+static inline const uint8_t *dasd_some(const uint8_t *bytes) {
+    static const uint8_t none = 0;
+    return bytes ? bytes : &none;
+}
+
+/* The files, with a place for each that has no bytes; more than eight are refused before one is looked at. */
+static inline const dasd_bytes *dasd_some_files(dasd_bytes *some, const dasd_bytes *files, size_t count) {
+    size_t i;
+    for (i = 0; i < 8; i++) {
+        const uint8_t *at = files && i < count ? files[i].at : NULL;
+        some[i].at = dasd_some(at);
+        some[i].len = at ? files[i].len : 0;
+    }
+    return count > 8 ? files : some;
+}
+
+static inline int32_t dasd_check_some(const dasd_bytes *files, size_t count) {
+    dasd_bytes some[8];
+    return dasd_check(dasd_some_files(some, files, count), count);
+}
+
+static inline int32_t dasd_attach_some(dasd *d, uint16_t address, const dasd_bytes *files, size_t count) {
+    dasd_bytes some[8];
+    return dasd_attach(d, address, dasd_some_files(some, files, count), count);
+}
+
+static inline int32_t dasd_save_some(const dasd *d, uint8_t *into, size_t len, size_t *written) {
+    uint8_t none = 0;
+    return dasd_save(d, into ? into : &none, into ? len : 0, written);
+}
+
+static inline int32_t dasd_restore_some(dasd *d, const uint8_t *from, size_t len) { return dasd_restore(d, dasd_some(from), from ? len : 0); }
+
+static inline int32_t dasd_peek_some(const dasd *d, uint32_t at, uint8_t *into, size_t len) {
+    uint8_t none = 0;
+    return dasd_peek(d, at, into ? into : &none, into ? len : 0);
+}
+
+static inline int32_t dasd_poke_some(dasd *d, uint32_t at, const uint8_t *bytes, size_t len) {
+    return dasd_poke(d, at, dasd_some(bytes), bytes ? len : 0);
+}
+
+#define dasd_check dasd_check_some
+#define dasd_attach dasd_attach_some
+#define dasd_save dasd_save_some
+#define dasd_restore dasd_restore_some
+#define dasd_peek dasd_peek_some
+#define dasd_poke dasd_poke_some
 
 #ifdef __cplusplus
 }

@@ -29,6 +29,8 @@ int32_t moved_show_storage(dasd *d, dasd_storage *shown);
 #define dasd_run_on moved_run_on
 #define dasd_interrupt moved_interrupt
 #define dasd_trace_look moved_trace_look
+#undef dasd_peek
+#undef dasd_poke
 #define dasd_peek moved_peek
 #define dasd_poke moved_poke
 #define dasd_set_key moved_set_key

@@ -217,6 +217,22 @@ static void storage_is_shared(void) {
     CHECK(dasd_free(&d) == DASD_DONE);
 }
 
+/* A null pointer counts as no bytes. */
+static void no_bytes(void) {
+    const uint8_t none = 0;
+    const dasd_bytes nothing = {NULL, 0}, empty = {&none, 0};
+    size_t written = 0;
+    dasd d = DASD_NOTHING;
+    made(&d);
+    CHECK(dasd_peek(&d, 65536, NULL, 0) == DASD_DONE && dasd_poke(&d, 0, NULL, 0) == DASD_DONE);
+    CHECK(dasd_save(&d, NULL, 0, &written) == DASD_NO_ROOM && written == 0);
+    CHECK(dasd_restore(&d, NULL, 0) < 0 && dasd_restore(&d, NULL, 0) == dasd_restore(&d, &none, 0));
+    CHECK(dasd_check(NULL, 0) == DASD_NO_FILES && dasd_attach(&d, 0x191, NULL, 0) == DASD_NO_FILES);
+    CHECK(dasd_check(&nothing, 1) < 0 && dasd_check(&nothing, 1) == dasd_check(&empty, 1));
+    CHECK(dasd_attach(&d, 0x191, &nothing, 1) == dasd_check(&nothing, 1));
+    CHECK(dasd_free(&d) == DASD_DONE);
+}
+
 /* A pack is taken off, and another put on. */
 static void packs(void) {
     dasd d = DASD_NOTHING;
@@ -499,6 +515,7 @@ int main(void) {
     halt();
     arm_and_sense();
     storage_is_shared();
+    no_bytes();
     packs();
     bad_use();
 #ifdef HEAP
