@@ -172,6 +172,26 @@ static inline const char *dasd_fault_text(int32_t code) {
     }
 }
 
+/* --- Structs with a size ---
+ *
+ * A dasd_program, a dasd_registers and a dasd_progress may get fields behind those of today. So the library is told how many bytes such a
+ * struct has, by the calls of the header that answer one: it writes the fields that it knows, as far as they have room, and zeros behind
+ * them. A program goes on with a newer library, which leaves out what the program's struct has not; and with an older one of this
+ * interface, from which newer fields are zero. These are the library's own calls, for those who bind it without the header: `shown` and
+ * `ran` lead to `size` bytes, a struct's, whose numbers have the lowest byte first, and no bytes lie between its fields. */
+
+/* What dasd_run_until is asked for. */
+typedef struct dasd_wanted {
+    uint32_t units;      /* how many at most */
+    uint8_t channel;     /* the channel's number */
+    uint8_t until;       /* bits of enum dasd_until */
+    uint8_t reserved[2]; /* not looked at */
+} dasd_wanted;
+
+int32_t dasd_show_program_sized(const dasd *d, uint8_t channel, uint8_t *shown, size_t size);
+int32_t dasd_show_registers_sized(const dasd *d, uint8_t channel, uint8_t *shown, size_t size);
+int32_t dasd_run_until_sized(dasd *d, const dasd_wanted *wanted, uint8_t *ran, size_t size);
+
 /* The version of the library, as DASD_VERSION_NUMBER; and the number of its binary interface. */
 uint32_t dasd_version(void);
 uint32_t dasd_interface(void);
@@ -354,7 +374,10 @@ typedef struct dasd_progress {
  * bits of enum dasd_until: so an emulator that goes by events has each in its time. With no bits it is dasd_run_on with counts. It looks at
  * the channel behind each unit: where nothing is waited for or counted, dasd_run_on costs less. The first word of a program is fetched by
  * Start I/O: what that asks for pends before any of these units. DASD_BAD_UNTIL, DASD_NO_CHANNEL. */
-int32_t dasd_run_until(dasd *d, uint8_t channel, uint32_t units, uint8_t until, dasd_progress *ran);
+static inline int32_t dasd_run_until(dasd *d, uint8_t channel, uint32_t units, uint8_t until, dasd_progress *ran) {
+    dasd_wanted wanted = {units, channel, until, {0, 0}};
+    return dasd_run_until_sized(d, &wanted, (uint8_t *)ran, sizeof *ran);
+}
 
 /* The arm of the drive at an address has arrived: 1, if it moved, and its device end is to be stored; 0, if it did not, or there is no
  * such drive. The caller's clock says when. */
@@ -417,7 +440,9 @@ typedef struct dasd_program {
 } dasd_program;
 
 /* Shows the program that runs on a channel. DASD_NO_CHANNEL; DASD_NO_PROGRAM, none runs, and `shown` stays. */
-int32_t dasd_show_program(const dasd *d, uint8_t channel, dasd_program *shown);
+static inline int32_t dasd_show_program(const dasd *d, uint8_t channel, dasd_program *shown) {
+    return dasd_show_program_sized(d, channel, (uint8_t *)shown, sizeof *shown);
+}
 
 /* An area of a track. */
 enum dasd_area {
@@ -440,8 +465,8 @@ enum dasd_credit {
 
 /* What a drive remembers in a program, beside its volume. A record is named by its place on the track, where record 0 is 0. */
 typedef struct dasd_registers {
-    size_t passed;     /* the record whose area passed last */
-    size_t credited;   /* the record that the credit is for */
+    uint64_t passed;   /* the record whose area passed last */
+    uint64_t credited; /* the record that the credit is for */
     uint16_t cylinder; /* where its arm is */
     uint16_t head;     /* the head that is selected */
     uint8_t sense[6];  /* the sense bytes, of this program so far */
@@ -450,11 +475,13 @@ typedef struct dasd_registers {
     uint8_t mask;      /* the file mask, in the bits C0 and 18 of the byte that Set File Mask takes */
     uint8_t mask_set;  /* 1: a Set File Mask of this program has set it */
     uint8_t credit;    /* enum dasd_credit */
-    uint8_t reserved[3];
+    uint8_t reserved[9];
 } dasd_registers;
 
 /* Shows what the drive of the program remembers that runs on a channel. DASD_NO_CHANNEL; DASD_NO_PROGRAM, none runs, and `shown` stays. */
-int32_t dasd_show_registers(const dasd *d, uint8_t channel, dasd_registers *shown);
+static inline int32_t dasd_show_registers(const dasd *d, uint8_t channel, dasd_registers *shown) {
+    return dasd_show_registers_sized(d, channel, (uint8_t *)shown, sizeof *shown);
+}
 
 /* --- A trace ---
  *
@@ -582,9 +609,13 @@ int32_t dasd_lent_tio(dasd *d, dasd_memory *memory, uint16_t address);
 int32_t dasd_lent_hio(dasd *d, dasd_memory *memory, uint16_t address);
 int32_t dasd_lent_step(dasd *d, dasd_memory *memory, uint8_t channel, uint32_t *units);
 int32_t dasd_lent_run_on(dasd *d, dasd_memory *memory, uint8_t channel, dasd_run *ran);
-int32_t dasd_lent_run_until(dasd *d, dasd_memory *memory, uint8_t channel, uint8_t until, dasd_progress *ran);
 int32_t dasd_lent_interrupt(dasd *d, dasd_memory *memory, uint8_t channels, uint16_t *address);
 int32_t dasd_lent_trace_look(const dasd *d, dasd_memory *memory, dasd_trace *trace, const dasd_moment *moment);
+int32_t dasd_lent_run_until_sized(dasd *d, dasd_memory *memory, const dasd_wanted *wanted, uint8_t *ran, size_t size);
+static inline int32_t dasd_lent_run_until(dasd *d, dasd_memory *memory, uint8_t channel, uint8_t until, dasd_progress *ran) {
+    dasd_wanted wanted = {ran->units, channel, until, {0, 0}};
+    return dasd_lent_run_until_sized(d, memory, &wanted, (uint8_t *)ran, sizeof *ran);
+}
 
 /* --- No bytes ---
  *

@@ -125,7 +125,8 @@ class Handle:
 
     def run_until(self, channel: int, units: int, until: int, ran: _library.Progress) -> None:
         """The same until one of these bits happens, with what the units come to."""
-        self.call("run_until", channel, units, until, ctypes.byref(ran))
+        wanted = _library.Wanted(units, channel, until)
+        self.over("run_until_sized", ctypes.byref(wanted), ctypes.byref(ran), ctypes.sizeof(ran))
 
     def peek(self, at: int, count: int) -> bytes:
         """A copy of so many bytes from an address on."""
@@ -212,10 +213,6 @@ class LentHandle(Handle):
         ran.units = units
         self.over("run_on", channel, ctypes.byref(ran))
         return int(ran.units)
-
-    def run_until(self, channel: int, units: int, until: int, ran: _library.Progress) -> None:
-        ran.units = units
-        self.over("run_until", channel, until, ctypes.byref(ran))
 
     def _within(self, at: int, count: int) -> memoryview:
         """So many bytes from an address on."""

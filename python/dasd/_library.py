@@ -128,8 +128,8 @@ class Registers(ctypes.Structure):
     """What a drive remembers in a program, beside its volume."""
 
     _fields_ = [
-        ("passed", ctypes.c_size_t),
-        ("credited", ctypes.c_size_t),
+        ("passed", ctypes.c_uint64),
+        ("credited", ctypes.c_uint64),
         ("cylinder", ctypes.c_uint16),
         ("head", ctypes.c_uint16),
         ("sense", ctypes.c_uint8 * 6),
@@ -138,7 +138,18 @@ class Registers(ctypes.Structure):
         ("mask", ctypes.c_uint8),
         ("mask_set", ctypes.c_uint8),
         ("credit", ctypes.c_uint8),
-        ("reserved", ctypes.c_uint8 * 3),
+        ("reserved", ctypes.c_uint8 * 9),
+    ]
+
+
+class Wanted(ctypes.Structure):
+    """What a run until something happens is asked for."""
+
+    _fields_ = [
+        ("units", ctypes.c_uint32),
+        ("channel", ctypes.c_uint8),
+        ("until", ctypes.c_uint8),
+        ("reserved", ctypes.c_uint8 * 2),
     ]
 
 
@@ -208,14 +219,14 @@ _CALLS: Dict[str, List[Any]] = {
     "tch": [_U16],
     "step": [_U8, _U32, ctypes.POINTER(_U32)],
     "run_on": [_U8, _U32, _to(Ran)],
-    "run_until": [_U8, _U32, _U8, _to(Progress)],
+    "run_until_sized": [_to(Wanted), _to(Progress), _SIZE],
     "arrive": [_U16],
     "is_pending": [_U8],
     "interrupt": [_U8, ctypes.POINTER(_U16)],
     "reset": [_U8, _to(Track)],
     "show_channel": [_U8, _to(State)],
-    "show_program": [_U8, _to(Program)],
-    "show_registers": [_U8, _to(Registers)],
+    "show_program_sized": [_U8, _to(Program), _SIZE],
+    "show_registers_sized": [_U8, _to(Registers), _SIZE],
     "trace_look": [_to(Trace), _to(Moment)],
     "show_storage": [_to(Storage)],
     "peek": [_U32, ctypes.c_char_p, _SIZE],
@@ -228,7 +239,7 @@ _CALLS: Dict[str, List[Any]] = {
     "lent_hio": [_to(Memory), _U16],
     "lent_step": [_to(Memory), _U8, ctypes.POINTER(_U32)],
     "lent_run_on": [_to(Memory), _U8, _to(Ran)],
-    "lent_run_until": [_to(Memory), _U8, _U8, _to(Progress)],
+    "lent_run_until_sized": [_to(Memory), _to(Wanted), _to(Progress), _SIZE],
     "lent_interrupt": [_to(Memory), _U8, ctypes.POINTER(_U16)],
     "lent_trace_look": [_to(Memory), _to(Trace), _to(Moment)],
 }

@@ -307,7 +307,7 @@ class Channels:
     def program(self, channel: int) -> Optional[Program]:
         """The program that runs on a channel, as it is between two units. None where none runs. NO_CHANNEL."""
         p = _library.Program()
-        if not self._is_shown("show_program", channel, p):
+        if not self._is_shown("show_program_sized", channel, p):
             return None
         word = (p.code, p.flags, p.address, p.count, p.place)
         return Program(p.device, Phase(p.phase), p.last, p.next, *word, p.left, p.key, p.asked == 1)
@@ -315,7 +315,7 @@ class Channels:
     def registers(self, channel: int) -> Optional[Registers]:
         """What the drive of that program remembers beside its volume. None where none runs. NO_CHANNEL."""
         r = _library.Registers()
-        if not self._is_shown("show_registers", channel, r):
+        if not self._is_shown("show_registers_sized", channel, r):
             return None
         seen = (Area(r.area), r.passed, r.lap, r.mask, r.mask_set == 1)
         return Registers(r.cylinder, r.head, *seen, Credit(r.credit), r.credited, bytes(r.sense))
@@ -332,7 +332,7 @@ class Channels:
     def _is_shown(self, name: str, channel: int, shown: ctypes.Structure) -> bool:
         """Whether a program runs on a channel, of which this call has shown something."""
         try:
-            self._call(name, _refusable(channel, _U8, _U8), ctypes.byref(shown))
+            self._call(name, _refusable(channel, _U8, _U8), ctypes.byref(shown), ctypes.sizeof(shown))
         except Fault as fault:
             if fault.code == FaultCode.NO_PROGRAM:
                 return False

@@ -4,6 +4,7 @@ pub mod Shown
 pub mod Calls
 pub mod Attaching
 pub mod Copying
+pub mod Sized
 pub mod Watching
 pub mod Saving
 pub mod Tracing

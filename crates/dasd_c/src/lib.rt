@@ -11,6 +11,7 @@ mod instructions;
 mod parts;
 mod saving;
 mod showing;
+mod sized;
 mod slot;
 mod states;
 mod storing;

@@ -8,19 +8,20 @@ ghost use Rattle.dasd_c.specs.Calls.{CallsAny};
 ghost use Rattle.dasd_c.specs.Watching.{ShowsProgramOf, ShowsRegistersOf};
 
 use crate::handle::{Handle, put, take};
+use crate::sized::{tell_program, tell_registers};
 use crate::tell::{DONE, NO_CHANNEL, NO_PROGRAM, NOTHING_HELD};
 use dasd_files::VolumeFile;
 use dasd_subsystem::{ShownProgram, ShownRegisters};
 use s360_channels::Selectors;
 use std::alloc::Global;
 
-/// Shows the program that runs on a channel.
+/// Shows the program that runs on a channel, in a struct of so many bytes.
 #[unsafe(no_mangle)]
-pub extern "C" fn dasd_show_program(
+pub extern "C" fn dasd_show_program_sized(
     handle: &mut Handle,
     alloc: Global,
     channel: u8,
-    shown: &mut ShownProgram,
+    shown: &mut [u8],
 ) -> i32
     ensures { CallsAny handle.old.slot.held handle.new.slot.held result
         (λ old new. (new ≡ old) × ShowsProgramOf (channel_at channel old) old.storage result shown.old shown.new) }
@@ -33,7 +34,7 @@ pub extern "C" fn dasd_show_program(
     code
 }
 
-fn show_program(channels: &Selectors<VolumeFile>, number: u8, shown: &mut ShownProgram) -> i32
+fn show_program(channels: &Selectors<VolumeFile>, number: u8, shown: &mut [u8]) -> i32
     ensures { (s : StorageState) → ShowsProgramOf (channel_at number (across channels.now s)) s result shown.old shown.new }
 {
     if !channels.has(number) {
@@ -41,20 +42,20 @@ fn show_program(channels: &Selectors<VolumeFile>, number: u8, shown: &mut ShownP
     }
     match channels.program(number) {
         Some(program) => {
-            *shown = ShownProgram::of(program);
+            tell_program(shown, &ShownProgram::of(program));
             DONE
         }
         None => NO_PROGRAM,
     }
 }
 
-/// Shows what the drive of the program that runs on a channel remembers beside its volume.
+/// Shows what the drive of the program that runs on a channel remembers beside its volume, in a struct of so many bytes.
 #[unsafe(no_mangle)]
-pub extern "C" fn dasd_show_registers(
+pub extern "C" fn dasd_show_registers_sized(
     handle: &mut Handle,
     alloc: Global,
     channel: u8,
-    shown: &mut ShownRegisters,
+    shown: &mut [u8],
 ) -> i32
     ensures { CallsAny handle.old.slot.held handle.new.slot.held result
         (λ old new. (new ≡ old) × ShowsRegistersOf (channel_at channel old) old.storage result shown.old shown.new) }
@@ -67,7 +68,7 @@ pub extern "C" fn dasd_show_registers(
     code
 }
 
-fn show_registers(channels: &Selectors<VolumeFile>, number: u8, shown: &mut ShownRegisters) -> i32
+fn show_registers(channels: &Selectors<VolumeFile>, number: u8, shown: &mut [u8]) -> i32
     ensures { (s : StorageState) → ShowsRegistersOf (channel_at number (across channels.now s)) s result shown.old shown.new }
 {
     if !channels.has(number) {
@@ -75,7 +76,7 @@ fn show_registers(channels: &Selectors<VolumeFile>, number: u8, shown: &mut Show
     }
     match channels.drive_at_work(number) {
         Some(drive) => {
-            *shown = ShownRegisters::of(drive.registers());
+            tell_registers(shown, &ShownRegisters::of(drive.registers()));
             DONE
         }
         None => NO_PROGRAM,

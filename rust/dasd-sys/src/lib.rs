@@ -15,6 +15,7 @@
 #![allow(non_camel_case_types)]
 
 use core::ffi::c_void;
+use core::mem::size_of;
 
 /// The number of the binary interface that these declarations are.
 pub const DASD_INTERFACE: u32 = 1;
@@ -138,6 +139,20 @@ pub const DASD_UNTIL_CYLINDER: u8 = 2;
 /// It waits for the arm at another cylinder, or another head that is selected.
 pub const DASD_UNTIL_TRACK: u8 = 4;
 
+/// What [`dasd_run_until`] is asked for.
+#[repr(C)]
+#[derive(Clone, Copy, Debug, Default)]
+pub struct dasd_wanted {
+    /// How many units at most.
+    pub units: u32,
+    /// The channel's number.
+    pub channel: u8,
+    /// Bits of what is waited for.
+    pub until: u8,
+    /// Not looked at.
+    pub reserved: [u8; 2],
+}
+
 /// What came of [`dasd_run_until`].
 #[repr(C)]
 #[derive(Clone, Copy, Debug, Default)]
@@ -236,9 +251,9 @@ pub struct dasd_program {
 #[derive(Clone, Copy, Debug, Default)]
 pub struct dasd_registers {
     /// The record whose area passed last.
-    pub passed: usize,
+    pub passed: u64,
     /// The record that the credit is for.
-    pub credited: usize,
+    pub credited: u64,
     /// Where its arm is.
     pub cylinder: u16,
     /// The head that is selected.
@@ -258,7 +273,7 @@ pub struct dasd_registers {
     /// address, 5, a record.
     pub credit: u8,
     /// 0.
-    pub reserved: [u8; 3],
+    pub reserved: [u8; 9],
 }
 
 /// Room for the lines of any look.
@@ -341,9 +356,8 @@ extern "C" {
     pub fn dasd_step(d: *mut dasd, channel: u8, units: u32, done: *mut u32) -> i32;
     /// The same, with what the channel does behind it.
     pub fn dasd_run_on(d: *mut dasd, channel: u8, units: u32, ran: *mut dasd_run) -> i32;
-    /// The same, and it ends also behind the first unit that brings what is waited for, a set of the bits [`DASD_UNTIL_ASKED`],
-    /// [`DASD_UNTIL_CYLINDER`] and [`DASD_UNTIL_TRACK`].
-    pub fn dasd_run_until(d: *mut dasd, channel: u8, units: u32, until: u8, ran: *mut dasd_progress) -> i32;
+    /// As [`dasd_run_until`], into a [`dasd_progress`] of `size` bytes.
+    pub fn dasd_run_until_sized(d: *mut dasd, wanted: *const dasd_wanted, ran: *mut u8, size: usize) -> i32;
     /// The arm of the drive at an address has arrived: 1, if it moved; 0, if it did not, or there is no such drive.
     pub fn dasd_arrive(d: *mut dasd, address: u16) -> i32;
     /// Whether [`dasd_interrupt`] would take an interruption from one of these channels now: 1 or 0.
@@ -354,10 +368,10 @@ extern "C" {
     pub fn dasd_reset(d: *mut dasd, channel: u8, unsaved: *mut dasd_track) -> i32;
     /// Shows a channel.
     pub fn dasd_show_channel(d: *mut dasd, channel: u8, shown: *mut dasd_state) -> i32;
-    /// Shows the program that runs on a channel, where one runs.
-    pub fn dasd_show_program(d: *mut dasd, channel: u8, shown: *mut dasd_program) -> i32;
-    /// Shows what the drive of that program remembers beside its volume.
-    pub fn dasd_show_registers(d: *mut dasd, channel: u8, shown: *mut dasd_registers) -> i32;
+    /// As [`dasd_show_program`], into a [`dasd_program`] of `size` bytes.
+    pub fn dasd_show_program_sized(d: *mut dasd, channel: u8, shown: *mut u8, size: usize) -> i32;
+    /// As [`dasd_show_registers`], into a [`dasd_registers`] of `size` bytes.
+    pub fn dasd_show_registers_sized(d: *mut dasd, channel: u8, shown: *mut u8, size: usize) -> i32;
     /// Looks at a channel at a moment, for a trace, and puts the lines that tell of it to its place for them; what stands behind them stays.
     pub fn dasd_trace_look(d: *mut dasd, trace: *mut dasd_trace, moment: *const dasd_moment) -> i32;
     /// Shows where main storage lies. Between two calls its bytes are the caller's; they stay where they are until [`dasd_free`].
@@ -382,10 +396,50 @@ extern "C" {
     pub fn dasd_lent_step(d: *mut dasd, memory: *mut dasd_memory, channel: u8, units: *mut u32) -> i32;
     /// As [`dasd_run_on`], over main storage that is lent: `units` of `ran` is how many units are done at most, and then how many were.
     pub fn dasd_lent_run_on(d: *mut dasd, memory: *mut dasd_memory, channel: u8, ran: *mut dasd_run) -> i32;
-    /// As [`dasd_run_until`], over main storage that is lent: `units` of `ran` is how many units are done at most, and then how many were.
-    pub fn dasd_lent_run_until(d: *mut dasd, memory: *mut dasd_memory, channel: u8, until: u8, ran: *mut dasd_progress) -> i32;
+    /// As [`dasd_lent_run_until`], into a [`dasd_progress`] of `size` bytes.
+    pub fn dasd_lent_run_until_sized(d: *mut dasd, memory: *mut dasd_memory, wanted: *const dasd_wanted, ran: *mut u8, size: usize) -> i32;
     /// As [`dasd_interrupt`], over main storage that is lent.
     pub fn dasd_lent_interrupt(d: *mut dasd, memory: *mut dasd_memory, channels: u8, address: *mut u16) -> i32;
     /// As [`dasd_trace_look`], over main storage that is lent, and that stays as it is.
     pub fn dasd_lent_trace_look(d: *mut dasd, memory: *mut dasd_memory, trace: *mut dasd_trace, moment: *const dasd_moment) -> i32;
+}
+
+// The structs of these calls may get fields: so the library is told how many bytes they have.
+
+/// Shows the program that runs on a channel, where one runs.
+///
+/// # Safety
+///
+/// As each call: `d` leads to a handle that no other call is using, and `shown` to a value of its type.
+pub unsafe fn dasd_show_program(d: *mut dasd, channel: u8, shown: *mut dasd_program) -> i32 {
+    unsafe { dasd_show_program_sized(d, channel, shown.cast(), size_of::<dasd_program>()) }
+}
+
+/// Shows what the drive of that program remembers beside its volume.
+///
+/// # Safety
+///
+/// As each call: `d` leads to a handle that no other call is using, and `shown` to a value of its type.
+pub unsafe fn dasd_show_registers(d: *mut dasd, channel: u8, shown: *mut dasd_registers) -> i32 {
+    unsafe { dasd_show_registers_sized(d, channel, shown.cast(), size_of::<dasd_registers>()) }
+}
+
+/// As [`dasd_run_on`], and it ends also behind the first unit that brings what is waited for, a set of the bits [`DASD_UNTIL_ASKED`],
+/// [`DASD_UNTIL_CYLINDER`] and [`DASD_UNTIL_TRACK`].
+///
+/// # Safety
+///
+/// As each call: `d` leads to a handle that no other call is using, and `ran` to a value of its type.
+pub unsafe fn dasd_run_until(d: *mut dasd, wanted: &dasd_wanted, ran: *mut dasd_progress) -> i32 {
+    unsafe { dasd_run_until_sized(d, wanted, ran.cast(), size_of::<dasd_progress>()) }
+}
+
+/// As [`dasd_run_until`], over main storage that is lent.
+///
+/// # Safety
+///
+/// As each call: `d` leads to a handle that no other call is using, `memory` to bytes and keys that nobody else uses, and `ran` to a value of
+/// its type.
+pub unsafe fn dasd_lent_run_until(d: *mut dasd, memory: *mut dasd_memory, wanted: &dasd_wanted, ran: *mut dasd_progress) -> i32 {
+    unsafe { dasd_lent_run_until_sized(d, memory, wanted, ran.cast(), size_of::<dasd_progress>()) }
 }

@@ -67,6 +67,10 @@ impl Progress {
     }
 }
 
+fn wanted(channel: u8, units: u32, until: Until) -> sys::dasd_wanted {
+    sys::dasd_wanted { units, channel, until: until.bits(), ..Default::default() }
+}
+
 impl Subsystem {
     /// Lets the program that runs on a channel do so many units at most, and ends also behind the first that brings what is waited for.
     ///
@@ -89,7 +93,7 @@ impl Subsystem {
     pub fn run_until(&mut self, channel: u8, units: u32, until: Until) -> Result<Progress, Fault> {
         let mut ran = sys::dasd_progress::default();
         // SAFETY: the handle is this value's own, and was made by `new`.
-        done(unsafe { sys::dasd_run_until(&mut *self.handle, channel, units, until.bits(), &mut ran) })?;
+        done(unsafe { sys::dasd_run_until(&mut *self.handle, &wanted(channel, units, until), &mut ran) })?;
         Ok(Progress::of(&ran))
     }
 }
@@ -101,9 +105,10 @@ impl LentSubsystem {
     ///
     /// Those of each; `NoChannel`.
     pub fn run_until(&mut self, bytes: &mut [u8], keys: &[u8], channel: u8, units: u32, until: Until) -> Result<Progress, Fault> {
-        let mut ran = sys::dasd_progress { units, ..Default::default() };
+        let mut ran = sys::dasd_progress::default();
         // SAFETY: the handle is this value's own and was made by `lent`; bytes and keys are borrowed while the call runs, and do not overlap.
-        done(unsafe { sys::dasd_lent_run_until(&mut *self.handle, &mut memory(bytes, keys), channel, until.bits(), &mut ran) })?;
+        let wanted = wanted(channel, units, until);
+        done(unsafe { sys::dasd_lent_run_until(&mut *self.handle, &mut memory(bytes, keys), &wanted, &mut ran) })?;
         Ok(Progress::of(&ran))
     }
 }

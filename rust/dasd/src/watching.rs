@@ -147,15 +147,20 @@ fn program_of(shown: &sys::dasd_program) -> Program {
     }
 }
 
+// A record's place on its track, of which it has fewer bytes than a `usize` counts.
+fn place(number: u64) -> usize {
+    number as usize
+}
+
 fn registers_of(shown: &sys::dasd_registers) -> Registers {
     Registers {
         cylinder: shown.cylinder,
         head: shown.head,
         area: match shown.area {
             1 => Some(Area::HomeAddress),
-            2 => Some(Area::Count(shown.passed)),
-            3 => Some(Area::Key(shown.passed)),
-            4 => Some(Area::Data(shown.passed)),
+            2 => Some(Area::Count(place(shown.passed))),
+            3 => Some(Area::Key(place(shown.passed))),
+            4 => Some(Area::Data(place(shown.passed))),
             _ => None,
         },
         lap: shown.lap,
@@ -163,10 +168,10 @@ fn registers_of(shown: &sys::dasd_registers) -> Registers {
         mask_set: shown.mask_set == 1,
         credit: match shown.credit {
             1 => Some(Credit::EqualHomeAddress),
-            2 => Some(Credit::EqualId(shown.credited)),
-            3 => Some(Credit::EqualKey(shown.credited)),
+            2 => Some(Credit::EqualId(place(shown.credited))),
+            3 => Some(Credit::EqualKey(place(shown.credited))),
             4 => Some(Credit::WroteHomeAddress),
-            5 => Some(Credit::WroteRecord(shown.credited)),
+            5 => Some(Credit::WroteRecord(place(shown.credited))),
             _ => None,
         },
         sense: shown.sense,
