@@ -381,8 +381,8 @@ def attach(disks: dasd.Channels, address: int, source: Sequence[str], folder: st
     disks.attach(address, *(Path(folder, it).read_bytes() for it in source))
 
 
-def whole(disks: dasd.Channels, address: int) -> bytes:
-    """All files of a drive's volume, one behind the other."""
+def files_of(disks: dasd.Channels, address: int) -> List[bytes]:
+    """The files of a drive's volume."""
     files: List[bytes] = []
     try:
         for place in range(9):
@@ -390,16 +390,16 @@ def whole(disks: dasd.Channels, address: int) -> bytes:
     except dasd.Fault as fault:
         if fault.name != "NO_FILE":
             raise
-    return b"".join(files)
+    return files
 
 
 def image_is(disks: dasd.Channels, channel: int, line: str) -> bool:
     """Whether a drive's volume has the digest that a line says."""
     found = re.fullmatch(r"(\w+) sha256 (\w+)", line)
-    return found is not None and hashlib.sha256(whole(disks, channel << 8 | int(found[1], 16))).hexdigest() == found[2]
+    return found is not None and hashlib.sha256(b"".join(files_of(disks, channel << 8 | int(found[1], 16)))).hexdigest() == found[2]
 
 
-#: What goes on behind an event of a deck: the same channels, or a copy of them.
+#: What goes on behind an event of a deck: the same channels, a copy of them, or others to which they were restored.
 Behind = Callable[[dasd.Channels], dasd.Channels]
 
 
@@ -413,6 +413,43 @@ def a_copy(disks: dasd.Channels) -> dasd.Channels:
     assert isinstance(disks, dasd.Subsystem)
     with disks:
         return disks.copy()
+
+
+def restored(maker: Maker) -> Behind:
+    """Wherever no program runs, the channels are saved and closed; new ones go on, over storage and volumes with the same bytes, to which what
+    was saved is restored."""
+
+    def behind(disks: dasd.Channels) -> dasd.Channels:
+        try:
+            saved = disks.save()
+        except dasd.Fault as fault:
+            if fault.name != "PROGRAM_RUNS":
+                raise
+            return disks
+        with disks:
+            number, size = next(it for it in range(7) if has(disks, it)), len(disks.storage)
+            second = maker(size, number)
+            second.poke(0, disks.peek(0, size))
+            for at in range(0, size, 2048):
+                second.set_key(at, disks.key(at))
+            for drive in disks.channel(number).drives:
+                address = number << 8 | drive.device
+                second.attach(address, *files_of(disks, address))
+        second.restore(saved)
+        return second
+
+    return behind
+
+
+def has(disks: dasd.Channels, number: int) -> bool:
+    """Whether there is a channel of this number."""
+    try:
+        disks.channel(number)
+    except dasd.Fault as fault:
+        if fault.name != "NO_CHANNEL":
+            raise
+        return False
+    return True
 
 
 def comes_out(maker: Maker, lines: List[Line], folder: str, behind: Behind = the_same) -> bool:
@@ -476,6 +513,9 @@ class Vectors(unittest.TestCase):
 
     def test_vectors_with_a_copy_behind_each_event(self) -> None:
         self.played(self.copier, ", with a copy behind each event")
+
+    def test_vectors_with_a_restored_state_behind_each_event(self) -> None:
+        self.played(restored(self.maker), ", saved and restored behind each event behind which no program runs")
 
 
 if __name__ == "__main__":
