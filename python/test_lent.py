@@ -1,5 +1,5 @@
 #!/usr/bin/env python3
-"""Tests of channels over main storage that the program keeps: the calls and the vectors of test_dasd.py over memory that goes to another
+"""Tests of channels over main storage that the program keeps: the calls of test_dasd.py and the vectors of test_vectors.py over memory that goes to another
 place at each call; who may do what with memory while it is lent; and what is refused."""
 
 from __future__ import annotations
@@ -15,6 +15,7 @@ from typing import Callable, List, Optional, Sequence, Tuple
 
 import dasd
 import test_dasd
+import test_vectors
 from dasd import _handle
 
 Call = Callable[..., object]
@@ -102,7 +103,7 @@ def a_copy(disks: dasd.Channels) -> dasd.Channels:
     return second
 
 
-class Vectors(test_dasd.Vectors):
+class Vectors(test_vectors.Vectors):
     """The vectors, over memory that is moved."""
 
     maker = Moved
