@@ -9,7 +9,6 @@ import hashlib
 import os
 import re
 import unittest
-import zlib
 from pathlib import Path
 from typing import Callable, Iterator, List, Optional, Sequence, Tuple, Union
 
