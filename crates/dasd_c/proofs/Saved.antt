@@ -1,5 +1,5 @@
 -- What is told of channels that are saved.
-use Rattle.std.proofs.Common.{◌≡◌, ◌≤◌, ◌∙◌, ap, inl, refl, sym, ℕ, List, ◌++◌, drop, length, Option, Some, None}
+use Rattle.std.proofs.Common.{◌≡◌, ◌≤◌, ◌∙◌, ap, inl, refl, ℕ, List, ◌++◌, drop, length, Option, Some, None}
 use Rattle.std.specs.Prelude.{option_map, pos, unwrap_or}
 use Rattle.s360_channel.specs.declared.saving.SavedChannel.{SavedChannel}
 use Rattle.saved_state.specs.Bytes.{bytes_of}

@@ -1,12 +1,8 @@
 -- What C is shown of channels and drives.
-use Rattle.std.specs.Prelude.{◌≡◌, ◌/◌, ◌%◌, ◌==◌, ℤ, pos, ℕ, Bool, true, false, List, length, map, filter, is_some, Option, Some, None, if◌then◌else◌}
+use Rattle.std.specs.Prelude.{◌≡◌, ◌/◌, ◌%◌, ◌==◌, ℤ, pos, ℕ, Bool, true, false, List, length, Option, Some, None}
 use Rattle.s360_words.specs.Storage.{Storage}
 use Rattle.ckd_image.specs.Image.{ImageState, IsFileAt}
-use Rattle.ckd_track.specs.declared.model.DriveModel.{DriveModel}
-use Rattle.ckd_track.specs.declared.model.DriveModel.TheVariants.{D2311, D2314}
 use Rattle.s360_laws.specs.Machine.{Machine}
-use Rattle.s360_laws.specs.declared.arm.Arm.{Arm}
-use Rattle.s360_laws.specs.declared.arm.Arm.TheVariants.{AtRest, InMotion, Arrived}
 use Rattle.s360_channels.specs.Channels.{ChannelsState, channel_at}
 use Rattle.s360_channel.specs.Channel.{ChannelState, StandsFor}
 use Rattle.s360_channel.specs.Shares.{with_storage}
@@ -15,9 +11,8 @@ use Rattle.s360_channel.specs.Views.{view_of}
 use Rattle.s360_channels.specs.Asked.{drive_at, image_at}
 use Rattle.s360_channel.specs.declared.view.DriveView.{DriveView}
 use Rattle.s360_channel.specs.declared.view.RunOn.{RunOn}
-use Rattle.s360_channel.specs.declared.view.View.{View}
 use Rattle.s360_channel.specs.declared.view.SubchannelView.{SubchannelView}
-use Rattle.s360_channel.specs.declared.view.SubchannelView.TheVariants.{Idle, Working, Pending}
+use Rattle.s360_channel.specs.declared.view.SubchannelView.TheVariants.{Working}
 use Rattle.dasd_subsystem.specs.declared.shown.ShownDrive.{ShownDrive}
 use Rattle.dasd_subsystem.specs.declared.shown.ShownChannel.{ShownChannel}
 use Rattle.dasd_subsystem.specs.Shown.{ShowsState, drive_shown, numbers_of}

@@ -51,7 +51,10 @@ fn registers_bytes(registers: &ShownRegisters) -> Fields
     put(&mut out, &registers.head.to_le_bytes());
     put(&mut out, &registers.sense);
     put(&mut out, &[registers.area, registers.lap]);
-    put(&mut out, &[registers.mask, registers.mask_set, registers.credit]);
+    put(
+        &mut out,
+        &[registers.mask, registers.mask_set, registers.credit],
+    );
     put(&mut out, &registers.reserved);
     put(&mut out, &[0; 6]);
     out

@@ -1,4 +1,4 @@
-use Rattle.std.proofs.Common.{rules, ◌≡◌, ◌∙◌, ap, Bool, is_some, w32}
+use Rattle.std.proofs.Common.{rules, ◌∙◌, w32}
 use Rattle.std.proofs.lemmas.Int.{to_z-of_z}
 use Rattle.dasd_c.proofs.turns.is_pending.Goals as goal
 

@@ -1,4 +1,4 @@
-use Rattle.std.proofs.Common.{rules, ◌≡◌, ◌∙◌, ap, refl, subst, ℕ, None, Some, Option, w32}
+use Rattle.std.proofs.Common.{rules, ◌∙◌, ap, refl, subst, ℕ, None, Some, Option, w32}
 use Rattle.std.proofs.lemmas.Int.{to_z-of_z}
 use Rattle.s360_channels.specs.Interrupting.{FirstPending, TakesOf}
 use Rattle.s360_channels.specs.Selectors.{across}
