@@ -1,6 +1,6 @@
 -- Bytes that are written one behind another over zeros.
 use Rattle.std.proofs.Common.{◌≡◌, ◌∙◌, ap, sym, subst, refl, ℕ, zero, suc, ◌+◌, ◌-◌, ◌*◌, arith}
-use Rattle.std.proofs.Common.{List, ◌∷◌, ◌++◌, length, take, drop, replicate, append_assoc, append-nil}
+use Rattle.std.proofs.Common.{List, ◌∷◌, ◌++◌, length, replicate, append_assoc, append-nil}
 use Rattle.std.proofs.lemmas.List.{length-append, drop-replicate}
 use Rattle.std.proofs.Math.Seq.{take-append_seam, drop-append-add}
 use Rattle.ckd_track.specs.Changes.{overwritten}

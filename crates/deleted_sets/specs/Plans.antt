@@ -16,7 +16,7 @@ use Rattle.volume_contents.specs.declared.findings.Finding.{Finding}
 use Rattle.volume_contents.specs.Blocks.{has_address, is_address}
 use Rattle.volume_contents.specs.Contents.{Said, block_in}
 use Rattle.volume_contents.specs.Checks.{findings_of}
-use Rattle.volume_contents.specs.Sets.{is_data_set, is_free_space, has_name, behind_block, extents_behind, free_chain, free_place, pieces_behind}
+use Rattle.volume_contents.specs.Sets.{is_data_set, is_free_space, has_name, behind_block, extents_behind, free_chain, pieces_behind}
 use Rattle.volume_changes.specs.declared.blocks.BlockChange.{BlockChange}
 use Rattle.volume_changes.specs.declared.refusal.Refusal.{Refusal}
 use Rattle.volume_changes.specs.declared.refusal.Refusal.TheVariants as refusal

@@ -1,4 +1,4 @@
-use Rattle.std.proofs.Common.{◌≡◌, ◌∙◌, ap, sym, refl, ℕ, ◌*◌, List, ◌++◌, replicate}
+use Rattle.std.proofs.Common.{◌∙◌, ap, sym, refl, ℕ, ◌*◌, List, ◌++◌, replicate}
 use Rattle.ckd_track.specs.Changes.{overwritten}
 use Rattle.dasd_volumes.proofs.Appended.{of_none}
 use Rattle.space_allocation.specs.FreeSpace.{run_bytes}

@@ -1,4 +1,4 @@
-use Rattle.std.proofs.Common.{◌≡◌, ◌∙◌, ap, sym, ℕ, List, ◌∷◌, [], ◌++◌, length, length-append, arith}
+use Rattle.std.proofs.Common.{◌∙◌, ap, sym, ℕ, List, ◌∷◌, [], ◌++◌, length, length-append, arith}
 use Rattle.dasd_volumes.specs.Volumes.{of_each}
 use Rattle.dasd_volumes.proofs.Appended.{of_one_more}
 use Rattle.deleted_sets.specs.Runs.{mark_of}
