@@ -1,5 +1,5 @@
 -- What is changed of the volume of an image in memory.
-use Rattle.std.specs.Prelude.{◌≡◌, ℕ, List, Option, Some, None, Result, Ok, Err}
+use Rattle.std.specs.Prelude.{◌≡◌, ℕ, List, Result, Ok, Err}
 use Rattle.ckd_image.specs.Image.{ImageState}
 use Rattle.counted_io.specs.declared.writing.WriteFault.{WriteFault}
 use Rattle.ckd_track.specs.declared.geometries.Geometry.{Geometry}

@@ -1,5 +1,5 @@
 -- What becomes of the control blocks of a volume of which a data set is deleted, or why it is not.
-use Rattle.std.specs.Prelude.{◌≡◌, ℕ, ◌+◌, ◌-◌, ◌/◌, ◌==◌, min, Bool, ◌&&◌, not, nat_lt, if◌then◌else◌, is_some, List, [], ◌∷◌, ◌++◌, length, slice_index, fold}
+use Rattle.std.specs.Prelude.{◌≡◌, ℕ, ◌+◌, ◌-◌, ◌/◌, ◌==◌, min, Bool, ◌&&◌, ◌||◌, not, nat_lt, if◌then◌else◌, is_some, List, [], ◌∷◌, ◌++◌, length, slice_index, fold}
 use Rattle.std.specs.Prelude.{Option, Some, None, Result, Ok, Err}
 use Rattle.std.specs.List.{position}
 use Rattle.ckd_track.specs.declared.geometries.Geometry.{Geometry}
@@ -26,9 +26,12 @@ use Rattle.deleted_sets.specs.declared.plans.PlanFault.TheVariants as fault
 use Rattle.deleted_sets.specs.Runs.{marks_of, runs_of}
 use Rattle.deleted_sets.specs.Blocks.{rewritten}
 
--- Free tracks are kept on a volume with a block of format 5, unless bit 0 (80) of the indicators at 14 in its format 4 block is on.
+-- Free tracks are kept on a volume with a block of format 5, unless bit 0 (80) of the indicators at 14 in its format 4 block is on and no
+-- track is said to be free.
 abbrev pub keeps_free : (table : Block) → (blocks : List Block) → Bool
-keeps_free table blocks = nat_lt (slice_index table.bytes 14) 128 && is_some (position (λ b. is_free_space b.kind) blocks)
+keeps_free table blocks =
+    is_some (position (λ b. is_free_space b.kind) blocks)
+    && (nat_lt (slice_index table.bytes 14) 128 || nat_lt 0 (length (pieces_behind blocks)))
 
 -- the extents that are given back to the free tracks, where these are kept
 abbrev pub given_back : (kept : Bool) → (blocks : List Block) → Block → List Extent

@@ -82,10 +82,17 @@ fn first_free(blocks: &[Block]) -> Option<usize>
 }
 
 // Whether free tracks are kept on a volume with this format 4 block.
-fn keeps_free(table: &Block, blocks: &[Block]) -> bool
-    ensures { result ≡ keeps_free table.now blocks.now }
+fn keeps_free(alloc: Global, table: &Block, blocks: &[Block]) -> Result<bool, AllocError>
+    ensures { IfOk result (λ kept. kept ≡ keeps_free table.now blocks.now) }
 {
-    table.bytes[14] < 0x80 && first_free(blocks).is_some()
+    if first_free(blocks).is_none() {
+        return Ok(false);
+    }
+    if table.bytes[14] < 0x80 {
+        return Ok(true);
+    }
+    let free = free_tracks(alloc, blocks)?;
+    Ok(free.pieces.len() > 0)
 }
 
 // The extents that are given back to the free tracks.
@@ -352,7 +359,10 @@ fn plan_named(
         blocks,
         block: blocks[i],
     };
-    plan(alloc, &doomed, keeps_free(&table, blocks))
+    match keeps_free(alloc, &table, blocks) {
+        Ok(kept) => plan(alloc, &doomed, kept),
+        Err(_) => Err(PlanFault::OutOfMemory),
+    }
 }
 
 /// What is deleted with a data set of a volume of this geometry that says this. The name is in EBCDIC, with blanks behind it or without; of
