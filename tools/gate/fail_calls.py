@@ -67,7 +67,7 @@ SAVE_FAULTS = ("write fault",)
 # The signals by which a command is ended: that of `kill -9`; where it writes files, also those of `kill`, of Ctrl-C, and of a terminal that is gone.
 KILLED = "killed by "
 # The commands that change a volume.
-CHANGES = ("rename", "relabel")
+CHANGES = ("rename", "delete", "relabel")
 KILL = ["KILL"]
 SIGNALS = [*KILL, "TERM", "INT", "HUP"]
 CALL = re.compile(r"^(?P<name>\w+)\((?P<words>.*)\)\s+= (?P<answer>-?\d+)")
@@ -121,6 +121,7 @@ COMMANDS = [
     Command("extract --all", ["extract", "--all", "out", "pack.ckd"]),
     Command("rename", ["rename", "pack.ckd", "PAY.CARDS", "PAY.OLD"]),
     Command("rename --replace", ["rename", "--replace", "pack.ckd", "PAY.CARDS", "PAY.OLD"]),
+    Command("delete", ["delete", "pack.ckd", "PAY.CARDS"]),
     Command("relabel", ["relabel", "pack.ckd", "--label", "ABC123", "--owner", "SIXAMBRA"]),
     Command("explain", ["explain", "csw", "00000428", "0E000320"]),
     Command("assemble", ["assemble"], b" ORG X'48'\n DC A(START)\nSTART TIC START\n SIO 190\n"),

@@ -5,8 +5,8 @@ pipes, odd names and files that are no images; kills, runs at once and traces in
 tools/gate/real_extracts.py, record formats that are given and tracks as they stand in tools/gate/real_formats.py, strict checks, dumps and
 comparisons in tools/gate/real_archives.py, findings in tools/gate/real_findings.py, hashes of data sets and members in
 tools/gate/real_hashes.py, links and files that are written in place in tools/gate/real_in_place.py, new volumes with a label in
-tools/gate/real_labels.py, volumes that are changed in tools/gate/real_changes.py, odd lengths in tools/gate/real_lengths.py, lists in
-tools/gate/real_lists.py, options of checks, dumps and runs in
+tools/gate/real_labels.py, volumes that are changed in tools/gate/real_changes.py and tools/gate/real_deletes.py, odd lengths in
+tools/gate/real_lengths.py, lists in tools/gate/real_lists.py, options of checks, dumps and runs in
 tools/gate/real_options.py, data sets that share cylinders, tracks that have alternates and parts of data sets in tools/gate/real_packs.py,
 and what is told beside a fault's line in tools/gate/real_reasons.py. A row that needs root, a small file system of its own or a device,
 where these can't be had, is skipped, with a word.
@@ -35,6 +35,7 @@ from tools.common.images import slot_at
 from tools.gate import (
     real_archives,
     real_changes,
+    real_deletes,
     real_extracts,
     real_findings,
     real_formats,
@@ -55,6 +56,7 @@ from tools.gate.scratch_files import ANSWERS, ONE_VOLUME, ROWS, WAYS, WRITE, How
 OTHERS = (
     real_archives,
     real_changes,
+    real_deletes,
     real_extracts,
     real_findings,
     real_formats,

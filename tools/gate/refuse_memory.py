@@ -38,7 +38,7 @@ START    SEEK  *+16,CC,6
          TIC   START
          SHOW  START 8
 """
-COMMANDS = ["format", "list", "check", "dump", "compare", "hash", "vtoc", "extract", "rename", "relabel", "explain", "assemble", "disassemble", "run", "help"]
+COMMANDS = ["format", "list", "check", "dump", "compare", "hash", "vtoc", "extract", "rename", "delete", "relabel", "explain", "assemble", "disassemble", "run", "help"]
 WRONG = "fomrat"
 TRACE = "trace"
 # The folder of a new file is noted, to be synced behind the last one: its name, and the list that it is put on. Without memory for one of
@@ -87,6 +87,7 @@ JOBS = {
     "a member to a file": Job(["extract", "old.ckd", "SYS1.MACLIB(BETA)", "--to", "beta"], "", NOTED),
     ALL: Job(["extract", "--all", ".", "old.ckd"], "", NOTED),
     "a data set that is renamed": Job(["rename", "old.ckd", "PAY.CARDS", "PAY.OLD"]),
+    "a data set that is deleted": Job(["delete", "old.ckd", "PAY.CARDS"]),
     "a volume that is relabelled": Job(["relabel", "old.ckd", "--label", "ABC123"]),
     "a word that is wrong": Job([WRONG], "", sum(growths(len(WRONG)) + growths(len(it)) for it in COMMANDS)),
 }

@@ -1,5 +1,5 @@
 -- What is changed of the volume of an image in memory.
-use Rattle.std.specs.Prelude.{◌≡◌, ℕ, List, Option, Some, None, Result, Ok, Err}
+use Rattle.std.specs.Prelude.{◌≡◌, ℕ, List, Result, Ok, Err}
 use Rattle.ckd_image.specs.Image.{ImageState}
 use Rattle.counted_io.specs.declared.writing.WriteFault.{WriteFault}
 use Rattle.ckd_track.specs.declared.geometries.Geometry.{Geometry}
@@ -9,10 +9,11 @@ use Rattle.dasd_volumes.specs.declared.fault.VolumeFault.{VolumeFault}
 use Rattle.dasd_volumes.specs.declared.fault.VolumeFault.TheVariants as volume
 use Rattle.volume_changes.specs.declared.refusal.Refusal.{Refusal}
 use Rattle.volume_changes.specs.Volumes.{renamed, relabelled}
+use Rattle.deleted_sets.specs.Volumes.{deleted}
 use Rattle.changed_volumes.specs.declared.fault.ChangeFault.{ChangeFault}
 use Rattle.changed_volumes.specs.declared.fault.ChangeFault.TheVariants as fault
 use Rattle.changed_volumes.specs.declared.images.VolumeChange.{VolumeChange}
-use Rattle.changed_volumes.specs.declared.images.VolumeChange.TheVariants.{Rename, Relabel}
+use Rattle.changed_volumes.specs.declared.images.VolumeChange.TheVariants.{Rename, Relabel, Delete}
 
 -- what becomes of the slots of a volume, or why not
 abbrev pub Changing : Type 0
@@ -21,6 +22,7 @@ Changing = Geometry → (slots : List (List ℕ)) → Result (List (List ℕ)) R
 abbrev pub changed_by : VolumeChange → Changing
 changed_by (Rename old new) = renamed old new
 changed_by (Relabel fields) = relabelled fields
+changed_by (Delete name) = deleted name
 
 -- an image of a volume of the same size in the same files, which may have other slots
 pub record IsSameImage (before now : ImageState) : Type 0 where
@@ -37,8 +39,8 @@ abbrev pub IsHinderedBy : ChangeFault → Type 0
 IsHinderedBy (fault.Job f) = IsHindered f
 IsHinderedBy f = ⊥
 
--- Why a volume in memory is not changed: it is refused so, or something hinders it.
-abbrev pub IsRefused : ChangeFault → Result (List (List ℕ)) Refusal → Type 0
+-- Why a volume in memory is not changed, or a change not planned: it is refused so, or something hinders it.
+abbrev pub IsRefused : {A : Type 0} → ChangeFault → (changed : Result A Refusal) → Type 0
 IsRefused (fault.Refused refusal) changed = changed ≡ Err refusal
 IsRefused (fault.Job f) changed = IsHindered f
 IsRefused (fault.Save f) changed = ⊥

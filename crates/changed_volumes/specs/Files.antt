@@ -19,6 +19,7 @@ use Rattle.volume_changes.specs.declared.refusal.Refusal.{Refusal}
 use Rattle.volume_changes.specs.declared.refusal.Refusal.TheVariants.{NoName, NoDataSet}
 use Rattle.volume_changes.specs.Names.{is_set_name}
 use Rattle.volume_changes.specs.Volumes.{renamed}
+use Rattle.deleted_sets.specs.Volumes.{deleted}
 use Rattle.changed_volumes.specs.declared.fault.ChangeFault.{ChangeFault}
 use Rattle.changed_volumes.specs.declared.fault.ChangeFault.TheVariants as fault
 use Rattle.changed_volumes.specs.Changes.{Changing, IsSameImage, IsHindered}
@@ -109,3 +110,13 @@ RenamesSet result paths old new before now =
     ((refusal : Refusal) × (result ≡ Err (fault.Refused refusal)) × NoNames refusal old new × (now ≡ before))
     ⊎ ((old_name new_name : List ℕ) × AreNames old new old_name new_name
     × TellsChange result (renamed old_name new_name) paths (λ g. renamed_line old new) before now)
+
+-- what a deletion prints
+abbrev pub deleted_line : (name : List ℕ) → List ℕ
+deleted_line name = concat (codes "deleted " ∷ name ∷ (10 ∷ []) ∷ [])
+
+-- A data set of the volume in files is deleted; or no volume has the name, and no file is opened or written and nothing printed.
+abbrev pub DeletesSet : {A : Type 0} → Result A ChangeFault → (paths : List (List ℕ)) → (name : List ℕ) → (before now : Around) → Type 0
+DeletesSet result paths name before now =
+    ((result ≡ Err (fault.Refused NoDataSet)) × (is_name 44 name ≡ false) × (now ≡ before))
+    ⊎ ((of_set : List ℕ) × Names name of_set × TellsChange result (deleted of_set) paths (λ g. deleted_line name) before now)

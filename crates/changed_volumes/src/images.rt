@@ -8,6 +8,7 @@ ghost use Rattle.volume_changes.specs.Labels.{relabelled_slot};
 ghost use Rattle.volume_changes.specs.Volumes.{said_in, serial_in, rename_of, slots_behind, relabelled_with};
 ghost use Rattle.changed_volumes.specs.Changes.{IsSameImage, IsRefused, IsHinderedBy, changed_by};
 
+use crate::deletions::delete;
 use crate::fault::{ChangeFault, NO_MEMORY, NO_SLOT, of_reading};
 use ckd_image::{Image, StoreFault};
 use dasd_files::VolumeFile;
@@ -25,6 +26,8 @@ pub enum VolumeChange {
     Rename([u8; 44], [u8; 44]),
     /// The volume label says this.
     Relabel(LabelFields),
+    /// The data set of the name is deleted.
+    Delete([u8; 44]),
 }
 
 /// Changes the volume of an image in memory, whose table of contents is read of a copy.
@@ -50,6 +53,7 @@ pub(crate) fn change_image(
     match change {
         VolumeChange::Rename(old, new) => rename(image, slot, &contents, (old, *new)),
         VolumeChange::Relabel(fields) => relabel(alloc, image, slot, &contents, fields),
+        VolumeChange::Delete(name) => delete(alloc, image, slot, contents, name),
     }
 }
 

@@ -1,7 +1,8 @@
-//! Volumes in files that are changed: a data set gets another name, or the volume label other fields. The files are read whole, and those
-//! that changed are saved as a run saves them.
+//! Volumes in files that are changed: a data set gets another name or is deleted, or the volume label gets other fields. The files are read
+//! whole, and those that changed are saved as a run saves them.
 #![tactic(auto)]
 
+mod deletions;
 mod fault;
 mod images;
 mod lines;
@@ -9,4 +10,6 @@ mod saves;
 
 pub use crate::fault::ChangeFault;
 pub use crate::images::{VolumeChange, read_said, write_change};
-pub use crate::saves::{ChangedVolume, NewName, relabel_volume, rename_data_set, save_plan};
+pub use crate::saves::{
+    ChangedVolume, NewName, delete_data_set, relabel_volume, rename_data_set, save_plan,
+};

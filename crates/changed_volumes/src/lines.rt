@@ -2,7 +2,7 @@
 
 ghost use Rattle.std.specs.Prelude.{◌≡◌, ◌≤◌, length, OnOk};
 ghost use Rattle.counted_io.specs.Streams.{seen_by, WritesWhole, IsFlushed};
-ghost use Rattle.changed_volumes.specs.Files.{renamed_line, relabelled_line};
+ghost use Rattle.changed_volumes.specs.Files.{renamed_line, relabelled_line, deleted_line};
 
 use crate::saves::NewName;
 use arrayvec::ArrayString;
@@ -28,6 +28,19 @@ pub(crate) fn write_renamed<W: Write>(
     line.push_str(names.old);
     line.push_str(" to ");
     line.push_str(names.new);
+    line.push_str("\n");
+    write_flushed(writer, line.as_bytes())
+}
+
+/// The line that says which data set was deleted.
+pub(crate) fn write_deleted<W: Write>(writer: &mut Counted<W>, name: &str) -> Result<(), WriteFault>
+    requires { length name.now ≤ 44 }
+    ensures written { WritesWhole result (seen_by W.contents writer.old) (seen_by W.contents writer.new) (deleted_line name.now) }
+    ensures flushed { OnOk result (IsFlushed (seen_by W.contents writer.new)) }
+{
+    let mut line: ArrayString<56> = ArrayString::new();
+    line.push_str("deleted ");
+    line.push_str(name);
     line.push_str("\n");
     write_flushed(writer, line.as_bytes())
 }

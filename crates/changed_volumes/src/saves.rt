@@ -4,11 +4,11 @@ ghost use Rattle.std.specs.Prelude.{◌≡◌, map, OnOk};
 ghost use Rattle.counted_io.specs.Streams.{seen_by, IsFlushed};
 ghost use Rattle.volume_changes.specs.Volumes.{relabelled};
 ghost use Rattle.changed_volumes.specs.Changes.{changed_by};
-ghost use Rattle.changed_volumes.specs.Files.{plan_of, ChangesFiles, TellsChange, RenamesSet, relabelled_line};
+ghost use Rattle.changed_volumes.specs.Files.{plan_of, ChangesFiles, TellsChange, RenamesSet, DeletesSet, relabelled_line};
 
 use crate::fault::{ChangeFault, of_line};
 use crate::images::{VolumeChange, change_image};
-use crate::lines::{write_relabelled, write_renamed};
+use crate::lines::{write_deleted, write_relabelled, write_renamed};
 use ckd_track::Geometry;
 use counted_io::Counted;
 use dasd_extract::data_set_name;
@@ -104,6 +104,45 @@ pub fn relabel_volume<F: ImageFiles, W: Write>(
 {
     match change_files(alloc, files, volume, &VolumeChange::Relabel(fields)) {
         Ok(geometry) => of_line(write_relabelled(writer, geometry)),
+        Err(fault) => Err(fault),
+    }
+}
+
+/// Deletes a data set of the volume in files: its control blocks become free, and its tracks free again where the volume keeps its free tracks;
+/// what stands on them stays. Of several of the name the first in the order of the table of contents is deleted. The files that changed are
+/// saved, and what was deleted is printed. The files are locked and read whole before.
+///
+/// # Errors
+///
+/// No volume has the name, before a file is opened. The files are not read; the volume has no label or no table of contents, something is
+/// wrong with it, it has no data set of the name, its control blocks have no room for the runs of its free tracks, or it would not say behind
+/// the deletion what it should; or there is no memory: no file is written. A file can't be saved: it holds what it held, and so do those
+/// behind it. Of all these nothing is printed. Or the line can't be written, and the files are saved.
+pub fn delete_data_set<F: ImageFiles, W: Write>(
+    alloc: Global,
+    files: &mut F,
+    writer: &mut Counted<W>,
+    volume: &ChangedVolume,
+    name: &str,
+) -> Result<(), ChangeFault>
+    ensures deletes { DeletesSet result (map (λ path. path.now) volume.now.paths.now) name.now
+        (record {
+          opened = F.opened files.old;
+          written = F.written files.old;
+          printed = seen_by W.contents writer.old;
+        })
+        (record {
+          opened = F.opened files.new;
+          written = F.written files.new;
+          printed = seen_by W.contents writer.new;
+        }) }
+    ensures flushed { OnOk result (IsFlushed (seen_by W.contents writer.new)) }
+{
+    let Some(of_set) = data_set_name(name) else {
+        return Err(ChangeFault::Refused(Refusal::NoDataSet));
+    };
+    match change_files(alloc, files, volume, &VolumeChange::Delete(of_set)) {
+        Ok(_) => of_line(write_deleted(writer, name)),
         Err(fault) => Err(fault),
     }
 }

@@ -3,12 +3,13 @@ use Rattle.std.specs.Prelude.{◌≡◌, List, map, Result, Ok, Err, OnOk}
 use Rattle.counted_io.specs.Streams.{IsFlushed}
 use Rattle.changed_volumes.specs.declared.fault.ChangeFault.{ChangeFault}
 use Rattle.changed_volumes.specs.declared.fault.ChangeFault.TheVariants as change
-use Rattle.changed_volumes.specs.Files.{Around, RenamesSet, TellsChange, relabelled_line}
+use Rattle.changed_volumes.specs.Files.{Around, RenamesSet, DeletesSet, TellsChange, relabelled_line}
 use Rattle.dasd_run.specs.declared.commands.Ending.{Ending}
 use Rattle.dasd_run.specs.declared.commands.Ending.TheVariants.{Done}
 use Rattle.dasd_run.specs.declared.fault.ProgramFault.{ProgramFault}
 use Rattle.dasd_run.specs.declared.fault.ProgramFault.TheVariants as fault
 use Rattle.dasd_run.specs.Outside.{Outside}
+use Rattle.dasd_words.specs.declared.requests.DeletedSet.{DeletedSet}
 use Rattle.dasd_words.specs.declared.requests.RelabelledVolume.{RelabelledVolume}
 use Rattle.dasd_words.specs.declared.requests.RenamedSet.{RenamedSet}
 use Rattle.volume_changes.specs.Volumes.{relabelled}
@@ -29,6 +30,12 @@ abbrev pub RenamesAsked : Result Ending ProgramFault → RenamedSet → (before 
 RenamesAsked result asked before now =
     (job : Result (Unit {0}) ChangeFault) × (result ≡ change_ending job)
     × RenamesSet job (map (λ path. path.now) asked.paths.items) asked.old.now asked.new.now before now × OnOk job (IsFlushed now.printed)
+
+-- the data set that is asked for is deleted, and its line printed and flushed
+abbrev pub DeletesAsked : Result Ending ProgramFault → DeletedSet → (before now : Around) → Type 0
+DeletesAsked result asked before now =
+    (job : Result (Unit {0}) ChangeFault) × (result ≡ change_ending job)
+    × DeletesSet job (map (λ path. path.now) asked.paths.items) asked.name.now before now × OnOk job (IsFlushed now.printed)
 
 -- the label of the volume that is asked for is changed, and its line printed and flushed
 abbrev pub RelabelsAsked : Result Ending ProgramFault → RelabelledVolume → (before now : Around) → Type 0

@@ -2,15 +2,17 @@
 
 ghost use Rattle.std.specs.Prelude.{◌≡◌, true, IfErr};
 ghost use Rattle.counted_io.specs.Streams.{seen_by};
-ghost use Rattle.dasd_run.specs.Changes.{change_ending, RenamesAsked, RelabelsAsked};
+ghost use Rattle.dasd_run.specs.Changes.{change_ending, RenamesAsked, DeletesAsked, RelabelsAsked};
 ghost use Rattle.dasd_run.specs.Faults.{keeps_files};
 
 use crate::commands::Ending;
 use crate::fault::ProgramFault;
-use changed_volumes::{ChangeFault, ChangedVolume, NewName, relabel_volume, rename_data_set};
+use changed_volumes::{
+    ChangeFault, ChangedVolume, NewName, delete_data_set, relabel_volume, rename_data_set,
+};
 use counted_io::Counted;
 use dasd_jobs::ImageFiles;
-use dasd_words::{RelabelledVolume, RenamedSet};
+use dasd_words::{DeletedSet, RelabelledVolume, RenamedSet};
 use std::alloc::Global;
 use std::io::Write;
 use volume_changes::LabelFields;
@@ -56,6 +58,33 @@ pub(crate) fn rename_set<F: ImageFiles, W: Write>(
         new: asked.new,
     };
     change_ending(rename_data_set(alloc, files, writer, &volume, &names))
+}
+
+/// Deletes a data set of the volume of its files.
+pub(crate) fn delete_set<F: ImageFiles, W: Write>(
+    alloc: Global,
+    files: &mut F,
+    writer: &mut Counted<W>,
+    asked: &DeletedSet,
+) -> Result<Ending, ProgramFault>
+    ensures keeps { IfErr result (λ e. keeps_files e ≡ true → F.written files.new ≡ F.written files.old) }
+    ensures deletes { DeletesAsked result asked.now
+        (record {
+          opened = F.opened files.old;
+          written = F.written files.old;
+          printed = seen_by W.contents writer.old;
+        })
+        (record {
+          opened = F.opened files.new;
+          written = F.written files.new;
+          printed = seen_by W.contents writer.new;
+        }) }
+{
+    let volume = ChangedVolume {
+        paths: asked.paths.as_slice(),
+        replaces: asked.replaces,
+    };
+    change_ending(delete_data_set(alloc, files, writer, &volume, asked.name))
 }
 
 /// Changes what the label of the volume of its files says.

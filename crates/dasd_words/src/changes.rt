@@ -1,10 +1,10 @@
-//! The words of `dasd rename` and `dasd relabel`.
+//! The words of `dasd rename`, `dasd delete` and `dasd relabel`.
 
 use crate::commands::wrong;
 use crate::label::{read_owner, read_serial};
 use crate::listings::{PATHS, read, read_paths};
 use crate::options::{ArgKind, ArgRow, CommandRow, FILE, Value, WORDS};
-use crate::requests::{RelabelledVolume, RenamedSet, Request, WordFault};
+use crate::requests::{DeletedSet, RelabelledVolume, RenamedSet, Request, WordFault};
 use clap::ArgMatches;
 use std::alloc::Global;
 
@@ -13,6 +13,9 @@ const PATHS_AND_NAMES: &str = "WORD";
 
 const NO_NAMES: &str =
     "error: rename takes the files of an image, and behind them the name of a data set and its new one\n";
+
+const NO_NAME: &str =
+    "error: delete takes the files of an image, and behind them the name of a data set\n";
 
 const NO_FIELD: &str = "error: relabel takes --label, --owner or both\n";
 
@@ -33,6 +36,22 @@ pub(crate) const RENAME: CommandRow = CommandRow {
         ArgRow {
             id: PATHS_AND_NAMES,
             help: "the files of an image, and behind them the name of a data set and its new one",
+            kind: WORDS,
+        },
+        REPLACE,
+    ],
+};
+
+/// The command that deletes a data set.
+pub(crate) const DELETE: CommandRow = CommandRow {
+    name: "delete",
+    about: "Deletes a data set of a volume: its control blocks and tracks become free, and its data stay on them",
+    usage: Some("dasd delete [OPTIONS] PATH.. NAME"),
+    after_help: "Example: dasd delete pack.ckd PAYROLL.OLD",
+    args: &[
+        ArgRow {
+            id: PATHS_AND_NAMES,
+            help: "the files of an image, and behind them the name of a data set",
             kind: WORDS,
         },
         REPLACE,
@@ -81,6 +100,22 @@ pub(crate) fn read_rename<'a>(
             new,
         })),
         _ => Err(wrong(alloc, NO_NAMES)),
+    }
+}
+
+/// What a deletion is asked: the last word is the name, and all before it are paths.
+pub(crate) fn read_delete<'a>(
+    alloc: Global,
+    options: &ArgMatches<'a>,
+) -> Result<Request<'a>, WordFault> {
+    let words = options.get_strs(PATHS_AND_NAMES).unwrap_or(&[]);
+    match words {
+        [paths @ .., name] if !paths.is_empty() => Ok(Request::Delete(DeletedSet {
+            paths: read_paths(alloc, paths)?,
+            replaces: options.get_flag("replace"),
+            name,
+        })),
+        _ => Err(wrong(alloc, NO_NAME)),
     }
 }
 

@@ -10,7 +10,7 @@ use std::alloc::{AllocError, Global};
 pub(crate) const NO_PATH: &str = "error: no path\n";
 
 /// The commands over volumes, in the order of the help.
-static VOLUME_COMMANDS: [CommandRow; 10] = [
+static VOLUME_COMMANDS: [CommandRow; 11] = [
     format::COMMAND,
     list::COMMAND,
     archive::CHECK,
@@ -20,6 +20,7 @@ static VOLUME_COMMANDS: [CommandRow; 10] = [
     vtoc::COMMAND,
     extract::COMMAND,
     changes::RENAME,
+    changes::DELETE,
     changes::RELABEL,
 ];
 
@@ -115,6 +116,7 @@ fn read_request<'a>(
         "vtoc" => vtoc::read(alloc, options),
         "extract" => extract::read(alloc, options),
         "rename" => changes::read_rename(alloc, options),
+        "delete" => changes::read_delete(alloc, options),
         "relabel" => changes::read_relabel(alloc, options),
         "explain" => explain::read(alloc, options),
         "assemble" => Ok(assembler::read_assemble(options)),

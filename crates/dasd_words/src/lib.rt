@@ -27,9 +27,9 @@ pub use crate::refused::{
     VOLUME_RULE, first_bad_volume, is_comparison, object_path, taken_address,
 };
 pub use crate::requests::{
-    Asked, AskedTrace, ComparedVolumes, DeckRun, DetailedVolume, DumpedPart, ExtractedSet,
-    ExtractedTracks, ExtractedVolume, HashedVolume, ListedLibrary, ListedPart, NewImage, Noted,
-    Numbers, PrintedVolume, RelabelledVolume, RenamedSet, Request, SetName, StrictCheck,
-    TraceTarget, WordFault,
+    Asked, AskedTrace, ComparedVolumes, DeckRun, DeletedSet, DetailedVolume, DumpedPart,
+    ExtractedSet, ExtractedTracks, ExtractedVolume, HashedVolume, ListedLibrary, ListedPart,
+    NewImage, Noted, Numbers, PrintedVolume, RelabelledVolume, RenamedSet, Request, SetName,
+    StrictCheck, TraceTarget, WordFault,
 };
 pub use crate::volumes::{Volume, VolumeSource};

@@ -99,6 +99,8 @@ pub enum Request<'a> {
     ExtractAll(ExtractedVolume<'a>),
     /// Give a data set of a volume another name.
     Rename(RenamedSet<'a>),
+    /// Delete a data set of a volume.
+    Delete(DeletedSet<'a>),
     /// Change what the label of a volume says.
     Relabel(RelabelledVolume<'a>),
     /// Say in words what a number means.
@@ -246,6 +248,17 @@ pub struct RenamedSet<'a> {
     pub old: &'a str,
     /// The name that it gets.
     pub new: &'a str,
+}
+
+/// A data set of a volume that is deleted.
+#[derive(Drop)]
+pub struct DeletedSet<'a> {
+    /// The files of the image.
+    pub paths: Vec<&'a str>,
+    /// Whether a new file takes the place of each that changed; if not, each keeps its place.
+    pub replaces: bool,
+    /// Its name.
+    pub name: &'a str,
 }
 
 /// A volume whose label says something else later: each where it is given.

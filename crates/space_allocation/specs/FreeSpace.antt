@@ -4,7 +4,6 @@ use Rattle.ckd_track.specs.declared.geometries.Geometry.{Geometry}
 use Rattle.ckd_track.specs.Model.{heads_of}
 use Rattle.ckd_track.specs.Changes.{overwritten}
 use Rattle.volume_labels.specs.declared.fields.FreeTracks.{FreeTracks}
-use Rattle.volume_labels.specs.declared.fields.RecordAddress.{RecordAddress}
 use Rattle.volume_labels.specs.declared.extents.FreeSpaceBlock.{FreeSpaceBlock}
 use Rattle.volume_labels.specs.Fields.{free_tracks_at, record_address_at}
 use Rattle.space_allocation.specs.Blocks.{two}

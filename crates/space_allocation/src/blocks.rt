@@ -2,7 +2,7 @@
 
 ghost use Rattle.std.specs.Prelude.{◌≡◌};
 ghost use Rattle.volume_labels.specs.Labels.{data_set_block_of, contents_block_of};
-ghost use Rattle.space_allocation.specs.Blocks.{track_bytes, extent_bytes, numbers_bytes, length_bytes, last_bytes, data_set_data, data_set_read};
+ghost use Rattle.space_allocation.specs.Blocks.{track_bytes, record_bytes, extent_bytes, numbers_bytes, length_bytes, last_bytes, data_set_data, data_set_read};
 ghost use Rattle.space_allocation.specs.Blocks.{contents_data, contents_read};
 
 use ckd_track::overwrite;
@@ -39,6 +39,14 @@ fn track_bytes(track: TrackAddress) -> [u8; 4]
     let [c0, c1] = track.cylinder.to_be_bytes();
     let [h0, h1] = track.head.to_be_bytes();
     [c0, c1, h0, h1]
+}
+
+/// The address of a record in its five bytes.
+pub fn record_bytes(address: RecordAddress) -> [u8; 5]
+    ensures { result ≡ record_bytes address }
+{
+    let [c0, c1, h0, h1] = track_bytes(address.track);
+    [c0, c1, h0, h1, address.number]
 }
 
 // An extent in its ten bytes.

@@ -30,15 +30,13 @@ pub fn find_run(geometry: Geometry, runs: &[FreeTracks], first: u32, tracks: u32
     )
 }
 
-/// What is behind the first tracks of a run that has them, on a volume whose tracks have numbers of two bytes.
-pub fn run_behind(geometry: Geometry, run: FreeTracks, tracks: u32) -> FreeTracks
-    requires there { tracks ≤ tracks_in geometry run }
-    requires within { run.first + tracks_in geometry run ≤ tracks_of geometry }
+/// So many tracks from one on as a run, on a volume whose tracks have numbers of two bytes; zeros where there are none.
+pub fn run_of(geometry: Geometry, first: u32, tracks: u32) -> FreeTracks
+    requires within { first + tracks ≤ tracks_of geometry }
     requires near { tracks_of geometry ≤ 65536 }
-    ensures { result ≡ run_behind geometry run tracks }
+    ensures { result ≡ run_of geometry first tracks }
 {
-    let left = tracks_in(geometry, run) - tracks;
-    if left == 0 {
+    if tracks == 0 {
         return FreeTracks {
             first: 0,
             cylinders: 0,
@@ -47,14 +45,25 @@ pub fn run_behind(geometry: Geometry, run: FreeTracks, tracks: u32) -> FreeTrack
     }
     let heads = u32::from(geometry.model.heads());
     FreeTracks {
-        first: (u32::from(run.first) + tracks) as u16,
-        cylinders: (left / heads) as u16,
-        tracks: (left % heads) as u8,
+        first: first as u16,
+        cylinders: (tracks / heads) as u16,
+        tracks: (tracks % heads) as u8,
     }
 }
 
-// A run in its five bytes.
-fn run_bytes(run: FreeTracks) -> [u8; 5]
+/// What is behind the first tracks of a run that has them, on a volume whose tracks have numbers of two bytes.
+pub fn run_behind(geometry: Geometry, run: FreeTracks, tracks: u32) -> FreeTracks
+    requires there { tracks ≤ tracks_in geometry run }
+    requires within { run.first + tracks_in geometry run ≤ tracks_of geometry }
+    requires near { tracks_of geometry ≤ 65536 }
+    ensures { result ≡ run_behind geometry run tracks }
+{
+    let left = tracks_in(geometry, run) - tracks;
+    run_of(geometry, u32::from(run.first) + tracks, left)
+}
+
+/// A run in its five bytes.
+pub fn run_bytes(run: FreeTracks) -> [u8; 5]
     ensures { result ≡ run_bytes run }
 {
     let [f0, f1] = run.first.to_be_bytes();

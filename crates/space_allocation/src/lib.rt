@@ -8,8 +8,8 @@ mod free_space;
 mod runs;
 mod tables;
 
-pub use crate::blocks::{NewDataSet, contents_data, data_set_data};
+pub use crate::blocks::{NewDataSet, contents_data, data_set_data, record_bytes};
 pub use crate::extents::extent_of_run;
-pub use crate::free_space::{find_run, put_run, run_behind};
-pub use crate::runs::free_run;
+pub use crate::free_space::{find_run, put_run, run_behind, run_bytes, run_of};
+pub use crate::runs::{free_run, is_taken};
 pub use crate::tables::{fill_block, free_block};

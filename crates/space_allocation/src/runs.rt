@@ -39,8 +39,8 @@ fn has_track(model: DriveModel, track: u32, extent: Extent) -> bool
     number_of(model, extent.first) <= track && track <= number_of(model, extent.last)
 }
 
-// Whether one of the extents has a track of the volume.
-fn is_taken(geometry: Geometry, extents: &[Extent], track: u32) -> bool
+/// Whether one of the extents has a track of the volume.
+pub fn is_taken(geometry: Geometry, extents: &[Extent], track: u32) -> bool
     ensures { result ≡ is_taken geometry extents.now track }
 {
     let model = geometry.model;

@@ -12,4 +12,4 @@ pub use crate::blocks::{BlockChange, write_block};
 pub use crate::labels::{LabelFields, serial_change, write_label};
 pub use crate::names::new_set_name;
 pub use crate::refusal::Refusal;
-pub use crate::renames::plan_rename;
+pub use crate::renames::{find_set, plan_rename};

@@ -20,4 +20,13 @@ pub enum Refusal {
     /// A data set of the volume has the new name.
     #[error("a data set has the new name")]
     NameTaken,
+    /// Something is wrong with the volume's table of contents, its data sets or its free tracks.
+    #[error("the volume has findings")]
+    Findings,
+    /// Its control blocks have no room for the runs of its free tracks.
+    #[error("no room for its free tracks")]
+    NoRoom,
+    /// Read again, the changed volume does not say what it should.
+    #[error("the changed volume does not say what it should")]
+    Unconfirmed,
 }

@@ -17,8 +17,8 @@ fn has_name(block: &Block, name: &[u8]) -> bool
     is_data_set(block.kind) && without_blanks(&block.key) == without_blanks(name)
 }
 
-// The first format 1 block with this name.
-fn position_of(blocks: &[Block], name: &[u8]) -> Option<usize>
+/// Which of the blocks is the first of format 1 with this name, in EBCDIC, with blanks behind it or without.
+pub fn find_set(blocks: &[Block], name: &[u8]) -> Option<usize>
     ensures { result ≡ position (has_name name.now) blocks.now }
 {
     blocks.iter().position(
@@ -43,7 +43,7 @@ fn is_taken(blocks: &[Block], name: &[u8]) -> bool
 fn rename_block(blocks: &[Block], old: &[u8], new: [u8; 44]) -> Result<BlockChange, Refusal>
     ensures { result ≡ rename_at blocks.now new (position (has_name old.now) blocks.now) }
 {
-    let Some(i) = position_of(blocks, old) else {
+    let Some(i) = find_set(blocks, old) else {
         return Err(Refusal::NoDataSet);
     };
     if is_taken(blocks, &new) {

@@ -1,0 +1,99 @@
+//! A data set of the volume of an image in memory that is deleted.
+
+ghost use Rattle.std.specs.Prelude.{◌≡◌, length, true, Ok, IfOk, IfErr, OnOk};
+ghost use Rattle.volume_contents.specs.Contents.{contents_of, SaysOf};
+ghost use Rattle.volume_changes.specs.Volumes.{said_in};
+ghost use Rattle.deleted_sets.specs.Plans.{deletion_of, IsPlanned};
+ghost use Rattle.deleted_sets.specs.Volumes.{all_changed, confirmed, is_confirmed, deleted_by};
+ghost use Rattle.changed_volumes.specs.Changes.{IsSameImage, IsRefused, IsHinderedBy};
+
+use crate::fault::{ChangeFault, NO_MEMORY};
+use crate::images::{read_said, write_change};
+use ckd_image::Image;
+use dasd_files::VolumeFile;
+use dasd_jobs::JobFault;
+use deleted_sets::{DeletionPlan, PlanFault, is_confirmed, plan_deletion};
+use std::alloc::Global;
+use volume_changes::{BlockChange, Refusal};
+use volume_contents::{Block, Contents};
+
+/// Deletes a data set of the volume of an image that says this, by a slot of its size.
+///
+/// # Errors
+///
+/// The data set is not deleted, or there is no memory; the image then holds any bytes in the slots of its table of contents.
+pub(crate) fn delete(
+    alloc: Global,
+    image: &mut Image<VolumeFile>,
+    slot: &mut [u8],
+    contents: Contents,
+    name: &[u8; 44],
+) -> Result<(), ChangeFault>
+    requires size { length slot.old ≡ image.old.geometry.track_size }
+    ensures same { IsSameImage image.old image.new }
+    ensures slots { OnOk result (deleted_by image.old.geometry contents.found.blocks.items image.old.slots
+        (deletion_of image.old.geometry (said_in contents) name.now) ≡ Ok image.new.slots) }
+    ensures refused { IfErr result (λ e. IsRefused e (deleted_by image.old.geometry contents.found.blocks.items image.old.slots
+        (deletion_of image.old.geometry (said_in contents) name.now))) }
+{
+    let mut contents = contents;
+    let plan = plan_on(alloc, image, &mut contents, name)?;
+    write_changes(image, slot, plan.changes.as_slice())?;
+    confirm(alloc, image, contents.found.blocks.as_slice(), &plan)
+}
+
+// What is deleted with the data set.
+fn plan_on(
+    alloc: Global,
+    image: &Image<VolumeFile>,
+    contents: &mut Contents,
+    name: &[u8; 44],
+) -> Result<DeletionPlan, ChangeFault>
+    ensures planned { IfOk result (λ plan. deletion_of image.now.geometry (said_in contents.old) name.now
+        ≡ Ok (record { changes = plan.changes.items; marks = plan.marks.items })) }
+    ensures refused { IfErr result (λ e. IsRefused e (deletion_of image.now.geometry (said_in contents.old) name.now)) }
+    ensures blocks { contents.new.found.blocks ≡ contents.old.found.blocks }
+{
+    match plan_deletion(alloc, image.geometry(), contents, &name[..]) {
+        Ok(plan) => Ok(plan),
+        Err(PlanFault::Refused(refusal)) => Err(ChangeFault::Refused(refusal)),
+        Err(PlanFault::OutOfMemory) => Err(NO_MEMORY),
+    }
+}
+
+// Writes changes, one after another.
+fn write_changes(
+    image: &mut Image<VolumeFile>,
+    slot: &mut [u8],
+    changes: &[BlockChange],
+) -> Result<(), ChangeFault>
+    requires size { length slot.old ≡ image.old.geometry.track_size }
+    ensures same { IsSameImage image.old image.new }
+    ensures slots { OnOk result (image.new.slots ≡ all_changed image.old.geometry changes.now image.old.slots) }
+    ensures fault { IfErr result (λ e. e ≡ ChangeFault.Job JobFault.Store) }
+{
+    for change in changes {
+        write_change(image, slot, change)?;
+    }
+    Ok(())
+}
+
+// Looks whether the volume says behind them what it should.
+fn confirm(
+    alloc: Global,
+    image: &Image<VolumeFile>,
+    before: &[Block],
+    plan: &DeletionPlan,
+) -> Result<(), ChangeFault>
+    ensures confirmed { OnOk result (is_confirmed image.now.geometry before.now
+        (record { changes = plan.now.changes.items; marks = plan.now.marks.items }) (contents_of image.now.geometry image.now.slots) ≡ true) }
+    ensures refused { IfErr result (λ e. IsRefused e (confirmed image.now.geometry before.now
+        (record { changes = plan.now.changes.items; marks = plan.now.marks.items }) image.now.slots)) }
+{
+    let mut after = read_said(alloc, image)?;
+    match is_confirmed(alloc, image.geometry(), before, plan, &mut after) {
+        Ok(true) => Ok(()),
+        Ok(false) => Err(ChangeFault::Refused(Refusal::Unconfirmed)),
+        Err(_) => Err(NO_MEMORY),
+    }
+}

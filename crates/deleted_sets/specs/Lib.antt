@@ -1,0 +1,4 @@
+pub mod Runs
+pub mod Blocks
+pub mod Plans
+pub mod Volumes
