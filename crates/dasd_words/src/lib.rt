@@ -13,6 +13,7 @@ mod hash;
 mod label;
 mod list;
 mod listings;
+mod loads;
 mod options;
 mod record_words;
 mod refused;
@@ -28,8 +29,8 @@ pub use crate::refused::{
 };
 pub use crate::requests::{
     Asked, AskedTrace, ComparedVolumes, DeckRun, DetailedVolume, DumpedPart, ExtractedSet,
-    ExtractedTracks, ExtractedVolume, HashedVolume, ListedLibrary, ListedPart, NewImage, Noted,
-    Numbers, PrintedVolume, RelabelledVolume, RenamedSet, Request, SetName, StrictCheck,
-    TraceTarget, WordFault,
+    ExtractedTracks, ExtractedVolume, HashedVolume, ListedLibrary, ListedPart, LoadedFile,
+    NewImage, Noted, Numbers, PrintedVolume, RelabelledVolume, RenamedSet, Request, SetName,
+    StrictCheck, TraceTarget, WordFault,
 };
 pub use crate::volumes::{Volume, VolumeSource};
