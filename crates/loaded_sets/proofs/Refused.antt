@@ -7,8 +7,8 @@ use Rattle.changed_volumes.specs.Files.{ReadsImage}
 use Rattle.loaded_sets.specs.declared.fault.LoadFault.{LoadFault}
 use Rattle.loaded_sets.specs.declared.fault.LoadFault.TheVariants as fault
 use Rattle.loaded_sets.specs.declared.plans.LoadedSet.{LoadedSet}
+use Rattle.loaded_sets.specs.Loaded.{IsNotLoaded}
 use Rattle.loaded_sets.specs.Loads.{LoadsFiles}
-use Rattle.loaded_sets.specs.Volumes.{IsUnsaved}
 
 -- an image was read, behind a call that opened nothing
 pub read_behind : (paths : List (List ℕ)) (i : ImageState) (before between now : List SourceFile) → between ≡ before
@@ -19,8 +19,8 @@ read_behind paths i before between now same holds whole =
 
 -- an image was read, and no file is written
 pub not_loaded : (f : LoadFault) (set : LoadedSet) (paths : List (List ℕ)) (i : ImageState) (opened_before opened : List SourceFile)
-    (before now : List Replaced) → IsUnsaved f → ReadsImage paths i opened_before opened → now ≡ before
+    (before now : List Replaced) → IsNotLoaded f set i.geometry i.slots → ReadsImage paths i opened_before opened → now ≡ before
     → LoadsFiles (Err f) set paths opened_before opened before now
-not_loaded (fault.Refused r) set paths i ob o b n why reads same = (inr (i, reads), same)
-not_loaded (fault.Job f) set paths i ob o b n why reads same = (inr (i, reads), same)
+not_loaded (fault.Refused r) set paths i ob o b n why reads same = (record { image = i; reads = reads; refused = why }, same)
+not_loaded (fault.Job f) set paths i ob o b n why reads same = (inr (why, i, reads), same)
 not_loaded (fault.Save f) set paths i ob o b n why reads same = elim why [ ]

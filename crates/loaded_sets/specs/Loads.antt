@@ -7,18 +7,17 @@ use Rattle.ckd_image.specs.Image.{ImageState}
 use Rattle.dasd_extract.specs.Names.{Names}
 use Rattle.dasd_jobs.specs.Back.{WritesBack}
 use Rattle.dasd_jobs.specs.Sources.{SourceFile, ReadsFront}
-use Rattle.dasd_jobs.specs.Unopened.{NotRead}
 use Rattle.dasd_jobs.specs.Written.{Replaced}
 use Rattle.dasd_jobs.specs.declared.faults.JobFault.{JobFault}
 use Rattle.dasd_jobs.specs.declared.faults.JobFault.TheVariants as job
 use Rattle.volume_changes.specs.Names.{is_set_name}
 use Rattle.volume_changes.specs.declared.refusal.Refusal.TheVariants.{NoName}
 use Rattle.changed_volumes.specs.Changes.{IsSameImage}
-use Rattle.changed_volumes.specs.Files.{Around, ReadsImage}
-use Rattle.volume_contents.specs.Contents.{contents_of}
-use Rattle.loaded_sets.specs.Volumes.{IsWhole}
+use Rattle.changed_volumes.specs.Files.{Around, ReadsImage, Hinders}
+use Rattle.loaded_sets.specs.Loaded.{Loaded, Refuses}
 use Rattle.loaded_sets.specs.declared.fault.LoadFault.{LoadFault}
 use Rattle.loaded_sets.specs.declared.fault.LoadFault.TheVariants as fault
+use Rattle.loaded_sets.specs.declared.fault.LoadRefusal.{LoadRefusal}
 use Rattle.loaded_sets.specs.declared.fault.LoadRefusal.TheVariants as refusal
 use Rattle.loaded_sets.specs.declared.plans.LoadedSet.{LoadedSet}
 use Rattle.loaded_sets.specs.declared.saves.NewSet.{NewSet}
@@ -28,21 +27,22 @@ abbrev pub loaded_line : (name : List ℕ) → (tracks : ℕ) → List ℕ
 loaded_line name tracks =
     concat (codes "loaded " ∷ name ∷ codes " " ∷ decimal tracks ∷ (if tracks == 1 then codes " track" else codes " tracks") ∷ (10 ∷ []) ∷ [])
 
--- The volume in the files at these paths was read whole and became one of the same size, both of them with nothing wrong, and the files of it
--- that changed were written; or those before one of them, at which it stopped.
+-- The volume in the files at these paths was read whole, got the data set, and the files of it that changed were written; or those before
+-- one of them, at which it stopped.
 pub record SavesLoaded {A : Type 0} (result : Result A JobFault) (set : LoadedSet) (tracks : ℕ) (paths : List (List ℕ))
     (opened_before opened : List SourceFile) (before now : List Replaced) : Type 0 where
   pub image : ImageState
   pub changed : ImageState
   pub reads : ReadsImage paths image opened_before opened
   pub same : IsSameImage image changed
-  pub whole : IsWhole image.geometry (contents_of image.geometry image.slots)
-  pub loaded : IsWhole image.geometry (contents_of image.geometry changed.slots)
+  pub loaded : Loaded set image.geometry image.slots tracks changed.slots
   pub saves : WritesBack result paths changed before now
 
--- the files were read whole, or not
-abbrev pub LeavesFiles : (paths : List (List ℕ)) → (before now : List SourceFile) → Type 0
-LeavesFiles paths before now = ((f : JobFault) × NotRead f paths before now) ⊎ ((i : ImageState) × ReadsImage paths i before now)
+-- the volume in the files does not get the data set, for this reason
+pub record RefusesSet (refusal : LoadRefusal) (set : LoadedSet) (paths : List (List ℕ)) (before now : List SourceFile) : Type 0 where
+  pub image : ImageState
+  pub reads : ReadsImage paths image before now
+  pub refused : Refuses refusal set image.geometry image.slots
 
 -- A data set is put onto the volume in files, which are saved, or in part; or no file is written.
 abbrev pub LoadsFiles : Result ℕ LoadFault → LoadedSet → (paths : List (List ℕ)) → (opened_before opened : List SourceFile)
@@ -51,8 +51,8 @@ LoadsFiles (Ok tracks) set paths opened_before opened before now =
     SavesLoaded {A = Unit {0}} (Ok tt) set tracks paths opened_before opened before now
 LoadsFiles (Err (fault.Save f)) set paths opened_before opened before now =
     (tracks : ℕ) × SavesLoaded {A = Unit {0}} (Err f) set tracks paths opened_before opened before now
-LoadsFiles (Err (fault.Refused r)) set paths opened_before opened before now = LeavesFiles paths opened_before opened × (now ≡ before)
-LoadsFiles (Err (fault.Job f)) set paths opened_before opened before now = LeavesFiles paths opened_before opened × (now ≡ before)
+LoadsFiles (Err (fault.Refused r)) set paths opened_before opened before now = RefusesSet r set paths opened_before opened × (now ≡ before)
+LoadsFiles (Err (fault.Job f)) set paths opened_before opened before now = Hinders f paths opened_before opened × (now ≡ before)
 
 -- The same, and a line is printed; with a write fault it may be only its beginning, and a write or a flush has failed. With every other
 -- fault nothing is printed.

@@ -1,7 +1,8 @@
 //! Why a data set was not put onto a volume.
 
 ghost use Rattle.std.specs.Prelude.{◌≡◌};
-ghost use Rattle.loaded_sets.specs.Volumes.{file_fault, written_line, IsUnsaved};
+ghost use Rattle.changed_volumes.specs.Changes.{IsHinderedBy as IsChangeHindered};
+ghost use Rattle.loaded_sets.specs.Parts.{file_fault, written_line, IsHinderedBy};
 
 use changed_volumes::ChangeFault;
 use counted_io::WriteFault;
@@ -17,7 +18,7 @@ pub enum LoadRefusal {
     /// The name is none, or the volume has no label or no table of contents.
     #[error(transparent)]
     Volume(Refusal),
-    /// Something is wrong with the volume, or would be with the data set on it.
+    /// Something is wrong with the volume.
     #[error("the volume has findings")]
     Findings,
     /// A data set of the volume has the name.
@@ -35,6 +36,9 @@ pub enum LoadRefusal {
     /// The table of contents has no free control block.
     #[error("no free control block in the volume table of contents")]
     NoFreeBlock,
+    /// With the data set on it the volume would not say of itself what it should.
+    #[error("the volume would not be whole with the data set")]
+    Unconfirmed,
 }
 
 /// Why a data set was not put onto a volume in files, or not told to be.
@@ -64,12 +68,14 @@ pub(crate) fn refused(refusal: LoadRefusal) -> LoadFault
     LoadFault::Refused(refusal)
 }
 
-/// What a fault of a volume that is changed is.
-pub(crate) fn of_change(fault: ChangeFault) -> LoadFault {
+/// What a fault of a volume that is read of memory is.
+pub(crate) fn of_reading(fault: ChangeFault) -> LoadFault
+    requires { IsChangeHindered fault }
+    ensures { IsHinderedBy result }
+{
     match fault {
-        ChangeFault::Refused(refusal) => LoadFault::Refused(LoadRefusal::Volume(refusal)),
         ChangeFault::Job(fault) => LoadFault::Job(fault),
-        ChangeFault::Save(fault) => LoadFault::Save(fault),
+        _ => NO_MEMORY,
     }
 }
 
@@ -80,16 +86,6 @@ pub(crate) fn of_file(fault: FileFault) -> LoadFault
     match fault {
         FileFault::OutOfMemory => NO_MEMORY,
         _ => LoadFault::Job(JobFault::Read),
-    }
-}
-
-/// What a fault is before a file is saved.
-pub(crate) fn unsaved(fault: LoadFault) -> LoadFault
-    ensures { IsUnsaved result }
-{
-    match fault {
-        LoadFault::Save(fault) => LoadFault::Job(fault),
-        _ => fault,
     }
 }
 

@@ -2,6 +2,7 @@
 //! control block of a new data set. The files of the volume are read whole, and those that changed are saved as a run saves them.
 #![tactic(auto)]
 
+mod confirms;
 mod fault;
 mod images;
 mod lines;

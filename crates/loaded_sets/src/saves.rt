@@ -5,7 +5,7 @@ ghost use Rattle.counted_io.specs.Streams.{seen_by, IsFlushed};
 ghost use Rattle.dasd_jobs.specs.Sources.{ReadsFront};
 ghost use Rattle.loaded_sets.specs.Loads.{LoadsSet, LoadsFiles, TellsLoad};
 
-use crate::fault::{LoadFault, LoadRefusal, of_file, of_line, refused, unsaved};
+use crate::fault::{LoadFault, LoadRefusal, of_file, of_line, refused};
 use crate::images::load_image;
 use crate::lines::write_loaded;
 use crate::plans::LoadedSet;
@@ -120,7 +120,7 @@ fn load_files<F: ImageFiles>(
     };
     let tracks = match load_image(alloc, &mut image, set) {
         Ok(tracks) => tracks,
-        Err(fault) => return Err(unsaved(fault)),
+        Err(fault) => return Err(fault),
     };
     match write_back(alloc, files, volume.paths, image) {
         Ok(()) => Ok(tracks),
