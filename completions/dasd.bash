@@ -15,7 +15,7 @@ _dasd() {
     local word=${COMP_WORDS[COMP_CWORD]} before=${COMP_WORDS[COMP_CWORD - 1]} command=${COMP_WORDS[1]}
     COMPREPLY=()
     if [ "$COMP_CWORD" -eq 1 ]; then
-        _dasd_words format list check dump compare hash vtoc extract rename delete relabel explain assemble disassemble run help --verbose -h --help -V --version
+        _dasd_words format list check dump compare hash vtoc extract load rename relabel explain assemble disassemble run help --verbose -h --help -V --version
         return
     fi
     case $command:$before in
@@ -58,6 +58,19 @@ _dasd() {
     extract:--block-length)
         return
         ;;
+    load:--from)
+        _dasd_files
+        return
+        ;;
+    load:--record-format)
+        return
+        ;;
+    load:--record-length)
+        return
+        ;;
+    load:--block-length)
+        return
+        ;;
     relabel:--label)
         return
         ;;
@@ -88,7 +101,7 @@ _dasd() {
     esac
     case $command in
     help)
-        [ "$COMP_CWORD" -eq 2 ] && _dasd_words format list check dump compare hash vtoc extract rename delete relabel explain assemble disassemble run help
+        [ "$COMP_CWORD" -eq 2 ] && _dasd_words format list check dump compare hash vtoc extract load rename relabel explain assemble disassemble run help
         ;;
     format)
         if [[ $word == -* ]]; then _dasd_words --model --cylinders --label --owner --vtoc --vtoc-at --no-replace --verbose -h --help; return; fi
@@ -120,6 +133,10 @@ _dasd() {
         ;;
     extract)
         if [[ $word == -* ]]; then _dasd_words --to --all --text --record-format --record-length --block-length --raw --list --as-far-as-it-goes --json --verbose -h --help; return; fi
+        _dasd_files
+        ;;
+    load)
+        if [[ $word == -* ]]; then _dasd_words --from --record-format --record-length --block-length --replace --verbose -h --help; return; fi
         _dasd_files
         ;;
     rename)

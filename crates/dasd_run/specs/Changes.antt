@@ -10,8 +10,13 @@ use Rattle.dasd_run.specs.declared.fault.ProgramFault.{ProgramFault}
 use Rattle.dasd_run.specs.declared.fault.ProgramFault.TheVariants as fault
 use Rattle.dasd_run.specs.Outside.{Outside}
 use Rattle.dasd_words.specs.declared.requests.DeletedSet.{DeletedSet}
+use Rattle.dasd_words.specs.declared.requests.LoadedFile.{LoadedFile}
 use Rattle.dasd_words.specs.declared.requests.RelabelledVolume.{RelabelledVolume}
 use Rattle.dasd_words.specs.declared.requests.RenamedSet.{RenamedSet}
+use Rattle.loaded_sets.specs.declared.fault.LoadFault.{LoadFault}
+use Rattle.loaded_sets.specs.declared.fault.LoadFault.TheVariants as load
+use Rattle.loaded_sets.specs.declared.saves.NewSet.{NewSet}
+use Rattle.loaded_sets.specs.Loads.{LoadsSet}
 use Rattle.volume_changes.specs.Volumes.{relabelled}
 
 -- how a command ends where a change of a volume ended so
@@ -43,3 +48,17 @@ RelabelsAsked result asked before now =
     (job : Result (Unit {0}) ChangeFault) × (result ≡ change_ending job)
     × TellsChange job (relabelled (record { serial = asked.serial; owner = asked.owner })) (map (λ path. path.now) asked.paths.items)
     relabelled_line before now × OnOk job (IsFlushed now.printed)
+
+-- how a command ends where a data set was put onto a volume, or not
+abbrev pub load_ending : {A : Type 0} → Result A LoadFault → Result Ending ProgramFault
+load_ending (Ok _) = Ok Done
+load_ending (Err (load.Refused refusal)) = Err (fault.Load refusal)
+load_ending (Err (load.Job f)) = Err (fault.Job f)
+load_ending (Err (load.Save f)) = Err (fault.Save f)
+
+-- the data set that is asked for is put onto the volume, and its line printed and flushed
+abbrev pub LoadsAsked : Result Ending ProgramFault → LoadedFile → (before now : Around) → Type 0
+LoadsAsked result asked before now =
+    (job : Result (Unit {0}) LoadFault) × (result ≡ load_ending job)
+    × LoadsSet job (record { name = asked.name; source = asked.source; attributes = asked.attributes }) (map (λ path. path.now) asked.paths.items)
+    before now × OnOk job (IsFlushed now.printed)

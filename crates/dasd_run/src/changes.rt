@@ -2,7 +2,7 @@
 
 ghost use Rattle.std.specs.Prelude.{◌≡◌, true, IfErr};
 ghost use Rattle.counted_io.specs.Streams.{seen_by};
-ghost use Rattle.dasd_run.specs.Changes.{change_ending, RenamesAsked, DeletesAsked, RelabelsAsked};
+ghost use Rattle.dasd_run.specs.Changes.{change_ending, load_ending, RenamesAsked, DeletesAsked, RelabelsAsked, LoadsAsked};
 ghost use Rattle.dasd_run.specs.Faults.{keeps_files};
 
 use crate::commands::Ending;
@@ -12,7 +12,8 @@ use changed_volumes::{
 };
 use counted_io::Counted;
 use dasd_jobs::ImageFiles;
-use dasd_words::{DeletedSet, RelabelledVolume, RenamedSet};
+use dasd_words::{DeletedSet, LoadedFile, RelabelledVolume, RenamedSet};
+use loaded_sets::{LoadFault, NewSet, load_set};
 use std::alloc::Global;
 use std::io::Write;
 use volume_changes::LabelFields;
@@ -116,4 +117,48 @@ pub(crate) fn relabel<F: ImageFiles, W: Write>(
         owner: asked.owner,
     };
     change_ending(relabel_volume(alloc, files, writer, &volume, fields))
+}
+
+// How a command ends that put a data set onto a volume.
+fn load_ending(loaded: Result<(), LoadFault>) -> Result<Ending, ProgramFault>
+    ensures { result ≡ load_ending loaded }
+{
+    match loaded {
+        Ok(()) => Ok(Ending::Done),
+        Err(LoadFault::Refused(refusal)) => Err(ProgramFault::Load(refusal)),
+        Err(LoadFault::Job(fault)) => Err(ProgramFault::Job(fault)),
+        Err(LoadFault::Save(fault)) => Err(ProgramFault::Save(fault)),
+    }
+}
+
+/// Puts the blocks of a file onto the volume of its files as a data set.
+pub(crate) fn load_file<F: ImageFiles, W: Write>(
+    alloc: Global,
+    files: &mut F,
+    writer: &mut Counted<W>,
+    asked: &LoadedFile,
+) -> Result<Ending, ProgramFault>
+    ensures keeps { IfErr result (λ e. keeps_files e ≡ true → F.written files.new ≡ F.written files.old) }
+    ensures loads { LoadsAsked result asked.now
+        (record {
+          opened = F.opened files.old;
+          written = F.written files.old;
+          printed = seen_by W.contents writer.old;
+        })
+        (record {
+          opened = F.opened files.new;
+          written = F.written files.new;
+          printed = seen_by W.contents writer.new;
+        }) }
+{
+    let volume = ChangedVolume {
+        paths: asked.paths.as_slice(),
+        replaces: asked.replaces,
+    };
+    let set = NewSet {
+        name: asked.name,
+        source: asked.source,
+        attributes: asked.attributes,
+    };
+    load_ending(load_set(alloc, files, writer, &volume, &set))
 }

@@ -10,7 +10,7 @@ ghost use Rattle.dasd_run.specs.Runs.{RunsOrStops, Tells};
 ghost use Rattle.dasd_run.specs.Saves.{Concludes, Ends, plan_of, unsaved_ending};
 
 use crate::archive::{compare_both, dump_part};
-use crate::changes::{delete_set, relabel, rename_set};
+use crate::changes::{delete_set, load_file, relabel, rename_set};
 use crate::decks::{read_deck, run_deck, tell_fault};
 use crate::details::{list_details, list_library};
 use crate::explain::explain;
@@ -125,6 +125,7 @@ pub fn answer<F: Traces, R: Read, W: Write, P: Progress>(
         Request::Rename(asked) => rename_set(alloc, files, writer, &asked),
         Request::Delete(asked) => delete_set(alloc, files, writer, &asked),
         Request::Relabel(asked) => relabel(alloc, files, writer, &asked),
+        Request::Load(asked) => load_file(alloc, files, writer, &asked),
         Request::Explain(noted) => explain(writer, noted),
         Request::Assemble(path) => assemble_text(alloc, files, reader, writer, path),
         Request::Disassemble(path) => disassemble_deck(alloc, files, reader, writer, path),

@@ -7,6 +7,7 @@ use dasd_jobs::JobFault;
 use dasd_unload::UnloadFault;
 use dasd_volumes::VolumeFault;
 use dasd_words::WordFault;
+use loaded_sets::LoadRefusal;
 use new_labels::TableFault;
 use s360_assembler::AssemblyFault;
 use s360_channel::AttachFault;
@@ -58,6 +59,9 @@ pub enum ProgramFault {
     /// A volume is not changed as it was asked, and stays as it was.
     #[error(transparent)]
     Change(Refusal),
+    /// A volume does not get a data set as it was asked, and stays as it was.
+    #[error(transparent)]
+    Load(LoadRefusal),
     /// The file of a trace can't be opened.
     #[error("trace file not opened")]
     TraceNotOpened,

@@ -20,7 +20,7 @@ const NO_NAME: &str =
 const NO_FIELD: &str = "error: relabel takes --label, --owner or both\n";
 
 /// The option for files that don't keep their place.
-const REPLACE: ArgRow = ArgRow {
+pub(crate) const REPLACE: ArgRow = ArgRow {
     id: "replace",
     help: "puts a new file in the place of an image that was changed, and does not write over its bytes",
     kind: ArgKind::Flag,

@@ -2,7 +2,7 @@
 
 use crate::options::{CommandRow, VERBOSE, command, with_arg};
 use crate::requests::{Asked, Request, WordFault};
-use crate::{archive, assembler, changes, explain, extract, format, hash, list, run, vtoc};
+use crate::{archive, assembler, changes, explain, extract, format, hash, list, loads, run, vtoc};
 use clap::error::ErrorKind;
 use clap::{ArgMatches, Command, Error};
 use std::alloc::{AllocError, Global};
@@ -10,7 +10,7 @@ use std::alloc::{AllocError, Global};
 pub(crate) const NO_PATH: &str = "error: no path\n";
 
 /// The commands over volumes, in the order of the help.
-static VOLUME_COMMANDS: [CommandRow; 11] = [
+static VOLUME_COMMANDS: [CommandRow; 8] = [
     format::COMMAND,
     list::COMMAND,
     archive::CHECK,
@@ -19,6 +19,11 @@ static VOLUME_COMMANDS: [CommandRow; 11] = [
     hash::COMMAND,
     vtoc::COMMAND,
     extract::COMMAND,
+];
+
+/// The commands that change a volume, in the order of the help.
+static CHANGE_COMMANDS: [CommandRow; 4] = [
+    loads::COMMAND,
     changes::RENAME,
     changes::DELETE,
     changes::RELABEL,
@@ -38,9 +43,20 @@ fn dasd_command<'a>(alloc: Global) -> Result<Command<'a>, AllocError> {
         .version("1.1.0")
         .after_help("Example: dasd run 90=new:2311:1 < deck.txt")
         .subcommand_required(true);
-    let dasd = with_commands(alloc, dasd, &VOLUME_COMMANDS)?;
+    let dasd = with_volumes(alloc, dasd)?;
+    let dasd = with_changes(alloc, dasd)?;
     let dasd = with_commands(alloc, dasd, &DECK_COMMANDS)?;
     with_arg(alloc, dasd, &VERBOSE)
+}
+
+// The program with the commands more that only look at volumes, or make one.
+fn with_volumes<'a>(alloc: Global, dasd: Command<'a>) -> Result<Command<'a>, AllocError> {
+    with_commands(alloc, dasd, &VOLUME_COMMANDS)
+}
+
+// The program with the commands more that change a volume.
+fn with_changes<'a>(alloc: Global, dasd: Command<'a>) -> Result<Command<'a>, AllocError> {
+    with_commands(alloc, dasd, &CHANGE_COMMANDS)
 }
 
 // The program with the commands of these rows more.
@@ -115,6 +131,7 @@ fn read_request<'a>(
         "hash" => hash::read(alloc, options),
         "vtoc" => vtoc::read(alloc, options),
         "extract" => extract::read(alloc, options),
+        "load" => loads::read(alloc, options),
         "rename" => changes::read_rename(alloc, options),
         "delete" => changes::read_delete(alloc, options),
         "relabel" => changes::read_relabel(alloc, options),

@@ -13,6 +13,7 @@ mod hash;
 mod label;
 mod list;
 mod listings;
+mod loads;
 mod options;
 mod record_words;
 mod refused;
@@ -29,7 +30,7 @@ pub use crate::refused::{
 pub use crate::requests::{
     Asked, AskedTrace, ComparedVolumes, DeckRun, DeletedSet, DetailedVolume, DumpedPart,
     ExtractedSet, ExtractedTracks, ExtractedVolume, HashedVolume, ListedLibrary, ListedPart,
-    NewImage, Noted, Numbers, PrintedVolume, RelabelledVolume, RenamedSet, Request, SetName,
-    StrictCheck, TraceTarget, WordFault,
+    LoadedFile, NewImage, Noted, Numbers, PrintedVolume, RelabelledVolume, RenamedSet, Request,
+    SetName, StrictCheck, TraceTarget, WordFault,
 };
 pub use crate::volumes::{Volume, VolumeSource};

@@ -48,6 +48,10 @@ const NEEDS_TEXT: &str = "error: --record-format goes with --text\n";
 
 const NEEDS_FORMAT: &str = "error: --record-length and --block-length go with --record-format\n";
 
+const NO_FORMAT: &str = "error: load takes --record-format\n";
+
+const NO_BLOCK_LENGTH: &str = "error: load takes --block-length\n";
+
 const UNDEFINED_LENGTH: &str = "error: records of format U have no --record-length\n";
 
 const BAD_LENGTHS: &str = "\
@@ -91,6 +95,30 @@ pub(crate) fn read_given(
         Err(AttributeFault::Lengths) => Err(wrong(alloc, BAD_LENGTHS)),
         _ => Ok(Some(given)),
     }
+}
+
+/// What words give of the records of a data set that is put onto a volume: a format and a block length, and nothing that contradicts
+/// itself.
+pub(crate) fn read_attributes(
+    alloc: Global,
+    options: &ArgMatches,
+) -> Result<RecordAttributes, WordFault> {
+    let record_length = read_length(alloc, options, "record-length")?;
+    let block_length = read_length(alloc, options, "block-length")?;
+    let Some(word) = options.get_str("record-format") else {
+        return Err(wrong(alloc, NO_FORMAT));
+    };
+    let Some(format) = format_of(word) else {
+        return Err(not_taken(alloc, "record-format", FORMAT_RULE, word));
+    };
+    if block_length == 0 {
+        return Err(wrong(alloc, NO_BLOCK_LENGTH));
+    }
+    Ok(RecordAttributes {
+        format,
+        record_length,
+        block_length,
+    })
 }
 
 // The bits of a label that a record format is written as (System Control Blocks, DS1RECFM).

@@ -103,6 +103,8 @@ pub enum Request<'a> {
     Delete(DeletedSet<'a>),
     /// Change what the label of a volume says.
     Relabel(RelabelledVolume<'a>),
+    /// Put a data set onto a volume.
+    Load(LoadedFile<'a>),
     /// Say in words what a number means.
     Explain(Noted),
     /// Print the deck of a text in words, which is the file at this path, or standard input.
@@ -272,6 +274,21 @@ pub struct RelabelledVolume<'a> {
     pub serial: Option<[u8; 6]>,
     /// The owner's name, in EBCDIC.
     pub owner: Option<[u8; 10]>,
+}
+
+/// A file whose bytes are the blocks of a data set that is put onto a volume.
+#[derive(Drop)]
+pub struct LoadedFile<'a> {
+    /// The files of the image.
+    pub paths: Vec<&'a str>,
+    /// Whether a new file takes the place of each that changed; if not, each keeps its place.
+    pub replaces: bool,
+    /// The name of the data set.
+    pub name: &'a str,
+    /// The path of the file.
+    pub source: &'a str,
+    /// The format of its records, and the lengths of these and of blocks.
+    pub attributes: RecordAttributes,
 }
 
 /// The name of a data set or of a member of one.

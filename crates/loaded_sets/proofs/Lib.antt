@@ -1,0 +1,4 @@
+mod Read
+mod Refused
+mod Tracks
+mod Within

@@ -1,0 +1,129 @@
+//! A volume in files that gets a data set and is saved.
+
+ghost use Rattle.std.specs.Prelude.{◌≡◌, ◌≤◌, length, map, OnOk, IfOk, IfErr, OnErr};
+ghost use Rattle.counted_io.specs.Streams.{seen_by, IsFlushed};
+ghost use Rattle.dasd_jobs.specs.Sources.{ReadsFront};
+ghost use Rattle.loaded_sets.specs.Loads.{LoadsSet, LoadsFiles, TellsLoad};
+
+use crate::fault::{LoadFault, LoadRefusal, of_file, of_line, refused};
+use crate::images::load_image;
+use crate::lines::write_loaded;
+use crate::plans::LoadedSet;
+use changed_volumes::{ChangedVolume, save_plan};
+use counted_io::Counted;
+use dasd_jobs::{ImageFiles, read_image, write_back};
+use record_formats::RecordAttributes;
+use std::alloc::Global;
+use std::io::Write;
+use volume_changes::{Refusal, new_set_name};
+
+/// More bytes than a volume has room for: of 65,535 cylinders with 20 heads, whose tracks have 7,294 bytes each.
+const MOST_BYTES: usize = 9_560_245_800;
+
+/// A data set that is put onto a volume.
+#[derive(Clone, Copy)]
+pub struct NewSet<'a> {
+    /// Its name.
+    pub name: &'a str,
+    /// The path of the file that has its blocks, one behind another.
+    pub source: &'a str,
+    /// The format of its records, and the lengths of these and of blocks.
+    pub attributes: RecordAttributes,
+}
+
+/// Puts a data set onto the volume in files, saves the files that changed, and prints what was loaded. The files of the volume are locked
+/// and read whole before, behind the one with the blocks.
+///
+/// # Errors
+///
+/// The name is none, before a file is opened. The file with the blocks or those of the volume are not read; the volume does not get the
+/// data set; or there is no memory: no file is written. A file can't be saved: it holds what it held, and so do those behind it. Of all
+/// these nothing is printed. Or the line can't be written, and the files are saved.
+pub fn load_set<F: ImageFiles, W: Write>(
+    alloc: Global,
+    files: &mut F,
+    writer: &mut Counted<W>,
+    volume: &ChangedVolume,
+    asked: &NewSet,
+) -> Result<(), LoadFault>
+    ensures loads { LoadsSet result asked.now (map (λ path. path.now) volume.now.paths.now)
+        (record {
+          opened = F.opened files.old;
+          written = F.written files.old;
+          printed = seen_by W.contents writer.old;
+        })
+        (record {
+          opened = F.opened files.new;
+          written = F.written files.new;
+          printed = seen_by W.contents writer.new;
+        }) }
+    ensures flushed { OnOk result (IsFlushed (seen_by W.contents writer.new)) }
+{
+    let Some(name) = new_set_name(asked.name) else {
+        return Err(refused(LoadRefusal::Volume(Refusal::NoName)));
+    };
+    let bytes = match files.read(alloc, asked.source, MOST_BYTES) {
+        Ok(bytes) => bytes,
+        Err(fault) => return Err(of_file(fault)),
+    };
+    let set = LoadedSet {
+        name,
+        bytes: bytes.as_slice(),
+        attributes: asked.attributes,
+    };
+    load_and_tell(alloc, files, writer, volume, (&set, asked.name))
+}
+
+// Puts a data set of a name onto the volume in files, saves those that changed, and prints what was loaded.
+fn load_and_tell<F: ImageFiles, W: Write>(
+    alloc: Global,
+    files: &mut F,
+    writer: &mut Counted<W>,
+    volume: &ChangedVolume,
+    named: (&LoadedSet, &str),
+) -> Result<(), LoadFault>
+    requires name { length named.1.now ≤ 44 }
+    ensures tells { TellsLoad result named.entry.0.now named.entry.1.now (map (λ path. path.now) volume.now.paths.now)
+        (record {
+          opened = F.opened files.old;
+          written = F.written files.old;
+          printed = seen_by W.contents writer.old;
+        })
+        (record {
+          opened = F.opened files.new;
+          written = F.written files.new;
+          printed = seen_by W.contents writer.new;
+        }) }
+    ensures flushed { OnOk result (IsFlushed (seen_by W.contents writer.new)) }
+{
+    let (set, name) = named;
+    match load_files(alloc, files, volume, set) {
+        Ok(tracks) => of_line(write_loaded(writer, name, tracks)),
+        Err(fault) => Err(fault),
+    }
+}
+
+// Puts a data set onto the volume in files, and saves those of them that changed.
+fn load_files<F: ImageFiles>(
+    alloc: Global,
+    files: &mut F,
+    volume: &ChangedVolume,
+    set: &LoadedSet,
+) -> Result<u32, LoadFault>
+    ensures { LoadsFiles result set.now (map (λ path. path.now) volume.now.paths.now)
+        (F.opened files.old) (F.opened files.new) (F.written files.old) (F.written files.new) }
+{
+    files.plan_saving(save_plan(volume));
+    let mut image = match read_image(alloc, files, volume.paths) {
+        Ok(image) => image,
+        Err(fault) => return Err(LoadFault::Job(fault)),
+    };
+    let tracks = match load_image(alloc, &mut image, set) {
+        Ok(tracks) => tracks,
+        Err(fault) => return Err(fault),
+    };
+    match write_back(alloc, files, volume.paths, image) {
+        Ok(()) => Ok(tracks),
+        Err(fault) => Err(LoadFault::Save(fault)),
+    }
+}
