@@ -1,6 +1,6 @@
 #!/bin/sh
 # face.sh CXX ARCHIVE OUT: dasd.hpp has each call and each fault of dasd.h, with its text; and face.cpp passes, without a warning and under
-# sanitizers, by each C++ compiler that is here and for each standard that it knows.
+# sanitizers, by each C++ compiler that is here and for each standard that it knows. Of a call with a size it has the header's face.
 set -eu
 cxx=$1 archive=$2 out=$3
 here=$(dirname "$0")
@@ -9,7 +9,7 @@ trap 'rm -rf "$work"' EXIT
 wrap=-Wl,--wrap=dasd_lent_sio,--wrap=dasd_check,--wrap=dasd_attach,--wrap=dasd_peek,--wrap=dasd_poke
 warnings="-Wall -Wextra -Wpedantic -Wshadow -Wconversion -Werror"
 
-sed -n 's/^u\{0,1\}int32_t \(dasd_[a-z_]*\)(.*/\1/p' "$here/../dasd.h" | sort > "$work/declared"
+sed -n 's/^u\{0,1\}int32_t \(dasd_[a-z_]*\)(.*/\1/p' "$here/../dasd.h" | sed 's/_sized$//' | sort > "$work/declared"
 grep -o 'dasd_[a-z_]*(' "$here/../dasd.hpp" | tr -d '(' | sort -u > "$work/called"
 diff "$work/declared" "$work/called"
 sed -n 's|^ *\(DASD_[A-Z_0-9]*\) = \(-[0-9]*\),\{0,1\} */\* \(.*\) \*/$|\1 \2 \3|p' "$here/../dasd.h" > "$work/faults"
