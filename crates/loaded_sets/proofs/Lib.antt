@@ -1,3 +1,5 @@
+mod Fits
+mod Put
 mod Read
 mod Refused
 mod Tracks

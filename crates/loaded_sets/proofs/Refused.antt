@@ -1,5 +1,5 @@
 -- A volume in files that gets no data set.
-use Rattle.std.proofs.Common.{◌≡◌, List, ℕ, Err, inr, subst}
+use Rattle.std.proofs.Common.{◌≡◌, List, ℕ, Ok, Err, inr, subst}
 use Rattle.ckd_image.specs.Image.{ImageState, HoldsImage}
 use Rattle.dasd_jobs.specs.Sources.{SourceFile, ReadsWhole}
 use Rattle.dasd_jobs.specs.Written.{Replaced}
@@ -7,6 +7,11 @@ use Rattle.changed_volumes.specs.Files.{ReadsImage}
 use Rattle.loaded_sets.specs.declared.fault.LoadFault.{LoadFault}
 use Rattle.loaded_sets.specs.declared.fault.LoadFault.TheVariants as fault
 use Rattle.loaded_sets.specs.declared.plans.LoadedSet.{LoadedSet}
+use Rattle.record_formats.specs.declared.layouts.Layout.{Layout}
+use Rattle.loaded_sets.specs.declared.fault.LoadRefusal.TheVariants as refusal
+use Rattle.loaded_sets.specs.Volumes.{Labelled}
+use Rattle.loaded_sets.specs.Sets.{areas, GetsTracks}
+use Rattle.loaded_sets.specs.Parts.{layout_for, IsNotPut, IsUnplaced, IsUnlisted, IsGuarded, IsHinderedBy}
 use Rattle.loaded_sets.specs.Loaded.{IsNotLoaded}
 use Rattle.loaded_sets.specs.Loads.{LoadsFiles}
 
@@ -24,3 +29,48 @@ pub not_loaded : (f : LoadFault) (set : LoadedSet) (paths : List (List ℕ)) (i 
 not_loaded (fault.Refused r) set paths i ob o b n why reads same = (record { image = i; reads = reads; refused = why }, same)
 not_loaded (fault.Job f) set paths i ob o b n why reads same = (inr (why, i, reads), same)
 not_loaded (fault.Save f) set paths i ob o b n why reads same = elim why [ ]
+
+-- Why a volume gets no data set, by what refused it.
+module _ (v : Labelled) (set : LoadedSet) (slots : List (List ℕ)) where
+  pub hindered : (f : LoadFault) → IsHinderedBy f → IsNotPut f v set slots
+  hindered (fault.Refused r) why = elim why [ ]
+  hindered (fault.Job f) why = why
+  hindered (fault.Save f) why = elim why [ ]
+
+  module _ (layout : Layout) (is : layout_for v set ≡ Ok layout) where
+    pub guarded : (f : LoadFault) → IsGuarded f → IsNotPut f v set slots
+    guarded (fault.Refused refusal.Unconfirmed) why = inr (layout, is, tt)
+    guarded (fault.Refused (refusal.Volume r)) why = elim why [ ]
+    guarded (fault.Refused refusal.Findings) why = elim why [ ]
+    guarded (fault.Refused refusal.NameTaken) why = elim why [ ]
+    guarded (fault.Refused (refusal.Attributes r)) why = elim why [ ]
+    guarded (fault.Refused (refusal.Blocks r)) why = elim why [ ]
+    guarded (fault.Refused refusal.NoRoom) why = elim why [ ]
+    guarded (fault.Refused refusal.NoFreeBlock) why = elim why [ ]
+    guarded (fault.Job f) why = why
+    guarded (fault.Save f) why = elim why [ ]
+
+    pub unplaced : (f : LoadFault) → IsUnplaced f v (areas set layout) → IsNotPut f v set slots
+    unplaced (fault.Refused refusal.NoRoom) why = inr (layout, is, why)
+    unplaced (fault.Refused refusal.Unconfirmed) why = inr (layout, is, tt)
+    unplaced (fault.Refused (refusal.Volume r)) why = elim why [ ]
+    unplaced (fault.Refused refusal.Findings) why = elim why [ ]
+    unplaced (fault.Refused refusal.NameTaken) why = elim why [ ]
+    unplaced (fault.Refused (refusal.Attributes r)) why = elim why [ ]
+    unplaced (fault.Refused (refusal.Blocks r)) why = elim why [ ]
+    unplaced (fault.Refused refusal.NoFreeBlock) why = elim why [ ]
+    unplaced (fault.Job f) why = why
+    unplaced (fault.Save f) why = elim why [ ]
+
+    pub unlisted : (first tracks : ℕ) → GetsTracks v (areas set layout) first tracks → (f : LoadFault) → IsUnlisted f v slots
+        → IsNotPut f v set slots
+    unlisted first tracks gets (fault.Refused refusal.NoFreeBlock) why = inr (layout, is, (why, first, tracks, gets))
+    unlisted first tracks gets (fault.Refused refusal.Unconfirmed) why = inr (layout, is, tt)
+    unlisted first tracks gets (fault.Refused (refusal.Volume r)) why = elim why [ ]
+    unlisted first tracks gets (fault.Refused refusal.Findings) why = elim why [ ]
+    unlisted first tracks gets (fault.Refused refusal.NameTaken) why = elim why [ ]
+    unlisted first tracks gets (fault.Refused (refusal.Attributes r)) why = elim why [ ]
+    unlisted first tracks gets (fault.Refused (refusal.Blocks r)) why = elim why [ ]
+    unlisted first tracks gets (fault.Refused refusal.NoRoom) why = elim why [ ]
+    unlisted first tracks gets (fault.Job f) why = why
+    unlisted first tracks gets (fault.Save f) why = elim why [ ]

@@ -99,7 +99,7 @@ abbrev pub take_from : Geometry → (first tracks : ℕ) → Block → Option Bl
 take_from g first tracks b =
     if not (is_free_space b.kind) || nat_lt 65536 (tracks_of g) then None
     else take_at g tracks b (free_space_block_of b.key b.bytes).free
-        (position (begins g first tracks) (free_space_block_of b.key b.bytes).free)
+    (position (begins g first tracks) (free_space_block_of b.key b.bytes).free)
 
 -- the first such block in the order of the table
 abbrev pub take_of : Labelled → (first tracks : ℕ) → Option ℕ → Option BlockChange
