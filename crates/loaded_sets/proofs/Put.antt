@@ -1,11 +1,8 @@
 -- A volume that a data set was put onto.
-use Rattle.std.proofs.Common.{◌≡◌, ◌∙◌, ap, sym, refl, subst, ℕ, ◌+◌, ◌<◌, ◌≤◌, ◌-◌, List, [], ◌∷◌, ◌++◌}
+use Rattle.std.proofs.Common.{◌≡◌, ◌∙◌, ap, sym, refl, subst, ℕ, ◌-◌, List, [], ◌∷◌}
 use Rattle.dasd_extract.specs.Walk.{wanted, source_written}
 use Rattle.dasd_extract.specs.declared.blocks.Form.TheVariants.{Raw}
 use Rattle.data_set_blocks.specs.Extracted.{first_block, ended_by_file}
-use Rattle.space_allocation.specs.declared.blocks.NewDataSet.{NewDataSet}
-use Rattle.space_allocation.specs.Blocks.{data_set_data, data_set_read}
-use Rattle.volume_labels.specs.Labels.{data_set_block_of}
 use Rattle.volume_labels.specs.declared.fields.Extent.{Extent}
 use Rattle.volume_labels.specs.declared.fields.RecordAddress.{RecordAddress}
 use Rattle.volume_contents.specs.Contents.{contents_of, block_in}
@@ -14,7 +11,7 @@ use Rattle.loaded_sets.specs.declared.plans.LoadedSet.{LoadedSet}
 use Rattle.loaded_sets.specs.declared.plans.Placed.{Placed}
 use Rattle.loaded_sets.specs.Volumes.{Labelled}
 use Rattle.loaded_sets.specs.Sets.{areas}
-use Rattle.loaded_sets.specs.Loaded.{GetsSet, HasSet, IsExtracted}
+use Rattle.loaded_sets.specs.Loaded.{HasSet, IsExtracted}
 use Rattle.loaded_sets.specs.Parts.{IsPlaced, IsWritten, IsPut}
 use Rattle.loaded_sets.proofs.Read.{one_extent, are_loaded}
 

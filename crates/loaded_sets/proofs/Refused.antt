@@ -1,8 +1,11 @@
 -- A volume in files that gets no data set.
-use Rattle.std.proofs.Common.{◌≡◌, List, ℕ, Ok, Err, inr, subst}
+use Rattle.std.proofs.Common.{◌≡◌, List, ℕ, Result, Ok, Err, inr, subst, sym}
 use Rattle.ckd_image.specs.Image.{ImageState, HoldsImage}
 use Rattle.dasd_jobs.specs.Sources.{SourceFile, ReadsWhole}
+use Rattle.dasd_jobs.specs.Back.{WritesBack}
 use Rattle.dasd_jobs.specs.Written.{Replaced}
+use Rattle.dasd_jobs.specs.declared.faults.JobFault.{JobFault}
+use Rattle.changed_volumes.specs.Changes.{IsSameImage}
 use Rattle.changed_volumes.specs.Files.{ReadsImage}
 use Rattle.loaded_sets.specs.declared.fault.LoadFault.{LoadFault}
 use Rattle.loaded_sets.specs.declared.fault.LoadFault.TheVariants as fault
@@ -12,8 +15,8 @@ use Rattle.loaded_sets.specs.declared.fault.LoadRefusal.TheVariants as refusal
 use Rattle.loaded_sets.specs.Volumes.{Labelled}
 use Rattle.loaded_sets.specs.Sets.{areas, GetsTracks}
 use Rattle.loaded_sets.specs.Parts.{layout_for, IsNotPut, IsUnplaced, IsUnlisted, IsGuarded, IsHinderedBy}
-use Rattle.loaded_sets.specs.Loaded.{IsNotLoaded}
-use Rattle.loaded_sets.specs.Loads.{LoadsFiles}
+use Rattle.loaded_sets.specs.Loaded.{Loaded, IsNotLoaded}
+use Rattle.loaded_sets.specs.Loads.{LoadsFiles, SavesLoaded}
 
 -- an image was read, behind a call that opened nothing
 pub read_behind : (paths : List (List ℕ)) (i : ImageState) (before between now : List SourceFile) → between ≡ before
@@ -21,6 +24,21 @@ pub read_behind : (paths : List (List ℕ)) (i : ImageState) (before between now
     → ReadsWhole paths i.lasting.origins between now → ReadsImage paths i before now
 read_behind paths i before between now same holds whole =
     record { holds = holds; whole = subst (λ (b : List SourceFile). ReadsWhole paths i.lasting.origins b now) same whole }
+
+-- an image was read, and its files are saved
+module _ (set : LoadedSet) (tracks : ℕ) (paths : List (List ℕ)) (i changed : ImageState) where
+  pub saved : (r : Result (Unit {0}) JobFault) (opened_before opened opened_now : List SourceFile) (before between now : List Replaced)
+      → ReadsImage paths i opened_before opened → opened_now ≡ opened → IsSameImage i changed → Loaded set i.geometry i.slots tracks changed.slots
+      → between ≡ before → WritesBack r paths changed between now
+      → SavesLoaded {A = Unit {0}} r set tracks paths opened_before opened_now before now
+  saved r ob o on b between n reads is_opened same loaded kept saves = record {
+    image = i;
+    changed = changed;
+    reads = subst (λ (s : List SourceFile). ReadsImage paths i ob s) (sym is_opened) reads;
+    same = same;
+    loaded = loaded;
+    saves = subst (λ (s : List Replaced). WritesBack r paths changed s n) kept saves;
+  }
 
 -- an image was read, and no file is written
 pub not_loaded : (f : LoadFault) (set : LoadedSet) (paths : List (List ℕ)) (i : ImageState) (opened_before opened : List SourceFile)

@@ -15,7 +15,7 @@ use Rattle.volume_contents.specs.Contents.{block_in, slot_at}
 use Rattle.volume_contents.specs.Runs.{address_of_number, number}
 use Rattle.volume_contents.specs.Sets.{is_free_space}
 use Rattle.volume_changes.specs.declared.blocks.BlockChange.{BlockChange}
-use Rattle.volume_changes.specs.Blocks.{changed, slot_with}
+use Rattle.volume_changes.specs.Blocks.{slot_with}
 use Rattle.volume_changes.specs.Volumes.{changed_maybe}
 use Rattle.space_allocation.specs.Blocks.{contents_data}
 use Rattle.space_allocation.specs.FreeSpace.{tracks_in, begins, run_behind, key_with, bytes_with}

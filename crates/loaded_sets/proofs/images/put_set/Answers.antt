@@ -1,4 +1,4 @@
-use Rattle.std.proofs.Common.{◌≡◌, ◌∙◌, sym, subst, List, ℕ, rules}
+use Rattle.std.proofs.Common.{◌∙◌, sym, subst, ℕ, rules}
 use Rattle.ckd_track.specs.declared.geometries.Geometry.{Geometry}
 use Rattle.volume_contents.specs.Contents.{contents_of}
 use Rattle.loaded_sets.specs.Loaded.{HasSet}

@@ -1,4 +1,4 @@
-use Rattle.std.proofs.Common.{◌≡◌, sym, subst, inl, List, ℕ, rules}
+use Rattle.std.proofs.Common.{sym, subst, inl, List, ℕ, rules}
 use Rattle.loaded_sets.specs.declared.fault.LoadFault.{LoadFault}
 use Rattle.loaded_sets.specs.Parts.{labelled, IsNotPut}
 use Rattle.loaded_sets.proofs.Refused.{guarded, unplaced}
