@@ -1,4 +1,7 @@
+mod Fits
+mod Put
 mod Read
 mod Refused
+mod Told
 mod Tracks
 mod Within

@@ -1,16 +1,12 @@
 -- What a reader of the volume has of a data set that was put onto it.
-use Rattle.std.proofs.Common.{◌≡◌, ◌∙◌, ap, sym, refl, subst, ℕ, ◌+◌, ◌<◌, ◌≤◌, List, [], ◌∷◌, ◌++◌, flat_map, arith, false}
+use Rattle.std.proofs.Common.{◌≡◌, ◌∙◌, ap, sym, refl, subst, ℕ, ◌+◌, ◌≤◌, List, [], ◌∷◌, ◌++◌, flat_map, arith, false, None}
 use Rattle.ckd_track.specs.Geometry.{tracks_of}
-use Rattle.ckd_track.specs.Model.{heads_of}
 use Rattle.ckd_track.specs.declared.geometries.Geometry.{Geometry}
-use Rattle.data_set_blocks.specs.Blocks.{areas_of}
-use Rattle.data_set_blocks.specs.Extracted.{IsLoaded, IsLoadedAt, IsReadBack}
+use Rattle.data_set_blocks.specs.Extracted.{IsLoaded, IsLoadedAt}
 use Rattle.data_set_blocks.specs.Tracks.{left_behind}
-use Rattle.data_sets.specs.Addresses.{track_of}
 use Rattle.data_sets.specs.declared.addresses.TrackPlace.{TrackPlace}
-use Rattle.data_sets.specs.declared.addresses.TrackPlace.TheVariants as place
 use Rattle.space_allocation.specs.declared.blocks.NewDataSet.{NewDataSet}
-use Rattle.space_allocation.specs.Blocks.{data_set_data, data_set_read, nowhere}
+use Rattle.space_allocation.specs.Blocks.{data_set_read, nowhere}
 use Rattle.space_allocation.specs.Extents.{HasRun}
 use Rattle.volume_labels.specs.Labels.{data_set_block_of}
 use Rattle.volume_labels.specs.declared.blocks.DataSetBlock.{DataSetBlock}
@@ -18,7 +14,7 @@ use Rattle.volume_labels.specs.declared.fields.Extent.{Extent}
 use Rattle.volume_contents.specs.declared.blocks.Block.{Block}
 use Rattle.volume_contents.specs.Chains.{links_from, Links, ended}
 use Rattle.volume_contents.specs.Sets.{extents_behind, extents_in, first_extents}
-use Rattle.loaded_sets.specs.Loaded.{HasAreas, IsExtracted}
+use Rattle.loaded_sets.specs.Loaded.{HasAreas}
 
 -- no block is behind one that says nowhere
 ends : (blocks : List Block) → links_from 21 false blocks nowhere ≡ ended None

@@ -1,5 +1,5 @@
 -- A volume with a data set that was put onto it.
-use Rattle.std.specs.Prelude.{◌≡◌, ◌⊎◌, ℕ, ◌+◌, ◌-◌, ◌<◌, ◌≤◌, List, [], ◌∷◌, ◌++◌, length, Some, Result, Ok, Err}
+use Rattle.std.specs.Prelude.{◌≡◌, ◌⊎◌, ℕ, ◌+◌, ◌-◌, ◌<◌, ◌≤◌, List, [], ◌∷◌, ◌++◌, length, Some, Ok, Err}
 use Rattle.std.specs.List.{position}
 use Rattle.ckd_track.specs.declared.geometries.Geometry.{Geometry}
 use Rattle.dasd_extract.specs.declared.blocks.Form.TheVariants.{Raw}
@@ -14,7 +14,6 @@ use Rattle.volume_labels.specs.declared.fields.RecordAddress.{RecordAddress}
 use Rattle.volume_contents.specs.declared.blocks.Block.{Block}
 use Rattle.volume_contents.specs.Contents.{Said, contents_of, block_in, slot_at}
 use Rattle.volume_contents.specs.Sets.{has_name, extents_behind}
-use Rattle.dasd_jobs.specs.declared.faults.JobFault.{JobFault}
 use Rattle.changed_volumes.specs.Changes.{IsHindered}
 use Rattle.loaded_sets.specs.declared.fault.LoadFault.{LoadFault}
 use Rattle.loaded_sets.specs.declared.fault.LoadFault.TheVariants as fault

@@ -1,5 +1,5 @@
 -- How the code holds what the contracts speak of; no public contract names these.
-use Rattle.std.specs.Prelude.{◌≡◌, ◌⊎◌, ℕ, ◌+◌, ◌-◌, List, length, Some, Result, Ok, Err}
+use Rattle.std.specs.Prelude.{◌≡◌, ◌⊎◌, ℕ, ◌+◌, ◌-◌, ◌≤◌, ◌++◌, List, length, Some, Result, Ok, Err}
 use Rattle.std.specs.List.{position}
 use Rattle.counted_io.specs.declared.writing.WriteFault.{WriteFault}
 use Rattle.ckd_track.specs.declared.geometries.Geometry.{Geometry}
@@ -10,7 +10,12 @@ use Rattle.volume_labels.specs.declared.fields.Extent.{Extent}
 use Rattle.volume_labels.specs.declared.fields.RecordAddress.{RecordAddress}
 use Rattle.record_formats.specs.declared.layouts.Layout.{Layout}
 use Rattle.space_allocation.specs.declared.blocks.NewDataSet.{NewDataSet}
-use Rattle.space_allocation.specs.Blocks.{data_set_data}
+use Rattle.space_allocation.specs.Blocks.{data_set_data, data_set_read}
+use Rattle.volume_labels.specs.Labels.{data_set_block_of}
+use Rattle.space_allocation.specs.Extents.{HasRun}
+use Rattle.data_set_blocks.specs.Blocks.{FitsTrack}
+use Rattle.data_set_blocks.specs.Extracted.{IsReadBack}
+use Rattle.ckd_track.specs.Geometry.{tracks_of}
 use Rattle.volume_contents.specs.declared.blocks.Block.{Block}
 use Rattle.volume_contents.specs.Contents.{Said, block_in}
 use Rattle.volume_contents.specs.Sets.{has_name}
@@ -21,10 +26,11 @@ use Rattle.loaded_sets.specs.declared.fault.LoadRefusal.{LoadRefusal}
 use Rattle.loaded_sets.specs.declared.fault.LoadRefusal.TheVariants as refusal
 use Rattle.loaded_sets.specs.declared.plans.LabelledVolume.{LabelledVolume}
 use Rattle.loaded_sets.specs.declared.plans.LoadedSet.{LoadedSet}
+use Rattle.loaded_sets.specs.declared.plans.Placed.{Placed}
 use Rattle.loaded_sets.specs.Volumes.{Labelled, layout_on, layout_unless_taken}
-use Rattle.loaded_sets.specs.Sets.{areas, HasNoRoom}
-use Rattle.loaded_sets.specs.Tables.{HasNoFree, IsFirstFree, address_on, filled, last_of}
-use Rattle.loaded_sets.specs.Loaded.{GetsSet, HasNoPlace}
+use Rattle.loaded_sets.specs.Sets.{areas, GetsTracks, HasNoRoom, IsNewSet}
+use Rattle.loaded_sets.specs.Tables.{HasNoFree, IsFirstFree, WritesBlock, address_on, filled, last_of}
+use Rattle.loaded_sets.specs.Loaded.{GetsSet, HasAreas, HasNoPlace}
 
 -- the volume that the code has
 abbrev pub labelled : LabelledVolume → Labelled
@@ -73,6 +79,24 @@ IsUnlisted f v slots = IsGuarded f
 -- how the records of a data set lie in its blocks on a volume without findings, or why it gets none
 abbrev pub layout_for : Labelled → LoadedSet → Result Layout LoadRefusal
 layout_for v set = layout_unless_taken v.geometry.model set (position (has_name set.name) v.blocks)
+
+-- the data set goes there on such a volume, as a reader has it
+pub record IsPlaced (v : Labelled) (set : LoadedSet) (p : Placed) : Type 0 where
+  pub fits : layout_for v set ≡ Ok p.layout
+  pub size : FitsTrack v.geometry.model p.layout.longest
+  pub gets : GetsTracks v (areas set p.layout) p.run.first p.run.tracks
+  pub some : 1 ≤ p.run.tracks
+  pub within : p.run.first + p.run.tracks ≤ tracks_of v.geometry
+  pub read : IsReadBack v.geometry.model p.layout.longest set.bytes.now p.run.tracks
+  pub new : IsNewSet v set p.layout p.run.first p.run.tracks p.block
+  pub run : HasRun v.geometry p.run.first p.run.tracks p.block.extent
+
+-- it was written there, and its block stands at this address
+pub record IsWritten (v : Labelled) (set : LoadedSet) (p : Placed) (before : List (List ℕ)) (a : RecordAddress) (now : List (List ℕ)) : Type 0 where
+  pub listed : List (List ℕ)
+  pub writes : WritesBlock v p.run.first p.run.tracks (set.name ++ data_set_data p.block) before a listed
+  pub holds : HasAreas v.geometry (areas set p.layout) p.run.first p.run.tracks listed now
+  pub read : data_set_block_of p.block.name (data_set_data p.block) ≡ data_set_read p.block
 
 -- such a volume gets the data set
 abbrev pub IsPut : Labelled → LoadedSet → (before : List (List ℕ)) → (tracks : ℕ) → (now : List (List ℕ)) → Type 0

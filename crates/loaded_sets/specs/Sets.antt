@@ -1,5 +1,5 @@
 -- Where a data set goes on a volume, and what its control block says.
-use Rattle.std.specs.Prelude.{◌≡◌, ◌⊎◌, ℕ, ◌≤◌, ◌<◌, List, [], length, take, Some, None}
+use Rattle.std.specs.Prelude.{◌≡◌, ◌⊎◌, ℕ, ◌≤◌, ◌<◌, List, take, Some, None}
 use Rattle.data_set_blocks.specs.Blocks.{areas_of}
 use Rattle.data_set_blocks.specs.Tracks.{left_behind, balance_behind, Takes, IsLastBlock}
 use Rattle.data_sets.specs.declared.records.RecordForm.{RecordForm}

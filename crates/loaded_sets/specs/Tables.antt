@@ -15,7 +15,7 @@ use Rattle.volume_contents.specs.Contents.{block_in, slot_at}
 use Rattle.volume_contents.specs.Runs.{address_of_number, number}
 use Rattle.volume_contents.specs.Sets.{is_free_space}
 use Rattle.volume_changes.specs.declared.blocks.BlockChange.{BlockChange}
-use Rattle.volume_changes.specs.Blocks.{changed, slot_with}
+use Rattle.volume_changes.specs.Blocks.{slot_with}
 use Rattle.volume_changes.specs.Volumes.{changed_maybe}
 use Rattle.space_allocation.specs.Blocks.{contents_data}
 use Rattle.space_allocation.specs.FreeSpace.{tracks_in, begins, run_behind, key_with, bytes_with}
@@ -99,7 +99,7 @@ abbrev pub take_from : Geometry → (first tracks : ℕ) → Block → Option Bl
 take_from g first tracks b =
     if not (is_free_space b.kind) || nat_lt 65536 (tracks_of g) then None
     else take_at g tracks b (free_space_block_of b.key b.bytes).free
-        (position (begins g first tracks) (free_space_block_of b.key b.bytes).free)
+    (position (begins g first tracks) (free_space_block_of b.key b.bytes).free)
 
 -- the first such block in the order of the table
 abbrev pub take_of : Labelled → (first tracks : ℕ) → Option ℕ → Option BlockChange

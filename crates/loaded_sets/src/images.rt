@@ -6,18 +6,20 @@ ghost use Rattle.data_set_blocks.specs.Blocks.{areas_of, block_count, FitsTrack}
 ghost use Rattle.data_set_blocks.specs.Tracks.{fitting_on, loaded_slot};
 ghost use Rattle.changed_volumes.specs.Changes.{IsSameImage};
 ghost use Rattle.loaded_sets.specs.Loaded.{HasAreas, Loaded, IsNotLoaded};
-ghost use Rattle.loaded_sets.specs.Parts.{labelled, IsPut, IsNotPut, IsHinderedBy};
+ghost use Rattle.loaded_sets.specs.Parts.{labelled, IsPlaced, IsWritten, IsPut, IsNotPut, IsUnlisted};
 
 use crate::confirms::confirm;
-use crate::fault::{LoadFault, NO_MEMORY, NO_SLOT, of_reading, refused};
-use crate::plans::{LabelledVolume, LoadedSet, Run, judge, layout_on, new_set, run_for};
+use crate::fault::{LoadFault, NO_MEMORY, NO_SLOT, of_reading};
+use crate::plans::{LabelledVolume, LoadedSet, Placed, Run, judge, place_set};
 use crate::tables::write_table;
 use changed_volumes::read_said;
 use ckd_image::{Image, StoreFault};
 use dasd_files::VolumeFile;
+use dasd_jobs::JobFault;
 use data_set_blocks::{Blocks, load_track};
 use space_allocation::data_set_data;
 use std::alloc::Global;
+use volume_labels::RecordAddress;
 
 /// Puts a data set onto the volume of an image in memory, and answers how many tracks it has. Its tracks are the first ones free that have
 /// room for it, one behind another.
@@ -61,21 +63,37 @@ fn put_set(
     ensures put { IfOk result (λ tracks. IsPut (labelled volume.now) set.now image.old.slots tracks image.new.slots) }
     ensures fault { IfErr result (λ e. IsNotPut e (labelled volume.now) set.now image.old.slots) }
 {
-    let layout = match layout_on(volume, set) {
-        Ok(layout) => layout,
-        Err(refusal) => return Err(refused(refusal)),
-    };
+    let placed = place_set(alloc, volume, set)?;
+    let address = write_set(image, slot, volume, set, &placed)?;
+    match confirm(alloc, image, volume, &placed.block, address) {
+        Ok(()) => Ok(placed.run.tracks),
+        Err(fault) => Err(fault),
+    }
+}
+
+// Writes its control block and its blocks, and answers where the control block stands.
+fn write_set(
+    image: &mut Image<VolumeFile>,
+    slot: &mut [u8],
+    volume: &LabelledVolume,
+    set: &LoadedSet,
+    placed: &Placed,
+) -> Result<RecordAddress, LoadFault>
+    requires geometry { volume.now.geometry ≡ image.old.geometry }
+    requires size { length slot.old ≡ image.old.geometry.track_size }
+    requires placed { IsPlaced (labelled volume.now) set.now placed.now }
+    ensures same { IsSameImage image.old image.new }
+    ensures written { IfOk result (λ address. IsWritten (labelled volume.now) set.now placed.now image.old.slots address image.new.slots) }
+    ensures fault { IfErr result (λ e. IsUnlisted e (labelled volume.now) image.old.slots) }
+{
+    let bytes = data_set_data(&placed.block);
+    let address = write_table(image, slot, volume, placed.run, (&set.name, &bytes))?;
     let blocks = Blocks {
         bytes: set.bytes,
-        length: layout.longest,
+        length: placed.layout.longest,
     };
-    let run = run_for(alloc, volume, blocks)?;
-    let block = new_set(volume, set, layout, run)?;
-    let bytes = data_set_data(&block);
-    let address = write_table(image, slot, volume, run, (&set.name, &bytes))?;
-    write_tracks(image, slot, run, blocks)?;
-    confirm(alloc, image, volume, &block, address)?;
-    Ok(run.tracks)
+    write_tracks(image, slot, placed.run, blocks)?;
+    Ok(address)
 }
 
 // Writes blocks onto tracks that have room for them.
@@ -91,7 +109,7 @@ fn write_tracks(
     ensures same { IsSameImage image.old image.new }
     ensures areas { OnOk result (HasAreas image.old.geometry (areas_of blocks.entry.length blocks.entry.bytes.now) run.first run.tracks
         image.old.slots image.new.slots) }
-    ensures fault { IfErr result IsHinderedBy }
+    ensures fault { IfErr result (λ e. e ≡ LoadFault.Job JobFault.Store) }
 {
     let _geometry = image.geometry();
     let mut next = 0;
@@ -119,7 +137,7 @@ fn write_track(
     ensures next { IfOk result (λ next. next
         ≡ from + fitting_on image.old.geometry.model (drop from (areas_of blocks.entry.length blocks.entry.bytes.now))) }
     ensures within { IfOk result (λ next. next ≤ block_count blocks.entry.length blocks.entry.bytes.now + 1) }
-    ensures fault { IfErr result IsHinderedBy }
+    ensures fault { IfErr result (λ e. e ≡ LoadFault.Job JobFault.Store) }
     ensures size { length slot.new ≡ length slot.old }
 {
     let next = load_track(slot, image.geometry(), track, blocks, from);

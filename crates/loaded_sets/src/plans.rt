@@ -1,6 +1,6 @@
 //! Which volumes get a data set, where it goes, and what its control block says.
 
-ghost use Rattle.std.specs.Prelude.{◌≡◌, ◌≤◌, ◌+◌, ◌++◌, ◌∷◌, [], flat_map, IfOk, OnOk, IfErr};
+ghost use Rattle.std.specs.Prelude.{◌≡◌, ◌≤◌, ◌+◌, ◌++◌, ◌∷◌, [], flat_map, ℕ, List, IfOk, OnOk, IfErr};
 ghost use Rattle.std.specs.List.{position};
 ghost use Rattle.ckd_track.specs.Geometry.{tracks_of};
 ghost use Rattle.data_set_blocks.specs.Blocks.{areas_of, FitsTrack};
@@ -10,7 +10,8 @@ ghost use Rattle.volume_contents.specs.Checks.{extents_of};
 ghost use Rattle.volume_contents.specs.Sets.{has_name};
 ghost use Rattle.loaded_sets.specs.Volumes.{SaysOf, taken_extents, all_findings, layout_of_set, layout_unless_taken};
 ghost use Rattle.loaded_sets.specs.Sets.{GetsTracks, HasNoRoom, IsNewSet, length_said};
-ghost use Rattle.loaded_sets.specs.Parts.{labelled, IsUnfit, IsUnplaced, IsHinderedBy};
+ghost use Rattle.space_allocation.specs.Extents.{HasRun};
+ghost use Rattle.loaded_sets.specs.Parts.{labelled, IsPlaced, IsNotPut, IsUnfit, IsUnplaced, IsGuarded, IsHinderedBy};
 
 use crate::confirms::position_of;
 use crate::fault::{LoadFault, LoadRefusal, NO_MEMORY, refused};
@@ -52,6 +53,17 @@ pub(crate) struct Run {
     pub(crate) first: u32,
     /// How many they are.
     pub(crate) tracks: u32,
+}
+
+/// Where a data set goes on a volume, and what its control block says.
+#[derive(Clone, Copy)]
+pub(crate) struct Placed {
+    /// How its records lie in its blocks.
+    pub(crate) layout: Layout,
+    /// Its tracks.
+    pub(crate) run: Run,
+    /// What its format 1 block says.
+    pub(crate) block: NewDataSet,
 }
 
 /// A volume with nothing wrong that has a label and a table of contents.
@@ -101,6 +113,33 @@ pub(crate) fn judge<'a>(
     })
 }
 
+/// Where a data set goes on a volume with nothing wrong, and what its control block says.
+///
+/// # Errors
+///
+/// A data set of the volume has the name; its format and lengths contradict each other, or its bytes them; the volume has no room for it;
+/// or there is no memory.
+pub(crate) fn place_set(
+    alloc: Global,
+    volume: &LabelledVolume,
+    set: &LoadedSet,
+) -> Result<Placed, LoadFault>
+    ensures placed { IfOk result (λ placed. IsPlaced (labelled volume.now) set.now placed) }
+    ensures fault { IfErr result (λ e. (slots : List (List ℕ)) → IsNotPut e (labelled volume.now) set.now slots) }
+{
+    let layout = match layout_on(volume, set) {
+        Ok(layout) => layout,
+        Err(refusal) => return Err(refused(refusal)),
+    };
+    let blocks = Blocks {
+        bytes: set.bytes,
+        length: layout.longest,
+    };
+    let run = run_for(alloc, volume, blocks)?;
+    let block = new_set(volume, set, layout, run)?;
+    Ok(Placed { layout, run, block })
+}
+
 // How the records of a data set lie in its blocks, which are the bytes that are given.
 fn layout_of_set(model: DriveModel, set: &LoadedSet) -> Result<Layout, LoadRefusal>
     ensures layout { result ≡ layout_of_set model set.now }
@@ -116,12 +155,8 @@ fn layout_of_set(model: DriveModel, set: &LoadedSet) -> Result<Layout, LoadRefus
     }
 }
 
-/// How the records of a data set lie in its blocks, on a volume with nothing wrong.
-///
-/// # Errors
-///
-/// A data set of the volume has the name; or its format and lengths contradict each other, or its bytes them.
-pub(crate) fn layout_on(volume: &LabelledVolume, set: &LoadedSet) -> Result<Layout, LoadRefusal>
+// The same on a volume with nothing wrong, unless a data set of it has the name.
+fn layout_on(volume: &LabelledVolume, set: &LoadedSet) -> Result<Layout, LoadRefusal>
     ensures layout { result
         ≡ layout_unless_taken volume.now.geometry.model set.now (position (has_name set.now.name) volume.now.blocks.now) }
     ensures fits { IfOk result (λ layout. FitsTrack volume.now.geometry.model layout.longest) }
@@ -132,17 +167,8 @@ pub(crate) fn layout_on(volume: &LabelledVolume, set: &LoadedSet) -> Result<Layo
     layout_of_set(volume.geometry.model, set)
 }
 
-/// The first free tracks that have room for blocks.
-///
-/// # Errors
-///
-/// The volume has not so many one behind another; or there is no memory.
-#[tactic(auto, using(crate::proofs::Within::run_within))]
-pub(crate) fn run_for(
-    alloc: Global,
-    volume: &LabelledVolume,
-    blocks: Blocks,
-) -> Result<Run, LoadFault>
+// The first free tracks that have room for blocks.
+fn run_for(alloc: Global, volume: &LabelledVolume, blocks: Blocks) -> Result<Run, LoadFault>
     requires { FitsTrack volume.now.geometry.model blocks.length }
     ensures tracks { IfOk result (λ run. GetsTracks (labelled volume.now)
         (areas_of blocks.entry.length blocks.entry.bytes.now) run.first run.tracks) }
@@ -240,12 +266,8 @@ fn record_length(layout: Layout) -> u16
     }
 }
 
-/// What the format 1 block of a data set says whose blocks are on these tracks.
-///
-/// # Errors
-///
-/// The number of its last track has more than two bytes.
-pub(crate) fn new_set(
+// What the format 1 block of a data set says whose blocks are on these tracks.
+fn new_set(
     volume: &LabelledVolume,
     set: &LoadedSet,
     layout: Layout,
@@ -255,7 +277,8 @@ pub(crate) fn new_set(
     requires some { 1 ≤ run.tracks }
     requires within { run.first + run.tracks ≤ tracks_of volume.now.geometry }
     ensures says { IfOk result (λ block. IsNewSet (labelled volume.now) set.now layout run.first run.tracks block) }
-    ensures fault { IfErr result (λ e. e ≡ LoadFault.Refused LoadRefusal.Unconfirmed) }
+    ensures run { IfOk result (λ block. HasRun volume.now.geometry run.first run.tracks block.extent) }
+    ensures fault { IfErr result IsGuarded }
 {
     let geometry = volume.geometry;
     let blocks = Blocks {

@@ -1,4 +1,4 @@
-use Rattle.std.proofs.Common.{◌≡◌, ◌∙◌, ◌+◌, ap, sym, refl, subst, ℕ, List, drop, arith}
+use Rattle.std.proofs.Common.{◌∙◌, ◌+◌, ap, sym, refl, subst, ℕ, List, drop, arith}
 use Rattle.data_set_blocks.specs.Blocks.{areas_of}
 use Rattle.data_set_blocks.specs.Tracks.{loaded_slot}
 use Rattle.loaded_sets.specs.Loaded.{HasAreas}
@@ -34,5 +34,5 @@ loop-i-preserved c =
       left = ap (λ (n : ℕ). drop n all) next ∙ one_more g.model all c.loop-i.next i _ was.left refl;
       holds = subst (λ (s : List (List ℕ)). HasAreas g all first (i + 1) c.args.image.now.slots s) (sym slots)
           (goes_on g all first i c.args.image.now.slots c.loop-i.image.slots _ was.holds (ap (loaded_slot g (first + i)) was.left)
-          (omega (arith, c.geometry.ensures.image.count, was.holds.same, c.requires.there, c.loop-i-test.true)));
+          (omega (arith, c.geometry-geometry.ensures.image.count, was.holds.same, c.requires.there, c.loop-i-test.true)));
     }

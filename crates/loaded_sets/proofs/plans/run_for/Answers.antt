@@ -1,4 +1,4 @@
-use Rattle.std.proofs.Common.{◌∙◌, ◌≡◌, List, sym, subst, inr, arith, Some, None}
+use Rattle.std.proofs.Common.{◌∙◌, List, sym, subst, inr, arith, Some, None}
 use Rattle.data_set_blocks.specs.Blocks.{areas_of}
 use Rattle.volume_labels.specs.declared.fields.Extent.{Extent}
 use Rattle.space_allocation.specs.Runs.{IsFirstRun, IsApart}
