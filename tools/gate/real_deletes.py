@@ -173,6 +173,42 @@ def runs_that_one_block_has_no_room_for_go_into_one_that_became_free(s: Scratch)
     is_held(s.path("pack.ckd"), made)
 
 
+def shared(s: Scratch, last: int, cylinders: int) -> Image:
+    """A volume on which two data sets share cylinders 1 to this one: the first has heads 0 to 4 of each, the second 5 to 9."""
+    image = empty(s, 1, cylinders)
+    blocks = []
+    for name, head in (("UPPER", 0), ("LOWER", 5)):
+        key, data = set_block(name, [(0, 0)])
+        blocks.append((key, data[:61] + bytes([0x80, 0, 0, 1, 0, head, 0, last, 0, head + 4]) + data[71:]))
+    say(image, f"0002000008 {last * 10 + 10:04X}{cylinders - last - 1:04X}00", 4, blocks)
+    image.save()
+    same(s.dasd("check", "--strict", "pack.ckd")[0], 0)
+    return image
+
+
+@row
+def data_set_that_shares_its_cylinders_gives_its_own_heads_back(s: Scratch) -> None:
+    image = shared(s, 3, 5)
+    same(s.dasd("delete", "pack.ckd", "UPPER"), (0, "deleted UPPER\n", ""))
+    image.put_block((1, 3), *BLANK)
+    # tracks 2 to 9 and 10 to 14 are one run
+    image.put_block(FREE, *free_block("0002000103 0014000005 001E000005 0028000100"))
+    count_blocks(image, 4, -1)
+    is_right(s, image, "free 33 tracks, 13 control blocks")
+
+
+@row
+def free_tracks_that_no_block_has_room_for_are_refused(s: Scratch) -> None:
+    # a run for each shared cylinder, of which the first joins that before it, and one behind them: 52 fill the first block and that of the data set
+    shared(s, 51, 60)
+    same(s.dasd("delete", "pack.ckd", "UPPER"), (0, "deleted UPPER\n", ""))
+    same(s.dasd("vtoc", "pack.ckd")[1].splitlines()[-1], f"free {8 + 51 * 5 + 80} tracks, 12 control blocks")
+    shared(s, 52, 60)
+    held = s.path("pack.ckd").read_bytes()
+    same(s.dasd("delete", "pack.ckd", "UPPER"), fault("no room for its free tracks"))
+    is_held(s.path("pack.ckd"), held)
+
+
 @row
 def of_two_data_sets_of_one_name_the_first_goes(s: Scratch) -> None:
     image = empty(s)

@@ -38,7 +38,8 @@ START    SEEK  *+16,CC,6
          TIC   START
          SHOW  START 8
 """
-COMMANDS = ["format", "list", "check", "dump", "compare", "hash", "vtoc", "extract", "load", "rename", "delete", "relabel", "explain", "assemble", "disassemble", "run", "help"]
+CHANGES = ["load", "rename", "delete", "relabel"]
+COMMANDS = ["format", "list", "check", "dump", "compare", "hash", "vtoc", "extract", *CHANGES, "explain", "assemble", "disassemble", "run", "help"]
 WRONG = "fomrat"
 TRACE = "trace"
 # The folder of a new file is noted, to be synced behind the last one: its name, and the list that it is put on. Without memory for one of
