@@ -57,7 +57,8 @@ line_read line codes is = go (is_utf8 line) refl
   where
     go : (t : Bool) → is_utf8 line ≡ t → text_of codes ≡ line
     go true e =
-        codes_read (chars line) codes (sym (ap (λ t. cond t (codes_of (chars line)) None) e) ∙ is) ∙ encodes-chars line (IsUtf8-from_is_utf8 line e)
+        codes_read (chars line) codes (sym (ap (λ t. cond t (codes_of (chars line)) None) e) ∙ is)
+        ∙ encodes-chars line (IsUtf8-from_is_utf8 line e)
     go false e = absurd (none (sym (ap (λ t. cond t (codes_of (chars line)) None) e) ∙ is))
       where
         none : None ≡ Some codes → ⊥

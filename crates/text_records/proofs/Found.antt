@@ -1,6 +1,8 @@
 -- Characters are looked up in code page 037.
-use Rattle.std.proofs.Common.{◌≡◌, ◌≢◌, ◌<◌, ◌≤◌, ◌∙◌, ◌+◌, ℕ, suc, ◌==◌, nat_lt, Bool, true, false, cond, List, [], ◌∷◌, ◌++◌, length, take, get_or}
-use Rattle.std.proofs.Common.{ap, refl, sym, arith, replicate, Option, Some, None, ◌⊎◌, inl, inr, position, length-take-le, length-append, ap₂, not, zero, is_some}
+use Rattle.std.proofs.Common.{◌≡◌, ◌≢◌, ◌<◌, ◌≤◌, ◌∙◌, ◌+◌, ℕ, suc, ◌==◌, nat_lt, Bool, true, false, cond, List, [], ◌∷◌, ◌++◌, length}
+use Rattle.std.proofs.Common.{take, get_or}
+use Rattle.std.proofs.Common.{ap, refl, sym, arith, replicate, Option, Some, None, ◌⊎◌, inl, inr, position, length-take-le, length-append}
+use Rattle.std.proofs.Common.{ap₂, not, zero, is_some}
 use Rattle.std.specs.List.{list_all, position_or_len}
 use Rattle.std.specs.Prelude.{slice_index_or, slice_set}
 use Rattle.std.proofs.lemmas.List.{take_all, take_more, get_or-set_same, get_or-set_other}
@@ -69,7 +71,8 @@ module _ (p : ℕ → Bool) (xs : List ℕ) (y : ℕ) where
   next_place t e = position_or_len_push p xs y ∙ ap (λ t. cond t (length xs + cond (p y) 0 1) own) e
 
   early : own < length xs → position p (xs ++ y ∷ []) ≡ Some own
-  early inside = pushed own (next_place false (is_other own (length xs) (omega (arith, inside)))) ∙ found own (length xs + 1) (omega (arith, inside))
+  early inside = pushed own (next_place false (is_other own (length xs) (omega (arith, inside))))
+      ∙ found own (length xs + 1) (omega (arith, inside))
 
   late : (k : ℕ) → own ≡ length xs → cond (p y) 0 1 ≡ k → position p (xs ++ y ∷ []) ≡ answer (length xs + k) (length xs + 1)
   late k e is = pushed (length xs + k) (next_place true (is_same own (length xs) e) ∙ ap (λ n. length xs + n) is)
@@ -104,7 +107,8 @@ module _ (p : ℕ → Bool) (xs : List ℕ) (y : ℕ) where
   pub is_new : position p xs ≡ None → p y ≡ true → position p (xs ++ y ∷ []) ≡ Some (length xs)
   is_new e passes = by_place
       (λ small. absurd (no_one (sym e ∙ found own (length xs) small)))
-      (λ large. late 0 large (ap (λ t. cond t 0 1) passes) ∙ ap (λ f. answer f (length xs + 1)) (omega arith) ∙ found (length xs) (length xs + 1) (omega arith))
+      (λ large. late 0 large (ap (λ t. cond t 0 1) passes) ∙ ap (λ f. answer f (length xs + 1)) (omega arith)
+      ∙ found (length xs) (length xs + 1) (omega arith))
     where
       no_one : None ≡ Some own → ⊥
       no_one e = absurd cc
@@ -154,10 +158,13 @@ module _ (table : List (Option ℕ)) (n at : ℕ) (inside : n < 256) (is : at �
     where
       go : (c ≡ at) ⊎ (c ≡ at → ⊥) → slice_index_or (slice_set table at (Some n)) c None ≡ place (n + 1) c
       go (inl same) =
-          let e : slice_index_or table c None ≡ None = ap (λ k. slice_index_or table k None) same ∙ no_value (slice_index_or table at None) none in
-          ap (λ k. slice_index_or (slice_set table at (Some n)) k None) same ∙ get_or-set_same table at (Some n) None (omega (arith, there, whole_length))
+          let e : slice_index_or table c None ≡ None = ap (λ k. slice_index_or table k None) same
+          ∙ no_value (slice_index_or table at None) none in
+          ap (λ k. slice_index_or (slice_set table at (Some n)) k None) same
+          ∙ get_or-set_same table at (Some n) None (omega (arith, there, whole_length))
           ∙ sym (new n inside c (sym (h c below) ∙ e) (sym (same ∙ is)))
-      go (inr differs) = get_or-set_other table at c (Some n) None differs ∙ h c below ∙ sym (other n inside c (λ e. differs (sym (is ∙ e))))
+      go (inr differs) = get_or-set_other table at c (Some n) None differs ∙ h c below
+          ∙ sym (other n inside c (λ e. differs (sym (is ∙ e))))
 
 all_below : list_all (λ it. nat_lt it 256) code_page_037 ≡ true
 unfolding code_page_037
@@ -176,7 +183,8 @@ either_none false o e = e
 pub none_from : (c : ℕ) → 256 ≤ c → code_of c ≡ None
 none_from c large =
     either_none (is_control c) (position (λ (it : ℕ). it == c) code_page_037)
-    (absent (position_or_len_is (λ (it : ℕ). it == c) code_page_037 (length code_page_037) 0 (omega arith) each (λ h. absurd (never (length code_page_037) h))))
+    (absent (position_or_len_is (λ (it : ℕ). it == c) code_page_037 (length code_page_037) 0 (omega arith) each
+    (λ h. absurd (never (length code_page_037) h))))
   where
     never : (n : ℕ) → n < n → ⊥
     never n h = omega (arith, h)
@@ -187,7 +195,8 @@ none_from c large =
         apart : (d : ℕ) → d < 256 → d ≡ c → ⊥
         apart d h e = omega (arith, h, e, large)
 
-    absent : position_or_len (λ (it : ℕ). it == c) code_page_037 ≡ length code_page_037 → position (λ (it : ℕ). it == c) code_page_037 ≡ None
+    absent : position_or_len (λ (it : ℕ). it == c) code_page_037 ≡ length code_page_037
+        → position (λ (it : ℕ). it == c) code_page_037 ≡ None
     absent e =
         ap (λ t. cond t (Some (position_or_len (λ (it : ℕ). it == c) code_page_037)) None)
         (le-ltb (position_or_len (λ (it : ℕ). it == c) code_page_037) (length code_page_037) (omega (arith, e)))

@@ -1,5 +1,6 @@
 -- The records of lines, one after another.
-use Rattle.std.proofs.Common.{◌≡◌, ◌∙◌, ◌<◌, ◌≤◌, ◌+◌, ◌-◌, ℕ, Bool, true, false, cond, List, [], ◌∷◌, ◌++◌, length, append_assoc, append-nil}
+use Rattle.std.proofs.Common.{◌≡◌, ◌∙◌, ◌<◌, ◌≤◌, ◌+◌, ◌-◌, ℕ, Bool, true, false, cond, List, [], ◌∷◌, ◌++◌, length, append_assoc}
+use Rattle.std.proofs.Common.{append-nil}
 use Rattle.std.proofs.Common.{ap, refl, sym, arith, Some, None, Result, Ok, Err, replicate, length-append, take}
 use Rattle.std.specs.Str.{is_utf8, chars, IsUtf8}
 use Rattle.std.proofs.lemmas.List.{take_all}
@@ -46,7 +47,8 @@ shifted number bytes record_bytes (Err f) = refl
 
 module _ (size : ℕ) (text : List ℕ) (number : ℕ) (rest line after bytes : List ℕ) (h : JoinedTo size text number rest bytes)
     (split : lines_of rest ≡ line ∷ lines_of after) where
-  next : records_of size text ≡ joined bytes (and_records (number + 1) (record_of size line) (records_from size (number + 1 + 1) (lines_of after)))
+  next : records_of size text ≡ joined bytes (and_records (number + 1) (record_of size line)
+      (records_from size (number + 1 + 1) (lines_of after)))
   next = h ∙ ap (joined bytes) (ap (records_from size (number + 1)) split ∙ one size (number + 1) line (lines_of after))
 
   -- one line more
@@ -64,7 +66,8 @@ module _ (size : ℕ) (text : List ℕ) (number : ℕ) (rest line after bytes : 
 pub all_joined : (size : ℕ) (text : List ℕ) (number : ℕ) (rest bytes : List ℕ) → rest ≡ [] → JoinedTo size text number rest bytes
     → records_of size text ≡ Ok bytes
 all_joined size text number rest bytes empty h =
-    h ∙ ap (joined bytes) (ap (λ r. records_from size (number + 1) (lines_of r)) empty ∙ none_left size (number + 1)) ∙ ap Ok (append-nil bytes)
+    h ∙ ap (joined bytes) (ap (λ r. records_from size (number + 1) (lines_of r)) empty ∙ none_left size (number + 1))
+    ∙ ap Ok (append-nil bytes)
 
 -- The record of one line.
 module _ (size : ℕ) (line : List ℕ) where
@@ -87,19 +90,22 @@ module _ (size : ℕ) (line : List ℕ) where
   no_byte is none = ap (record_with size) (codes_are is ∙ none)
 
   -- a line that is too long
-  pub too_long : (bytes : List ℕ) → IsUtf8 line → codes_of (chars line) ≡ Some bytes → size < length bytes → record_of size line ≡ Err TooLong
+  pub too_long : (bytes : List ℕ) → IsUtf8 line → codes_of (chars line) ≡ Some bytes → size < length bytes
+      → record_of size line ≡ Err TooLong
   too_long bytes is some long =
       ap (record_with size) (codes_are is ∙ some)
       ∙ ap (λ t. cond t (Err TooLong) (Ok (padded size bytes))) (lt-ltb size (length bytes) long)
 
   -- a line that fits
-  pub is_record : (bytes : List ℕ) → IsUtf8 line → codes_of (chars line) ≡ Some bytes → length bytes ≤ size → record_of size line ≡ Ok (padded size bytes)
+  pub is_record : (bytes : List ℕ) → IsUtf8 line → codes_of (chars line) ≡ Some bytes → length bytes ≤ size
+      → record_of size line ≡ Ok (padded size bytes)
   is_record bytes is some short =
       ap (record_with size) (codes_are is ∙ some)
       ∙ ap (λ t. cond t (Err TooLong) (Ok (padded size bytes))) (le-ltb size (length bytes) short)
 
 -- The same, of what was put behind other bytes.
-module _ (size : ℕ) (line text before now : List ℕ) (is : IsUtf8 line) (same_text : text ≡ line) (put : PutsCodes (codes_of (chars text)) before now true) where
+module _ (size : ℕ) (line text before now : List ℕ) (is : IsUtf8 line) (same_text : text ≡ line)
+    (put : PutsCodes (codes_of (chars text)) before now true) where
   codes_there : codes_of (chars line) ≡ Some put.0
   codes_there = ap (λ l. codes_of (chars l)) (sym same_text) ∙ put.1
 

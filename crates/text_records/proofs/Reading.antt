@@ -1,6 +1,7 @@
 -- Records are read as the lines that they were made of.
 use Rattle.std.proofs.Common.{◌≡◌, ◌∙◌, ◌≤◌, ◌+◌, ◌-◌, ◌*◌, ◌==◌, inl, inr, ℕ, zero, suc, Bool, true, false, cond, List, [], ◌∷◌, ◌++◌}
-use Rattle.std.proofs.Common.{length, take, drop, ap, ap₂, refl, sym, subst, arith, length-append, append_assoc, append-nil, Some, None, Result, Ok, Err, flat_map}
+use Rattle.std.proofs.Common.{length, take, drop, ap, ap₂, refl, sym, subst, arith, length-append, append_assoc, append-nil, Some, None}
+use Rattle.std.proofs.Common.{Result, Ok, Err, flat_map}
 use Rattle.std.specs.Prelude.{slice_range}
 use Rattle.std.proofs.lemmas.List.{drop-drop}
 use Rattle.std.proofs.lemmas.Bool.{le-ltb, eqb-true}
@@ -45,13 +46,15 @@ no_records : (size number : ℕ) (bytes : List ℕ) → records_from size number
 unfolding records_from
 no_records size number bytes e = cc
 
-both : (number : ℕ) (r : Result (List ℕ) LineFault) (more : Result (List ℕ) TextFault) (bytes : List ℕ) → and_records number r more ≡ Ok bytes
+both : (number : ℕ) (r : Result (List ℕ) LineFault) (more : Result (List ℕ) TextFault) (bytes : List ℕ)
+    → and_records number r more ≡ Ok bytes
     → (a : List ℕ) × (b : List ℕ) × (r ≡ Ok a) × (more ≡ Ok b) × (bytes ≡ a ++ b)
 both number (Ok a) (Ok b) bytes e = (a, b, refl, refl, cc)
 both number (Ok a) (Err f) bytes e = absurd (cc)
 both number (Err f) more bytes e = absurd (cc)
 
-are_records : (size number : ℕ) (lines : List (List ℕ)) (bytes : List ℕ) → records_from size number lines ≡ Ok bytes → AreRecords size lines bytes
+are_records : (size number : ℕ) (lines : List (List ℕ)) (bytes : List ℕ) → records_from size number lines ≡ Ok bytes
+    → AreRecords size lines bytes
 are_records size number [] bytes e = no_records size number bytes e
 are_records size number (l ∷ ls) bytes e =
     let p = both number (record_of size l) (records_from size (number + 1) ls) bytes (sym (one size number l ls) ∙ e) in
@@ -77,7 +80,8 @@ behind_first size n first others long =
     ap (λ k. drop k (first ++ others)) (one_more size n (length first) long) ∙ sym (drop-drop (n * size) (length first) (first ++ others))
     ∙ ap (drop (n * size)) (past first others)
 
-with_first : (size n : ℕ) (first others : List ℕ) → length first ≡ size → take (suc n * size) (first ++ others) ≡ first ++ take (n * size) others
+with_first : (size n : ℕ) (first others : List ℕ) → length first ≡ size
+    → take (suc n * size) (first ++ others) ≡ first ++ take (n * size) others
 with_first size n first others long =
     ap (λ k. take k (first ++ others)) (one_more size n (length first) long) ∙ up_to first others (n * size)
 
@@ -92,7 +96,8 @@ nothing_there (suc n) = refl
 none_of : (size : ℕ) → 0 ≡ 0 * size
 none_of size = omega arith
 
-dropped : (size n : ℕ) (lines : List (List ℕ)) (bytes : List ℕ) → AreRecords size lines bytes → AreRecords size (drop n lines) (drop (n * size) bytes)
+dropped : (size n : ℕ) (lines : List (List ℕ)) (bytes : List ℕ) → AreRecords size lines bytes
+    → AreRecords size (drop n lines) (drop (n * size) bytes)
 dropped size zero lines bytes h = subst (λ k. AreRecords size lines (drop k bytes)) (none_of size) h
 dropped size (suc n) [] bytes h = ap (drop (suc n * size)) h ∙ nothing_left (suc n * size)
 dropped size (suc n) (l ∷ ls) bytes h =
@@ -100,7 +105,8 @@ dropped size (suc n) (l ∷ ls) bytes h =
     (sym (ap (drop (suc n * size)) h.1.joined ∙ behind_first size n h.1.first h.0 h.1.is_record.long))
     (dropped size n ls h.0 h.2)
 
-taken : (size n : ℕ) (lines : List (List ℕ)) (bytes : List ℕ) → AreRecords size lines bytes → AreRecords size (take n lines) (take (n * size) bytes)
+taken : (size n : ℕ) (lines : List (List ℕ)) (bytes : List ℕ) → AreRecords size lines bytes
+    → AreRecords size (take n lines) (take (n * size) bytes)
 taken size zero lines bytes h = ap (λ k. take k bytes) (sym (none_of size))
 taken size (suc n) [] bytes h = ap (take (suc n * size)) h ∙ nothing_there (suc n * size)
 taken size (suc n) (l ∷ ls) bytes h = (
@@ -144,7 +150,8 @@ module _ (size track number : ℕ) (some : 1 ≤ size) where
 
   none : (most : ℕ) (block : List ℕ) (at : ℕ) → at ≡ length block → lines_from most (Fixed size) track number block at ≡ these_bytes []
   none zero block at e = no_step block at
-  none (suc most) block at e = step most block at ∙ ap (λ r. on_piece track number block r (lines_from most (Fixed size) track number block)) (at_end block at e)
+  none (suc most) block at e = step most block at ∙ ap (λ r. on_piece track number block r
+      (lines_from most (Fixed size) track number block)) (at_end block at e)
 
   slice_there : (front rest first others : List ℕ) → rest ≡ first ++ others → length first ≡ size
       → slice_range (front ++ rest) (length front) (length front + size) ≡ first
@@ -165,14 +172,16 @@ module _ (size track number : ℕ) (some : 1 ≤ size) where
       ∙ ap₂ (λ (t : List ℕ) (w : Written). behind None t w)
       (ap line_of (slice_there front rest h.1.first h.0 h.1.joined h.1.is_record.long) ∙ h.1.is_record.read)
       (ap₂ (λ (b : List ℕ) (a : ℕ). lines_from most (Fixed size) track number b a)
-      (ap (λ r. front ++ r) h.1.joined ∙ sym (append_assoc front h.1.first h.0)) (omega (arith, length-append front h.1.first, h.1.is_record.long))
+      (ap (λ r. front ++ r) h.1.joined ∙ sym (append_assoc front h.1.first h.0))
+      (omega (arith, length-append front h.1.first, h.1.is_record.long))
       ∙ read_from ls (front ++ h.1.first) h.0 most h.2 (omega (arith, enough, long, some)))
     where
       long : length rest ≡ size + length h.0
       long = omega (arith, ap length h.1.joined, length-append h.1.first h.0, h.1.is_record.long)
 
 -- each block of whole records
-pub read_as_lines : (size : ℕ) (lines : List (List ℕ)) (bytes : List ℕ) → 1 ≤ size → AreRecords size lines bytes → IsReadAsLines size lines bytes
+pub read_as_lines : (size : ℕ) (lines : List (List ℕ)) (bytes : List ℕ) → 1 ≤ size → AreRecords size lines bytes
+    → IsReadAsLines size lines bytes
 read_as_lines size lines bytes some h from count track number =
     let part = taken size count (drop from lines) (drop (from * size) bytes) (dropped size from lines bytes h) in
     read_from size track number some (take count (drop from lines)) [] (take (count * size) (drop (from * size) bytes))

@@ -40,7 +40,8 @@ shifted bytes byte None = refl
 shifted bytes byte (Some l) = ap Some (sym (append_assoc bytes (byte ∷ []) l))
 
 -- one character more
-pub one_spelled : (cs start now after : List ℕ) (n c byte : ℕ) → (n < length cs) × (c ≡ get_or cs n c) → SpelledTo cs n start now → Some byte ≡ code_of c
+pub one_spelled : (cs start now after : List ℕ) (n c byte : ℕ) → (n < length cs) × (c ≡ get_or cs n c) → SpelledTo cs n start now
+    → Some byte ≡ code_of c
     → after ≡ now ++ byte ∷ [] → SpelledTo cs (n + 1) start after
 one_spelled cs start now after n c byte at h is put = record {
   bytes = h.bytes ++ byte ∷ [];

@@ -1,5 +1,6 @@
 -- A text is split behind its first line.
-use Rattle.std.proofs.Common.{◌≡◌, ◌≢◌, ◌<◌, ◌∙◌, ◌+◌, ◌-◌, length-drop, ℕ, zero, suc, ◌==◌, true, false, cond, List, [], ◌∷◌, length, take, drop, get_or, ap, refl, sym, arith}
+use Rattle.std.proofs.Common.{◌≡◌, ◌≢◌, ◌<◌, ◌∙◌, ◌+◌, ◌-◌, length-drop, ℕ, zero, suc, ◌==◌, true, false, cond, List, [], ◌∷◌, length}
+use Rattle.std.proofs.Common.{take, drop, get_or, ap, refl, sym, arith}
 use Rattle.std.proofs.lemmas.List.{take_all}
 use Rattle.text_records.specs.Lines.{in_front, lines_of}
 
@@ -40,7 +41,8 @@ last_line (b ∷ []) some none =
     step b [] ∙ ap (λ t. cond t ([] ∷ lines_of []) (in_front b (lines_of []))) (no_feed b (none 0 (omega arith)))
     ∙ ap (in_front b) nothing ∙ ap (λ ls. (b ∷ []) ∷ ls) (sym nothing)
 last_line (b ∷ d ∷ bs) some none =
-    goes_on b (d ∷ bs) (d ∷ bs) (lines_of []) (none 0 (omega arith)) (last_line (d ∷ bs) (omega arith) (λ k h. none (suc k) (omega (arith, h))))
+    goes_on b (d ∷ bs) (d ∷ bs) (lines_of []) (none 0 (omega arith))
+    (last_line (d ∷ bs) (omega arith) (λ k h. none (suc k) (omega (arith, h))))
 
 -- the same, with what is left as the code has it
 pub split_at : (text : List ℕ) (end : ℕ) → end < length text → ((k : ℕ) → k < end → get_or text k 0 ≢ 10) → get_or text end 0 ≡ 10
@@ -48,4 +50,5 @@ pub split_at : (text : List ℕ) (end : ℕ) → end < length text → ((k : ℕ
 split_at text end inside none is =
     first_line text end inside none is
     ∙ ap (λ n. take end text ∷ lines_of (drop n text)) {x = suc end} {y = end + 1} (omega arith)
-    ∙ ap (λ r. take end text ∷ lines_of r) (sym (take_all (length text - (end + 1)) (drop (end + 1) text) (omega (arith, length-drop (end + 1) text))))
+    ∙ ap (λ r. take end text ∷ lines_of r) (sym (take_all (length text - (end + 1)) (drop (end + 1) text)
+    (omega (arith, length-drop (end + 1) text))))

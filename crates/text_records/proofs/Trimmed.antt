@@ -1,5 +1,6 @@
 -- Blanks at the end of bytes of EBCDIC, and at the end of the text that these are.
-use Rattle.std.proofs.Common.{◌≡◌, ◌≢◌, ◌∙◌, ◌<◌, ◌≤◌, ◌+◌, ◌-◌, ◌==◌, ℕ, zero, suc, Bool, true, false, cond, List, [], ◌∷◌, ◌++◌, length, take, get_or, reverse, replicate}
+use Rattle.std.proofs.Common.{◌≡◌, ◌≢◌, ◌∙◌, ◌<◌, ◌≤◌, ◌+◌, ◌-◌, ◌==◌, ℕ, zero, suc, Bool, true, false, cond, List, [], ◌∷◌, ◌++◌, length}
+use Rattle.std.proofs.Common.{take, get_or, reverse, replicate}
 use Rattle.std.proofs.Common.{ap, refl, sym, subst, arith, append_assoc, append-nil, length-append, ◌⊎◌, inl, inr, ◌||◌, not}
 use Rattle.std.proofs.Common.{nat_lt, nat_le, ◌&&◌}
 use Rattle.std.specs.List.{range_with_len}
@@ -108,7 +109,8 @@ module _ (front : List ℕ) (b : ℕ) where
 
       character : get_or l (length l - 1) 0 ≡ 32 → text_character b ≡ 32
       character e =
-          inside_one (text_character b) [] l (length l - 1) (is ∙ sym (append-nil (encode_utf8 (text_character b)))) (omega (arith, some, ap length is))
+          inside_one (text_character b) [] l (length l - 1) (is
+          ∙ sym (append-nil (encode_utf8 (text_character b)))) (omega (arith, some, ap length is))
           (omega (arith, e)) ∙ e
 
   -- one byte more
@@ -144,7 +146,8 @@ module _ (front : List ℕ) (b : ℕ) where
         where
           last_of_bytes : is_blank (get_or (front ++ b ∷ []) (length (front ++ b ∷ []) - 1) 0) ≡ false
           last_of_bytes =
-              ap is_blank (get_or-append_right front (b ∷ []) (length front) (length (front ++ b ∷ []) - 1) 0 refl (omega (arith, length-append front (b ∷ [])))
+              ap is_blank (get_or-append_right front (b ∷ []) (length front) (length (front ++ b ∷ []) - 1) 0 refl
+              (omega (arith, length-append front (b ∷ [])))
               ∙ ap (λ n. get_or (b ∷ []) n 0) {y = 0} (omega (arith, length-append front (b ∷ []))))
               ∙ is_other b 0x40 differs
 

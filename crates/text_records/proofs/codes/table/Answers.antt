@@ -24,7 +24,8 @@ loop-number-preserved c =
       | then-is_none w ↦ (
         ap length w.table-is ∙ length-set c.loop-number.table c.from-place.result _ ∙ holds.0,
         subst (λ t. HasPlaces t (c.loop-number.number + 1)) (sym w.table-is)
-            (entered c.loop-number.table c.loop-number.number c.from-place.result inside is (omega (arith, there, c.from-place.ensures)) holds.1 holds.0
+            (entered c.loop-number.table c.loop-number.number c.from-place.result inside is
+            (omega (arith, there, c.from-place.ensures)) holds.1 holds.0
             (c.is_none.ensures ∙ ap not w.if-is_none.true)),
       )
       | else-is_none w ↦ (

@@ -11,14 +11,16 @@ loop-character-init c = none_spelled (chars c.args.text.now) c.args.records.now.
 
 pub returns-in_default : goal.returns-in_default
 returns-in_default c =
-    let t = YieldsList-turn (YieldsList-from_chars c.args.text.now c.utf8.text cc) c.loop-character.yielded _ c.loop-character.yielded_by _ _
+    let t = YieldsList-turn
+    (YieldsList-from_chars c.args.text.now c.utf8.text cc) c.loop-character.yielded _ c.loop-character.yielded_by _ _
     c.in-Some.character c.in-Some.is c.next.ensures.steps in
     not_spelled (chars c.args.text.now) c.args.records.now.items c.loop-character.records.items (length c.loop-character.yielded)
     c.in-Some.character t c.loop-character.invariant (sym c.in_default.is ∙ c.code.ensures)
 
 pub loop-character-preserved : goal.loop-character-preserved
 loop-character-preserved c =
-    let t = YieldsList-turn (YieldsList-from_chars c.args.text.now c.utf8.text cc) c.loop-character.yielded _ c.loop-character.yielded_by _ _
+    let t = YieldsList-turn
+    (YieldsList-from_chars c.args.text.now c.utf8.text cc) c.loop-character.yielded _ c.loop-character.yielded_by _ _
     c.in-Some.character c.in-Some.is c.next.ensures.steps in
     let more = one_spelled (chars c.args.text.now) c.args.records.now.items c.loop-character.records.items c.push.new.self.items
     (length c.loop-character.yielded) c.in-Some.character c.in-Some-code.byte t c.loop-character.invariant

@@ -7,8 +7,11 @@ use Rattle.text_records.specs.Putting.{PutsRecord}
 use Rattle.text_records.proofs.records.text_records.Goals as goal
 
 pub loop-rest-init : goal.loop-rest-init
-loop-rest-init c =
-    (omega arith, subst (JoinedTo c.args.size c.args.text.now 0 c.args.text.now) (sym c.new-records.ensures.items) (none_joined c.args.size c.args.text.now))
+loop-rest-init c = (
+  omega arith,
+  subst (JoinedTo c.args.size c.args.text.now 0 c.args.text.now) (sym c.new-records.ensures.items)
+      (none_joined c.args.size c.args.text.now),
+)
 
 empty : (l : List ℕ) → length l ≡ 0 → l ≡ []
 empty [] e = refl
