@@ -23,13 +23,15 @@ use Rattle.dasd_extract.specs.Walk.{blocks_from, slot_written, track_on, Wanted,
 use Rattle.dasd_extract.specs.Walk.{alternates_read, source_written, too_many, number_on}
 use Rattle.dasd_extract.proofs.Endings.{until_none, until_one_more, ended_stays, stays_for}
 use Rattle.dasd_extract.proofs.Told.{none_read, one_more_read}
-use Rattle.data_set_blocks.specs.Blocks.{areas_of, FitsTrack}
+use Rattle.data_set_blocks.specs.declared.blocks.Cut.{Cut}
+use Rattle.data_set_blocks.specs.Blocks.{areas_of}
 use Rattle.data_set_blocks.specs.Tracks.{fitting_on, left_behind, behind_track, block_record, track_bytes, loaded_track, Takes}
 use Rattle.data_set_blocks.specs.Extracted.{IsLoadedAt, IsLoaded, first_block, ended_by_file, IsReadBack}
 use Rattle.data_set_blocks.proofs.Areas.{length-areas}
 use Rattle.data_set_blocks.proofs.Fitting.{fits_on}
 use Rattle.data_set_blocks.proofs.Takes.{none_behind, one_behind}
-use Rattle.data_set_blocks.proofs.Ends.{EndsOnce, left_ends, joined, areas_end, joined_areas}
+use Rattle.data_set_blocks.proofs.Ends.{EndsOnce, left_ends, joined}
+use Rattle.data_set_blocks.proofs.Cuts.{AreBlocks}
 use Rattle.data_set_blocks.proofs.Spelled.{loaded_read, record_of, length-records_of}
 
 -- Bytes of areas, one behind another, of which none is empty.
@@ -263,15 +265,15 @@ module _ (g : Geometry) (extents : List Extent) (slots : List (List ℕ)) (most 
       ap (until_stop told) (sym e) ∙ stays_for told (j + 1) (most - (j + 1)) stop stopped_here ∙ here in
       ended_stays (until_stop told most) (too_many (source g extents slots most) g slots) stop (ap (λ (w : Written). w.stop) whole) ∙ whole
 
-pub read_back : (model : DriveModel) (size : ℕ) (bytes : List ℕ) (tracks : ℕ) → FitsTrack model size → size < 65536
-    → Takes model (areas_of size bytes) tracks → IsReadBack model size bytes tracks
-read_back model size bytes zero fits few takes = absurd (omega (
+pub read_back : (model : DriveModel) (cut : Cut) (bytes : List ℕ) (tracks : ℕ) → AreBlocks model cut bytes
+    → Takes model (areas_of cut bytes) tracks → IsReadBack model cut bytes tracks
+read_back model cut bytes zero fits takes = absurd (omega (
   arith,
-  ap length (sym (none_behind model (areas_of size bytes)) ∙ takes.all),
-  length-areas size bytes,
+  ap length (sym (none_behind model (areas_of cut bytes)) ∙ takes.all),
+  length-areas cut bytes,
 ))
-read_back model size bytes (suc j) fits few takes = λ g extents slots most is within loaded.
-    let takes_here : Takes g.model (areas_of size bytes) (suc j) = rw is takes in
+read_back model cut bytes (suc j) fits takes = λ g extents slots most is within loaded.
+    let takes_here : Takes g.model (areas_of cut bytes) (suc j) = rw is takes in
     let last : suc j - 1 ≡ j = omega arith in
-    all_read g extents slots most (areas_of size bytes) (suc j) takes_here (areas_end size bytes fits.some few) loaded j refl within
-    ∙ ap (λ (xs : List ℕ). ended_by_file xs j) (joined_areas size bytes fits.some) ∙ ap (ended_by_file bytes) (sym last)
+    all_read g extents slots most (areas_of cut bytes) (suc j) takes_here fits.ends loaded j refl within
+    ∙ ap (λ (xs : List ℕ). ended_by_file xs j) fits.whole ∙ ap (ended_by_file bytes) (sym last)

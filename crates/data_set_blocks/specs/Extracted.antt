@@ -13,6 +13,7 @@ use Rattle.dasd_extract.specs.declared.stops.Cause.TheVariants.{EndOfFile}
 use Rattle.dasd_extract.specs.declared.blocks.Form.TheVariants.{Raw}
 use Rattle.dasd_extract.specs.Written.{Written, stop_at}
 use Rattle.dasd_extract.specs.Walk.{wanted, source_written}
+use Rattle.data_set_blocks.specs.declared.blocks.Cut.{Cut}
 use Rattle.data_set_blocks.specs.Blocks.{areas_of}
 use Rattle.data_set_blocks.specs.Tracks.{left_behind, loaded_slot}
 
@@ -37,8 +38,8 @@ ended_by_file bytes last = record { bytes = bytes; stop = Some (stop_at last End
 
 -- Wherever these tracks are on a volume, what the reader writes of the data set's blocks as they stand is all of the bytes and nothing
 -- else, and it ends with the end of file on the last of the tracks.
-abbrev pub IsReadBack : DriveModel → (size : ℕ) → (bytes : List ℕ) → (tracks : ℕ) → Type 0
-IsReadBack model size bytes tracks =
+abbrev pub IsReadBack : DriveModel → Cut → (bytes : List ℕ) → (tracks : ℕ) → Type 0
+IsReadBack model cut bytes tracks =
     (g : Geometry) (extents : List Extent) (slots : List (List ℕ)) (most : ℕ) → g.model ≡ model → tracks ≤ most
-    → IsLoaded g extents slots (areas_of size bytes) tracks
+    → IsLoaded g extents slots (areas_of cut bytes) tracks
     → source_written (wanted Raw extents first_block most) g slots ≡ ended_by_file bytes (tracks - 1)
