@@ -1,6 +1,6 @@
 -- The data areas of blocks, one behind another.
-use Rattle.std.proofs.Common.{◌≡◌, ◌∙◌, ap, sym, ℕ, ◌+◌, ◌-◌, ◌*◌, ◌≤◌, List, [], ◌∷◌, length, drop, get_or, arith}
-use Rattle.std.proofs.Common.{drop-drop, length-take, length-drop}
+use Rattle.std.proofs.Common.{◌≡◌, ◌∙◌, ap, sym, ℕ, ◌+◌, ◌-◌, ◌≤◌, List, [], ◌∷◌, length, drop, get_or, arith}
+use Rattle.std.proofs.Common.{drop-drop, length-drop}
 use Rattle.std.proofs.lemmas.List.{drop_more, drop_all, get_or-drop}
 use Rattle.std.proofs.lemmas.List.FromFn.{length-map-range_with_len, get_or-map-range_with_len}
 use Rattle.data_set_blocks.specs.declared.blocks.Cut.{Cut}

@@ -1,7 +1,7 @@
 -- Bytes are cut into blocks, each of which goes on a track.
-use Rattle.std.proofs.Common.{◌≡◌, ◌∙◌, ap, sym, refl, ℕ, zero, suc, ◌+◌, ◌-◌, ◌*◌, ◌≤◌, ◌<◌, Bool, true, false, nat_le, List, [], ◌∷◌, ◌++◌}
+use Rattle.std.proofs.Common.{◌≡◌, ◌∙◌, ap, sym, refl, ℕ, zero, suc, ◌+◌, ◌≤◌, ◌<◌, Bool, true, false, nat_le, List, [], ◌∷◌, ◌++◌}
 use Rattle.std.proofs.Common.{length, take, drop, get_or, arith, length-take, length-drop, append-nil, ◌⊎◌, inl, inr, not}
-use Rattle.std.specs.List.{range_with_len, position_or_len}
+use Rattle.std.specs.List.{range_with_len}
 use Rattle.std.proofs.lemmas.Bool.{cases_lt}
 use Rattle.std.proofs.lemmas.Bool.Decides.{nat_tests}
 use Rattle.std.proofs.lemmas.Grind.{flat_map-append}
@@ -118,7 +118,14 @@ module _ (model : DriveModel) (bytes : List ℕ) (fits : FitsDescribed model byt
   some k there =
       let inside = begins bytes k there in
       let d = number_at bytes (start_of bytes k) in
-      omega (arith, fits.some k inside, fits.within k inside, length-take d (drop (start_of bytes k) bytes), length-drop (start_of bytes k) bytes)
+      omega (
+        arith,
+        fits.some k inside,
+        fits.within k inside,
+        length-take d (drop (start_of bytes k) bytes),
+        length-drop
+            (start_of bytes k) bytes,
+      )
 
   -- each block takes a byte at least
   far : (k : ℕ) → k ≤ count bytes → k ≤ start_of bytes k

@@ -6,7 +6,7 @@ use Rattle.std.proofs.lemmas.Grind.{flat_map-append}
 use Rattle.std.proofs.lemmas.List.{take_more, take-take, take_all, drop_all, get_or-drop, take-append-drop, drop-take}
 use Rattle.std.proofs.lemmas.Nat.{div-add-mod', mul-le, mod_below}
 use Rattle.ckd_track.specs.declared.model.DriveModel.{DriveModel}
-use Rattle.data_set_blocks.specs.declared.blocks.Cut.TheVariants.{Length, Described}
+use Rattle.data_set_blocks.specs.declared.blocks.Cut.TheVariants.{Length}
 use Rattle.data_set_blocks.specs.Blocks.{block_count, area, areas_of}
 use Rattle.data_set_blocks.specs.Tracks.{fitting_on, left_behind}
 use Rattle.data_set_blocks.proofs.Areas.{length-areas, area_in}

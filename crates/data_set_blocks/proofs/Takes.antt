@@ -21,7 +21,8 @@ one_behind model areas n = refl
 
 module _ (model : DriveModel) (cut : Cut) (bytes : List ℕ) (next : ℕ) where
   -- a track takes one at least
-  pub some_fit : ((k : ℕ) → k ≤ block_count cut bytes → length (area cut bytes k) ≤ capacity_of model) → next ≤ block_count cut bytes → 1 ≤ fitting_on model (drop next (areas_of cut bytes))
+  pub some_fit : ((k : ℕ) → k ≤ block_count cut bytes → length (area cut bytes k) ≤ capacity_of model) → next ≤ block_count cut bytes
+      → 1 ≤ fitting_on model (drop next (areas_of cut bytes))
   some_fit most there =
       let here : next + 0 ≡ next = omega arith in
       let a = area cut bytes (next + 0) in

@@ -1,8 +1,8 @@
 -- Blocks by their descriptor words, looked at one after another.
-use Rattle.std.proofs.Common.{◌≡◌, ◌∙◌, ap, sym, refl, subst, ℕ, zero, suc, ◌+◌, ◌-◌, ◌≤◌, ◌<◌, ◌==◌, Bool, true, false, cond, ◌||◌, not, nat_lt}
-use Rattle.std.proofs.Common.{List, length, arith, Option, Some, None, Result, Ok, Err, ◌⊎◌, inl, inr}
+use Rattle.std.proofs.Common.{◌≡◌, ◌∙◌, ap, sym, refl, ℕ, zero, suc, ◌+◌, ◌-◌, ◌≤◌, ◌<◌, Bool, true, false, cond, ◌||◌, not, nat_lt}
+use Rattle.std.proofs.Common.{List, length, arith, Option, Some, None, Result}
 use Rattle.std.specs.Prelude.{slice_range, IfNone}
-use Rattle.std.proofs.lemmas.Bool.{cases_lt, lt-ltb, le-ltb, ltb-false}
+use Rattle.std.proofs.lemmas.Bool.{lt-ltb, le-ltb, ltb-false}
 use Rattle.ckd_track.specs.declared.model.DriveModel.{DriveModel}
 use Rattle.ckd_track.specs.Model.{capacity_of}
 use Rattle.data_sets.specs.declared.records.RecordForm.{RecordForm}
@@ -11,12 +11,11 @@ use Rattle.data_sets.specs.declared.records.RecordFault.{RecordFault}
 use Rattle.data_sets.specs.declared.records.Piece.{Piece}
 use Rattle.data_sets.specs.Records.{number_at, next_record}
 use Rattle.data_set_blocks.specs.declared.faults.BlockFault.{BlockFault}
-use Rattle.data_set_blocks.specs.declared.faults.BlockFault.TheVariants.{Described}
 use Rattle.data_set_blocks.specs.declared.faults.DescribedFault.{DescribedFault}
 use Rattle.data_set_blocks.specs.declared.faults.DescribedFault.TheVariants.{NoLength, PastEnd, TooLong, BadRecords}
 use Rattle.data_set_blocks.specs.Blocks.{start_of, cut_by, FitsDescribed, FitsTrack}
 use Rattle.data_set_blocks.specs.Faults.{and_records, has_records_from, has_records, block_fault_at, or_next, first_fault, form_fault}
-use Rattle.data_set_blocks.proofs.Cuts.{first, next_start}
+use Rattle.data_set_blocks.proofs.Cuts.{next_start}
 
 -- The records of a block.
 module _ (f : RecordForm) (block : List ℕ) where
@@ -37,7 +36,8 @@ module _ (f : RecordForm) (block : List ℕ) where
       ∙ one_record (length block - (k + 1)) at ∙ ap (λ r. and_records r (has_records_from (length block - (k + 1)) f block)) (sym is)
 
   -- all steps are done
-  pub no_more : (k at : ℕ) → length block ≤ k → has_records f block ≡ has_records_from (length block - k) f block at → has_records f block ≡ true
+  pub no_more : (k at : ℕ) → length block ≤ k → has_records f block ≡ has_records_from (length block - k) f block at
+      → has_records f block ≡ true
   no_more k at done h = h ∙ ap (λ n. has_records_from n f block at) {y = 0} (omega (arith, done)) ∙ no_record at
 
   pub at_first : has_records f block ≡ has_records_from (length block - 0) f block 0
@@ -62,11 +62,13 @@ module _ (f : RecordForm) (longest : ℕ) (bytes : List ℕ) where
 
   there : (most k : ℕ) → start_of bytes k < length bytes → rest (suc most) k ≡ or_next k (fault_of k) (first_fault most f longest bytes)
   there most k inside =
-      one_block most k ∙ ap (λ t. cond t (or_next k (fault_of k) (first_fault most f longest bytes)) None) (lt-ltb (start_of bytes k) (length bytes) inside)
+      one_block most k ∙ ap (λ t. cond t (or_next k (fault_of k) (first_fault most f longest bytes)) None)
+      (lt-ltb (start_of bytes k) (length bytes) inside)
 
   past : (most k : ℕ) → length bytes ≤ start_of bytes k → rest (suc most) k ≡ None
   past most k outside =
-      one_block most k ∙ ap (λ t. cond t (or_next k (fault_of k) (first_fault most f longest bytes)) None) (le-ltb (start_of bytes k) (length bytes) outside)
+      one_block most k ∙ ap (λ t. cond t (or_next k (fault_of k) (first_fault most f longest bytes)) None)
+      (le-ltb (start_of bytes k) (length bytes) outside)
 
   pub at_start : rest (length bytes) 0 ≡ rest (length bytes - 0) 0
   at_start = ap (λ n. rest n 0) (omega arith)

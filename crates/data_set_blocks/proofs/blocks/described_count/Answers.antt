@@ -1,6 +1,5 @@
-use Rattle.std.proofs.Common.{◌≡◌, ◌∙◌, ◌+◌, ◌<◌, ◌≤◌, sym, ap, arith, below_more, length}
+use Rattle.std.proofs.Common.{◌≡◌, ◌∙◌, sym, ap, arith, below_more, length}
 use Rattle.data_sets.specs.Records.{number_at}
-use Rattle.data_set_blocks.specs.Blocks.{start_of}
 use Rattle.data_set_blocks.proofs.Cuts.{first, next_start, counted}
 use Rattle.data_set_blocks.proofs.blocks.described_count.Goals as goal
 

@@ -1,6 +1,5 @@
-use Rattle.std.proofs.Common.{◌≡◌, ◌∙◌, ◌+◌, ◌<◌, ◌≤◌, sym, ap, arith, length, Some, None}
+use Rattle.std.proofs.Common.{◌∙◌, sym, ap, arith, Some, None}
 use Rattle.data_sets.specs.Records.{number_at}
-use Rattle.data_set_blocks.specs.Blocks.{start_of}
 use Rattle.data_set_blocks.specs.Faults.{block_fault_at}
 use Rattle.data_set_blocks.proofs.Cuts.{first, next_start}
 use Rattle.data_set_blocks.proofs.Words.{at_start, ends_here, block_there, none_left}
@@ -20,7 +19,8 @@ returns-then-at-bytes c =
 
 pub returns-in-Some : goal.returns-in-Some
 returns-in-Some c =
-    sym (block_there c.args.form c.args.longest c.args.bytes.now c.loop-k.k c.loop-k-test.true c.loop-k.invariant.rest (Some c.in-Some.fault)
+    sym (block_there c.args.form c.args.longest c.args.bytes.now c.loop-k.k c.loop-k-test.true c.loop-k.invariant.rest
+    (Some c.in-Some.fault)
     (omega (arith, c.if-at-bytes.false, c.loop-k.invariant.place))
     (sym c.in-Some.is ∙ c.block_fault_at.ensures
     ∙ ap (block_fault_at c.args.form c.args.longest c.args.bytes.now) c.loop-k.invariant.place))

@@ -1,4 +1,4 @@
-use Rattle.std.proofs.Common.{◌≡◌, ◌∙◌, sym, ap, subst, arith, Option, Some, None, Ok, Err}
+use Rattle.std.proofs.Common.{◌∙◌, sym, ap, subst, arith, Some, None, Ok, Err}
 use Rattle.std.specs.Prelude.{IfSome}
 use Rattle.data_sets.specs.Records.{IsWithin}
 use Rattle.data_set_blocks.proofs.Words.{next_there, no_more, at_first}

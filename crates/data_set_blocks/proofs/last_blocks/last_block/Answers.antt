@@ -20,7 +20,8 @@ loop-next-init c =
 pub loop-next-smaller : goal.loop-next-smaller
 loop-next-smaller c =
     let b = c.args.blocks in
-    let some = some_fit c.args.model b.cut b.bytes.now c.loop-next.next (are_blocks c.args.model b.cut b.bytes.now c.requires.size).most (omega arith) in
+    let some = some_fit c.args.model b.cut b.bytes.now c.loop-next.next (are_blocks c.args.model b.cut b.bytes.now c.requires.size).most
+    (omega arith) in
     omega (arith, some, c.fitting-fit.ensures.count, c.fitting-fit.ensures.within)
 
 pub loop-next-preserved : goal.loop-next-preserved
@@ -49,7 +50,8 @@ returns-then-next-fit-clause-block c =
     let b = c.args.blocks in
     let count = c.fitting-fit.ensures.count in
     let number : c.block_count-count.result - c.loop-next.next ≡ block_count b.cut b.bytes.now - c.loop-next.next = omega arith in
-    rw number (is_last c.args.model b.cut b.bytes.now c.loop-next.next c.loop-next.track (are_blocks c.args.model b.cut b.bytes.now c.requires.size)
+    rw number (is_last c.args.model b.cut b.bytes.now c.loop-next.next c.loop-next.track
+    (are_blocks c.args.model b.cut b.bytes.now c.requires.size)
     (omega arith) (omega (arith, count, c.if-next-fit.true)) c.loop-next.invariant.left
     (λ two. omega (arith, two, length-areas b.cut b.bytes.now, c.loop-next-test.true)))
 
@@ -58,6 +60,7 @@ returns-clause-block c =
     let b = c.args.blocks in
     let none : block_count b.cut b.bytes.now ≡ 0 = grind (arith, c.loop-next.invariant.block) in
     let zero_is : block_count b.cut b.bytes.now - c.loop-next.next ≡ 0 = omega (arith, none) in
-    rw zero_is at (is_last c.args.model b.cut b.bytes.now c.loop-next.next c.loop-next.track (are_blocks c.args.model b.cut b.bytes.now c.requires.size)
+    rw zero_is at (is_last c.args.model b.cut b.bytes.now c.loop-next.next c.loop-next.track
+    (are_blocks c.args.model b.cut b.bytes.now c.requires.size)
     (omega arith) (omega (arith, none)) c.loop-next.invariant.left
     (λ two. omega (arith, two, length-areas b.cut b.bytes.now, none)))

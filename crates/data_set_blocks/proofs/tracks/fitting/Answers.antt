@@ -36,4 +36,10 @@ returns-clause-count c =
 
 pub overflow_add-taken : goal.overflow_add-taken
 overflow_add-taken c =
-    omega (arith, c.loop-k.invariant.taken, c.last_charge.ensures, (charges c.args.model (length c.area.result.now)).last, c.area.ensures.limit)
+    omega (
+      arith,
+      c.loop-k.invariant.taken,
+      c.last_charge.ensures,
+      (charges c.args.model (length c.area.result.now)).last,
+      c.area.ensures.limit,
+    )

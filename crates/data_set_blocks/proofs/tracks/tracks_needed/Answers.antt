@@ -20,7 +20,8 @@ loop-next-init c =
 pub loop-next-smaller : goal.loop-next-smaller
 loop-next-smaller c =
     let b = c.args.blocks in
-    let some = some_fit c.args.model b.cut b.bytes.now c.loop-next.next (are_blocks c.args.model b.cut b.bytes.now c.requires.size).most (omega arith) in
+    let some = some_fit c.args.model b.cut b.bytes.now c.loop-next.next (are_blocks c.args.model b.cut b.bytes.now c.requires.size).most
+    (omega arith) in
     omega (arith, some, c.fitting-next.ensures.count, c.fitting-next.ensures.within)
 
 pub loop-next-preserved : goal.loop-next-preserved
