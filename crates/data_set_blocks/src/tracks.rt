@@ -5,7 +5,7 @@ ghost use Rattle.ckd_track.specs.Model.{capacity_of};
 ghost use Rattle.ckd_track.specs.Charges.{charge_of, last_charge_of};
 ghost use Rattle.data_set_blocks.specs.Blocks.{block_count, areas_of, FitsTrack, HasLength};
 ghost use Rattle.data_set_blocks.specs.Tracks.{fitting_on, Takes};
-ghost use Rattle.data_set_blocks.specs.Extracted.{IsReadBack};
+ghost use Rattle.data_set_blocks.specs.Extracted.{IsReadAs, IsReadBack};
 
 use crate::blocks::{Blocks, area, block_count};
 use ckd_track::{DriveModel, charge, last_charge};
@@ -37,6 +37,7 @@ pub fn tracks_needed(model: DriveModel, blocks: Blocks) -> usize
     requires size { FitsTrack model blocks.cut blocks.bytes.now }
     ensures tracks { Takes model (areas_of blocks.entry.cut blocks.entry.bytes.now) result }
     ensures read { IsReadBack model blocks.entry.cut blocks.entry.bytes.now result }
+    ensures forms { IsReadAs model blocks.entry.cut blocks.entry.bytes.now result }
 {
     let areas = block_count(blocks) + 1;
     let mut next = 0;

@@ -4,7 +4,7 @@ use Rattle.data_set_blocks.specs.Tracks.{left_behind, Takes}
 use Rattle.data_set_blocks.proofs.Areas.{none_left}
 use Rattle.data_set_blocks.proofs.Cuts.{are_blocks}
 use Rattle.data_set_blocks.proofs.Takes.{none_behind, some_fit, some_left, one_more}
-use Rattle.data_set_blocks.proofs.Extracted.{read_back}
+use Rattle.data_set_blocks.proofs.Extracted.{read_as, read_back}
 use Rattle.data_set_blocks.proofs.tracks.tracks_needed.Goals as goal
 
 pub loop-next-init : goal.loop-next-init
@@ -51,4 +51,5 @@ returns c =
     record {
       tracks = takes;
       read = read_back m b.cut b.bytes.now c.loop-next.tracks (are_blocks m b.cut b.bytes.now c.requires.size) takes;
+      forms = read_as m b.cut b.bytes.now c.loop-next.tracks (are_blocks m b.cut b.bytes.now c.requires.size) takes;
     }
