@@ -1,11 +1,11 @@
 -- What the reader writes of tracks with areas: the areas, one behind another.
 use Rattle.std.proofs.Common.{◌≡◌, ◌≢◌, ◌∙◌, ap, sym, refl, ℕ, zero, suc, ◌+◌, ◌-◌, ◌≤◌, ◌<◌, List, [], ◌∷◌, ◌++◌, length, take, drop}
 use Rattle.std.proofs.Common.{get_or, arith}
-use Rattle.std.proofs.Common.{Ok, inl, inr, ◌⊎◌, append-nil, append_assoc, length-drop, Bool, cond, nat_lt, ◌==◌, true, false}
+use Rattle.std.proofs.Common.{Ok, inl, inr, ◌⊎◌, flat_map, append-nil, append_assoc, length-drop, Bool, cond, nat_lt, ◌==◌, true, false}
 use Rattle.std.proofs.lemmas.Bool.{cases_lt}
 use Rattle.std.proofs.lemmas.Bool.Decides.{nat_tests}
 use Rattle.std.proofs.lemmas.Grind.{flat_map-append}
-use Rattle.std.proofs.lemmas.List.{take_more, take_all, drop_all, take-append-drop, get_or-take, length-take-le}
+use Rattle.std.proofs.lemmas.List.{take_more, take_all, drop_all, take-append-drop, get_or-drop, get_or-take, length-take-le}
 use Rattle.ckd_track.specs.declared.model.DriveModel.{DriveModel}
 use Rattle.ckd_track.specs.declared.geometries.Geometry.{Geometry}
 use Rattle.ckd_track.specs.Model.{heads_of}
@@ -16,57 +16,80 @@ use Rattle.data_sets.specs.declared.addresses.TrackPlace.{TrackPlace}
 use Rattle.data_sets.specs.declared.addresses.TrackPlace.TheVariants as place
 use Rattle.data_sets.specs.Addresses as addresses
 use Rattle.dasd_extract.specs.declared.stops.Cause.TheVariants.{EndOfFile}
+use Rattle.dasd_extract.specs.declared.blocks.Form.{Form}
 use Rattle.dasd_extract.specs.declared.blocks.Form.TheVariants.{Raw}
 use Rattle.dasd_extract.specs.Written.{Written, these_bytes, stopped, stop_at, told_behind, and_then, until_stop}
-use Rattle.dasd_extract.specs.Blocks.{block_written}
+use Rattle.dasd_extract.specs.Blocks.{block_written, form_written}
 use Rattle.dasd_extract.specs.Walk.{blocks_from, slot_written, track_on, Wanted, wanted, track_written, track_told, track_read_from}
 use Rattle.dasd_extract.specs.Walk.{alternates_read, source_written, too_many, number_on}
 use Rattle.dasd_extract.proofs.Endings.{until_none, until_one_more, ended_stays, stays_for}
 use Rattle.dasd_extract.proofs.Told.{none_read, one_more_read}
-use Rattle.data_set_blocks.specs.Blocks.{areas_of, FitsTrack}
+use Rattle.data_set_blocks.specs.declared.blocks.Cut.{Cut}
+use Rattle.data_set_blocks.specs.Blocks.{areas_of}
 use Rattle.data_set_blocks.specs.Tracks.{fitting_on, left_behind, behind_track, block_record, track_bytes, loaded_track, Takes}
-use Rattle.data_set_blocks.specs.Extracted.{IsLoadedAt, IsLoaded, first_block, ended_by_file, IsReadBack}
+use Rattle.data_set_blocks.specs.Extracted.{IsLoadedAt, IsLoaded, first_block, ended_by_file, Reads, IsReadAs, IsReadBack}
 use Rattle.data_set_blocks.proofs.Areas.{length-areas}
 use Rattle.data_set_blocks.proofs.Fitting.{fits_on}
 use Rattle.data_set_blocks.proofs.Takes.{none_behind, one_behind}
-use Rattle.data_set_blocks.proofs.Ends.{EndsOnce, left_ends, joined, areas_end, joined_areas}
+use Rattle.data_set_blocks.proofs.Ends.{EndsOnce, left_ends}
+use Rattle.data_set_blocks.proofs.Cuts.{AreBlocks}
 use Rattle.data_set_blocks.proofs.Spelled.{loaded_read, record_of, length-records_of}
 
--- Bytes of areas, one behind another, of which none is empty.
-all_written : (f : ℕ → Written) (areas : List (List ℕ)) (n : ℕ) → n ≤ length areas
-    → ((k : ℕ) → k < n → f k ≡ these_bytes (get_or areas k [])) → until_stop f n ≡ these_bytes (joined (take n areas))
-all_written f areas zero within each = until_none f
-all_written f areas (suc n) within each =
-    let e : suc n ≡ n + 1 = omega arith in
-    let before = all_written f areas n (omega (arith, within)) (λ k there. each k (omega (arith, there))) in
-    let a = get_or areas n [] in
-    let more : joined (take (n + 1) areas) ≡ joined (take n areas) ++ a =
-    ap joined (take_more areas n [] (omega (arith, within))) ∙ flat_map-append (λ (x : List ℕ). x) (take n areas) (a ∷ [])
-    ∙ ap (λ (xs : List ℕ). joined (take n areas) ++ xs) (append-nil a) in
-    ap (until_stop f) e ∙ until_one_more f n ∙ ap (λ (w : Written). and_then w (f n)) before
-    ∙ ap (and_then (these_bytes (joined (take n areas)))) (each n (omega arith))
-    ∙ ap these_bytes (sym more) ∙ ap (λ (m : ℕ). these_bytes (joined (take m areas))) (sym e)
+-- the text of areas, one behind another
+abbrev said : (List ℕ → List ℕ) → List (List ℕ) → List ℕ
+said text areas = flat_map text areas
 
--- What is written of an area: its bytes; where it has none, nothing, and that is the end.
-has_bytes : (track : ℕ) (id a : List ℕ) → 1 ≤ length a
-    → block_written Raw track (record { id = id; key_area = []; data_area = a }) ≡ these_bytes a
-has_bytes track id a some = let e : (length a == 0) ≡ false = grind (arith, nat_tests) in rw e refl
+all_written : (text : List ℕ → List ℕ) (f : ℕ → Written) (areas : List (List ℕ)) (n : ℕ) → n ≤ length areas
+    → ((k : ℕ) → k < n → f k ≡ these_bytes (text (get_or areas k []))) → until_stop f n ≡ these_bytes (said text (take n areas))
+all_written text f areas zero within each = until_none f
+all_written text f areas (suc n) within each =
+    let e : suc n ≡ n + 1 = omega arith in
+    let before = all_written text f areas n (omega (arith, within)) (λ k there. each k (omega (arith, there))) in
+    let a = get_or areas n [] in
+    let more : said text (take (n + 1) areas) ≡ said text (take n areas) ++ text a =
+    ap (said text) (take_more areas n [] (omega (arith, within))) ∙ flat_map-append text (take n areas) (a ∷ [])
+    ∙ ap (λ (xs : List ℕ). said text (take n areas) ++ xs) (append-nil (text a)) in
+    ap (until_stop f) e ∙ until_one_more f n ∙ ap (λ (w : Written). and_then w (f n)) before
+    ∙ ap (and_then (these_bytes (said text (take n areas)))) (each n (omega arith))
+    ∙ ap these_bytes (sym more) ∙ ap (λ (m : ℕ). these_bytes (said text (take m areas))) (sym e)
+
+-- What is written of an area that has bytes; where it has none, nothing, and that is the end.
+has_bytes : (form : Form) (text : List ℕ → List ℕ) (track : ℕ) (id a : List ℕ) → 1 ≤ length a
+    → form_written form track (record { id = id; key_area = []; data_area = a }) ≡ these_bytes (text a)
+    → block_written form track (record { id = id; key_area = []; data_area = a }) ≡ these_bytes (text a)
+has_bytes form text track id a some is = let e : (length a == 0) ≡ false = grind (arith, nat_tests) in rw e is
+
+-- The same of the areas that are left.
+drop_reads : (form : Form) (text : List ℕ → List ℕ) (n : ℕ) (areas : List (List ℕ)) → Reads form text areas → Reads form text (drop n areas)
+drop_reads form text n areas reads = record {
+  none = reads.none;
+  each = λ k there track id. rw (get_or-drop n areas k []) (reads.each (n + k) (omega (arith, there, length-drop n areas)) track id);
+}
+
+left_reads : (form : Form) (text : List ℕ → List ℕ) (model : DriveModel) (areas : List (List ℕ)) (n : ℕ) → Reads form text areas
+    → Reads form text (left_behind model areas n)
+left_reads form text model areas zero reads = rw (none_behind model areas) reads
+left_reads form text model areas (suc n) reads =
+    rw (one_behind model areas n)
+    (drop_reads form text (fitting_on model (left_behind model areas n)) (left_behind model areas n)
+    (left_reads form text model areas n reads))
 
 -- The blocks of one track.
-module _ (g : Geometry) (n track : ℕ) (left : List (List ℕ)) (ends : EndsOnce left) where
+module _ (form : Form) (text : List ℕ → List ℕ) (g : Geometry) (n track : ℕ) (left : List (List ℕ)) (ends : EndsOnce left)
+    (reads : Reads form text left) where
   abbrev placed : List (List ℕ)
   placed = take (fitting_on g.model left) left
 
   abbrev what : ℕ → Written
-  what k = block_written Raw track (record_in (loaded_track g n left) (1 + k))
+  what k = block_written form track (record_in (loaded_track g n left) (1 + k))
 
   what_is : (k : ℕ) → k < fitting_on g.model left
-      → what k ≡ block_written Raw track (block_record (track_bytes g n) (1 + k) (get_or left k []))
+      → what k ≡ block_written form track (block_record (track_bytes g n) (1 + k) (get_or left k []))
   what_is k there =
       let within = (fits_on g.model 0 left).within in
       let e : 1 + k ≡ suc k = omega arith in
       let here : k < length placed = omega (arith, there, length-take-le (fitting_on g.model left) left within) in
-      ap (λ (r : Record). block_written Raw track r)
+      ap (λ (r : Record). block_written form track r)
       (ap (record_in (loaded_track g n left)) e ∙ record_of (track_bytes g n) 1 placed k here
       ∙ ap (block_record (track_bytes g n) (1 + k)) (get_or-take (fitting_on g.model left) left k [] there))
 
@@ -79,32 +102,34 @@ module _ (g : Geometry) (n track : ℕ) (left : List (List ℕ)) (ends : EndsOnc
 
   -- a track behind which something is left
   pub middle_written : fitting_on g.model left < length left
-      → blocks_from Raw track (loaded_track g n left) 1 ≡ these_bytes (joined (take (fitting_on g.model left) left))
+      → blocks_from form track (loaded_track g n left) 1 ≡ these_bytes (said text (take (fitting_on g.model left) left))
   middle_written short =
-      ap (until_stop what) number ∙ all_written what left (fitting_on g.model left) (omega (arith, short)) (λ k there. what_is k there
-      ∙ has_bytes track (track_bytes g n ++ (1 + k) ∷ []) (get_or left k []) (ends.some k (omega (arith, there, short))))
+      ap (until_stop what) number ∙ all_written text what left (fitting_on g.model left) (omega (arith, short)) (λ k there. what_is k there
+      ∙ has_bytes form text track (track_bytes g n ++ (1 + k) ∷ []) (get_or left k []) (ends.some k (omega (arith, there, short)))
+      (reads.each k (omega (arith, there, short)) track (track_bytes g n ++ (1 + k) ∷ [])))
 
   -- the last track
   pub last_written : (m : ℕ) → length left ≡ m + 1 → fitting_on g.model left ≡ m + 1
-      → blocks_from Raw track (loaded_track g n left) 1 ≡ ended_by_file (joined left) track
+      → blocks_from form track (loaded_track g n left) 1 ≡ ended_by_file (said text left) track
   last_written m long all =
-      let before = all_written what left m (omega (arith, long)) (λ k there. what_is k (omega (arith, there, all))
-      ∙ has_bytes track (track_bytes g n ++ (1 + k) ∷ []) (get_or left k []) (ends.some k (omega (arith, there, long)))) in
+      let before = all_written text what left m (omega (arith, long)) (λ k there. what_is k (omega (arith, there, all))
+      ∙ has_bytes form text track (track_bytes g n ++ (1 + k) ∷ []) (get_or left k []) (ends.some k (omega (arith, there, long)))
+      (reads.each k (omega (arith, there, long)) track (track_bytes g n ++ (1 + k) ∷ []))) in
       let none : get_or left m [] ≡ [] = ends.last m (sym long) in
       let last : what m ≡ stopped track EndOfFile = what_is m (omega (arith, all))
-      ∙ ap (λ (a : List ℕ). block_written Raw track (block_record (track_bytes g n) (1 + m) a)) none in
-      let bytes : joined (take m left) ++ [] ≡ joined left =
-      ap (λ (xs : List ℕ). joined (take m left) ++ xs) (sym (ap (λ (a : List ℕ). a ++ []) none))
-      ∙ sym (flat_map-append (λ (x : List ℕ). x) (take m left) (get_or left m [] ∷ []))
-      ∙ ap joined (sym (take_more left m [] (omega (arith, long))) ∙ take_all (m + 1) left (omega (arith, long))) in
+      ∙ ap (λ (a : List ℕ). block_written form track (block_record (track_bytes g n) (1 + m) a)) none in
+      let bytes : said text (take m left) ++ [] ≡ said text left =
+      ap (λ (xs : List ℕ). said text (take m left) ++ xs) (sym (append-nil (text (get_or left m [])) ∙ ap text none ∙ reads.none))
+      ∙ sym (flat_map-append text (take m left) (get_or left m [] ∷ []))
+      ∙ ap (said text) (sym (take_more left m [] (omega (arith, long))) ∙ take_all (m + 1) left (omega (arith, long))) in
       ap (until_stop what) (number ∙ all) ∙ until_one_more what m
-      ∙ ap (λ (w : Written). and_then w (what m)) before ∙ ap (and_then (these_bytes (joined (take m left)))) last
+      ∙ ap (λ (w : Written). and_then w (what m)) before ∙ ap (and_then (these_bytes (said text (take m left)))) last
       ∙ ap (λ (xs : List ℕ). ended_by_file xs track) bytes
 
 -- A track in the extents.
-module _ (g : Geometry) (extents : List Extent) (slots : List (List ℕ)) (most : ℕ) where
+module _ (form : Form) (g : Geometry) (extents : List Extent) (slots : List (List ℕ)) (most : ℕ) where
   abbrev source : Wanted
-  source = wanted Raw extents first_block most
+  source = wanted form extents first_block most
 
   zero_number : (i : ℕ) → number_on first_block i ≡ 0
   zero_number i = either_way (i == 0) 0
@@ -116,7 +141,7 @@ module _ (g : Geometry) (extents : List Extent) (slots : List (List ℕ)) (most 
   -- written and read from its own track
   record Known (i : ℕ) (left : List (List ℕ)) : Type 0 where
     n : ℕ
-    written : track_written source g slots i ≡ blocks_from Raw i (loaded_track g n left) 1
+    written : track_written source g slots i ≡ blocks_from form i (loaded_track g n left) 1
     itself : track_read_from source g slots i ≡ 0
 
   at_place : (i : ℕ) (left : List (List ℕ)) (there : TrackPlace) → addresses.track_of (heads_of g.model) extents i ≡ there
@@ -129,7 +154,7 @@ module _ (g : Geometry) (extents : List Extent) (slots : List (List ℕ)) (most 
       let read : track_on slots n ≡ Ok (loaded_track g n left) = ap track_of (loaded.1) ∙ loaded_read g n left ends in
       record {
         n = n;
-        written = rw (e, is, zero_number i, within, read) (ap (slot_written Raw i 0) read);
+        written = rw (e, is, zero_number i, within, read) (ap (slot_written form i 0) read);
         itself = rw (e, is, within, read) refl;
       }
 
@@ -202,76 +227,89 @@ module _ (model : DriveModel) (areas : List (List ℕ)) (tracks : ℕ) (takes : 
       }
 
 -- All tracks.
-module _ (g : Geometry) (extents : List Extent) (slots : List (List ℕ)) (most : ℕ) (areas : List (List ℕ)) (tracks : ℕ)
+module _ (form : Form) (text : List ℕ → List ℕ) (g : Geometry) (extents : List Extent) (slots : List (List ℕ)) (most : ℕ)
+    (areas : List (List ℕ)) (tracks : ℕ) (reads : Reads form text areas)
     (takes : Takes g.model areas tracks) (ends : EndsOnce areas) (loaded : IsLoaded g extents slots areas tracks) where
   abbrev left : ℕ → List (List ℕ)
   left i = left_behind g.model areas i
 
   abbrev told : ℕ → Written
-  told i = track_told (source g extents slots most) g slots i
+  told i = track_told (source form g extents slots most) g slots i
 
   -- what is written of the first tracks, and what is left, is all
   record SoFar (i : ℕ) : Type 0 where
     before : List ℕ
     written : until_stop told i ≡ these_bytes before
-    all : before ++ joined (left i) ≡ joined areas
+    all : before ++ said text (left i) ≡ said text areas
 
-  middle_told : (i : ℕ) → i + 1 < tracks → told i ≡ these_bytes (joined (take (fitting_on g.model (left i)) (left i)))
+  middle_told : (i : ℕ) → i + 1 < tracks → told i ≡ these_bytes (said text (take (fitting_on g.model (left i)) (left i)))
   middle_told i there =
-      let k = known g extents slots most areas tracks ends loaded i (omega (arith, there)) in
-      told_is g extents slots most areas tracks ends loaded i (omega (arith, there))
-      ∙ ap (told_behind 0) (k.written ∙ middle_written g k.n i (left i) (left_ends g.model areas i ends)
+      let k = known form g extents slots most areas tracks ends loaded i (omega (arith, there)) in
+      told_is form g extents slots most areas tracks ends loaded i (omega (arith, there))
+      ∙ ap (told_behind 0) (k.written ∙ middle_written form text g k.n i (left i) (left_ends g.model areas i ends)
+      (left_reads form text g.model areas i reads)
       (not_last g.model areas tracks takes i there))
 
-  last_told : (j : ℕ) → suc j ≡ tracks → told j ≡ ended_by_file (joined (left j)) j
+  last_told : (j : ℕ) → suc j ≡ tracks → told j ≡ ended_by_file (said text (left j)) j
   last_told j is =
-      let k = known g extents slots most areas tracks ends loaded j (omega (arith, is)) in
+      let k = known form g extents slots most areas tracks ends loaded j (omega (arith, is)) in
       let last = is_last g.model areas tracks takes j is in
-      told_is g extents slots most areas tracks ends loaded j (omega (arith, is))
-      ∙ ap (told_behind 0) (k.written ∙ last_written g k.n j (left j) (left_ends g.model areas j ends) last.m last.long last.all)
+      told_is form g extents slots most areas tracks ends loaded j (omega (arith, is))
+      ∙ ap (told_behind 0) (k.written ∙ last_written form text g k.n j (left j) (left_ends g.model areas j ends)
+      (left_reads form text g.model areas j reads) last.m last.long last.all)
 
   so_far : (i : ℕ) → i < tracks → SoFar i
-  so_far zero there = record { before = []; written = until_none told; all = ap joined (none_behind g.model areas) }
+  so_far zero there = record { before = []; written = until_none told; all = ap (said text) (none_behind g.model areas) }
   so_far (suc i) there =
       let prior = so_far i (omega (arith, there)) in
       let n = fitting_on g.model (left i) in
       let e : suc i ≡ i + 1 = omega arith in
-      let front = joined (take n (left i)) in
-      let parts : front ++ joined (drop n (left i)) ≡ joined (left i) =
-      sym (flat_map-append (λ (a : List ℕ). a) (take n (left i)) (drop n (left i))) ∙ ap joined (take-append-drop n (left i)) in
+      let front = said text (take n (left i)) in
+      let parts : front ++ said text (drop n (left i)) ≡ said text (left i) =
+      sym (flat_map-append text (take n (left i)) (drop n (left i))) ∙ ap (said text) (take-append-drop n (left i)) in
       record {
         before = prior.before ++ front;
         written = ap (until_stop told) e ∙ until_one_more told i ∙ ap (λ (w : Written). and_then w (told i)) prior.written
             ∙ ap (and_then (these_bytes prior.before)) (middle_told i (omega (arith, there)));
-        all = append_assoc prior.before front (joined (left (suc i)))
-            ∙ ap (λ (xs : List ℕ). prior.before ++ xs) (ap (λ (xs : List (List ℕ)). front ++ joined xs) (one_behind g.model areas i)
+        all = append_assoc prior.before front (said text (left (suc i)))
+            ∙ ap (λ (xs : List ℕ). prior.before ++ xs) (ap (λ (xs : List (List ℕ)). front ++ said text xs) (one_behind g.model areas i)
             ∙ parts)
             ∙ prior.all;
       }
 
   all_read : (j : ℕ) → suc j ≡ tracks → tracks ≤ most
-      → source_written (source g extents slots most) g slots ≡ ended_by_file (joined areas) j
+      → source_written (source form g extents slots most) g slots ≡ ended_by_file (said text areas) j
   all_read j is within =
       let prior = so_far j (omega (arith, is)) in
       let stop = stop_at j EndOfFile in
       let e : j + 1 + (most - (j + 1)) ≡ most = omega (arith, is, within) in
-      let here : until_stop told (j + 1) ≡ ended_by_file (joined areas) j =
+      let here : until_stop told (j + 1) ≡ ended_by_file (said text areas) j =
       until_one_more told j ∙ ap (λ (w : Written). and_then w (told j)) prior.written
       ∙ ap (and_then (these_bytes prior.before)) (last_told j is) ∙ ap (λ (xs : List ℕ). ended_by_file xs j) prior.all in
       let stopped_here = ap (λ (w : Written). w.stop) here in
-      let whole : until_stop told most ≡ ended_by_file (joined areas) j =
+      let whole : until_stop told most ≡ ended_by_file (said text areas) j =
       ap (until_stop told) (sym e) ∙ stays_for told (j + 1) (most - (j + 1)) stop stopped_here ∙ here in
-      ended_stays (until_stop told most) (too_many (source g extents slots most) g slots) stop (ap (λ (w : Written). w.stop) whole) ∙ whole
+      ended_stays (until_stop told most) (too_many (source form g extents slots most) g slots) stop (ap (λ (w : Written). w.stop) whole)
+      ∙ whole
 
-pub read_back : (model : DriveModel) (size : ℕ) (bytes : List ℕ) (tracks : ℕ) → FitsTrack model size → size < 65536
-    → Takes model (areas_of size bytes) tracks → IsReadBack model size bytes tracks
-read_back model size bytes zero fits few takes = absurd (omega (
+pub read_as : (model : DriveModel) (cut : Cut) (bytes : List ℕ) (tracks : ℕ) → AreBlocks model cut bytes
+    → Takes model (areas_of cut bytes) tracks → IsReadAs model cut bytes tracks
+read_as model cut bytes zero fits takes = absurd (omega (
   arith,
-  ap length (sym (none_behind model (areas_of size bytes)) ∙ takes.all),
-  length-areas size bytes,
+  ap length (sym (none_behind model (areas_of cut bytes)) ∙ takes.all),
+  length-areas cut bytes,
 ))
-read_back model size bytes (suc j) fits few takes = λ g extents slots most is within loaded.
-    let takes_here : Takes g.model (areas_of size bytes) (suc j) = rw is takes in
+read_as model cut bytes (suc j) fits takes = λ form text g extents slots most reads is within loaded.
+    let takes_here : Takes g.model (areas_of cut bytes) (suc j) = rw is takes in
     let last : suc j - 1 ≡ j = omega arith in
-    all_read g extents slots most (areas_of size bytes) (suc j) takes_here (areas_end size bytes fits.some few) loaded j refl within
-    ∙ ap (λ (xs : List ℕ). ended_by_file xs j) (joined_areas size bytes fits.some) ∙ ap (ended_by_file bytes) (sym last)
+    all_read form text g extents slots most (areas_of cut bytes) (suc j) reads takes_here fits.ends loaded j refl within
+    ∙ ap (ended_by_file (said text (areas_of cut bytes))) (sym last)
+
+as_they_stand : (areas : List (List ℕ)) → Reads Raw (λ a. a) areas
+as_they_stand areas = record { none = refl; each = λ k there track id. refl }
+
+pub read_back : (model : DriveModel) (cut : Cut) (bytes : List ℕ) (tracks : ℕ) → AreBlocks model cut bytes
+    → Takes model (areas_of cut bytes) tracks → IsReadBack model cut bytes tracks
+read_back model cut bytes tracks fits takes = λ g extents slots most is within loaded.
+    read_as model cut bytes tracks fits takes Raw (λ a. a) g extents slots most (as_they_stand (areas_of cut bytes)) is within loaded
+    ∙ ap (λ (xs : List ℕ). ended_by_file xs (tracks - 1)) fits.whole

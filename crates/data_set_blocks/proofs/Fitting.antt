@@ -9,6 +9,7 @@ use Rattle.ckd_track.specs.declared.model.DriveModel.{DriveModel}
 use Rattle.ckd_track.specs.declared.model.DriveModel.TheVariants.{D2311, D2314}
 use Rattle.ckd_track.specs.Model.{capacity_of}
 use Rattle.ckd_track.specs.Charges.{charge_of, last_charge_of}
+use Rattle.data_set_blocks.specs.declared.blocks.Cut.{Cut}
 use Rattle.data_set_blocks.specs.Tracks.{fitting, fitting_on}
 use Rattle.data_set_blocks.specs.Blocks.{block_count, area, areas_of}
 use Rattle.data_set_blocks.proofs.Areas.{next_area, none_left}
@@ -103,37 +104,37 @@ fits_on model taken (a ∷ others) =
     on_either model taken a others (each_way model taken a) (fits_on model (taken + charge_of model 0 (length a)) others)
 
 -- A loop over the areas from one on, which has passed k of them.
-module _ (model : DriveModel) (size : ℕ) (bytes : List ℕ) (from k taken : ℕ) where
-  pub stops : from + k ≤ block_count size bytes
-      → fitting_on model (drop from (areas_of size bytes)) ≡ k + fitting model taken (drop k (drop from (areas_of size bytes)))
-      → capacity_of model < taken + last_charge_of model 0 (length (area size bytes (from + k)))
-      → k ≡ fitting_on model (drop from (areas_of size bytes))
+module _ (model : DriveModel) (cut : Cut) (bytes : List ℕ) (from k taken : ℕ) where
+  pub stops : from + k ≤ block_count cut bytes
+      → fitting_on model (drop from (areas_of cut bytes)) ≡ k + fitting model taken (drop k (drop from (areas_of cut bytes)))
+      → capacity_of model < taken + last_charge_of model 0 (length (area cut bytes (from + k)))
+      → k ≡ fitting_on model (drop from (areas_of cut bytes))
   stops there so_far over =
-      let a = area size bytes (from + k) in
-      let others = drop (k + 1) (drop from (areas_of size bytes)) in
+      let a = area cut bytes (from + k) in
+      let others = drop (k + 1) (drop from (areas_of cut bytes)) in
       let none = is_full model taken a others (grind (arith, nat_tests)) in
-      let all = so_far ∙ ap (λ (xs : List (List ℕ)). k + fitting model taken xs) (next_area size bytes from k there)
+      let all = so_far ∙ ap (λ (xs : List (List ℕ)). k + fitting model taken xs) (next_area cut bytes from k there)
       ∙ ap (λ (n : ℕ). k + n) none in
       omega (arith, all)
 
-  pub goes_on : from + k ≤ block_count size bytes
-      → fitting_on model (drop from (areas_of size bytes)) ≡ k + fitting model taken (drop k (drop from (areas_of size bytes)))
-      → taken + last_charge_of model 0 (length (area size bytes (from + k))) ≤ capacity_of model
-      → fitting_on model (drop from (areas_of size bytes)) ≡ k + 1
-      + fitting model (taken + charge_of model 0 (length (area size bytes (from + k)))) (drop (k + 1) (drop from (areas_of size bytes)))
+  pub goes_on : from + k ≤ block_count cut bytes
+      → fitting_on model (drop from (areas_of cut bytes)) ≡ k + fitting model taken (drop k (drop from (areas_of cut bytes)))
+      → taken + last_charge_of model 0 (length (area cut bytes (from + k))) ≤ capacity_of model
+      → fitting_on model (drop from (areas_of cut bytes)) ≡ k + 1
+      + fitting model (taken + charge_of model 0 (length (area cut bytes (from + k)))) (drop (k + 1) (drop from (areas_of cut bytes)))
   goes_on there so_far within =
-      let a = area size bytes (from + k) in
-      let others = drop (k + 1) (drop from (areas_of size bytes)) in
+      let a = area cut bytes (from + k) in
+      let others = drop (k + 1) (drop from (areas_of cut bytes)) in
       let one = one_fits model taken a others (grind (arith, nat_tests)) in
-      let all = so_far ∙ ap (λ (xs : List (List ℕ)). k + fitting model taken xs) (next_area size bytes from k there)
+      let all = so_far ∙ ap (λ (xs : List (List ℕ)). k + fitting model taken xs) (next_area cut bytes from k there)
       ∙ ap (λ (n : ℕ). k + n) one in
       omega (arith, all)
 
-  pub ends : block_count size bytes + 1 ≤ from + k
-      → fitting_on model (drop from (areas_of size bytes)) ≡ k + fitting model taken (drop k (drop from (areas_of size bytes)))
-      → k ≡ fitting_on model (drop from (areas_of size bytes))
+  pub ends : block_count cut bytes + 1 ≤ from + k
+      → fitting_on model (drop from (areas_of cut bytes)) ≡ k + fitting model taken (drop k (drop from (areas_of cut bytes)))
+      → k ≡ fitting_on model (drop from (areas_of cut bytes))
   ends far so_far =
-      let none : drop k (drop from (areas_of size bytes)) ≡ [] = drop-drop k from (areas_of size bytes)
-      ∙ none_left size bytes (from + k) far in
+      let none : drop k (drop from (areas_of cut bytes)) ≡ [] = drop-drop k from (areas_of cut bytes)
+      ∙ none_left cut bytes (from + k) far in
       let all = so_far ∙ ap (λ (xs : List (List ℕ)). k + fitting model taken xs) none ∙ ap (λ (n : ℕ). k + n) (none_fits model taken) in
       omega (arith, all)

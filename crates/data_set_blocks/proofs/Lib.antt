@@ -2,8 +2,10 @@ pub mod Areas
 pub mod Filled
 pub mod Fitting
 pub mod Fronts
+pub mod Cuts
 pub mod Takes
 pub mod Ends
 pub mod Spelled
 pub mod Extracted
 pub mod Last
+pub mod Words

@@ -1,5 +1,5 @@
 -- What is extracted of a data set that was loaded, by the definitions of the reader.
-use Rattle.std.specs.Prelude.{◌≡◌, ℕ, ◌-◌, ◌≤◌, ◌<◌, List, slice_index_or, [], Some}
+use Rattle.std.specs.Prelude.{◌≡◌, ℕ, ◌+◌, ◌-◌, ◌≤◌, ◌<◌, List, length, flat_map, slice_index_or, [], Some}
 use Rattle.ckd_track.specs.declared.model.DriveModel.{DriveModel}
 use Rattle.ckd_track.specs.declared.geometries.Geometry.{Geometry}
 use Rattle.ckd_track.specs.Model.{heads_of}
@@ -10,9 +10,12 @@ use Rattle.data_sets.specs.declared.addresses.TrackPlace.{TrackPlace}
 use Rattle.data_sets.specs.declared.addresses.TrackPlace.TheVariants as place
 use Rattle.data_sets.specs.Addresses as addresses
 use Rattle.dasd_extract.specs.declared.stops.Cause.TheVariants.{EndOfFile}
+use Rattle.dasd_extract.specs.declared.blocks.Form.{Form}
 use Rattle.dasd_extract.specs.declared.blocks.Form.TheVariants.{Raw}
-use Rattle.dasd_extract.specs.Written.{Written, stop_at}
+use Rattle.dasd_extract.specs.Written.{Written, these_bytes, stop_at}
+use Rattle.dasd_extract.specs.Blocks.{form_written}
 use Rattle.dasd_extract.specs.Walk.{wanted, source_written}
+use Rattle.data_set_blocks.specs.declared.blocks.Cut.{Cut}
 use Rattle.data_set_blocks.specs.Blocks.{areas_of}
 use Rattle.data_set_blocks.specs.Tracks.{left_behind, loaded_slot}
 
@@ -35,10 +38,25 @@ first_block = record { track = 0; number = 0 }
 abbrev pub ended_by_file : (bytes : List ℕ) → (last : ℕ) → Written
 ended_by_file bytes last = record { bytes = bytes; stop = Some (stop_at last EndOfFile) }
 
+-- What the reader writes in a form of each area but the last: this text, and it goes on behind it. An end of file has no text.
+pub record Reads (form : Form) (text : List ℕ → List ℕ) (areas : List (List ℕ)) : Type 0 where
+  pub none : text [] ≡ []
+  pub each : (k : ℕ) → k + 1 < length areas → (track : ℕ) (id : List ℕ)
+      → form_written form track (record { id = id; key_area = []; data_area = slice_index_or areas k [] })
+      ≡ these_bytes (text (slice_index_or areas k []))
+
+-- Wherever these tracks are on a volume, what the reader writes of the data set's blocks in a form is the text of each, one behind another, and
+-- it ends with the end of file on the last of the tracks.
+abbrev pub IsReadAs : DriveModel → Cut → (bytes : List ℕ) → (tracks : ℕ) → Type 0
+IsReadAs model cut bytes tracks =
+    (form : Form) (text : List ℕ → List ℕ) (g : Geometry) (extents : List Extent) (slots : List (List ℕ)) (most : ℕ)
+    → Reads form text (areas_of cut bytes) → g.model ≡ model → tracks ≤ most → IsLoaded g extents slots (areas_of cut bytes) tracks
+    → source_written (wanted form extents first_block most) g slots ≡ ended_by_file (flat_map text (areas_of cut bytes)) (tracks - 1)
+
 -- Wherever these tracks are on a volume, what the reader writes of the data set's blocks as they stand is all of the bytes and nothing
 -- else, and it ends with the end of file on the last of the tracks.
-abbrev pub IsReadBack : DriveModel → (size : ℕ) → (bytes : List ℕ) → (tracks : ℕ) → Type 0
-IsReadBack model size bytes tracks =
+abbrev pub IsReadBack : DriveModel → Cut → (bytes : List ℕ) → (tracks : ℕ) → Type 0
+IsReadBack model cut bytes tracks =
     (g : Geometry) (extents : List Extent) (slots : List (List ℕ)) (most : ℕ) → g.model ≡ model → tracks ≤ most
-    → IsLoaded g extents slots (areas_of size bytes) tracks
+    → IsLoaded g extents slots (areas_of cut bytes) tracks
     → source_written (wanted Raw extents first_block most) g slots ≡ ended_by_file bytes (tracks - 1)

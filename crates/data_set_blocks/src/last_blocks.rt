@@ -1,7 +1,7 @@
 //! Where the blocks of a data set end.
 
-ghost use Rattle.std.specs.Prelude.{◌≡◌, ◌≤◌, ◌+◌, ◌-◌, take, drop};
-ghost use Rattle.data_set_blocks.specs.Blocks.{block_count, areas_of, FitsTrack};
+ghost use Rattle.std.specs.Prelude.{◌≡◌, ◌≤◌, ◌<◌, ◌+◌, ◌-◌, take, drop};
+ghost use Rattle.data_set_blocks.specs.Blocks.{block_count, areas_of, FitsTrack, HasLength};
 ghost use Rattle.data_set_blocks.specs.Tracks.{left_behind, balance_behind, IsLastBlock};
 
 use crate::blocks::{Blocks, area, block_count};
@@ -21,9 +21,10 @@ pub struct LastBlock {
 
 // How many bytes of a track's capacity are left behind so many blocks from one on.
 fn balance_behind(model: DriveModel, blocks: Blocks, from: usize, count: usize) -> u16
-    requires size { 1 ≤ blocks.length }
-    requires within { from + count ≤ block_count blocks.length blocks.bytes.now }
-    ensures { result ≡ balance_behind model (take count (drop from (areas_of blocks.entry.length blocks.entry.bytes.now))) }
+    requires size { HasLength blocks.cut }
+    requires within { from + count ≤ block_count blocks.cut blocks.bytes.now }
+    requires limit { from + count < 9223372036854775808 }
+    ensures { result ≡ balance_behind model (take count (drop from (areas_of blocks.entry.cut blocks.entry.bytes.now))) }
 {
     let mut left = model.capacity();
     for k in 0..count {
@@ -33,11 +34,12 @@ fn balance_behind(model: DriveModel, blocks: Blocks, from: usize, count: usize) 
 }
 
 /// Where the last block of a data set is: on which of its tracks, with which number, and how many bytes that track has left behind it.
+#[tactic(auto, using(crate::proofs::Cuts::has_length))]
 pub fn last_block(model: DriveModel, blocks: Blocks) -> LastBlock
-    requires size { FitsTrack model blocks.length }
-    ensures block { IsLastBlock model (areas_of blocks.entry.length blocks.entry.bytes.now) result.track result.number }
+    requires size { FitsTrack model blocks.cut blocks.bytes.now }
+    ensures block { IsLastBlock model (areas_of blocks.entry.cut blocks.entry.bytes.now) result.track result.number }
     ensures balance { result.balance ≡ balance_behind model (take result.number
-        (left_behind model (areas_of blocks.entry.length blocks.entry.bytes.now) result.track)) }
+        (left_behind model (areas_of blocks.entry.cut blocks.entry.bytes.now) result.track)) }
 {
     let count = block_count(blocks);
     let mut next = 0;

@@ -7,8 +7,8 @@ mod last_blocks;
 mod slots;
 mod tracks;
 
-pub use crate::blocks::Blocks;
-pub use crate::faults::{BlockFault, block_fault};
+pub use crate::blocks::{Blocks, Cut, cut_of};
+pub use crate::faults::{BlockFault, DescribedFault, block_fault};
 pub use crate::last_blocks::{LastBlock, last_block};
 pub use crate::slots::load_track;
 pub use crate::tracks::tracks_needed;

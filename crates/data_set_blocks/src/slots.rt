@@ -17,6 +17,7 @@ const END_MARK: [u8; 8] = [0xFF; 8];
 /// Writes the slot of a track with as many blocks as it has room for, from a block on, and with the end of file where it has room for
 /// that behind the last: home address, record 0, and records 1 and so on without keys. It answers which block the next track begins
 /// with; that behind the last one is the end of file. A track for which nothing is left has record 0 alone.
+#[tactic(auto, using(crate::proofs::Cuts::has_length))]
 pub fn load_track(
     slot: &mut [u8],
     geometry: Geometry,
@@ -27,11 +28,11 @@ pub fn load_track(
     requires there { track < tracks_of geometry }
     requires geometry { IsGeometry geometry }
     requires room { length slot.old ≡ geometry.track_size }
-    requires size { FitsTrack geometry.model blocks.length }
-    requires number { from ≤ block_count blocks.length blocks.bytes.now + 1 }
-    ensures slot { slot.new ≡ loaded_slot geometry track (drop from (areas_of blocks.entry.length blocks.entry.bytes.now)) }
-    ensures next { result ≡ from + fitting_on geometry.model (drop from (areas_of blocks.entry.length blocks.entry.bytes.now)) }
-    ensures within { result ≤ block_count blocks.entry.length blocks.entry.bytes.now + 1 }
+    requires size { FitsTrack geometry.model blocks.cut blocks.bytes.now }
+    requires number { from ≤ block_count blocks.cut blocks.bytes.now + 1 }
+    ensures slot { slot.new ≡ loaded_slot geometry track (drop from (areas_of blocks.entry.cut blocks.entry.bytes.now)) }
+    ensures next { result ≡ from + fitting_on geometry.model (drop from (areas_of blocks.entry.cut blocks.entry.bytes.now)) }
+    ensures within { result ≤ block_count blocks.entry.cut blocks.entry.bytes.now + 1 }
 {
     let next = from + fitting(geometry.model, blocks, from);
     let at = spell_blocks(slot, geometry, track, blocks, (from, next));
@@ -117,6 +118,7 @@ fn begin(slot: &mut [u8], geometry: Geometry, track: u32) -> usize
 }
 
 // Writes a track with these blocks up to its end mark, and answers where that goes.
+#[tactic(auto, using(crate::proofs::Cuts::has_length))]
 fn spell_blocks(
     slot: &mut [u8],
     geometry: Geometry,
@@ -127,16 +129,16 @@ fn spell_blocks(
     requires there { track < tracks_of geometry }
     requires geometry { IsGeometry geometry }
     requires room { length slot.old ≡ geometry.track_size }
-    requires size { FitsTrack geometry.model blocks.length }
+    requires size { FitsTrack geometry.model blocks.cut blocks.bytes.now }
     requires order { part.0 ≤ part.1 }
-    requires part { part.1 ≡ part.0 + fitting_on geometry.model (drop part.0 (areas_of blocks.length blocks.bytes.now)) }
-    requires number { part.1 ≤ block_count blocks.length blocks.bytes.now + 1 }
+    requires part { part.1 ≡ part.0 + fitting_on geometry.model (drop part.0 (areas_of blocks.cut blocks.bytes.now)) }
+    requires number { part.1 ≤ block_count blocks.cut blocks.bytes.now + 1 }
     ensures next { result ≡ length (blocks_front geometry track
-        (take (part.1 - part.0) (drop part.0 (areas_of blocks.entry.length blocks.entry.bytes.now)))) }
+        (take (part.1 - part.0) (drop part.0 (areas_of blocks.entry.cut blocks.entry.bytes.now)))) }
     ensures room { result + 8 ≤ length slot.old }
     ensures same { length slot.new ≡ length slot.old }
     ensures written { slot.new ≡ filled (length slot.old) (blocks_front geometry track
-        (take (part.1 - part.0) (drop part.0 (areas_of blocks.entry.length blocks.entry.bytes.now)))) }
+        (take (part.1 - part.0) (drop part.0 (areas_of blocks.entry.cut blocks.entry.bytes.now)))) }
 {
     let (from, next) = part;
     let id = track_bytes(geometry, track);

@@ -7,5 +7,5 @@ use Rattle.data_set_blocks.proofs.last_blocks.balance_behind.Given as goal
 abbrev pub invariant-loop-k : goal.invariant-loop-k
 invariant-loop-k l = record {
   few : l.left ≤ 7294;
-  left : l.left ≡ balance_behind l.model (take l.k (drop l.from (areas_of l.blocks.length l.blocks.bytes.now)));
+  left : l.left ≡ balance_behind l.model (take l.k (drop l.from (areas_of l.blocks.cut l.blocks.bytes.now)));
 }

@@ -9,8 +9,8 @@ invariant-loop-next l = record {
   few : l.track ≤ l.next;
   block : 1 ≤ l.count → l.next < l.count;
   within : l.next ≤ l.count;
-  left : drop l.next (areas_of l.blocks.length l.blocks.bytes.now) ≡ left_behind l.model
-      (areas_of l.blocks.length l.blocks.bytes.now) l.track;
+  left : drop l.next (areas_of l.blocks.cut l.blocks.bytes.now) ≡ left_behind l.model
+      (areas_of l.blocks.cut l.blocks.bytes.now) l.track;
 }
 
 abbrev pub decreases-loop-next : goal.decreases-loop-next

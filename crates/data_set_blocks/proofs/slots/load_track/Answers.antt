@@ -13,7 +13,7 @@ returns-clause-slot c =
     let g = c.args.geometry in
     let n = length c.args.slot.now in
     let track = track_bytes g c.args.track in
-    let left = drop c.args.from (areas_of b.length b.bytes.now) in
+    let left = drop c.args.from (areas_of b.cut b.bytes.now) in
     let count = c.args.from + c.fitting.result - c.args.from in
     let is : count ≡ fitting_on g.model left = omega (arith, c.fitting.ensures.count) in
     put_behind n _ _ (blocks_front g c.args.track (take count left)) end_mark _ c.append.ensures.written

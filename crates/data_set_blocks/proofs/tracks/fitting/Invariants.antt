@@ -7,6 +7,6 @@ use Rattle.data_set_blocks.proofs.tracks.fitting.Given as goal
 abbrev pub invariant-loop-k : goal.invariant-loop-k
 invariant-loop-k l = record {
   taken : l.taken < 200000;
-  fit : fitting_on l.model (drop l.from (areas_of l.blocks.length l.blocks.bytes.now))
-      ≡ l.k + fitting l.model l.taken (drop l.k (drop l.from (areas_of l.blocks.length l.blocks.bytes.now)));
+  fit : fitting_on l.model (drop l.from (areas_of l.blocks.cut l.blocks.bytes.now))
+      ≡ l.k + fitting l.model l.taken (drop l.k (drop l.from (areas_of l.blocks.cut l.blocks.bytes.now)));
 }

@@ -8,9 +8,9 @@ abbrev pub invariant-loop-next : goal.invariant-loop-next
 invariant-loop-next l = record {
   within : l.next ≤ l.areas;
   few : l.tracks ≤ l.next;
-  left : drop l.next (areas_of l.blocks.length l.blocks.bytes.now) ≡ left_behind l.model
-      (areas_of l.blocks.length l.blocks.bytes.now) l.tracks;
-  fewest : (n : ℕ) → suc n ≡ l.tracks → left_behind l.model (areas_of l.blocks.length l.blocks.bytes.now) n ≢ [];
+  left : drop l.next (areas_of l.blocks.cut l.blocks.bytes.now) ≡ left_behind l.model
+      (areas_of l.blocks.cut l.blocks.bytes.now) l.tracks;
+  fewest : (n : ℕ) → suc n ≡ l.tracks → left_behind l.model (areas_of l.blocks.cut l.blocks.bytes.now) n ≢ [];
 }
 
 abbrev pub decreases-loop-next : goal.decreases-loop-next

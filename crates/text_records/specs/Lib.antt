@@ -1,0 +1,5 @@
+pub mod Codes
+pub mod Lines
+pub mod Records
+pub mod Read
+pub mod Putting
