@@ -38,7 +38,7 @@ pub(crate) const COMMAND: CommandRow = CommandRow {
         },
         ArgRow {
             id: "record-format",
-            help: "the record format: F, FB, FS, FBS or U",
+            help: "the record format: F, FB, FS, FBS, V, VB, VS, VBS or U",
             kind: ArgKind::Valued(Value {
                 name: "FORMAT",
                 ..FILE
@@ -54,7 +54,7 @@ pub(crate) const COMMAND: CommandRow = CommandRow {
         },
         ArgRow {
             id: "block-length",
-            help: "the length of blocks in bytes, of which the last may be shorter",
+            help: "the length of blocks in bytes, of which the last may be shorter; of V, VB, VS and VBS the longest",
             kind: ArgKind::Valued(Value {
                 name: "BYTES",
                 ..FILE

@@ -13,7 +13,7 @@ use Rattle.space_allocation.specs.declared.blocks.NewDataSet.{NewDataSet}
 use Rattle.space_allocation.specs.Blocks.{data_set_data, data_set_read}
 use Rattle.volume_labels.specs.Labels.{data_set_block_of}
 use Rattle.space_allocation.specs.Extents.{HasRun}
-use Rattle.data_set_blocks.specs.Blocks.{FitsTrack}
+use Rattle.data_set_blocks.specs.Blocks.{cut_by, FitsTrack}
 use Rattle.data_set_blocks.specs.Extracted.{IsReadBack}
 use Rattle.ckd_track.specs.Geometry.{tracks_of}
 use Rattle.volume_contents.specs.declared.blocks.Block.{Block}
@@ -83,11 +83,11 @@ layout_for v set = layout_unless_taken v.geometry.model set (position (has_name 
 -- the data set goes there on such a volume, as a reader has it
 pub record IsPlaced (v : Labelled) (set : LoadedSet) (p : Placed) : Type 0 where
   pub fits : layout_for v set ≡ Ok p.layout
-  pub size : FitsTrack v.geometry.model p.layout.longest
+  pub size : FitsTrack v.geometry.model (cut_by p.layout.form p.layout.longest) set.bytes.now
   pub gets : GetsTracks v (areas set p.layout) p.run.first p.run.tracks
   pub some : 1 ≤ p.run.tracks
   pub within : p.run.first + p.run.tracks ≤ tracks_of v.geometry
-  pub read : IsReadBack v.geometry.model p.layout.longest set.bytes.now p.run.tracks
+  pub read : IsReadBack v.geometry.model (cut_by p.layout.form p.layout.longest) set.bytes.now p.run.tracks
   pub new : IsNewSet v set p.layout p.run.first p.run.tracks p.block
   pub run : HasRun v.geometry p.run.first p.run.tracks p.block.extent
 

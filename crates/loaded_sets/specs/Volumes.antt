@@ -1,5 +1,5 @@
 -- The volumes that a data set is put onto, and how its records lie in blocks there; or why it is not put onto a volume.
-use Rattle.std.specs.Prelude.{◌≡◌, ℕ, List, [], ◌∷◌, ◌++◌, length, flat_map, Option, Some, None, Result, Ok, Err}
+use Rattle.std.specs.Prelude.{◌≡◌, ℕ, List, [], ◌∷◌, ◌++◌, flat_map, Option, Some, None, Result, Ok, Err}
 use Rattle.std.specs.List.{position}
 use Rattle.ckd_track.specs.declared.model.DriveModel.{DriveModel}
 use Rattle.ckd_track.specs.declared.geometries.Geometry.{Geometry}
@@ -54,7 +54,7 @@ layout_fitting l None = Ok l
 layout_fitting l (Some f) = Err (Blocks f)
 
 abbrev pub layout_with : DriveModel → (bytes : List ℕ) → Result Layout AttributeFault → Result Layout LoadRefusal
-layout_with model bytes (Ok l) = layout_fitting l (block_fault_of model l (length bytes))
+layout_with model bytes (Ok l) = layout_fitting l (block_fault_of model l bytes)
 layout_with model bytes (Err f) = Err (Attributes f)
 
 abbrev pub layout_of_set : DriveModel → LoadedSet → Result Layout LoadRefusal

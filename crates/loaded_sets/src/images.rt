@@ -16,7 +16,7 @@ use changed_volumes::read_said;
 use ckd_image::{Image, StoreFault};
 use dasd_files::VolumeFile;
 use dasd_jobs::JobFault;
-use data_set_blocks::{Blocks, load_track};
+use data_set_blocks::{Blocks, cut_of, load_track};
 use space_allocation::data_set_data;
 use std::alloc::Global;
 use volume_labels::RecordAddress;
@@ -90,7 +90,7 @@ fn write_set(
     let address = write_table(image, slot, volume, placed.run, (&set.name, &bytes))?;
     let blocks = Blocks {
         bytes: set.bytes,
-        length: placed.layout.longest,
+        cut: cut_of(placed.layout),
     };
     write_tracks(image, slot, placed.run, blocks)?;
     Ok(address)
@@ -104,10 +104,10 @@ fn write_tracks(
     blocks: Blocks,
 ) -> Result<(), LoadFault>
     requires size { length slot.old ≡ image.old.geometry.track_size }
-    requires fits { FitsTrack image.old.geometry.model blocks.length }
+    requires fits { FitsTrack image.old.geometry.model blocks.cut blocks.bytes.now }
     requires there { run.first + run.tracks ≤ tracks_of image.old.geometry }
     ensures same { IsSameImage image.old image.new }
-    ensures areas { OnOk result (HasAreas image.old.geometry (areas_of blocks.entry.length blocks.entry.bytes.now) run.first run.tracks
+    ensures areas { OnOk result (HasAreas image.old.geometry (areas_of blocks.entry.cut blocks.entry.bytes.now) run.first run.tracks
         image.old.slots image.new.slots) }
     ensures fault { IfErr result (λ e. e ≡ LoadFault.Job JobFault.Store) }
 {
@@ -128,15 +128,15 @@ fn write_track(
     from: usize,
 ) -> Result<usize, LoadFault>
     requires size { length slot.old ≡ image.old.geometry.track_size }
-    requires fits { FitsTrack image.old.geometry.model blocks.length }
+    requires fits { FitsTrack image.old.geometry.model blocks.cut blocks.bytes.now }
     requires there { track < tracks_of image.old.geometry }
-    requires number { from ≤ block_count blocks.length blocks.bytes.now + 1 }
+    requires number { from ≤ block_count blocks.cut blocks.bytes.now + 1 }
     ensures same { IsSameImage image.old image.new }
     ensures slots { OnOk result (image.new.slots ≡ slice_set image.old.slots track
-        (loaded_slot image.old.geometry track (drop from (areas_of blocks.entry.length blocks.entry.bytes.now)))) }
+        (loaded_slot image.old.geometry track (drop from (areas_of blocks.entry.cut blocks.entry.bytes.now)))) }
     ensures next { IfOk result (λ next. next
-        ≡ from + fitting_on image.old.geometry.model (drop from (areas_of blocks.entry.length blocks.entry.bytes.now))) }
-    ensures within { IfOk result (λ next. next ≤ block_count blocks.entry.length blocks.entry.bytes.now + 1) }
+        ≡ from + fitting_on image.old.geometry.model (drop from (areas_of blocks.entry.cut blocks.entry.bytes.now))) }
+    ensures within { IfOk result (λ next. next ≤ block_count blocks.entry.cut blocks.entry.bytes.now + 1) }
     ensures fault { IfErr result (λ e. e ≡ LoadFault.Job JobFault.Store) }
     ensures size { length slot.new ≡ length slot.old }
 {

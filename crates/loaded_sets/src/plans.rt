@@ -3,7 +3,7 @@
 ghost use Rattle.std.specs.Prelude.{◌≡◌, ◌≤◌, ◌+◌, ◌++◌, ◌∷◌, [], flat_map, ℕ, List, IfOk, OnOk, IfErr};
 ghost use Rattle.std.specs.List.{position};
 ghost use Rattle.ckd_track.specs.Geometry.{tracks_of};
-ghost use Rattle.data_set_blocks.specs.Blocks.{areas_of, FitsTrack};
+ghost use Rattle.data_set_blocks.specs.Blocks.{areas_of, cut_by, FitsTrack};
 ghost use Rattle.data_set_blocks.specs.Extracted.{IsReadBack};
 ghost use Rattle.volume_changes.specs.Volumes.{said_in};
 ghost use Rattle.volume_contents.specs.Checks.{extents_of};
@@ -16,7 +16,7 @@ ghost use Rattle.loaded_sets.specs.Parts.{labelled, IsPlaced, IsNotPut, IsUnfit,
 use crate::confirms::position_of;
 use crate::fault::{LoadFault, LoadRefusal, NO_MEMORY, refused};
 use ckd_track::{DriveModel, Geometry};
-use data_set_blocks::{Blocks, block_fault, last_block, tracks_needed};
+use data_set_blocks::{Blocks, block_fault, cut_of, last_block, tracks_needed};
 use data_sets::RecordForm;
 use record_formats::{Layout, RecordAttributes, layout_given};
 use space_allocation::{NewDataSet, extent_of_run, free_run};
@@ -133,7 +133,7 @@ pub(crate) fn place_set(
     };
     let blocks = Blocks {
         bytes: set.bytes,
-        length: layout.longest,
+        cut: cut_of(layout),
     };
     let run = run_for(alloc, volume, blocks)?;
     let block = new_set(volume, set, layout, run)?;
@@ -143,13 +143,13 @@ pub(crate) fn place_set(
 // How the records of a data set lie in its blocks, which are the bytes that are given.
 fn layout_of_set(model: DriveModel, set: &LoadedSet) -> Result<Layout, LoadRefusal>
     ensures layout { result ≡ layout_of_set model set.now }
-    ensures fits { IfOk result (λ layout. FitsTrack model layout.longest) }
+    ensures fits { IfOk result (λ layout. FitsTrack model (cut_by layout.form layout.longest) set.now.bytes.now) }
 {
     let layout = match layout_given(SILENT, set.attributes) {
         Ok(layout) => layout,
         Err(fault) => return Err(LoadRefusal::Attributes(fault)),
     };
-    match block_fault(model, layout, set.bytes.len()) {
+    match block_fault(model, layout, set.bytes) {
         None => Ok(layout),
         Some(fault) => Err(LoadRefusal::Blocks(fault)),
     }
@@ -159,7 +159,7 @@ fn layout_of_set(model: DriveModel, set: &LoadedSet) -> Result<Layout, LoadRefus
 fn layout_on(volume: &LabelledVolume, set: &LoadedSet) -> Result<Layout, LoadRefusal>
     ensures layout { result
         ≡ layout_unless_taken volume.now.geometry.model set.now (position (has_name set.now.name) volume.now.blocks.now) }
-    ensures fits { IfOk result (λ layout. FitsTrack volume.now.geometry.model layout.longest) }
+    ensures fits { IfOk result (λ layout. FitsTrack volume.now.geometry.model (cut_by layout.form layout.longest) set.now.bytes.now) }
 {
     if position_of(volume.blocks, &set.name).is_some() {
         return Err(LoadRefusal::NameTaken);
@@ -169,13 +169,13 @@ fn layout_on(volume: &LabelledVolume, set: &LoadedSet) -> Result<Layout, LoadRef
 
 // The first free tracks that have room for blocks.
 fn run_for(alloc: Global, volume: &LabelledVolume, blocks: Blocks) -> Result<Run, LoadFault>
-    requires { FitsTrack volume.now.geometry.model blocks.length }
+    requires { FitsTrack volume.now.geometry.model blocks.cut blocks.bytes.now }
     ensures tracks { IfOk result (λ run. GetsTracks (labelled volume.now)
-        (areas_of blocks.entry.length blocks.entry.bytes.now) run.first run.tracks) }
-    ensures read { IfOk result (λ run. IsReadBack volume.now.geometry.model blocks.entry.length blocks.entry.bytes.now run.tracks) }
+        (areas_of blocks.entry.cut blocks.entry.bytes.now) run.first run.tracks) }
+    ensures read { IfOk result (λ run. IsReadBack volume.now.geometry.model blocks.entry.cut blocks.entry.bytes.now run.tracks) }
     ensures some { IfOk result (λ run. 1 ≤ run.tracks) }
     ensures within { IfOk result (λ run. run.first + run.tracks ≤ tracks_of volume.now.geometry) }
-    ensures fault { IfErr result (λ e. IsUnplaced e (labelled volume.now) (areas_of blocks.entry.length blocks.entry.bytes.now)) }
+    ensures fault { IfErr result (λ e. IsUnplaced e (labelled volume.now) (areas_of blocks.entry.cut blocks.entry.bytes.now)) }
 {
     let geometry = volume.geometry;
     let needed = tracks_needed(geometry.model, blocks);
@@ -256,13 +256,14 @@ fn push(extents: &mut Vec<Extent>, extent: Extent) -> Result<(), LoadFault>
     }
 }
 
-// The length of records, or 0 where that is undefined.
-fn record_length(layout: Layout) -> u16
-    ensures { result ≡ length_said layout.form }
+// The length of records that a label says.
+fn record_length(layout: Layout, given: u16) -> u16
+    ensures { result ≡ length_said layout.form given }
 {
     match layout.form {
         RecordForm::Fixed(size) => size,
-        _ => 0,
+        RecordForm::Variable | RecordForm::Spanned => given,
+        RecordForm::Undefined => 0,
     }
 }
 
@@ -273,7 +274,7 @@ fn new_set(
     layout: Layout,
     run: Run,
 ) -> Result<NewDataSet, LoadFault>
-    requires fits { FitsTrack volume.now.geometry.model layout.longest }
+    requires fits { FitsTrack volume.now.geometry.model (cut_by layout.form layout.longest) set.now.bytes.now }
     requires some { 1 ≤ run.tracks }
     requires within { run.first + run.tracks ≤ tracks_of volume.now.geometry }
     ensures says { IfOk result (λ block. IsNewSet (labelled volume.now) set.now layout run.first run.tracks block) }
@@ -283,7 +284,7 @@ fn new_set(
     let geometry = volume.geometry;
     let blocks = Blocks {
         bytes: set.bytes,
-        length: layout.longest,
+        cut: cut_of(layout),
     };
     let last = last_block(geometry.model, blocks);
     if last.track >= MOST_TRACKS {
@@ -295,7 +296,7 @@ fn new_set(
         created: Date { year: 0, day: 0 },
         format: set.attributes.format,
         block_length: layout.longest,
-        record_length: record_length(layout),
+        record_length: record_length(layout, set.attributes.record_length),
         last: RelativeAddress {
             track: last.track as u16,
             number: last.number,

@@ -8,7 +8,7 @@ use Rattle.loaded_sets.proofs.images.write_tracks.Goals as goal
 pub loop-i-init : goal.loop-i-init
 loop-i-init c =
     let g = c.args.image.now.geometry in
-    let all = areas_of c.args.blocks.length c.args.blocks.bytes.now in
+    let all = areas_of c.args.blocks.cut c.args.blocks.bytes.now in
     record {
       same = record { geometry = refl; lasting = refl };
       size = c.requires.size;
@@ -20,7 +20,7 @@ loop-i-init c =
 pub loop-i-preserved : goal.loop-i-preserved
 loop-i-preserved c =
     let g = c.args.image.now.geometry in
-    let all = areas_of c.args.blocks.length c.args.blocks.bytes.now in
+    let all = areas_of c.args.blocks.cut c.args.blocks.bytes.now in
     let first = c.args.run.first in
     let i = c.loop-i.i in
     let was = c.loop-i.invariant in

@@ -27,5 +27,5 @@ returns-clause-fault c =
     let g = c.args.volume.now.geometry in
     let all = c.as_slice.ensures.value ∙ c.in_ok-extents.ensures.extents in
     let none = subst (λ (x : List Extent). IsFirstRun g x c.tracks_needed-needed.result None) all c.in-None.ensures.first in
-    subst (λ (e : LoadFault). IsUnplaced e (labelled c.args.volume.now) (areas_of c.args.blocks.length c.args.blocks.bytes.now)) (sym c.refused-in-None.ensures)
+    subst (λ (e : LoadFault). IsUnplaced e (labelled c.args.volume.now) (areas_of c.args.blocks.cut c.args.blocks.bytes.now)) (sym c.refused-in-None.ensures)
     (c.tracks_needed-needed.result, c.tracks_needed-needed.ensures.tracks, inr none)
