@@ -21,11 +21,13 @@ same_said s c is = rw (is.label, is.table, is.blocks, is.findings) refl
 module _ (g : Geometry) (s : Said) (v : Labelled) (says : SaysOf g s v) (nothing : all_findings g s ≡ []) (set : LoadedSet) where
   pub fits : layout_on g set s ≡ layout_for v set
   fits =
-      ap (layout_on_label g set s) says.label ∙ ap (layout_on_table g set s) says.table ∙ ap (layout_unless_wrong g.model set s.blocks) nothing
+      ap (layout_on_label g set s) says.label ∙ ap (layout_on_table g set s) says.table
+      ∙ ap (layout_unless_wrong g.model set s.blocks) nothing
       ∙ ap (λ (b : List Block). layout_unless_taken g.model set (position (has_name set.name) b)) says.blocks
       ∙ ap (λ (h : Geometry). layout_unless_taken h.model set (position (has_name set.name) v.blocks)) (sym says.geometry)
 
-pub loaded : (g : Geometry) (before : List (List ℕ)) (v : Labelled) → SaysOf g (contents_of g before) v → all_findings g (contents_of g before) ≡ []
+pub loaded : (g : Geometry) (before : List (List ℕ)) (v : Labelled) → SaysOf g (contents_of g before) v
+    → all_findings g (contents_of g before) ≡ []
     → (set : LoadedSet) (tracks : ℕ) (now : List (List ℕ)) → IsPut v set before tracks now → Loaded set g before tracks now
 loaded g before v says nothing set tracks now (layout, is, it) = record {
   volume = v;
@@ -35,7 +37,8 @@ loaded g before v says nothing set tracks now (layout, is, it) = record {
   loaded = it;
 }
 
-pub not_put : (g : Geometry) (slots : List (List ℕ)) (v : Labelled) → SaysOf g (contents_of g slots) v → all_findings g (contents_of g slots) ≡ []
+pub not_put : (g : Geometry) (slots : List (List ℕ)) (v : Labelled) → SaysOf g (contents_of g slots) v
+    → all_findings g (contents_of g slots) ≡ []
     → (set : LoadedSet) (f : LoadFault) → IsNotPut f v set slots → IsNotLoaded f set g slots
 not_put g slots v says nothing set (fault.Refused r) (inl why) = inl (fits g (contents_of g slots) v says nothing set ∙ why)
 not_put g slots v says nothing set (fault.Refused r) (inr (layout, is, why)) =
@@ -43,7 +46,8 @@ not_put g slots v says nothing set (fault.Refused r) (inr (layout, is, why)) =
 not_put g slots v says nothing set (fault.Job f) why = why
 not_put g slots v says nothing set (fault.Save f) why = why
 
-pub unfit : (g : Geometry) (slots : List (List ℕ)) (set : LoadedSet) (f : LoadFault) → IsUnfit f g (contents_of g slots) → IsNotLoaded f set g slots
+pub unfit : (g : Geometry) (slots : List (List ℕ)) (set : LoadedSet) (f : LoadFault) → IsUnfit f g (contents_of g slots)
+    → IsNotLoaded f set g slots
 unfit g slots set (fault.Refused r) why = inl (why set)
 unfit g slots set (fault.Job f) why = why
 unfit g slots set (fault.Save f) why = why

@@ -25,7 +25,8 @@ module _ (v : Labelled) (set : LoadedSet) (p : Placed) (before now : List (List 
       extracted : IsExtracted v.geometry now (contents_of v.geometry now).blocks (block_in (contents_of v.geometry now).blocks i)
           set.bytes.now p.run.tracks
       extracted most enough =
-          subst (λ (e : List Extent). source_written (wanted Raw e first_block most) v.geometry now ≡ ended_by_file set.bytes.now (p.run.tracks - 1))
+          subst (λ (e : List Extent). source_written (wanted Raw e first_block most) v.geometry now
+          ≡ ended_by_file set.bytes.now (p.run.tracks - 1))
           (sym extents)
           (placed.read v.geometry (p.block.extent ∷ []) now most refl enough
           (are_loaded v.geometry p.block.extent (areas set p.layout) p.run.first p.run.tracks written.listed now placed.run placed.within

@@ -22,16 +22,17 @@ unfolding links_from
 ends blocks = refl
 
 -- a format 1 block of a new data set says one extent
-pub one_extent : (blocks : List Block) (b : Block) (s : NewDataSet) → data_set_block_of b.key b.bytes ≡ data_set_read s → s.extent.kind ≡ 1
-    → extents_behind blocks b ≡ s.extent ∷ []
+pub one_extent : (blocks : List Block) (b : Block) (s : NewDataSet) → data_set_block_of b.key b.bytes ≡ data_set_read s
+    → s.extent.kind ≡ 1 → extents_behind blocks b ≡ s.extent ∷ []
 one_extent blocks b s read kind =
     ap (λ (d : DataSetBlock). first_extents d ++ flat_map extents_in (links_from 21 false blocks d.next).links) read
     ∙ ap (λ (l : Links). first_extents (data_set_read s) ++ flat_map extents_in l.links) (ends blocks)
     ∙ rw kind refl
 
 -- the tracks of that extent have the areas
-pub are_loaded : (g : Geometry) (e : Extent) (areas : List (List ℕ)) (first tracks : ℕ) (before now : List (List ℕ)) → HasRun g first tracks e
-    → first + tracks ≤ tracks_of g → HasAreas g areas first tracks before now → IsLoaded g (e ∷ []) now areas tracks
+pub are_loaded : (g : Geometry) (e : Extent) (areas : List (List ℕ)) (first tracks : ℕ) (before now : List (List ℕ))
+    → HasRun g first tracks e → first + tracks ≤ tracks_of g → HasAreas g areas first tracks before now
+    → IsLoaded g (e ∷ []) now areas tracks
 are_loaded g e areas first tracks before now run within holds i there =
     subst (λ (p : TrackPlace). IsLoadedAt g now (left_behind g.model areas i) p) (sym (run i there))
     (omega (arith, within, there), holds.within i there)

@@ -28,7 +28,8 @@ read_behind paths i before between now same holds whole =
 -- an image was read, and its files are saved
 module _ (set : LoadedSet) (tracks : ℕ) (paths : List (List ℕ)) (i changed : ImageState) where
   pub saved : (r : Result (Unit {0}) JobFault) (opened_before opened opened_now : List SourceFile) (before between now : List Replaced)
-      → ReadsImage paths i opened_before opened → opened_now ≡ opened → IsSameImage i changed → Loaded set i.geometry i.slots tracks changed.slots
+      → ReadsImage paths i opened_before opened → opened_now ≡ opened → IsSameImage i changed
+      → Loaded set i.geometry i.slots tracks changed.slots
       → between ≡ before → WritesBack r paths changed between now
       → SavesLoaded {A = Unit {0}} r set tracks paths opened_before opened_now before now
   saved r ob o on b between n reads is_opened same loaded kept saves = record {

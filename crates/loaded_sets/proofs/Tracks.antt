@@ -1,5 +1,6 @@
 -- Areas that are put onto tracks one after another.
-use Rattle.std.proofs.Common.{◌≡◌, ◌≢◌, ◌∙◌, ap, sym, refl, ℕ, suc, ◌+◌, ◌<◌, ◌≤◌, ◌⊎◌, inl, inr, List, [], length, drop, slice_set, arith, add-one, drop-drop}
+use Rattle.std.proofs.Common.{◌≡◌, ◌≢◌, ◌∙◌, ap, sym, refl, ℕ, suc, ◌+◌, ◌<◌, ◌≤◌, ◌⊎◌, inl, inr, List, [], length, drop}
+use Rattle.std.proofs.Common.{slice_set, arith, add-one, drop-drop}
 use Rattle.std.proofs.lemmas.Bool.{cases_lt}
 use Rattle.std.proofs.lemmas.List.{get_or-set_same, get_or-set_other, length-set}
 use Rattle.ckd_track.specs.declared.model.DriveModel.{DriveModel}
@@ -12,7 +13,8 @@ pub none_behind : (model : DriveModel) (areas : List (List ℕ)) → areas ≡ l
 unfolding left_behind
 none_behind model areas = refl
 
-one_behind : (model : DriveModel) (areas : List (List ℕ)) (n : ℕ) → left_behind model areas (suc n) ≡ behind_track model (left_behind model areas n)
+one_behind : (model : DriveModel) (areas : List (List ℕ)) (n : ℕ)
+    → left_behind model areas (suc n) ≡ behind_track model (left_behind model areas n)
 unfolding left_behind
 one_behind model areas n = refl
 
@@ -32,15 +34,16 @@ begun g areas first slots = record {
 
 -- one track more has what goes on it
 pub goes_on : (g : Geometry) (areas : List (List ℕ)) (first i : ℕ) (before between : List (List ℕ)) (slot : List ℕ)
-    → HasAreas g areas first i before between → slot ≡ loaded_slot g (first + i) (left_behind g.model areas i) → first + i < length between
-    → HasAreas g areas first (i + 1) before (slice_set between (first + i) slot)
+    → HasAreas g areas first i before between → slot ≡ loaded_slot g (first + i) (left_behind g.model areas i)
+    → first + i < length between → HasAreas g areas first (i + 1) before (slice_set between (first + i) slot)
 goes_on g areas first i before between slot holds is there = record {
   within = λ k near. by k near (cases_lt k i);
   outside = λ n out. get_or-set_other between (first + i) n slot [] (other n out) ∙ holds.outside n (before_it n out);
   same = length-set between (first + i) slot ∙ holds.same;
 }
   where
-    by : (k : ℕ) → k < i + 1 → (k < i) ⊎ (i ≤ k) → slot_at (slice_set between (first + i) slot) (first + k) ≡ loaded_slot g (first + k) (left_behind g.model areas k)
+    by : (k : ℕ) → k < i + 1 → (k < i) ⊎ (i ≤ k)
+        → slot_at (slice_set between (first + i) slot) (first + k) ≡ loaded_slot g (first + k) (left_behind g.model areas k)
     by k near (inl less) =
         get_or-set_other between (first + i) (first + k) slot [] (λ e. absurd (omega (arith, e, less))) ∙ holds.within k less
     by k near (inr here) =

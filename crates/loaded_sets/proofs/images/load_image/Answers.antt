@@ -15,15 +15,17 @@ returns c =
     let now = c.put_set.new.image.slots in
     let v = labelled c.in_ok-volume.volume in
     let set = c.args.set.now in
-    let same = same_said (contents_of g before) c.in-Ok-read_said.contents c.in-Ok-read_said.ensures.says in
+    let read = c.in-Ok-read_said.contents in
+    let same = same_said (contents_of g before) read c.in-Ok-read_said.ensures.says in
     let is = c.geometry-geometry.ensures.geometry in
-    let says = subst (λ (s : Said). SaysOf g s v) same (subst (λ (h : Geometry). SaysOf h (said_in c.in-Ok-read_said.contents) v) is c.in_ok-volume.ensures.says) in
+    let says = subst (λ (s : Said). SaysOf g s v) same
+    (subst (λ (h : Geometry). SaysOf h (said_in read) v) is c.in_ok-volume.ensures.says) in
     let nothing = subst (λ (s : Said). all_findings g s ≡ []) same
-    (subst (λ (h : Geometry). all_findings h (said_in c.in-Ok-read_said.contents) ≡ []) is c.in_ok-volume.ensures.nothing) in
+    (subst (λ (h : Geometry). all_findings h (said_in read) ≡ []) is c.in_ok-volume.ensures.nothing) in
     record {
       same = c.put_set.ensures.same;
-      loaded = if_ok c.put_set.result (λ n. IsPut v set before n now) (λ n. Loaded set g before n now) (λ n. loaded g before v says nothing set n now)
-          c.put_set.ensures.put;
+      loaded = if_ok c.put_set.result (λ n. IsPut v set before n now) (λ n. Loaded set g before n now)
+          (λ n. loaded g before v says nothing set n now) c.put_set.ensures.put;
       fault = if_err c.put_set.result (λ f. IsNotPut f v set before) (λ f. IsNotLoaded f set g before) (not_put g before v says nothing set)
           c.put_set.ensures.fault;
     }
@@ -32,7 +34,10 @@ pub returns-in_err-volume : goal.returns-in_err-volume
 returns-in_err-volume c =
     let g = c.args.image.now.geometry in
     let before = c.args.image.now.slots in
-    let same = same_said (contents_of g before) c.in-Ok-read_said.contents c.in-Ok-read_said.ensures.says in
-    let why = unfit g before c.args.set.now c.in_err-volume.field-0.0 (subst (λ (s : Said). IsUnfit c.in_err-volume.field-0.0 g s) same
-    (subst (λ (h : Geometry). IsUnfit c.in_err-volume.field-0.0 h (said_in c.in-Ok-read_said.contents)) c.geometry-geometry.ensures.geometry c.in_err-volume.ensures.fault)) in
+    let read = c.in-Ok-read_said.contents in
+    let e = c.in_err-volume.field-0.0 in
+    let is = c.geometry-geometry.ensures.geometry in
+    let same = same_said (contents_of g before) read c.in-Ok-read_said.ensures.says in
+    let why = unfit g before c.args.set.now e (subst (λ (s : Said). IsUnfit e g s) same
+    (subst (λ (h : Geometry). IsUnfit e h (said_in read)) is c.in_err-volume.ensures.fault)) in
     search rules

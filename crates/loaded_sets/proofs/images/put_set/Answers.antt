@@ -30,7 +30,8 @@ pub returns-in_err-address : goal.returns-in_err-address
 returns-in_err-address c =
     let placed = c.in_ok-placed.ensures.placed in
     let why = unlisted (labelled c.args.volume.now) c.args.set.now c.args.image.now.slots c.in_ok-placed.placed.layout placed.fits
-    c.in_ok-placed.placed.run.first c.in_ok-placed.placed.run.tracks placed.gets c.in_err-address.field-0.0 c.in_err-address.ensures.fault in
+    c.in_ok-placed.placed.run.first c.in_ok-placed.placed.run.tracks placed.gets
+    c.in_err-address.field-0.0 c.in_err-address.ensures.fault in
     search rules
 
 pub returns-in-Err : goal.returns-in-Err

@@ -14,6 +14,7 @@ returns c =
     let p = c.args.placed.now in
     let listed = c.write_table.new.image in
     let before = c.args.image.now.slots in
+    let now = c.write_tracks.new.image.slots in
     let first = p.run.first in
     let tracks = p.run.tracks in
     record {
@@ -25,7 +26,7 @@ returns c =
         listed = listed.slots;
         writes = subst (λ (b : List ℕ). WritesBlock v first tracks (c.args.set.now.name ++ b) before c.in_ok-address.address listed.slots)
             c.data_set_data-bytes.ensures.bytes c.in_ok-address.ensures.writes;
-        holds = subst (λ (g : Geometry). HasAreas g (areas c.args.set.now p.layout) first tracks listed.slots c.write_tracks.new.image.slots)
+        holds = subst (λ (g : Geometry). HasAreas g (areas c.args.set.now p.layout) first tracks listed.slots now)
             (c.in_ok-address.ensures.same.geometry ∙ sym c.requires.geometry) c.in_ok-write_tracks.ensures.areas;
         read = subst (λ (b : List ℕ). data_set_block_of p.block.name b ≡ data_set_read p.block)
             c.data_set_data-bytes.ensures.bytes c.data_set_data-bytes.ensures.read;

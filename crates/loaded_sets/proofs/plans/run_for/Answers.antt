@@ -20,12 +20,14 @@ returns-in-Some-clause-tracks c =
 
 pub returns-in-Some-clause-within : goal.returns-in-Some-clause-within
 returns-in-Some-clause-within c =
-    run_within c.args.volume.now.geometry c.as_slice.result.now c.tracks_needed-needed.result c.in-Some.first (omega arith) c.in-Some.ensures.first
+    run_within c.args.volume.now.geometry c.as_slice.result.now c.tracks_needed-needed.result c.in-Some.first (omega arith)
+    c.in-Some.ensures.first
 
 pub returns-clause-fault : goal.returns-clause-fault
 returns-clause-fault c =
     let g = c.args.volume.now.geometry in
     let all = c.as_slice.ensures.value ∙ c.in_ok-extents.ensures.extents in
     let none = subst (λ (x : List Extent). IsFirstRun g x c.tracks_needed-needed.result None) all c.in-None.ensures.first in
-    subst (λ (e : LoadFault). IsUnplaced e (labelled c.args.volume.now) (areas_of c.args.blocks.cut c.args.blocks.bytes.now)) (sym c.refused-in-None.ensures)
+    let all_areas = areas_of c.args.blocks.cut c.args.blocks.bytes.now in
+    subst (λ (e : LoadFault). IsUnplaced e (labelled c.args.volume.now) all_areas) (sym c.refused-in-None.ensures)
     (c.tracks_needed-needed.result, c.tracks_needed-needed.ensures.tracks, inr none)

@@ -16,4 +16,5 @@ returns-in-Ok-clause-tells g c =
       printed = seen_by g.W.Write.contents c.write_loaded.new.writer;
     } in
     rw c.of_line.ensures
-    (told c.write_loaded.result c.args.named.0.now c.args.named.1.now _ c.in-Ok.tracks before now c.in-Ok.ensures c.write_loaded.ensures.written)
+    (told c.write_loaded.result c.args.named.0.now c.args.named.1.now _ c.in-Ok.tracks before now c.in-Ok.ensures
+    c.write_loaded.ensures.written)
