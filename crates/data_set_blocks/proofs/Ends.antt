@@ -72,7 +72,7 @@ module _ (size : ℕ) (bytes : List ℕ) where
       let next : (k + 1) * size ≡ k * size + size = grind arith in
       omega (arith, whole, most, next, some)
 
-  at_end : 1 ≤ size → length bytes ≤ block_count (Length size) bytes * size
+  pub at_end : 1 ≤ size → length bytes ≤ block_count (Length size) bytes * size
   at_end some =
       let n = length bytes + (size - 1) in
       let whole = div-add-mod' n size in

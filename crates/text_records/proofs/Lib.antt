@@ -5,3 +5,4 @@ pub mod Joined
 pub mod Trimmed
 pub mod Encoded
 pub mod Reading
+pub mod Printed

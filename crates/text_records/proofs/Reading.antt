@@ -53,7 +53,7 @@ both number (Ok a) (Ok b) bytes e = (a, b, refl, refl, cc)
 both number (Ok a) (Err f) bytes e = absurd (cc)
 both number (Err f) more bytes e = absurd (cc)
 
-are_records : (size number : ℕ) (lines : List (List ℕ)) (bytes : List ℕ) → records_from size number lines ≡ Ok bytes
+pub are_records : (size number : ℕ) (lines : List (List ℕ)) (bytes : List ℕ) → records_from size number lines ≡ Ok bytes
     → AreRecords size lines bytes
 are_records size number [] bytes e = no_records size number bytes e
 are_records size number (l ∷ ls) bytes e =

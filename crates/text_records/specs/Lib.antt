@@ -3,3 +3,4 @@ pub mod Lines
 pub mod Records
 pub mod Read
 pub mod Putting
+pub mod Printed

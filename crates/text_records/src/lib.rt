@@ -3,8 +3,10 @@
 
 mod codes;
 mod faults;
+mod laws;
 mod lines;
 mod records;
 
 pub use crate::faults::{LineFault, TextFault};
+pub use crate::laws::text_is_printed;
 pub use crate::records::text_records;
