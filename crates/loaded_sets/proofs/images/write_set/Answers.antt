@@ -1,5 +1,7 @@
 use Rattle.std.proofs.Common.{◌≡◌, ◌∙◌, ◌++◌, sym, subst, List, ℕ}
 use Rattle.ckd_track.specs.declared.geometries.Geometry.{Geometry}
+use Rattle.data_set_blocks.specs.declared.blocks.Cut.{Cut}
+use Rattle.data_set_blocks.specs.Blocks.{areas_of}
 use Rattle.space_allocation.specs.Blocks.{data_set_read}
 use Rattle.volume_labels.specs.Labels.{data_set_block_of}
 use Rattle.loaded_sets.specs.Sets.{areas}
@@ -17,6 +19,8 @@ returns c =
     let now = c.write_tracks.new.image.slots in
     let first = p.run.first in
     let tracks = p.run.tracks in
+    let holds = subst (λ (k : Cut). HasAreas listed.geometry (areas_of k c.args.set.now.bytes.now) first tracks listed.slots now)
+    c.cut_of.ensures c.in_ok-write_tracks.ensures.areas in
     record {
       same = record {
         geometry = c.in_ok-write_tracks.ensures.same.geometry ∙ c.in_ok-address.ensures.same.geometry;
@@ -27,7 +31,7 @@ returns c =
         writes = subst (λ (b : List ℕ). WritesBlock v first tracks (c.args.set.now.name ++ b) before c.in_ok-address.address listed.slots)
             c.data_set_data-bytes.ensures.bytes c.in_ok-address.ensures.writes;
         holds = subst (λ (g : Geometry). HasAreas g (areas c.args.set.now p.layout) first tracks listed.slots now)
-            (c.in_ok-address.ensures.same.geometry ∙ sym c.requires.geometry) c.in_ok-write_tracks.ensures.areas;
+            (c.in_ok-address.ensures.same.geometry ∙ sym c.requires.geometry) holds;
         read = subst (λ (b : List ℕ). data_set_block_of p.block.name b ≡ data_set_read p.block)
             c.data_set_data-bytes.ensures.bytes c.data_set_data-bytes.ensures.read;
       };
