@@ -1,7 +1,6 @@
 -- The records of a text on tracks are read as its lines.
 use Rattle.std.proofs.Common.{◌≡◌, ◌∙◌, ◌≤◌, ◌<◌, ◌+◌, ◌-◌, ◌*◌, ◌==◌, ◌⊎◌, inl, inr, ℕ, zero, suc, Bool, true, false, cond, not, ◌&&◌}
-use Rattle.std.proofs.Common.{nat_lt, List, [], ◌∷◌, ◌++◌, length, take, drop, get_or, flat_map, ap, refl, sym, subst, arith, append-nil}
-use Rattle.std.proofs.Common.{Ok}
+use Rattle.std.proofs.Common.{List, [], ◌∷◌, ◌++◌, length, take, drop, flat_map, ap, refl, sym, subst, arith, append-nil}
 use Rattle.std.proofs.Common.{length-append, length-take, slice_index}
 use Rattle.std.proofs.lemmas.Bool.{le-ltb, cases_lt}
 use Rattle.std.proofs.lemmas.Nat.{mul-le}
@@ -21,9 +20,8 @@ use Rattle.data_set_blocks.proofs.Ends.{at_end}
 use Rattle.data_set_blocks.proofs.Cuts.{are_blocks}
 use Rattle.data_set_blocks.proofs.Extracted.{read_as}
 use Rattle.text_records.specs.Lines.{lines_of}
-use Rattle.text_records.specs.Records.{records_of}
-use Rattle.text_records.specs.Read.{ended, without_blanks, IsReadAsLines}
-use Rattle.text_records.specs.Printed.{layout_of, HasText, printed, IsPrinted}
+use Rattle.text_records.specs.Read.{ended, without_blanks}
+use Rattle.text_records.specs.Printed.{layout_of, IsPrinted}
 use Rattle.text_records.proofs.Reading.{AreRecords, are_records, read_as_lines}
 
 and_false : (b : Bool) → (b && false) ≡ false
@@ -66,7 +64,8 @@ module _ (size count : ℕ) (lines : List (List ℕ)) (bytes : List ℕ) (some :
   text a = (records_written (layout_of size count) 0 0 a).bytes
 
   as_lines : (k track number : ℕ)
-      → records_written (layout_of size count) track number (block k) ≡ these_bytes (flat_map line_text (take count (drop (k * count) lines)))
+      → records_written (layout_of size count) track number (block k)
+      ≡ these_bytes (flat_map line_text (take count (drop (k * count) lines)))
   as_lines k track number =
       ap (λ t. cond t (stopped track (LongBlock number)) (lines_written (Fixed size) track number (block k)))
       (no_longer (count * size) (length (block k)) (omega (arith, length-take (count * size) (drop (k * (count * size)) bytes))))
