@@ -9,6 +9,7 @@ import os
 import shutil
 import subprocess
 
+from tools.common.hercules_readings import records_by_dasdseq
 from tools.common.images import Image
 from tools.common.volume_layouts import ebcdic
 from tools.gate.scratch_files import WAYS, Scratch, Skipped, fault, is_held, row, same, volume
@@ -148,3 +149,4 @@ def hercules_reads_a_volume_with_a_loaded_data_set(s: Scratch) -> None:
     run = subprocess.run(["dasdls", "-info", "pack.ckd"], cwd=s.folder, capture_output=True, text=True, check=False)
     said = [it.split() for it in run.stdout.splitlines() if it.startswith("TEST.CARDS")]
     same((run.returncode, [it[2:8] for it in said]), (0, [["PS", "FB", "80", "800", "0", "3"]]), run.stdout)
+    same(records_by_dasdseq(s.path("pack.ckd"), "TEST.CARDS"), CARDS, "dasdseq")
