@@ -20,13 +20,14 @@ from pathlib import Path
 from conformance.suite.volumes import Record
 from tools import TOP
 from tools.common.images import Image, Place
+from tools.common.record_forms import cut, described, variable_blocks
 from tools.common.volume_layouts import Run, ebcdic
 
 BUILT = TOP / "crates" / "dasd_cmd" / "out" / "dasd_cmd"
 # What a command did: its status, what it printed, and what it said on standard error.
 Ended = tuple[int, str, str]
 # The byte of a record format.
-FORMATS = {"F": 0x80, "FB": 0x90, "FS": 0x88, "FBS": 0x98, "U": 0xC0}
+FORMATS = {"F": 0x80, "FB": 0x90, "FS": 0x88, "FBS": 0x98, "V": 0x40, "VB": 0x50, "U": 0xC0}
 # How many changes a pack gets.
 CHANGES = 40
 
@@ -44,11 +45,26 @@ class Form:
         record = [] if self.record is None else ["--record-length", str(self.record)]
         return ["--record-format", self.name, *record, "--block-length", str(self.block)]
 
+    def is_variable(self) -> bool:
+        """Whether its blocks say their own lengths."""
+        return self.name in ("V", "VB")
+
     def record_length(self) -> int:
         """What the label says of it."""
-        if self.name == "U":
+        if self.name == "U" or (self.is_variable() and self.record is None):
             return 0
         return self.block if self.record is None else self.record
+
+    def cut(self, data: bytes) -> list[bytes]:
+        """The blocks of a file."""
+        if not self.is_variable():
+            return cut(data, self.block)
+        blocks, at = [], 0
+        while at < len(data):
+            length = int.from_bytes(data[at : at + 2], "big")
+            blocks.append(data[at : at + length])
+            at += length
+        return blocks
 
 
 @dataclass
@@ -87,9 +103,8 @@ class Pack:
         tracks = range(self.table[0], self.table[1] + 1)
         return [((track, at), it) for track in tracks for at, it in enumerate(self.image.records(track)) if at > 0]
 
-    def laid(self, data: bytes, size: int) -> Layout:
-        """The blocks of a file on as few tracks as have them."""
-        blocks = [data[at : at + size] for at in range(0, len(data), size)] + [b""]
+    def laid(self, blocks: list[bytes]) -> Layout:
+        """These blocks, the last of them the end of file, on as few tracks as have them."""
         tracks: list[list[bytes]] = [[]]
         for block in blocks:
             used = sum(self.model.charge(0, len(it)) for it in tracks[-1])
@@ -119,7 +134,7 @@ class Pack:
         if name in self.taken:
             raise Refused("a data set has this name")
         check(form, data, self.model.capacity)
-        laid = self.laid(data, form.block)
+        laid = self.laid([*form.cut(data), b""])
         first = self.free_run(len(laid.tracks))
         run = first, first + len(laid.tracks) - 1
         place = next((it[0] for it in self.blocks() if it[1].key == bytes(44) and it[1].data == bytes(96)), None)
@@ -227,10 +242,27 @@ def check(form: Form, data: bytes, capacity: int) -> None:
     size = form.record_length()
     if form.block > capacity:
         raise Refused("a block is longer than a track")
+    if form.is_variable():
+        check_described(form, data)
+        return
     if size and form.block % size:
         raise Refused("record length and block length contradict each other")
     if size and len(data) % size:
         raise Refused("the file ends within a record")
+
+
+def check_described(form: Form, data: bytes) -> None:
+    """Refuses a file that has a block of variable records cut off, or too long."""
+    at, number = 0, 1
+    while at < len(data):
+        length = int.from_bytes(data[at : at + 2], "big")
+        if len(data) - at < 4:
+            raise Refused(f"block {number} has a descriptor word that is no length")
+        if at + length > len(data):
+            raise Refused(f"block {number} does not end within the file")
+        if length > form.block:
+            raise Refused(f"block {number} is longer than the block length")
+        at, number = at + length, number + 1
 
 
 def form_by_chance(chance: random.Random, capacity: int) -> Form:
@@ -240,16 +272,30 @@ def form_by_chance(chance: random.Random, capacity: int) -> Form:
     most = max(1, min(capacity, chance.choice([200, 1000, 4000, capacity])) // record)
     if name in ("FB", "FBS"):
         return Form(name, record, record * chance.randint(1, most))
+    if name in ("V", "VB"):
+        return Form(name, chance.choice([None, record]), min(capacity, record + 8) + chance.choice([0, 0, chance.randint(0, 3000)]))
     block = chance.choice([record, chance.randint(1, capacity), capacity, capacity + 1])
     return Form(name, None, block)
 
 
 def file_by_chance(chance: random.Random, form: Form) -> bytes:
     """The bytes of a file, mostly whole records."""
+    if form.is_variable():
+        return variable_by_chance(chance, form)
     size = form.record_length() or 1
     count = chance.choice([0, 1, 2, chance.randint(0, 30), chance.randint(0, 40_000 // size)])
     odd = 1 if chance.random() < 0.05 else 0
     return chance.randbytes(count * size + odd)
+
+
+def variable_by_chance(chance: random.Random, form: Form) -> bytes:
+    """The bytes of a file of variable records, each in its block or several in one, mostly whole and not too long."""
+    most = form.block - 8
+    records = [chance.randbytes(chance.randint(0, most)) for _ in range(chance.choice([0, 1, chance.randint(0, 60)]))]
+    longest = form.block + (9 if chance.random() < 0.05 else 0)
+    blocks = variable_blocks(records, longest) if form.name == "VB" else [described(described(it)) for it in records]
+    data = b"".join(blocks)
+    return data[: -chance.randint(1, 3)] if data and chance.random() < 0.05 else data
 
 
 def name_by_chance(chance: random.Random, taken: list[str]) -> str:
