@@ -1,0 +1,4 @@
+pub mod Refused
+pub mod Pieces
+pub mod Going
+pub mod Behind
