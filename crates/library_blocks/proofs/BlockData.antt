@@ -11,7 +11,7 @@ use Rattle.library_blocks.proofs.Going.{goes_in, some_goes}
 use Rattle.library_blocks.proofs.Behind.{some_fit}
 use Rattle.library_blocks.proofs.Steps.{HasBlock}
 
-block_made : (left : List (List ℕ)) → 1 ≤ length left → block_of left ≡ filled 264 (block_front (in_block left))
+pub block_made : (left : List (List ℕ)) → 1 ≤ length left → block_of left ≡ filled 264 (block_front (in_block left))
 block_made [] some = absurd (omega (arith, some))
 block_made (e ∷ others) some = refl
 

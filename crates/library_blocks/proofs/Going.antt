@@ -1,5 +1,5 @@
 -- How many entries go into a block.
-use Rattle.std.proofs.Common.{◌≡◌, ◌∙◌, ap, sym, refl, subst, ℕ, suc, ◌+◌, ◌≤◌, ◌<◌, List, [], ◌∷◌, ◌++◌, length, take, drop, get_or, arith, nat_le}
+use Rattle.std.proofs.Common.{◌≡◌, ◌∙◌, ap, sym, refl, subst, ℕ, zero, suc, ◌+◌, ◌≤◌, ◌<◌, List, [], ◌∷◌, ◌++◌, length, take, drop, get_or, arith, nat_le}
 use Rattle.std.proofs.Common.{true, false, ◌⊎◌, inl, inr, length-append, append-nil}
 use Rattle.std.specs.List.{concat}
 use Rattle.std.proofs.lemmas.Bool.{cases_lt}
@@ -62,13 +62,30 @@ module _ (left : List (List ℕ)) (k used : ℕ) (so_far : going_in 2 left ≡ k
   pub ends : length left ≤ k → k ≡ going_in 2 left
   ends all = omega (arith, so_far ∙ ap (λ (xs : List (List ℕ)). k + going_in used xs) (drop_all k left all) ∙ ap (λ (n : ℕ). k + n) (none_goes used))
 
+-- the bytes of one entry more
+pub concat_more : (left : List (List ℕ)) (k : ℕ) → k < length left → concat (take (k + 1) left) ≡ concat (take k left) ++ get_or left k []
+concat_more left k there =
+    let e = get_or left k [] in
+    ap concat (take_more left k [] there) ∙ concat-append (take k left) (e ∷ [])
+    ∙ ap (λ (xs : List ℕ). concat (take k left) ++ xs) (append-nil e)
+
+-- fewer entries have no more bytes
+pub concat_fewer : (k n : ℕ) (left : List (List ℕ)) → k ≤ n → length (concat (take k left)) ≤ length (concat (take n left))
+concat_fewer zero n left within = omega arith
+concat_fewer (suc k) zero left within = absurd (omega (arith, within))
+concat_fewer (suc k) (suc n) [] within = omega arith
+concat_fewer (suc k) (suc n) (e ∷ others) within = omega (
+  arith,
+  length-append e (concat (take k others)),
+  length-append e (concat (take n others)),
+  concat_fewer k n others (omega (arith, within)),
+)
+
 -- one entry more uses its bytes
 pub more_used : (left : List (List ℕ)) (k : ℕ) → k < length left
     → used_by (take (k + 1) left) ≡ used_by (take k left) + length (get_or left k [])
 more_used left k there =
-    let e = get_or left k [] in
-    let more = ap concat (take_more left k [] there) ∙ concat-append (take k left) (e ∷ []) in
-    omega (arith, ap length more, length-append (concat (take k left)) (concat (e ∷ [])), ap length (append-nil e))
+    omega (arith, ap length (concat_more left k there), length-append (concat (take k left)) (get_or left k []))
 
 -- one at least goes into an empty block
 pub some_goes : (e : List ℕ) (others : List (List ℕ)) → length e ≤ 254 → 1 ≤ going_in 2 (e ∷ others)

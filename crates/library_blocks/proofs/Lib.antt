@@ -1,6 +1,7 @@
 pub mod Refused
 pub mod Pieces
 pub mod Going
+pub mod Puts
 pub mod Behind
 pub mod Steps
 pub mod EntrySteps

@@ -1,6 +1,6 @@
 -- A reader of the blocks of a directory has its entries.
 use Rattle.std.proofs.Common.{◌≡◌, ◌∙◌, ap, sym, refl, subst, ℕ, zero, suc, ◌+◌, ◌-◌, ◌*◌, ◌/◌, ◌%◌, ◌≤◌, ◌<◌, List, [], ◌∷◌, ◌++◌, length, map, take}
-use Rattle.std.proofs.Common.{drop, arith, All, Option, None, ◌⊎◌, ⊎_elim, inl, inr, length-append, append_assoc, add-zero, zero-add, replicate, append-nil}
+use Rattle.std.proofs.Common.{drop, arith, All, Option, None, ◌⊎◌, ⊎_elim, inl, inr, length-append, length-drop, append_assoc, add-zero, zero-add, replicate, append-nil}
 use Rattle.std.specs.List.{concat}
 use Rattle.std.proofs.lemmas.Bool.{cases_lt}
 use Rattle.std.proofs.lemmas.List.{take-append-le, drop-append-le, take-map, drop-map, take-append-drop, take_all, length-map, length-take-le, map-append}
@@ -85,11 +85,11 @@ Reads blocks = (k : ℕ) (es : List NewEntry) (front behind : List ℕ) (most : 
     → left_behind (all_entries es) blocks ≡ [] → 256 * blocks ≤ most
     → entries_from most (front ++ (data_of (blocks_of (all_entries es) blocks) ++ behind)) (256 * k) ≡ these_entries es
 
-no_blocks : (left : List (List ℕ)) → blocks_of left 0 ≡ []
+pub no_blocks : (left : List (List ℕ)) → blocks_of left 0 ≡ []
 unfolding blocks_of
 no_blocks left = refl
 
-more_blocks : (left : List (List ℕ)) (n : ℕ) → blocks_of left (suc n) ≡ block_of left ∷ blocks_of (behind_block left) n
+pub more_blocks : (left : List (List ℕ)) (n : ℕ) → blocks_of left (suc n) ≡ block_of left ∷ blocks_of (behind_block left) n
 unfolding blocks_of
 more_blocks left n = refl
 
@@ -242,6 +242,9 @@ reads (suc n) k es front behind most each is_at all fuel = next_block n (reads n
 length-each : (left : List (List ℕ)) → All IsShort left → length (drop 8 (block_of left)) ≡ 256
 length-each [] short = refl
 length-each (e ∷ others) short = length-data (e ∷ others) short (omega arith)
+
+pub length-block : (left : List (List ℕ)) → All IsShort left → length (block_of left) ≡ 264
+length-block left short = omega (arith, length-each left short, length-drop 8 (block_of left))
 
 length-all : (left : List (List ℕ)) (n : ℕ) → All IsShort left → length (data_of (blocks_of left n)) ≡ 256 * n
 length-all left zero short = ap (λ (bs : List (List ℕ)). length (data_of bs)) (no_blocks left)

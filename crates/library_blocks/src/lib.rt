@@ -5,6 +5,6 @@ mod directories;
 mod entries;
 mod faults;
 
-pub use crate::directories::{DIRECTORY_BLOCK, blocks_needed};
+pub use crate::directories::{DIRECTORY_BLOCK, blocks_needed, write_directory};
 pub use crate::entries::NewEntry;
 pub use crate::faults::{EntryFault, RefusedEntry, refused_entry};
