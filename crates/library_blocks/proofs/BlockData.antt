@@ -1,13 +1,12 @@
 -- The data of one block, where it stands among others.
-use Rattle.std.proofs.Common.{◌≡◌, ◌∙◌, ap, sym, refl, ℕ, zero, suc, ◌+◌, ◌-◌, ◌*◌, ◌/◌, ◌%◌, ◌≤◌, ◌<◌, List, [], ◌∷◌, ◌++◌, length, take, drop, get_or, arith}
+use Rattle.std.proofs.Common.{◌≡◌, ◌∙◌, ap, refl, ℕ, ◌+◌, ◌-◌, ◌*◌, ◌/◌, ◌%◌, ◌≤◌, ◌<◌, List, [], ◌∷◌, ◌++◌, length, drop, get_or, arith}
 use Rattle.std.proofs.Common.{replicate, All, length-append, append_assoc, slice_index}
 use Rattle.std.specs.List.{concat}
 use Rattle.std.proofs.lemmas.List.{get_or-append-add, get_or-take, drop_at, length-take, length-take-le, length-replicate}
 use Rattle.std.proofs.lemmas.List.Elements.{All-get_or}
-use Rattle.data_sets.specs.Directories.{number_at}
 use Rattle.library_blocks.specs.Directory.{going_in, in_block, used_by, key_of, block_front, filled, block_of}
 use Rattle.library_blocks.proofs.Pieces.{IsShort}
-use Rattle.library_blocks.proofs.Going.{goes_in, some_goes}
+use Rattle.library_blocks.proofs.Going.{goes_in}
 use Rattle.library_blocks.proofs.Behind.{some_fit}
 use Rattle.library_blocks.proofs.Steps.{HasBlock}
 
@@ -71,7 +70,13 @@ module _ (left : List (List ℕ)) (short : All IsShort left) (some : 1 ≤ lengt
 
     pub has_block : HasBlock standing k used
     has_block = record {
-      there = omega (arith, length-append front (drop 8 (block_of left) ++ rest), length-append (drop 8 (block_of left)) rest, length-data, blocks);
+      there = omega (
+        arith,
+        length-append front (drop 8 (block_of left) ++ rest),
+        length-append (drop 8 (block_of left)) rest,
+        length-data,
+        blocks,
+      );
       number = (let none : 256 * k ≡ 256 * k + 0 = omega arith in
           let high : slice_index standing (256 * k) ≡ used / 256 = rw none (number_byte 0) in
           let low = number_byte 1 in

@@ -1,16 +1,14 @@
 -- The step of a reader over an entry that was made.
-use Rattle.std.proofs.Common.{◌≡◌, ◌∙◌, ap, sym, refl, ℕ, ◌+◌, ◌*◌, ◌/◌, ◌%◌, ◌≤◌, ◌<◌, List, [], ◌∷◌, ◌++◌, length, arith}
-use Rattle.std.proofs.Common.{Bool, true, false, nat_lt, nat_le, cond, slice_range, replicate, append_assoc}
+use Rattle.std.proofs.Common.{◌≡◌, ◌∙◌, ap, refl, ℕ, ◌+◌, ◌*◌, ◌/◌, ◌%◌, ◌≤◌, ◌<◌, List, ◌++◌, length, arith}
+use Rattle.std.proofs.Common.{Bool, true, false, nat_le, cond, replicate, append_assoc}
 use Rattle.std.proofs.lemmas.Bool.{false_from_ne_true}
 use Rattle.std.proofs.lemmas.Bool.Decides.{nat_tests}
 use Rattle.std.proofs.lemmas.Slice.Eq.{bytes_eq-Decides}
 use Rattle.data_sets.specs.declared.directories.DirectoryEntry.{DirectoryEntry}
-use Rattle.data_sets.specs.declared.directories.DirectoryStep.{DirectoryStep}
-use Rattle.data_sets.specs.declared.directories.DirectoryStep.TheVariants.{Entry, End, Fault}
-use Rattle.data_sets.specs.declared.directories.DirectoryFault.TheVariants.{EntryPastUsed}
-use Rattle.data_sets.specs.Directories.{entry_of, is_last, entry_step}
+use Rattle.data_sets.specs.declared.directories.DirectoryStep.TheVariants.{Entry, End}
+use Rattle.data_sets.specs.Directories.{is_last, entry_step}
 use Rattle.library_blocks.specs.declared.entries.NewEntry.{NewEntry}
-use Rattle.library_blocks.specs.Entries.{lengths_byte, entry_bytes, entry_front, entry_read, last_entry, IsEntry}
+use Rattle.library_blocks.specs.Entries.{lengths_byte, entry_bytes, entry_read, last_entry, IsEntry}
 use Rattle.library_blocks.proofs.Pieces.{length-entry}
 use Rattle.library_blocks.proofs.Steps.{with_entry, read_entry, ordinary, ending}
 
@@ -20,7 +18,8 @@ pub record Says (lengths : ℕ) (is_alias : Bool) (addresses bytes : ℕ) : Type
   pub notes : lengths / 32 % 4 ≡ addresses
   pub user : lengths % 32 * 2 ≡ bytes
 
-says : (alias : Bool) (notes user : ℕ) → notes ≤ 3 → user ≤ 62 → user % 2 ≡ 0 → Says (cond alias 128 0 + notes * 32 + user / 2) alias notes user
+says : (alias : Bool) (notes user : ℕ) → notes ≤ 3 → user ≤ 62 → user % 2 ≡ 0
+    → Says (cond alias 128 0 + notes * 32 + user / 2) alias notes user
 says true notes user few short even = record {
   alias = grind (arith, nat_tests);
   notes = omega arith;
@@ -57,7 +56,7 @@ module _ (e : NewEntry) (is : IsEntry e) (front rest : List ℕ) (at : ℕ) (is_
   entry_stands end within =
       let next = at + length (entry_bytes e) in
       let no_last : is_last e.name ≡ false = false_from_ne_true (is_last e.name) (λ h.
-          is.no_last ((bytes_eq-Decides e.name (replicate 8 255)).0 h)) in
+      is.no_last ((bytes_eq-Decides e.name (replicate 8 255)).0 h)) in
       let is_next : at + 12 + lengths_byte e % 32 * 2 ≡ next = omega (arith, said.user, length-entry e is) in
       ap (λ (xs : List ℕ). entry_step xs at end) spread_is
       ∙ ordinary front e.name (e.user_data.now ++ rest) at (e.address.track / 256) (e.address.track % 256) e.address.number

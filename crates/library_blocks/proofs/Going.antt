@@ -1,5 +1,6 @@
 -- How many entries go into a block.
-use Rattle.std.proofs.Common.{◌≡◌, ◌∙◌, ap, sym, refl, subst, ℕ, zero, suc, ◌+◌, ◌≤◌, ◌<◌, List, [], ◌∷◌, ◌++◌, length, take, drop, get_or, arith, nat_le}
+use Rattle.std.proofs.Common.{◌≡◌, ◌∙◌, ap, sym, refl, subst, ℕ, zero, suc, ◌+◌, ◌≤◌}
+use Rattle.std.proofs.Common.{◌<◌, List, [], ◌∷◌, ◌++◌, length, take, drop, get_or, arith, nat_le}
 use Rattle.std.proofs.Common.{true, false, ◌⊎◌, inl, inr, length-append, append-nil}
 use Rattle.std.specs.List.{concat}
 use Rattle.std.proofs.lemmas.Bool.{cases_lt}
@@ -60,7 +61,9 @@ module _ (left : List (List ℕ)) (k used : ℕ) (so_far : going_in 2 left ≡ k
       omega (arith, so_far ∙ ap (λ (xs : List (List ℕ)). k + going_in used xs) (drop_more left k [] there) ∙ ap (λ (n : ℕ). k + n) one)
 
   pub ends : length left ≤ k → k ≡ going_in 2 left
-  ends all = omega (arith, so_far ∙ ap (λ (xs : List (List ℕ)). k + going_in used xs) (drop_all k left all) ∙ ap (λ (n : ℕ). k + n) (none_goes used))
+  ends all =
+      let none = ap (λ (xs : List (List ℕ)). k + going_in used xs) (drop_all k left all) ∙ ap (λ (n : ℕ). k + n) (none_goes used) in
+      omega (arith, so_far ∙ none)
 
 -- the bytes of one entry more
 pub concat_more : (left : List (List ℕ)) (k : ℕ) → k < length left → concat (take (k + 1) left) ≡ concat (take k left) ++ get_or left k []

@@ -1,5 +1,5 @@
 -- Bytes that are put behind others.
-use Rattle.std.proofs.Common.{◌≡◌, ◌∙◌, ap, sym, ℕ, ◌+◌, List, ◌++◌, length, arith, length-append, append_assoc}
+use Rattle.std.proofs.Common.{◌≡◌, ◌∙◌, ap, ℕ, ◌+◌, List, ◌++◌, length, arith, length-append, append_assoc}
 use Rattle.library_blocks.specs.Directory.{filled}
 use Rattle.library_blocks.specs.Writing.{PutBehind}
 

@@ -1,16 +1,18 @@
 -- A reader of the blocks of a directory has its entries.
-use Rattle.std.proofs.Common.{◌≡◌, ◌∙◌, ap, sym, refl, subst, ℕ, zero, suc, ◌+◌, ◌-◌, ◌*◌, ◌/◌, ◌%◌, ◌≤◌, ◌<◌, List, [], ◌∷◌, ◌++◌, length, map, take}
-use Rattle.std.proofs.Common.{drop, arith, All, Option, None, ◌⊎◌, ⊎_elim, inl, inr, length-append, length-drop, append_assoc, add-zero, zero-add, replicate, append-nil}
+use Rattle.std.proofs.Common.{◌≡◌, ◌∙◌, ap, sym, refl, ℕ, zero, suc, ◌+◌, ◌-◌, ◌*◌}
+use Rattle.std.proofs.Common.{◌/◌, ◌%◌, ◌≤◌, ◌<◌, List, [], ◌∷◌, ◌++◌, length, map, take}
+use Rattle.std.proofs.Common.{drop, arith, All, ◌⊎◌, ⊎_elim, inl}
+use Rattle.std.proofs.Common.{inr, length-append, length-drop, append_assoc, zero-add, replicate, append-nil}
 use Rattle.std.specs.List.{concat}
 use Rattle.std.proofs.lemmas.Bool.{cases_lt}
-use Rattle.std.proofs.lemmas.List.{take-append-le, drop-append-le, take-map, drop-map, take-append-drop, take_all, length-map, length-take-le, map-append}
+use Rattle.std.proofs.lemmas.List.{take-append-le, drop-append-le, take-map, drop-map}
+use Rattle.std.proofs.lemmas.List.{take-append-drop, take_all, length-map, length-take-le}
 use Rattle.std.proofs.lemmas.List.Elements.{All-head, All-tail, All-take, All-drop}
 use Rattle.std.proofs.lemmas.List.Folds.{concat-append}
 use Rattle.data_sets.specs.declared.directories.DirectoryEntry.{DirectoryEntry}
-use Rattle.data_sets.specs.declared.directories.DirectoryFault.{DirectoryFault}
 use Rattle.data_sets.specs.declared.directories.DirectoryStep.{DirectoryStep}
-use Rattle.data_sets.specs.declared.directories.DirectoryStep.TheVariants.{Entry, Skip, End}
-use Rattle.data_sets.specs.Directories.{step_at, entries_from, entry_step, from_step, Found, ended, and_more}
+use Rattle.data_sets.specs.declared.directories.DirectoryStep.TheVariants.{Entry, End}
+use Rattle.data_sets.specs.Directories.{step_at, entries_from, entry_step, from_step, Found, and_more}
 use Rattle.library_blocks.specs.declared.entries.NewEntry.{NewEntry}
 use Rattle.library_blocks.specs.Entries.{entry_bytes, entry_read, all_entries, last_entry, IsEntry}
 use Rattle.library_blocks.specs.Directory.{going_in, in_block, behind_block, left_behind, used_by, block_of, blocks_of, data_of}
@@ -50,31 +52,36 @@ module _ (bytes : List ℕ) (k used : ℕ) (has : HasBlock bytes k used) where
       let here : bytes ≡ front ++ (entry_bytes p ++ (bytes_of ps ++ rest)) = is ∙ ap (λ (xs : List ℕ). front ++ xs)
       (append_assoc (entry_bytes p) (bytes_of ps) rest) in
       let step : step_at bytes at ≡ Entry (entry_read p) next =
-      enters bytes k used at has (omega (arith, from)) (omega (arith, to, both, size, has.most)) (omega (arith, from)) (omega (arith, to, both, size))
+      enters bytes k used at has (omega (arith, from)) (omega (arith, to, both, size, has.most)) (omega (arith, from))
+      (omega (arith, to, both, size))
       ∙ ap (λ (xs : List ℕ). entry_step xs at (256 * k + used)) here
       ∙ entry_stands p one front (bytes_of ps ++ rest) at is_at (256 * k + used) (omega (arith, to, both)) in
       let far : next + length (bytes_of ps) ≡ at + length (bytes_of (p ∷ ps)) = omega (arith, both) in
       ap (λ (m : ℕ). entries_from m bytes at) more ∙ one_step bytes (length ps + most) at
       ∙ ap (λ (s : DirectoryStep). from_step s (entries_from (length ps + most) bytes)) step
       ∙ ap (and_more (entry_read p)) (
-        through ps (front ++ entry_bytes p) rest next most (All-tail IsEntry p ps each) (omega (arith, length-append front (entry_bytes p), is_at))
-        (here ∙ sym (append_assoc front (entry_bytes p) (bytes_of ps ++ rest))) (omega (arith, from)) (omega (arith, to, both))
-        ∙ ap (λ (j : ℕ). all_more (map entry_read ps) (entries_from most bytes j)) far)
+      through ps (front ++ entry_bytes p) rest next most (All-tail IsEntry p ps each)
+      (omega (arith, length-append front (entry_bytes p), is_at))
+      (here ∙ sym (append_assoc front (entry_bytes p) (bytes_of ps ++ rest))) (omega (arith, from)) (omega (arith, to, both))
+      ∙ ap (λ (j : ℕ). all_more (map entry_read ps) (entries_from most bytes j)) far)
 
 -- behind its last entry a block is passed by one step more, where it is not full
 passed : (bytes : List ℕ) (k used most more : ℕ) → HasBlock bytes k used → more + 1 ≤ most
     → (m : ℕ) × (more ≤ m) × (entries_from most bytes (256 * k + used) ≡ entries_from m bytes (256 * (k + 1)))
 passed bytes k used most more has fuel = by (cases_lt used 256)
   where
-    by : (used < 256) ⊎ (256 ≤ used) → (m : ℕ) × (more ≤ m) × (entries_from most bytes (256 * k + used) ≡ entries_from m bytes (256 * (k + 1)))
+    by : (used < 256) ⊎ (256 ≤ used)
+        → (m : ℕ) × (more ≤ m) × (entries_from most bytes (256 * k + used) ≡ entries_from m bytes (256 * (k + 1)))
     by (inl short) =
         let n : most ≡ suc (most - 1) = omega (arith, fuel) in
-        let next : 256 * k + 256 ≡ 256 * (k + 1) = omega arith in
-        (most - 1, omega (arith, fuel),
-        ap (λ (m : ℕ). entries_from m bytes (256 * k + used)) n ∙ one_step bytes (most - 1) (256 * k + used)
-        ∙ ap (λ (s : DirectoryStep). from_step s (entries_from (most - 1) bytes))
-        (passes bytes k used (256 * k + used) has (omega arith) (omega (arith, short)) (omega (arith, has.least)) (omega arith))
-        ∙ ap (entries_from (most - 1) bytes) next)
+        let next : 256 * k + 256 ≡ 256 * (k + 1) = omega arith in (
+          most - 1,
+          omega (arith, fuel),
+          ap (λ (m : ℕ). entries_from m bytes (256 * k + used)) n ∙ one_step bytes (most - 1) (256 * k + used)
+              ∙ ap (λ (s : DirectoryStep). from_step s (entries_from (most - 1) bytes))
+              (passes bytes k used (256 * k + used) has (omega arith) (omega (arith, short)) (omega (arith, has.least)) (omega arith))
+              ∙ ap (entries_from (most - 1) bytes) next,
+        )
     by (inr full) =
         let next : 256 * k + used ≡ 256 * (k + 1) = omega (arith, full, has.most) in
         (most, omega (arith, fuel), ap (entries_from most bytes) next)
@@ -225,7 +232,8 @@ module _ (n : ℕ) (later : Reads n) (k : ℕ) (es : List NewEntry) (front behin
       let end : step_at bytes at ≡ End =
       enters bytes k size at has (omega arith) (omega (arith, sizes, full)) (omega arith) (omega (arith, sizes))
       ∙ ap (λ (xs : List ℕ). entry_step xs at (256 * k + size)) here
-      ∙ last_stands before behind_it at (256 * k + size) (omega (arith, length-append head (bytes_of es), length-head)) (omega (arith, sizes)) in
+      ∙ last_stands before behind_it at (256 * k + size) (omega (arith, length-append head (bytes_of es), length-head))
+      (omega (arith, sizes)) in
       walked es last_entry m each is enough
       ∙ ap (all_more (map entry_read es)) (ap (λ (j : ℕ). entries_from j bytes at) one ∙ one_step bytes (m - 1) at
       ∙ ap (λ (s : DirectoryStep). from_step s (entries_from (m - 1) bytes)) end)

@@ -1,10 +1,9 @@
 -- The first of entries that is refused.
-use Rattle.std.proofs.Common.{◌≡◌, ◌∙◌, ap, sym, refl, ℕ, ◌+◌, ◌<◌, List, [], ◌∷◌, length, drop, get_or, Option, Some, None, arith}
+use Rattle.std.proofs.Common.{◌≡◌, ◌∙◌, ap, sym, refl, ℕ, ◌+◌, ◌<◌, List, [], ◌∷◌, length, drop, get_or, Option, Some, None}
 use Rattle.std.proofs.lemmas.List.{drop_more}
 use Rattle.library_blocks.specs.declared.entries.NewEntry.{NewEntry}
 use Rattle.library_blocks.specs.declared.faults.EntryFault.{EntryFault}
-use Rattle.library_blocks.specs.declared.faults.RefusedEntry.{RefusedEntry}
-use Rattle.library_blocks.specs.Faults.{entry_fault, refused_or, refused_from, refused_entry}
+use Rattle.library_blocks.specs.Faults.{entry_fault, refused_or, refused_from}
 
 pub none_refused : (number : ℕ) (before : Option (List ℕ)) → refused_from number before [] ≡ None
 unfolding refused_from

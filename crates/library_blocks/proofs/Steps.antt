@@ -1,19 +1,14 @@
 -- One step of a reader of a directory.
-use Rattle.std.proofs.Common.{◌≡◌, ◌≢◌, ◌∙◌, ap, sym, refl, ℕ, suc, ◌+◌, ◌-◌, ◌*◌, ◌/◌, ◌%◌, ◌≤◌, ◌<◌, List, [], ◌∷◌, ◌++◌, length, take, drop, get_or, arith}
-use Rattle.std.proofs.Common.{Bool, true, false, nat_lt, nat_le, ◌==◌, ◌||◌, cond, bytes_eq, slice_range, slice_index, replicate, length-append, append_assoc}
-use Rattle.std.proofs.lemmas.Bool.{false_from_ne_true}
+use Rattle.std.proofs.Common.{◌≡◌, ◌∙◌, ap, sym, refl, ℕ, suc, ◌+◌, ◌*◌, ◌/◌, ◌%◌, ◌≤◌, ◌<◌, List, ◌∷◌, ◌++◌, length, take, get_or, arith}
+use Rattle.std.proofs.Common.{true, false, nat_lt, nat_le, ◌==◌, ◌||◌, cond, slice_range, slice_index, length-append, append_assoc}
 use Rattle.std.proofs.lemmas.Bool.Decides.{nat_tests}
-use Rattle.std.proofs.lemmas.Slice.Eq.{bytes_eq-Decides}
 use Rattle.std.proofs.lemmas.List.{get_or-append-add, drop-take, drop_at, take_at}
 use Rattle.std.proofs.lemmas.Slice.{between_is}
-use Rattle.volume_labels.specs.declared.fields.RelativeAddress.{RelativeAddress}
 use Rattle.data_sets.specs.declared.directories.DirectoryEntry.{DirectoryEntry}
 use Rattle.data_sets.specs.declared.directories.DirectoryStep.{DirectoryStep}
 use Rattle.data_sets.specs.declared.directories.DirectoryStep.TheVariants.{Entry, Skip, End, Fault}
 use Rattle.data_sets.specs.declared.directories.DirectoryFault.TheVariants.{UsedBytes}
-use Rattle.data_sets.specs.Directories.{number_at, entry_of, is_last, entry_step, step_at, block_start, entries_from, from_step, Found}
-use Rattle.library_blocks.specs.declared.entries.NewEntry.{NewEntry}
-use Rattle.library_blocks.specs.Entries.{lengths_byte, entry_bytes, entry_read, last_entry, IsEntry}
+use Rattle.data_sets.specs.Directories.{number_at, entry_of, is_last, entry_step, step_at, block_start, entries_from, from_step}
 
 pub one_step : (bytes : List ℕ) (most at : ℕ) → entries_from (suc most) bytes at ≡ from_step (step_at bytes at) (entries_from most bytes)
 unfolding entries_from

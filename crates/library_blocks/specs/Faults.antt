@@ -8,7 +8,8 @@ use Rattle.std.specs.declared.cmp.Ordering.TheVariants.{Less, Equal, Greater}
 use Rattle.data_sets.specs.Directories.{is_last}
 use Rattle.library_blocks.specs.declared.entries.NewEntry.{NewEntry}
 use Rattle.library_blocks.specs.declared.faults.EntryFault.{EntryFault}
-use Rattle.library_blocks.specs.declared.faults.EntryFault.TheVariants.{NoName, SameName, NotAscending, LongUserData, OddUserData, TooManyNotes}
+use Rattle.library_blocks.specs.declared.faults.EntryFault.TheVariants.{NoName, SameName, NotAscending}
+use Rattle.library_blocks.specs.declared.faults.EntryFault.TheVariants.{LongUserData, OddUserData, TooManyNotes}
 use Rattle.library_blocks.specs.declared.faults.RefusedEntry.{RefusedEntry}
 use Rattle.library_blocks.specs.Entries.{IsEntry}
 

@@ -30,9 +30,7 @@ pub(crate) struct EntryBytes<'a> {
 }
 
 /// What ends a directory: a name of bytes FF, and zeros.
-const LAST: [u8; 12] = [
-    0xFF, 0xFF, 0xFF, 0xFF, 0xFF, 0xFF, 0xFF, 0xFF, 0, 0, 0, 0,
-];
+const LAST: [u8; 12] = [0xFF, 0xFF, 0xFF, 0xFF, 0xFF, 0xFF, 0xFF, 0xFF, 0, 0, 0, 0];
 
 // The byte behind the address: the bit of another name, the number of addresses, and the number of halfwords of user data.
 fn lengths_byte(entry: NewEntry) -> u8
@@ -52,8 +50,18 @@ fn entry_front(entry: NewEntry) -> [u8; 12]
     let [t0, t1] = entry.address.track.to_be_bytes();
     let lengths = lengths_byte(entry);
     [
-        n0, n1, n2, n3, n4, n5, n6, n7,
-        t0, t1, entry.address.number, lengths,
+        n0,
+        n1,
+        n2,
+        n3,
+        n4,
+        n5,
+        n6,
+        n7,
+        t0,
+        t1,
+        entry.address.number,
+        lengths,
     ]
 }
 

@@ -1,4 +1,4 @@
-use Rattle.std.proofs.Common.{◌≡◌, ◌∙◌, ap, sym, subst, ℕ, List, ◌+◌, ◌<◌, ◌++◌, [], length, get_or, drop, take, arith, length-append, length-drop}
+use Rattle.std.proofs.Common.{◌≡◌, ◌∙◌, ap, sym, subst, ℕ, List, ◌+◌, ◌<◌, ◌++◌, [], length, drop, take, arith, length-append, length-drop}
 use Rattle.std.specs.List.{concat}
 use Rattle.std.proofs.lemmas.List.{get_or-drop}
 use Rattle.library_blocks.specs.Entries.{all_entries}
@@ -17,7 +17,13 @@ next_bytes c =
     let all = all_entries c.args.entries.now in
     let left = drop c.args.from all in
     let k = c.loop-k.k in
-    let there : k < length left = omega (arith, length-drop c.args.from all, length-entries c.args.entries.now, c.requires.number, c.loop-k-test.true) in
+    let there : k < length left = omega (
+      arith,
+      length-drop c.args.from all,
+      length-entries c.args.entries.now,
+      c.requires.number,
+      c.loop-k-test.true,
+    ) in
     concat_more left k there
     ∙ ap (λ (xs : List ℕ). concat (take k left) ++ xs) (get_or-drop c.args.from all k [] ∙ sym c.bytes_at.ensures.bytes)
 

@@ -1,11 +1,12 @@
-use Rattle.std.proofs.Common.{◌≡◌, ◌∙◌, ap, sym, subst, ℕ, List, ◌+◌, ◌-◌, ◌/◌, ◌%◌, ◌<◌, ◌≤◌, ◌++◌, [], ◌∷◌, length, get_or, drop, take, replicate, arith}
+use Rattle.std.proofs.Common.{◌≡◌, ◌∙◌, ap, sym, ℕ, List, ◌+◌, ◌-◌, ◌/◌, ◌%◌}
+use Rattle.std.proofs.Common.{◌<◌, ◌≤◌, ◌++◌, [], ◌∷◌, length, get_or, drop, take, replicate, arith}
 use Rattle.std.proofs.Common.{length-append, append_assoc, ⊎_elim}
 use Rattle.std.specs.List.{concat}
 use Rattle.std.proofs.lemmas.Bool.{cases_lt}
 use Rattle.std.proofs.lemmas.List.{get_or-drop, get_or-take, drop_all, length-take-le}
 use Rattle.std.proofs.lemmas.List.Elements.{All-drop}
 use Rattle.library_blocks.specs.Entries.{all_entries}
-use Rattle.library_blocks.specs.Directory.{going_in, in_block, used_by, key_of, block_front, filled, block_of}
+use Rattle.library_blocks.specs.Directory.{key_of, block_front, filled, block_of}
 use Rattle.library_blocks.proofs.Pieces.{IsShort, entries_short}
 use Rattle.library_blocks.proofs.Going.{goes_in}
 use Rattle.library_blocks.proofs.Behind.{some_fit}
@@ -18,8 +19,12 @@ returns-then-count-eq0-clause-block c =
     let all = all_entries c.args.entries.now in
     let from = c.args.from in
     let past : length all ≤ from = ⊎_elim
-    (λ (there : from < length all). absurd (omega (arith, some_fit all from (entries_short c.args.entries.now c.requires.each) there,
-    c.going_in-count.ensures.count, c.if-count-eq0.true)))
+    (λ (there : from < length all). absurd (omega (
+      arith,
+      some_fit all from (entries_short c.args.entries.now c.requires.each) there,
+      c.going_in-count.ensures.count,
+      c.if-count-eq0.true,
+    )))
     (λ (past : length all ≤ from). past) (cases_lt from (length all)) in
     c.clear.ensures ∙ ap (λ (n : ℕ). replicate n 0) c.requires.room ∙ ap block_of (sym (drop_all from all past))
 

@@ -1,7 +1,6 @@
-use Rattle.std.proofs.Common.{◌≡◌, ◌∙◌, ap, sym, subst, List, [], ◌+◌, drop, take, Option, Some, None, arith, All}
+use Rattle.std.proofs.Common.{◌∙◌, ap, sym, subst, All}
 use Rattle.std.proofs.lemmas.List.{drop_all, take_all}
 use Rattle.std.proofs.lemmas.List.Elements.{All-more}
-use Rattle.library_blocks.specs.declared.entries.NewEntry.{NewEntry}
 use Rattle.library_blocks.specs.Entries.{IsEntry}
 use Rattle.library_blocks.specs.Faults.{refused_from}
 use Rattle.library_blocks.proofs.Refused.{none_refused, next_refused}
