@@ -1,0 +1,5 @@
+pub mod Filled
+pub mod Fitting
+pub mod Behind
+pub mod Fronts
+pub mod Listed

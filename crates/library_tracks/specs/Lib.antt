@@ -1,0 +1,4 @@
+pub mod Blocks
+pub mod Tracks
+pub mod Writing
+pub mod ReadBack
