@@ -3,3 +3,4 @@ pub mod Fitting
 pub mod Behind
 pub mod Fronts
 pub mod Listed
+pub mod Spelled

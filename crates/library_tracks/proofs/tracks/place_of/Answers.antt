@@ -12,7 +12,7 @@ loop-behind-init c = record {
   passed = omega arith;
   left = sym (none_behind c.args.model (all_areas c.args.blocks.now));
   behind = c.fitting-behind.ensures.count ∙ sym (zero-add (fitting_on c.args.model (all_areas c.args.blocks.now)));
-  within = c.fitting-behind.ensures.within;
+  within = omega (arith, c.fitting-behind.ensures.within);
 }
 
 pub loop-behind-smaller : goal.loop-behind-smaller
