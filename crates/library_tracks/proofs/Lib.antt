@@ -4,3 +4,6 @@ pub mod Behind
 pub mod Fronts
 pub mod Listed
 pub mod Spelled
+pub mod Part
+pub mod Reading
+pub mod Parts
