@@ -1,5 +1,5 @@
 -- How many records go on a track, and how many bytes they take there.
-use Rattle.std.proofs.Common.{◌≡◌, ◌∙◌, ap, sym, refl, subst, inl, inr, ⊎_elim, ◌⊎◌, ℕ, suc, ◌+◌, ◌-◌, ◌*◌, ◌≤◌, ◌<◌, Bool, true}
+use Rattle.std.proofs.Common.{◌≡◌, ◌∙◌, ap, sym, refl, subst, inl, inr, ⊎_elim, ◌⊎◌, ℕ, suc, ◌+◌, ◌-◌, ◌*◌, ◌≤◌, ◌<◌, true}
 use Rattle.std.proofs.Common.{false, List, [], ◌∷◌, length, take, drop, get_or, nat_le, sum_by, arith}
 use Rattle.std.proofs.lemmas.Bool.{cases_lt}
 use Rattle.std.proofs.lemmas.Bool.Decides.{nat_tests}
@@ -106,7 +106,8 @@ module _ (model : DriveModel) (left : List Areas) (k taken : ℕ) (d : Areas)
 
   pub ends : length left ≤ k → k ≡ fitting_on model left
   ends all =
-      let none = ap (λ (xs : List Areas). k + fitting model taken xs) (drop_all k left all) ∙ ap (λ (n : ℕ). k + n) (none_fits model taken) in
+      let none = ap (λ (xs : List Areas). k + fitting model taken xs) (drop_all k left all)
+      ∙ ap (λ (n : ℕ). k + n) (none_fits model taken) in
       omega (arith, so_far ∙ none)
 
 -- one at least goes on an empty track

@@ -1,10 +1,10 @@
 -- The records of a list of blocks.
-use Rattle.std.proofs.Common.{◌≡◌, ◌∙◌, ap, sym, ℕ, ◌+◌, ◌-◌, ◌<◌, List, length, map, drop, get_or, arith, All, length-drop}
+use Rattle.std.proofs.Common.{◌≡◌, ◌∙◌, ℕ, ◌+◌, ◌-◌, ◌<◌, List, length, drop, get_or, arith, All, length-drop}
 use Rattle.std.proofs.lemmas.List.{get_or-drop, get_or-map, length-map}
 use Rattle.std.proofs.lemmas.List.Elements.{All-map}
 use Rattle.ckd_track.specs.declared.model.DriveModel.{DriveModel}
 use Rattle.library_tracks.specs.declared.blocks.Block.{Block}
-use Rattle.library_tracks.specs.Blocks.{Areas, areas_of, all_areas, end_of_file, GoesOn, BlockGoesOn}
+use Rattle.library_tracks.specs.Blocks.{areas_of, all_areas, end_of_file, GoesOn, BlockGoesOn}
 
 pub length-all : (blocks : List Block) → length (all_areas blocks) ≡ length blocks
 length-all blocks = length-map blocks areas_of

@@ -1,10 +1,10 @@
 -- What the reader writes of the records of one track, from one of them on.
 use Rattle.std.proofs.Common.{◌≡◌, ◌∙◌, ap, sym, refl, ℕ, zero, suc, ◌+◌, ◌-◌, ◌≤◌, ◌<◌, List, [], ◌∷◌, ◌++◌, length, take, drop}
-use Rattle.std.proofs.Common.{get_or, arith, All, Some, None, Bool, true, false, cond, nat_lt, ◌==◌, append-nil, append_assoc, length-append, slice_index, Option}
-use Rattle.std.specs.List.{position, position_or_len}
+use Rattle.std.proofs.Common.{get_or, arith, All, Some, None, Bool, true, false, cond, nat_lt, ◌==◌, append-nil, length-append}
+use Rattle.std.specs.List.{position}
 use Rattle.std.proofs.lemmas.Bool.Decides.{nat_tests}
 use Rattle.std.proofs.lemmas.Grind.{flat_map-append}
-use Rattle.std.proofs.lemmas.List.{take_more, take_all, take_at, get_or-take, get_or-drop, get_or_append_left, get_or-append-add, length-take-le}
+use Rattle.std.proofs.lemmas.List.{take_more, take_all, take_at, get_or-drop, get_or_append_left, get_or-append-add, length-take-le}
 use Rattle.std.proofs.lemmas.List.Elements.{All-get_or}
 use Rattle.std.proofs.lemmas.List.Sums.{position_or_len_is}
 use Rattle.ckd_track.specs.declared.geometries.Geometry.{Geometry}
@@ -17,7 +17,7 @@ use Rattle.dasd_extract.specs.Blocks.{block_written, number_of}
 use Rattle.dasd_extract.specs.Walk.{blocks_from, first_block}
 use Rattle.dasd_extract.proofs.Endings.{until_none, until_one_more, stays_for}
 use Rattle.library_tracks.specs.Blocks.{Areas, end_of_file}
-use Rattle.library_tracks.specs.Tracks.{fitting_on, record_with, records_with, track_bytes, loaded_track}
+use Rattle.library_tracks.specs.Tracks.{fitting_on, record_with, track_bytes, loaded_track}
 use Rattle.library_tracks.specs.ReadBack.{IsWritten, data_of, ended_by_file}
 use Rattle.library_tracks.proofs.Fitting.{fits_on}
 use Rattle.library_tracks.proofs.Spelled.{record_of, length-records_of}

@@ -1,8 +1,8 @@
 -- A part of the records is read from its place on, up to the end of file behind it.
-use Rattle.std.proofs.Common.{◌≡◌, ◌∙◌, ap, sym, refl, subst, ℕ, zero, suc, ◌+◌, ◌-◌, ◌≤◌, ◌<◌, List, [], ◌∷◌, ◌++◌, length, take, drop}
-use Rattle.std.proofs.Common.{arith, All, ⊎_elim, append_assoc, length-append, length-drop, drop-drop}
+use Rattle.std.proofs.Common.{◌≡◌, ◌∙◌, ap, sym, subst, ℕ, zero, suc, ◌+◌, ◌-◌, ◌≤◌, ◌<◌, List, ◌∷◌, ◌++◌, length, take, drop}
+use Rattle.std.proofs.Common.{arith, All, ⊎_elim, length-append, length-drop, drop-drop}
 use Rattle.std.proofs.lemmas.Grind.{flat_map-append}
-use Rattle.std.proofs.lemmas.List.{take_all, take-append-le, drop-append-le, take-append-drop, drop_at, drop-take, take-take, length-take-le}
+use Rattle.std.proofs.lemmas.List.{take-append-le, drop-append-le, take-append-drop, drop_at, drop-take, take-take}
 use Rattle.std.proofs.Math.Seq.{take-append-add}
 use Rattle.std.proofs.lemmas.Bool.{cases_lt}
 use Rattle.std.proofs.lemmas.List.Elements.{All-take, All-drop}
@@ -16,10 +16,9 @@ use Rattle.dasd_extract.specs.Walk.{source_written, too_many}
 use Rattle.dasd_extract.proofs.Endings.{until_none, until_one_more, ended_stays, stays_for}
 use Rattle.library_tracks.specs.Blocks.{Areas, GoesOn, end_of_file}
 use Rattle.library_tracks.specs.Tracks.{fitting_on, left_behind, StandsAt}
-use Rattle.library_tracks.specs.ReadBack.{IsLoaded, IsWritten, IsPart, IsReadBack, data_of, ended_by_file}
-use Rattle.library_tracks.proofs.Fitting.{fits_on}
+use Rattle.library_tracks.specs.ReadBack.{IsLoaded, IsWritten, IsReadBack, data_of, ended_by_file}
 use Rattle.library_tracks.proofs.Behind.{one_behind}
-use Rattle.library_tracks.proofs.Reading.{left_shrinks, source, left, fit, told, Begins, first_begins, later_begins, xs, length-xs, all_told, end_told}
+use Rattle.library_tracks.proofs.Reading.{left_shrinks, source, left, fit, told, Begins, first_begins, later_begins, all_told, end_told}
 
 two_parts : (n m : ℕ) (part : List Areas) → take n part ++ take m (drop n part) ≡ take (n + m) part
 two_parts n m part =
@@ -54,7 +53,6 @@ module _ (f : Form) (g : Geometry) (extents : List Extent) (slots : List (List �
     begins : Begins f g extents slots most areas track number last each loaded j o
     written : until_stop say j ≡ these_bytes (data_of (take q part))
     here : drop o (on j) ≡ drop q part ++ (end_of_file ∷ behind)
-
 
   left_long : (j : ℕ) (s : SoFar j) → length (on j) ≡ s.o + (length part - s.q) + 1 + length behind
   left_long j s = omega (
@@ -198,7 +196,7 @@ module _ (f : Form) (g : Geometry) (extents : List Extent) (slots : List (List �
             left_shrinks g.model areas (suc last) d,
             ap (λ (i : ℕ). length (left_behind g.model areas i)) e,
             ap length (one_behind g.model areas last)
-            ∙ length-drop (fitting_on g.model (left_behind g.model areas last)) (left_behind g.model areas last),
+                ∙ length-drop (fitting_on g.model (left_behind g.model areas last)) (left_behind g.model areas last),
             last_long,
             ap length from.left ∙ length-drop from.before areas,
             from.place,
@@ -222,6 +220,8 @@ read_back f model areas each part first track number last its_number whole are f
       length-append part (end_of_file ∷ whole.behind),
       whole.number,
     ) in
-    part_read f g extents slots most areas track number last each_here loaded part whole.behind first its_number are is size from_here to_here
-    (in_order f g extents slots most areas track number last each_here loaded part whole.behind first its_number are is size from_here to_here)
+    part_read f g extents slots most areas track number last each_here loaded part whole.behind first its_number are is size
+    from_here to_here
+    (in_order f g extents slots most areas track number last each_here loaded part whole.behind first its_number are is size
+    from_here to_here)
     within

@@ -1,35 +1,31 @@
 -- What the reader writes of a part of the records, track after track.
-use Rattle.std.proofs.Common.{◌≡◌, ◌∙◌, ap, sym, refl, subst, ℕ, zero, suc, ◌+◌, ◌-◌, ◌≤◌, ◌<◌, List, [], ◌∷◌, ◌++◌, length, take, drop, Option}
-use Rattle.std.proofs.Common.{get_or, arith, All, Some, Ok, Bool, true, false, cond, nat_lt, ◌==◌, append_assoc, length-append, length-drop, drop-drop}
+use Rattle.std.proofs.Common.{◌≡◌, ◌∙◌, ap, sym, refl, subst, ℕ, zero, suc, ◌+◌, ◌-◌, ◌≤◌, ◌<◌, List, ◌∷◌, ◌++◌, length, take, drop}
+use Rattle.std.proofs.Common.{get_or, arith, All, Some, Ok, Bool, true, false, cond, nat_lt, ◌==◌, length-drop}
 use Rattle.std.proofs.lemmas.Bool.Decides.{nat_tests}
-use Rattle.std.proofs.lemmas.Grind.{flat_map-append}
-use Rattle.std.proofs.lemmas.List.{take_all, take-append-le, drop-append-le, take-append-drop, drop_at, drop-take, length-take-le, drop_all}
-use Rattle.std.proofs.lemmas.List.Elements.{All-take, All-drop}
+use Rattle.std.proofs.lemmas.List.{length-take-le}
+use Rattle.std.proofs.lemmas.List.Elements.{All-drop}
 use Rattle.ckd_track.specs.declared.geometries.Geometry.{Geometry}
 use Rattle.ckd_track.specs.declared.model.DriveModel.{DriveModel}
 use Rattle.ckd_track.specs.Model.{heads_of}
 use Rattle.ckd_track.specs.Geometry.{tracks_of}
-use Rattle.ckd_track.specs.Track.{Track, track_of}
+use Rattle.ckd_track.specs.Track.{track_of}
 use Rattle.volume_labels.specs.declared.fields.Extent.{Extent}
-use Rattle.volume_labels.specs.declared.fields.RelativeAddress.{RelativeAddress}
 use Rattle.data_sets.specs.declared.addresses.TrackPlace.{TrackPlace}
 use Rattle.data_sets.specs.declared.addresses.TrackPlace.TheVariants as place
 use Rattle.data_sets.specs.Addresses as addresses
-use Rattle.dasd_extract.specs.declared.stops.Cause.TheVariants.{EndOfFile}
 use Rattle.dasd_extract.specs.declared.blocks.Form.{Form}
-use Rattle.dasd_extract.specs.Written.{Written, these_bytes, stop_at, told_behind, and_then, until_stop}
+use Rattle.dasd_extract.specs.Written.{Written, these_bytes, told_behind, until_stop}
 use Rattle.dasd_extract.specs.Blocks.{block_written}
-use Rattle.dasd_extract.specs.Walk.{blocks_from, blocks_or_none, first_block, slot_written, place_written, place_read_from, track_on}
-use Rattle.dasd_extract.specs.Walk.{Wanted, wanted, number_on, track_written, track_told, track_read_from, alternates_read, source_written, too_many}
-use Rattle.dasd_extract.proofs.Endings.{until_none, until_one_more, ended_stays, stays_for}
+use Rattle.dasd_extract.specs.Walk.{blocks_or_none, first_block, slot_written, place_written, place_read_from, track_on}
+use Rattle.dasd_extract.specs.Walk.{Wanted, wanted, number_on, track_written, track_told, alternates_read}
 use Rattle.dasd_extract.proofs.Told.{none_read, one_more_read}
 use Rattle.library_tracks.specs.Blocks.{Areas, GoesOn, end_of_file}
-use Rattle.library_tracks.specs.Tracks.{fitting_on, behind_track, left_behind, loaded_track, record_with, track_bytes, StandsAt}
-use Rattle.library_tracks.specs.ReadBack.{IsLoadedAt, IsLoaded, IsWritten, IsPart, IsReadBack, data_of, ended_by_file}
+use Rattle.library_tracks.specs.Tracks.{fitting_on, left_behind, loaded_track, record_with, track_bytes}
+use Rattle.library_tracks.specs.ReadBack.{IsLoadedAt, IsLoaded, IsWritten, data_of, ended_by_file}
 use Rattle.library_tracks.proofs.Fitting.{fits_on}
 use Rattle.library_tracks.proofs.Behind.{none_behind, one_behind}
 use Rattle.library_tracks.proofs.Spelled.{loaded_read}
-use Rattle.library_tracks.proofs.Part.{placed, what, what_is, blocks_are, its_number, all_walked, end_walked}
+use Rattle.library_tracks.proofs.Part.{what, what_is, blocks_are, its_number, all_walked, end_walked}
 
 -- what is left behind tracks goes on tracks too
 pub left_go : (model : DriveModel) (areas : List Areas) (i : ℕ) → All (GoesOn model) areas → All (GoesOn model) (left_behind model areas i)

@@ -1,6 +1,7 @@
 //! How many records a track has room for, and on which track each of them stands.
 
 ghost use Rattle.std.specs.Prelude.{◌≡◌, ◌≤◌, ◌+◌, ◌<◌, drop, length, All};
+ghost use Rattle.dasd_extract.specs.declared.blocks.Form.{Form};
 ghost use Rattle.library_tracks.specs.Blocks.{all_areas, BlockGoesOn};
 ghost use Rattle.library_tracks.specs.Tracks.{fitting_on, Takes, StandsAt};
 ghost use Rattle.library_tracks.specs.ReadBack.{IsReadBack};
@@ -41,6 +42,7 @@ pub(crate) fn fitting(model: DriveModel, blocks: &[Block], from: usize) -> usize
 pub fn tracks_needed(model: DriveModel, blocks: &[Block]) -> usize
     requires each { All (BlockGoesOn model) blocks.now }
     ensures tracks { Takes model (all_areas blocks.now) result }
+    ensures read { (form : Form) → IsReadBack form model (all_areas blocks.now) }
 {
     let mut next = 0;
     let mut tracks = 0;

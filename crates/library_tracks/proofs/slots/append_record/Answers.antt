@@ -1,4 +1,4 @@
-use Rattle.std.proofs.Common.{◌≡◌, ◌∙◌, subst, ℕ, List, ◌++◌, ◌+◌, length, arith, length-append}
+use Rattle.std.proofs.Common.{◌∙◌, subst, ℕ, List, ◌++◌, arith, length-append}
 use Rattle.library_tracks.specs.Writing.{PutBehind}
 use Rattle.library_tracks.proofs.Filled.{two_puts}
 use Rattle.library_tracks.proofs.slots.append_record.Goals as goal

@@ -2,11 +2,11 @@ use Rattle.std.proofs.Common.{◌≡◌, ◌∙◌, ap, sym, refl, subst, ◌+�
 use Rattle.std.proofs.lemmas.List.{get_or-drop}
 use Rattle.std.proofs.lemmas.List.Elements.{All-get_or}
 use Rattle.ckd_track.specs.Track.{record_bytes}
-use Rattle.library_tracks.specs.Blocks.{Areas, areas_of, all_areas, end_of_file, GoesOn}
+use Rattle.library_tracks.specs.Blocks.{areas_of, all_areas, end_of_file, GoesOn}
 use Rattle.library_tracks.specs.Tracks.{record_with, fitting_on, track_bytes}
 use Rattle.library_tracks.specs.Writing.{filled, records_front, PutBehind}
 use Rattle.library_tracks.proofs.Listed.{length-all, length-left, all_go}
-use Rattle.library_tracks.proofs.Fitting.{fits_on, sizes, area_size, few_bytes}
+use Rattle.library_tracks.proofs.Fitting.{fits_on, sizes, few_bytes}
 use Rattle.library_tracks.proofs.Filled.{put_behind}
 use Rattle.library_tracks.proofs.Fronts.{one_more_record, length-front, length-record_with, no_areas, room_for_one, room_for_all}
 use Rattle.library_tracks.proofs.slots.spell_records.Goals as goal
@@ -36,7 +36,8 @@ next_goes c =
     let number = c.args.part.0 + c.loop-k.k in
     let there : number < length all = omega (arith, length-all c.args.blocks.now, c.loop-k-test.true, c.requires.number) in
     subst (GoesOn c.args.geometry.model) (sym c.block_at.ensures)
-    (All-get_or (GoesOn c.args.geometry.model) all number end_of_file there (all_go c.args.geometry.model c.args.blocks.now c.requires.each))
+    (All-get_or (GoesOn c.args.geometry.model) all number end_of_file there
+    (all_go c.args.geometry.model c.args.blocks.now c.requires.each))
 
 pub append_record-at-requires : goal.append_record-at-requires
 append_record-at-requires c =

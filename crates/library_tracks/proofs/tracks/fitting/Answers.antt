@@ -1,5 +1,5 @@
-use Rattle.std.proofs.Common.{◌≡◌, ◌∙◌, ◌+◌, ◌-◌, ◌<◌, ap, sym, length, get_or, drop, arith, ℕ}
-use Rattle.library_tracks.specs.Blocks.{Areas, all_areas, end_of_file, charge_for, last_charge_for}
+use Rattle.std.proofs.Common.{◌≡◌, ◌∙◌, ◌+◌, ◌-◌, ap, sym, length, get_or, drop, arith, ℕ}
+use Rattle.library_tracks.specs.Blocks.{all_areas, end_of_file, charge_for, last_charge_for}
 use Rattle.library_tracks.specs.Tracks.{fitting}
 use Rattle.library_tracks.proofs.Listed.{length-left, area_at}
 use Rattle.library_tracks.proofs.Fitting.{stops, goes_on, ends, charges}

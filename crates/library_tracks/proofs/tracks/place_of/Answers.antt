@@ -1,4 +1,4 @@
-use Rattle.std.proofs.Common.{◌≡◌, ◌∙◌, ◌<◌, ◌+◌, ap, sym, ℕ, drop, length, arith, zero-add}
+use Rattle.std.proofs.Common.{◌∙◌, ◌<◌, ◌+◌, ap, sym, ℕ, drop, length, arith, zero-add}
 use Rattle.library_tracks.specs.Blocks.{all_areas}
 use Rattle.library_tracks.specs.Tracks.{fitting_on}
 use Rattle.library_tracks.proofs.Listed.{length-all, all_go}
@@ -33,7 +33,8 @@ loop-behind-preserved c =
     record {
       few = omega (arith, some, c.loop-behind.invariant.behind, c.loop-behind.invariant.few);
       passed = c.loop-behind-test.true;
-      left = ap (λ (n : ℕ). drop n all) c.loop-behind.invariant.behind ∙ one_more m all next c.loop-behind.track c.loop-behind.invariant.left;
+      left = ap (λ (n : ℕ). drop n all) c.loop-behind.invariant.behind
+          ∙ one_more m all next c.loop-behind.track c.loop-behind.invariant.left;
       behind = ap (λ (n : ℕ). c.loop-behind.behind + n) c.fitting-behind-in-loop-behind.ensures.count;
       within = c.fitting-behind-in-loop-behind.ensures.within;
     }

@@ -1,4 +1,4 @@
-use Rattle.std.proofs.Common.{◌≡◌, ◌≤◌, ◌<◌, ◌+◌, ◌-◌, drop, length}
+use Rattle.std.proofs.Common.{◌≡◌, ◌≤◌, ◌+◌, ◌-◌, drop, length}
 use Rattle.library_tracks.specs.Blocks.{all_areas}
 use Rattle.library_tracks.specs.Tracks.{fitting_on, left_behind}
 use Rattle.library_tracks.proofs.tracks.place_of.Given as goal

@@ -4,6 +4,7 @@ use Rattle.library_tracks.specs.Blocks.{all_areas}
 use Rattle.library_tracks.specs.Tracks.{left_behind}
 use Rattle.library_tracks.proofs.Listed.{length-all, all_go}
 use Rattle.library_tracks.proofs.Behind.{none_behind, some_fit, some_left, one_more}
+use Rattle.library_tracks.proofs.Parts.{read_back}
 use Rattle.library_tracks.proofs.tracks.tracks_needed.Goals as goal
 
 pub loop-next-init : goal.loop-next-init
@@ -47,4 +48,5 @@ returns c =
             ∙ drop_all c.loop-next.next all (omega (arith, length-all c.args.blocks.now, c.loop-next-test.false));
         fewest = c.loop-next.invariant.fewest;
       };
+      read = λ form. read_back form c.args.model all (all_go c.args.model c.args.blocks.now c.requires.each);
     }
