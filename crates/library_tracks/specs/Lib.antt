@@ -2,3 +2,4 @@ pub mod Blocks
 pub mod Tracks
 pub mod Writing
 pub mod ReadBack
+pub mod Library
