@@ -7,3 +7,4 @@ pub mod Spelled
 pub mod Part
 pub mod Reading
 pub mod Parts
+pub mod Members

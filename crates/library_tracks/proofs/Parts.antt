@@ -16,9 +16,9 @@ use Rattle.dasd_extract.specs.Walk.{source_written, too_many}
 use Rattle.dasd_extract.proofs.Endings.{until_none, until_one_more, ended_stays, stays_for}
 use Rattle.library_tracks.specs.Blocks.{Areas, GoesOn, end_of_file}
 use Rattle.library_tracks.specs.Tracks.{fitting_on, left_behind, StandsAt}
-use Rattle.library_tracks.specs.ReadBack.{IsLoaded, IsWritten, IsReadBack, data_of, ended_by_file}
+use Rattle.library_tracks.specs.ReadBack.{IsLoaded, IsWritten, IsAskedBy, IsReadBack, data_of, ended_by_file}
 use Rattle.library_tracks.proofs.Behind.{one_behind}
-use Rattle.library_tracks.proofs.Reading.{left_shrinks, source, left, fit, told, Begins, first_begins, later_begins, all_told, end_told}
+use Rattle.library_tracks.proofs.Reading.{left_shrinks, source, left, fit, told, Begins, first_begins, zero_begins, later_begins, all_told, end_told}
 
 two_parts : (n m : ℕ) (part : List Areas) → take n part ++ take m (drop n part) ≡ take (n + m) part
 two_parts n m part =
@@ -34,7 +34,7 @@ module _ (f : Form) (g : Geometry) (extents : List Extent) (slots : List (List �
     (track number last : ℕ) (each : All (GoesOn g.model) areas) (loaded : IsLoaded g extents slots areas (last + 1))
     (part behind : List Areas) (first its_number : ℕ) (are : All (IsWritten f) part)
     (is : drop first areas ≡ part ++ (end_of_file ∷ behind)) (size : length areas ≡ first + length part + 1 + length behind)
-    (from : StandsAt g.model areas first track number) (to : StandsAt g.model areas (first + length part) last its_number) where
+    (its_own : ℕ) (from : StandsAt g.model areas first track its_own) (asked : IsAskedBy its_own number) (to : StandsAt g.model areas (first + length part) last its_number) where
   abbrev on : ℕ → List Areas
   on j = left f g extents slots most areas track number last each loaded j
 
@@ -96,9 +96,9 @@ module _ (f : Form) (g : Geometry) (extents : List Extent) (slots : List (List �
   -- before the first track nothing was written
   start : SoFar 0
   start =
-      let o = number - 1 in
+      let o = its_own - 1 in
       let e : track + 0 ≡ track = omega arith in
-      let n : number ≡ o + 1 = omega (arith, from.first) in
+      let n : its_own ≡ o + 1 = omega (arith, from.first) in
       let there : o < room 0 = omega (
         arith,
         from.first,
@@ -111,7 +111,11 @@ module _ (f : Form) (g : Geometry) (extents : List Extent) (slots : List (List �
         o = o;
         few = omega arith;
         within = omega (arith, there);
-        begins = first_begins f g extents slots most areas track number last each loaded o n there;
+        begins = ⊎_elim (λ (own : number ≡ its_own).
+            first_begins f g extents slots most areas track number last each loaded o (own ∙ n) there)
+            (λ (zeros : (number ≡ 0) × (its_own ≡ 1)). let none : 0 ≡ o = omega (arith, zeros.1) in
+            subst (Begins f g extents slots most areas track number last each loaded 0) none
+            (zero_begins f g extents slots most areas track number last each loaded zeros.0)) asked;
         written = until_none say;
         here = ap (λ (i : ℕ). drop o (left_behind g.model areas i)) e ∙ ap (drop o) from.left ∙ drop-drop o from.before areas
             ∙ ap (λ (i : ℕ). drop i areas) far ∙ is;
@@ -207,7 +211,7 @@ module _ (f : Form) (g : Geometry) (extents : List Extent) (slots : List (List �
           )
 
 pub read_back : (f : Form) (model : DriveModel) (areas : List Areas) → All (GoesOn model) areas → IsReadBack f model areas
-read_back f model areas each part first track number last its_number whole are from to g extents slots most same within loaded =
+read_back f model areas each part first track number asked last its_number whole are from is_asked to g extents slots most same within loaded =
     let each_here : All (GoesOn g.model) areas = rw same each in
     let from_here : StandsAt g.model areas first track number = rw same from in
     let to_here : StandsAt g.model areas (first + length part) last its_number = rw same to in
@@ -220,8 +224,8 @@ read_back f model areas each part first track number last its_number whole are f
       length-append part (end_of_file ∷ whole.behind),
       whole.number,
     ) in
-    part_read f g extents slots most areas track number last each_here loaded part whole.behind first its_number are is size
-    from_here to_here
-    (in_order f g extents slots most areas track number last each_here loaded part whole.behind first its_number are is size
-    from_here to_here)
+    part_read f g extents slots most areas track asked last each_here loaded part whole.behind first its_number are is size
+    number from_here is_asked to_here
+    (in_order f g extents slots most areas track asked last each_here loaded part whole.behind first its_number are is size
+    number from_here is_asked to_here)
     within

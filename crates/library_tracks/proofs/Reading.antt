@@ -110,6 +110,9 @@ module _ (f : Form) (g : Geometry) (extents : List Extent) (slots : List (List �
   first_begins o is there n =
       ap (λ (m : ℕ). first_block m (loaded_track g n (left 0))) is ∙ its_number f track g n (left 0) o there
 
+  pub zero_begins : number ≡ 0 → Begins 0 0
+  zero_begins is n = ap (λ (m : ℕ). first_block m (loaded_track g n (left 0))) is
+
   pub later_begins : (j : ℕ) → Begins (suc j) 0
   later_begins j n =
       let e : (suc j == 0) ≡ false = grind (arith, nat_tests) in

@@ -3,3 +3,4 @@ pub mod Tracks
 pub mod Writing
 pub mod ReadBack
 pub mod Library
+pub mod LibraryRead

@@ -1,5 +1,5 @@
 -- What is read of records that were put on tracks, by the definitions of the reader.
-use Rattle.std.specs.Prelude.{◌≡◌, ℕ, ◌+◌, ◌≤◌, ◌<◌, List, slice_index_or, [], ◌∷◌, ◌++◌, length, flat_map, All, Some}
+use Rattle.std.specs.Prelude.{◌≡◌, ℕ, ◌+◌, ◌≤◌, ◌<◌, ◌⊎◌, List, slice_index_or, [], ◌∷◌, ◌++◌, length, flat_map, All, Some}
 use Rattle.ckd_track.specs.declared.model.DriveModel.{DriveModel}
 use Rattle.ckd_track.specs.declared.geometries.Geometry.{Geometry}
 use Rattle.ckd_track.specs.Model.{heads_of}
@@ -50,12 +50,16 @@ pub record IsPart (areas part : List Areas) (first : ℕ) : Type 0 where
   pub all : areas ≡ before ++ (part ++ (end_of_file ∷ behind))
   pub number : length before ≡ first
 
+-- the number by which a reader asks for a record of this number: its own; or 0, which is what comes before the first one
+abbrev pub IsAskedBy : (number asked : ℕ) → Type 0
+IsAskedBy number asked = (asked ≡ number) ⊎ ((asked ≡ 0) × (number ≡ 1))
+
 -- Wherever these tracks are on a volume, in one extent or in several: what the reader writes from the place of the first record of a part on
 -- is all data of the part and nothing else, and it ends with the end of file behind it, on its track.
 abbrev pub IsReadBack : Form → DriveModel → (areas : List Areas) → Type 0
 IsReadBack f model areas =
-    (part : List Areas) (first track number last its_number : ℕ) → IsPart areas part first → All (IsWritten f) part
-    → StandsAt model areas first track number → StandsAt model areas (first + length part) last its_number
+    (part : List Areas) (first track number asked last its_number : ℕ) → IsPart areas part first → All (IsWritten f) part
+    → StandsAt model areas first track number → IsAskedBy number asked → StandsAt model areas (first + length part) last its_number
     → (g : Geometry) (extents : List Extent) (slots : List (List ℕ)) (most : ℕ) → g.model ≡ model → last < track + most
     → IsLoaded g extents slots areas (last + 1)
-    → source_written (wanted f extents (record { track = track; number = number }) most) g slots ≡ ended_by_file (data_of part) last
+    → source_written (wanted f extents (record { track = track; number = asked }) most) g slots ≡ ended_by_file (data_of part) last
