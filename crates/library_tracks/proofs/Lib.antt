@@ -8,3 +8,4 @@ pub mod Part
 pub mod Reading
 pub mod Parts
 pub mod Members
+pub mod LibraryRead

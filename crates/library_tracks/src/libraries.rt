@@ -1,8 +1,10 @@
 //! The records of a library.
 
-ghost use Rattle.std.specs.Prelude.{◌≡◌, ◌≤◌, ◌<◌, ◌*◌, ◌/◌, ◌^◌, ◌++◌, ◌∷◌, [], length, IfOk};
-ghost use Rattle.library_tracks.specs.Blocks.{areas_of, all_areas};
+ghost use Rattle.std.specs.Prelude.{◌≡◌, ◌≤◌, ◌<◌, ◌*◌, ◌/◌, ◌^◌, ◌++◌, ◌∷◌, [], length, IfOk, All, ℕ};
+ghost use Rattle.library_tracks.specs.Blocks.{areas_of, all_areas, BlockGoesOn};
 ghost use Rattle.library_tracks.specs.Library.{directory_area, directory_areas, member_area, member_areas, members_areas, library_areas};
+ghost use Rattle.library_tracks.specs.LibraryRead.{GoesOnTracks, IsDirectoryRead, IsMemberRead};
+ghost use Rattle.ckd_track.specs.declared.model.DriveModel.{DriveModel};
 
 use crate::blocks::Block;
 use std::alloc::{AllocError, Global};
@@ -122,7 +124,11 @@ pub fn library_records<'a>(
     library: Library<'a>,
 ) -> Result<Vec<Block<'a>>, AllocError>
     requires { 1 ≤ library.block_length }
-    ensures { IfOk result (λ records. all_areas records.items ≡ library_areas library.entry) }
+    ensures records { IfOk result (λ records. all_areas records.items ≡ library_areas library.entry) }
+    ensures fit { IfOk result (λ records. (model : DriveModel) → GoesOnTracks model library.entry → All (BlockGoesOn model) records.items) }
+    ensures directory { IfOk result (λ _. (model : DriveModel) → GoesOnTracks model library.entry → IsDirectoryRead model library.entry) }
+    ensures members { IfOk result (λ _. (model : DriveModel) → GoesOnTracks model library.entry
+        → (member : ℕ) → member < length library.entry.members.now → IsMemberRead model library.entry member) }
 {
     let mut records = Vec::new(alloc);
     push_directory(&mut records, library.directory)?;
