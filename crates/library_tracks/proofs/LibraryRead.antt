@@ -1,19 +1,21 @@
 -- A library is read back: its directory and each member.
-use Rattle.std.proofs.Common.{◌≡◌, ◌∙◌, ap, sym, refl, subst, inl, inr, ℕ, ◌+◌, ◌<◌, List, [], ◌∷◌, length, get_or, arith, All, length-append}
+use Rattle.std.proofs.Common.{◌≡◌, ◌∙◌, ap, sym, refl, subst, inl, inr, ℕ}
+use Rattle.std.proofs.Common.{◌+◌, ◌<◌, List, [], ◌∷◌, length, get_or, arith, All, length-append}
 use Rattle.std.proofs.lemmas.List.{get_or-map}
 use Rattle.ckd_track.specs.declared.model.DriveModel.{DriveModel}
 use Rattle.dasd_extract.specs.declared.blocks.Form.TheVariants as form
 use Rattle.library_tracks.specs.declared.blocks.Block.{Block}
 use Rattle.library_tracks.specs.declared.libraries.Library.{Library}
 use Rattle.library_tracks.specs.Blocks.{Areas, areas_of, all_areas, end_of_file, GoesOn, BlockGoesOn}
-use Rattle.library_tracks.specs.Tracks.{fitting_on, left_behind, StandsAt}
+use Rattle.library_tracks.specs.Tracks.{fitting_on, StandsAt}
 use Rattle.library_tracks.specs.ReadBack.{ended_by_file}
 use Rattle.library_tracks.specs.Library.{directory_areas, member_areas, members_areas, library_areas, first_record, with_end}
 use Rattle.library_tracks.specs.LibraryRead.{GoesOnTracks, bytes_of, end_record, IsMemberRead, IsDirectoryRead}
 use Rattle.library_tracks.proofs.Listed.{length-all}
 use Rattle.library_tracks.proofs.Behind.{none_behind, some_fit}
 use Rattle.library_tracks.proofs.Parts.{read_back}
-use Rattle.library_tracks.proofs.Members.{member_data, length-member, member_written, directory_written, directory_part, member_part, library_goes}
+use Rattle.library_tracks.proofs.Members.{member_data, length-member, member_written}
+use Rattle.library_tracks.proofs.Members.{directory_written, directory_part, member_part, library_goes}
 
 pub blocks_go : (model : DriveModel) (items : List Block) (areas : List Areas) → all_areas items ≡ areas → All (GoesOn model) areas
     → All (BlockGoesOn model) items

@@ -1,10 +1,10 @@
 -- The parts of a library: its directory and its members.
-use Rattle.std.proofs.Common.{◌≡◌, ◌∙◌, ap, sym, refl, subst, inl, inr, ℕ, zero, suc, ◌+◌, ◌-◌, ◌*◌, ◌/◌, ◌%◌, ◌≤◌, ◌<◌, List, [], ◌∷◌, ◌++◌, length}
+use Rattle.std.proofs.Common.{◌≡◌, ◌∙◌, ap, sym, refl, subst, ℕ, zero, suc, ◌+◌, ◌-◌, ◌*◌, ◌/◌, ◌≤◌, ◌<◌, List, [], ◌∷◌, ◌++◌, length}
 use Rattle.std.proofs.Common.{Bool, true, false, cond, nat_lt}
-use Rattle.std.proofs.Common.{map, take, drop, get_or, arith, All, append_assoc, append-nil, length-append, length-take, length-drop, drop-drop}
+use Rattle.std.proofs.Common.{map, take, drop, get_or, arith, All, append_assoc, append-nil, length-append, length-take, length-drop}
 use Rattle.std.specs.List.{range_with_len, flat_map}
 use Rattle.std.proofs.lemmas.Grind.{flat_map-append}
-use Rattle.std.proofs.lemmas.List.{take_all, take_more, drop_more, drop_all, take-append-drop, take-take, drop-take, take-map, length-map}
+use Rattle.std.proofs.lemmas.List.{take_all, drop_more, take-append-drop, take-take, drop-take, take-map, length-map}
 use Rattle.std.proofs.lemmas.List.FromFn.{length-map-range_with_len, get_or-map-range_with_len, map-range_with_len_more}
 use Rattle.std.proofs.lemmas.List.Elements.{All-nil, All-cons, All-append, All-from_get_or}
 use Rattle.std.proofs.lemmas.Nat.{div-add-mod', mul-le, mod_below}
@@ -17,7 +17,8 @@ use Rattle.library_tracks.specs.declared.libraries.Library.{Library}
 use Rattle.library_tracks.specs.declared.libraries.Member.{Member}
 use Rattle.library_tracks.specs.Blocks.{Areas, end_of_file, GoesOn}
 use Rattle.library_tracks.specs.ReadBack.{IsWritten, IsPart, data_of}
-use Rattle.library_tracks.specs.Library.{directory_area, directory_areas, member_area, block_count, member_areas, with_end, contents, members_areas}
+use Rattle.library_tracks.specs.Library.{directory_area, directory_areas, member_area, block_count}
+use Rattle.library_tracks.specs.Library.{member_areas, with_end, contents, members_areas}
 use Rattle.library_tracks.specs.Library.{library_areas, first_record}
 
 two_parts : (n m : ℕ) (bytes : List ℕ) → take n bytes ++ take m (drop n bytes) ≡ take (n + m) bytes

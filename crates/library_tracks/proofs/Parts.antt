@@ -18,7 +18,8 @@ use Rattle.library_tracks.specs.Blocks.{Areas, GoesOn, end_of_file}
 use Rattle.library_tracks.specs.Tracks.{fitting_on, left_behind, StandsAt}
 use Rattle.library_tracks.specs.ReadBack.{IsLoaded, IsWritten, IsAskedBy, IsReadBack, data_of, ended_by_file}
 use Rattle.library_tracks.proofs.Behind.{one_behind}
-use Rattle.library_tracks.proofs.Reading.{left_shrinks, source, left, fit, told, Begins, first_begins, zero_begins, later_begins, all_told, end_told}
+use Rattle.library_tracks.proofs.Reading.{left_shrinks, source, left, fit, told}
+use Rattle.library_tracks.proofs.Reading.{Begins, first_begins, zero_begins, later_begins, all_told, end_told}
 
 two_parts : (n m : ℕ) (part : List Areas) → take n part ++ take m (drop n part) ≡ take (n + m) part
 two_parts n m part =
@@ -34,7 +35,8 @@ module _ (f : Form) (g : Geometry) (extents : List Extent) (slots : List (List �
     (track number last : ℕ) (each : All (GoesOn g.model) areas) (loaded : IsLoaded g extents slots areas (last + 1))
     (part behind : List Areas) (first its_number : ℕ) (are : All (IsWritten f) part)
     (is : drop first areas ≡ part ++ (end_of_file ∷ behind)) (size : length areas ≡ first + length part + 1 + length behind)
-    (its_own : ℕ) (from : StandsAt g.model areas first track its_own) (asked : IsAskedBy its_own number) (to : StandsAt g.model areas (first + length part) last its_number) where
+    (its_own : ℕ) (from : StandsAt g.model areas first track its_own)
+    (asked : IsAskedBy its_own number) (to : StandsAt g.model areas (first + length part) last its_number) where
   abbrev on : ℕ → List Areas
   on j = left f g extents slots most areas track number last each loaded j
 
@@ -211,7 +213,8 @@ module _ (f : Form) (g : Geometry) (extents : List Extent) (slots : List (List �
           )
 
 pub read_back : (f : Form) (model : DriveModel) (areas : List Areas) → All (GoesOn model) areas → IsReadBack f model areas
-read_back f model areas each part first track number asked last its_number whole are from is_asked to g extents slots most same within loaded =
+read_back f model areas each part first track number asked last its_number whole are from is_asked to
+    g extents slots most same within loaded =
     let each_here : All (GoesOn g.model) areas = rw same each in
     let from_here : StandsAt g.model areas first track number = rw same from in
     let to_here : StandsAt g.model areas (first + length part) last its_number = rw same to in

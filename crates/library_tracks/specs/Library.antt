@@ -1,18 +1,10 @@
 -- The records of a library: the blocks of its directory and an end of file, and those of each member with an end of file behind them (Data
 -- Management Services, 'Partitioned Data Sets').
-use Rattle.std.specs.Prelude.{◌≡◌, ℕ, ◌+◌, ◌-◌, ◌*◌, ◌/◌, ◌%◌, ◌≤◌, ◌<◌, List, [], ◌∷◌, ◌++◌, length, map, take, drop, flat_map, slice_index_or}
+use Rattle.std.specs.Prelude.{ℕ, ◌+◌, ◌-◌, ◌*◌, ◌/◌, List, [], ◌∷◌, ◌++◌, length, map, take, drop, flat_map}
 use Rattle.std.specs.List.{range_with_len}
-use Rattle.ckd_track.specs.declared.model.DriveModel.{DriveModel}
-use Rattle.ckd_track.specs.declared.geometries.Geometry.{Geometry}
-use Rattle.ckd_track.specs.Model.{capacity_of}
-use Rattle.volume_labels.specs.declared.fields.Extent.{Extent}
-use Rattle.dasd_extract.specs.declared.blocks.Form.TheVariants as form
-use Rattle.dasd_extract.specs.Walk.{wanted, source_written}
 use Rattle.library_tracks.specs.declared.libraries.Library.{Library}
 use Rattle.library_tracks.specs.declared.libraries.Member.{Member}
 use Rattle.library_tracks.specs.Blocks.{Areas, end_of_file}
-use Rattle.library_tracks.specs.Tracks.{StandsAt}
-use Rattle.library_tracks.specs.ReadBack.{IsLoaded, ended_by_file}
 
 -- block k of a directory, from 0 on: its key and its data
 abbrev pub directory_area : (directory : List ℕ) → (k : ℕ) → Areas
