@@ -1,0 +1,16 @@
+use Rattle.std.proofs.Common.{◌≡◌, ◌≢◌, ◌≤◌, ◌+◌, ◌-◌, ℕ, suc, [], length, drop}
+use Rattle.library_blocks.specs.Entries.{all_entries}
+use Rattle.library_blocks.specs.Directory.{left_behind}
+use Rattle.library_blocks.proofs.directories.blocks_needed.Given as goal
+
+-- what is left behind the blocks so far, and behind more of them; each of them has something
+abbrev pub invariant-loop-next : goal.invariant-loop-next
+invariant-loop-next l = record {
+  within : l.next ≤ length l.entries + 1;
+  few : l.blocks ≤ l.next;
+  left : (n : ℕ) → left_behind (all_entries l.entries) (l.blocks + n) ≡ left_behind (drop l.next (all_entries l.entries)) n;
+  fewest : (n : ℕ) → suc n ≡ l.blocks → left_behind (all_entries l.entries) n ≢ [];
+}
+
+abbrev pub decreases-loop-next : goal.decreases-loop-next
+decreases-loop-next l = length l.entries + 1 - l.next

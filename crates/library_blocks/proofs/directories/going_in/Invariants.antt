@@ -1,0 +1,12 @@
+use Rattle.std.proofs.Common.{◌≡◌, ◌≤◌, ◌+◌, take, drop}
+use Rattle.library_blocks.specs.Entries.{all_entries}
+use Rattle.library_blocks.specs.Directory.{going_in, used_by}
+use Rattle.library_blocks.proofs.directories.going_in.Given as goal
+
+-- the entries so far go into the block, and behind them as many as go in behind what they use
+abbrev pub invariant-loop-count : goal.invariant-loop-count
+invariant-loop-count l = record {
+  few : l.used ≤ 256;
+  used : l.used ≡ used_by (take l.count (drop l.from (all_entries l.entries)));
+  fit : going_in 2 (drop l.from (all_entries l.entries)) ≡ l.count + going_in l.used (drop l.count (drop l.from (all_entries l.entries)));
+}

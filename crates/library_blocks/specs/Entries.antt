@@ -1,0 +1,37 @@
+-- The entries of a directory as bytes (System Control Blocks, 'Partitioned Data Set Directory').
+use Rattle.std.specs.Prelude.{◌≡◌, ◌≢◌, ℕ, ◌+◌, ◌*◌, ◌/◌, ◌%◌, ◌≤◌, ◌<◌, if◌then◌else◌, List, [], ◌∷◌, ◌++◌, length, map, replicate}
+use Rattle.data_sets.specs.declared.directories.DirectoryEntry.{DirectoryEntry}
+use Rattle.library_blocks.specs.declared.entries.NewEntry.{NewEntry}
+
+-- the byte behind the address: the bit of another name, how many addresses the user data begins with, and how many halfwords it has
+abbrev pub lengths_byte : NewEntry → ℕ
+lengths_byte e = (if e.is_alias then 128 else 0) + e.notes * 32 + length e.user_data.now / 2
+
+-- an entry up to its user data: the name, the address of the first block, and that byte
+abbrev pub entry_front : NewEntry → List ℕ
+entry_front e = e.name ++ (e.address.track / 256 ∷ e.address.track % 256 ∷ e.address.number ∷ lengths_byte e ∷ [])
+
+abbrev pub entry_bytes : NewEntry → List ℕ
+entry_bytes e = entry_front e ++ e.user_data.now
+
+-- the entry behind all others: a name of bytes FF, and zeros
+abbrev pub last_entry : List ℕ
+last_entry = replicate 8 255 ++ replicate 4 0
+
+-- what a directory with these entries has, in its order
+abbrev pub all_entries : List NewEntry → List (List ℕ)
+all_entries entries = map entry_bytes entries ++ last_entry ∷ []
+
+-- what is read of an entry
+abbrev pub entry_read : NewEntry → DirectoryEntry
+entry_read e = record { name = e.name; address = e.address; is_alias = e.is_alias; notes = e.notes; user_bytes = length e.user_data.now }
+
+-- an entry that a directory can have: a name that does not end it, and user data that its byte of lengths can say
+pub record IsEntry (e : NewEntry) : Type 0 where
+  pub name : length e.name ≡ 8
+  pub no_last : e.name ≢ replicate 8 255
+  pub track : e.address.track < 65536
+  pub number : e.address.number < 256
+  pub notes : e.notes ≤ 3
+  pub user_data : length e.user_data.now ≤ 62
+  pub halfwords : length e.user_data.now % 2 ≡ 0

@@ -1,0 +1,5 @@
+pub mod Entries
+pub mod Faults
+pub mod Directory
+pub mod ReadBack
+pub mod Writing
