@@ -109,7 +109,7 @@ fn write_line<W: Write>(writer: &mut W, margin: &str, listed: Listed) -> io::Res
 fn alias_word(is_alias: bool) -> &'static str
     ensures { result.now ≡ alias_word is_alias }
 {
-    if is_alias { "no   " } else { "no   " }
+    if is_alias { "yes  " } else { "no   " }
 }
 
 // A member as an object of JSON.
@@ -181,7 +181,7 @@ pub(crate) fn add_end(
 fn is_end(cause: Cause) -> bool
     ensures { result ≡ is_end cause }
 {
-    matches!(cause, Cause::EndOfFile | Cause::PastExtents)
+    matches!(cause, Cause::EndOfFile)
 }
 
 /// The line of something that is wrong with the library or with a member of it.

@@ -105,7 +105,7 @@ fn user_data<'a>(bytes: &'a [u8], entry: DirectoryEntry, next: usize) -> &'a [u8
         return &[];
     }
     let first = next.saturating_sub(usize::from(entry.user_bytes));
-    &bytes[first.min(1)..next]
+    &bytes[first..next]
 }
 
 // The line of a member, and that of its end, if that is no end of file.
