@@ -1,5 +1,5 @@
 -- What a volume holds, as it is printed with its sections.
-use Rattle.std.proofs.Common.{◌≡◌, ◌≢◌, ◌∙◌, ◌+◌, inl, inr, refl, ap, subst, ℕ, Bool, List, [], ◌++◌, Result, Ok, Err}
+use Rattle.std.proofs.Common.{◌≢◌, ◌∙◌, ◌+◌, inl, inr, refl, ap, subst, Bool, List, [], Ok, Err}
 use Rattle.counted_io.specs.Streams.{Stream, Takes, TakesFront, NoneFailed, IsFlushed}
 use Rattle.counted_io.proofs.Written.{takes_nothing, takes_more}
 use Rattle.dasd_volumes.specs.declared.fault.VolumeFault.{VolumeFault}
@@ -17,7 +17,7 @@ use Rattle.dasd_run.specs.declared.fault.ProgramFault.{ProgramFault}
 use Rattle.dasd_run.specs.declared.fault.ProgramFault.TheVariants as fault
 use Rattle.dasd_run.specs.Faults.{printing_fault}
 use Rattle.dasd_run.specs.Held.{SaysAll, held_ending, CountsFault, PrintsHeld}
-use Rattle.dasd_run.specs.Details.{held_sections, worse, PrintsDetails}
+use Rattle.dasd_run.specs.Details.{worse, PrintsDetails}
 
 -- a fault of the sections, behind a table of which no write failed
 counts_behind : (f : VolumeFault) (a b d : Stream) → NoneFailed a b → CountsWrites {A = Bool} (Err f) b d

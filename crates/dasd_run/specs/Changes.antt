@@ -1,5 +1,5 @@
 -- What commands do that change a volume.
-use Rattle.std.specs.Prelude.{◌≡◌, List, map, Result, Ok, Err, OnOk}
+use Rattle.std.specs.Prelude.{◌≡◌, map, Result, Ok, Err, OnOk}
 use Rattle.counted_io.specs.Streams.{IsFlushed}
 use Rattle.changed_volumes.specs.declared.fault.ChangeFault.{ChangeFault}
 use Rattle.changed_volumes.specs.declared.fault.ChangeFault.TheVariants as change
@@ -15,7 +15,6 @@ use Rattle.dasd_words.specs.declared.requests.RelabelledVolume.{RelabelledVolume
 use Rattle.dasd_words.specs.declared.requests.RenamedSet.{RenamedSet}
 use Rattle.loaded_sets.specs.declared.fault.LoadFault.{LoadFault}
 use Rattle.loaded_sets.specs.declared.fault.LoadFault.TheVariants as load
-use Rattle.loaded_sets.specs.declared.saves.NewSet.{NewSet}
 use Rattle.loaded_sets.specs.Loads.{LoadsSet}
 use Rattle.volume_changes.specs.Volumes.{relabelled}
 

@@ -1,5 +1,5 @@
 -- More of what a volume holds than its table says, and the members of its libraries.
-use Rattle.std.specs.Prelude.{◌≡◌, ◌⊎◌, ℕ, Bool, true, false, if◌then◌else◌, List, ◌++◌, length, Option, Some, Result, Ok, Err}
+use Rattle.std.specs.Prelude.{◌≡◌, ◌⊎◌, ℕ, Bool, true, false, if◌then◌else◌, List, ◌++◌, Some, Result, Ok, Err}
 use Rattle.counted_io.specs.Streams.{Stream, Takes, TakesFront, NoneFailed, IsFlushed}
 use Rattle.ckd_track.specs.declared.geometries.Geometry.{Geometry}
 use Rattle.dasd_volumes.specs.Reading.{KnownVolume}
@@ -19,7 +19,7 @@ use Rattle.dasd_run.specs.declared.commands.Ending.TheVariants.{Done, Findings}
 use Rattle.dasd_run.specs.declared.fault.ProgramFault.{ProgramFault}
 use Rattle.dasd_run.specs.declared.fault.ProgramFault.TheVariants as fault
 use Rattle.dasd_run.specs.Held.{held_text, held_ending, CountsFault, json_path}
-use Rattle.dasd_run.specs.Printed.{paths_of, IsUnopened, WhyUnopened}
+use Rattle.dasd_run.specs.Printed.{paths_of, IsUnopened}
 use Rattle.dasd_run.specs.Reaches.{EndsOver}
 
 -- the sections of what a volume says of itself
