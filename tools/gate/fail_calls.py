@@ -67,7 +67,7 @@ SAVE_FAULTS = ("write fault",)
 # The signals by which a command is ended: that of `kill -9`; where it writes files, also those of `kill`, of Ctrl-C, and of a terminal that is gone.
 KILLED = "killed by "
 # The commands that change a volume.
-CHANGES = ("rename", "delete", "relabel")
+CHANGES = ("rename", "delete", "relabel", "load")
 KILL = ["KILL"]
 SIGNALS = [*KILL, "TERM", "INT", "HUP"]
 CALL = re.compile(r"^(?P<name>\w+)\((?P<words>.*)\)\s+= (?P<answer>-?\d+)")
@@ -100,6 +100,9 @@ def deck_for(unit: str) -> bytes:
     return str(WRITE.format(data="D5D6D7D8", unit=unit)).encode()
 
 
+# The words that say what a data set is loaded from.
+CARDS = ["--from", "cards", "--record-format", "FB", "--record-length", "80", "--block-length", "800"]
+
 COMMANDS = [
     Command("format a new file", ["format", "new.ckd", "--cylinders", "1"]),
     Command("format over a file", ["format", "one.ckd", "--cylinders", "2"]),
@@ -122,6 +125,8 @@ COMMANDS = [
     Command("rename", ["rename", "pack.ckd", "PAY.CARDS", "PAY.OLD"]),
     Command("rename --replace", ["rename", "--replace", "pack.ckd", "PAY.CARDS", "PAY.OLD"]),
     Command("delete", ["delete", "pack.ckd", "PAY.CARDS"]),
+    Command("load", ["load", "pack.ckd", "NEW.CARDS", *CARDS]),
+    Command("load --replace", ["load", "--replace", "pack.ckd", "NEW.CARDS", *CARDS]),
     Command("relabel", ["relabel", "pack.ckd", "--label", "ABC123", "--owner", "SIXAMBRA"]),
     Command("explain", ["explain", "csw", "00000428", "0E000320"]),
     Command("assemble", ["assemble"], b" ORG X'48'\n DC A(START)\nSTART TIC START\n SIO 190\n"),
@@ -170,6 +175,7 @@ def fill(folder: Path) -> None:
         pack.seek(20)
         pack.write(b"\1")
     (folder / "core").write_bytes(bytes(range(200)))
+    (folder / "cards").write_bytes(b"\x40" * 160)
     (folder / "out").mkdir()
 
 
