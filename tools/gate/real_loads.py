@@ -16,6 +16,9 @@ from tools.gate.scratch_files import WAYS, Scratch, Skipped, fault, is_held, row
 
 CARDS = b"".join(ebcdic(f"CARD {i:03}", 80) for i in range(100))
 BLOCKED = ["--record-format", "FB", "--record-length", "80", "--block-length", "800"]
+VARIABLE = ["--record-format", "VB", "--block-length", "800"]
+# Two blocks, of the records ABC and D, and of no byte: each with its descriptor word, as each record.
+VARIABLE_BLOCKS = bytes([0, 16, 0, 0, 0, 7, 0, 0]) + ebcdic("ABC", 3) + bytes([0, 5, 0, 0]) + ebcdic("D", 1) + bytes([0, 8, 0, 0, 0, 4, 0, 0])
 LOADED = (0, "loaded TEST.CARDS 3 tracks\n", "")
 SLOT = 4096
 HEADER = 512
@@ -90,11 +93,28 @@ def each_data_set_begins_behind_those_before_it(s: Scratch) -> None:
 
 
 @row
+def blocks_of_variable_records_are_cut_by_their_descriptor_words(s: Scratch) -> None:
+    held = empty(s)
+    s.put("blocks", VARIABLE_BLOCKS)
+    same(s.dasd("load", "pack.ckd", "TEST.WORDS", "--from", "blocks", *VARIABLE), (0, "loaded TEST.WORDS 1 track\n", ""))
+    was, now = tracks(held), tracks(s.path("pack.ckd").read_bytes())
+    same(now[2], spelled(2, [VARIABLE_BLOCKS[:16], VARIABLE_BLOCKS[16:], b""]))
+    same([i for i, it in enumerate(was) if now[i] != it], [1, 2])
+    same(Image(s.path("pack.ckd")).records(1)[3].data[38:46], bytes([0x40, 0, 0x50, 0, 3, 32, 0, 0]))  # VB, 800, and no length of records
+    same(s.dasd("extract", "pack.ckd", "TEST.WORDS", "--to", "out"), (0, "", ""))
+    is_held(s.path("out"), VARIABLE_BLOCKS)
+    same(s.dasd("extract", "pack.ckd", "TEST.WORDS", "--text"), (0, "ABC\nD\n\n", ""))
+
+
+@row
 def loads_that_are_refused_leave_the_pack(s: Scratch) -> None:
     empty(s)
     same(s.dasd("load", "pack.ckd", "TEST.CARDS", "--from", "cards", *BLOCKED), LOADED)
     held = s.path("pack.ckd").read_bytes()
     s.put("odd", CARDS[:100])
+    s.put("zeros", bytes(8))
+    s.put("blocks", VARIABLE_BLOCKS)
+    s.put("behind", VARIABLE_BLOCKS + bytes([0, 8, 0, 0, 0, 3, 0, 0]))
     s.put("long", bytes(20 * 3625))
     form = ["--record-format", "U", "--block-length"]
     lengths = "record length and block length contradict each other"
@@ -105,7 +125,10 @@ def loads_that_are_refused_leave_the_pack(s: Scratch) -> None:
         ("A", ["--from", "cards", "--record-format", "F", "--record-length", "80", "--block-length", "800"], lengths),
         ("A", ["--from", "cards", "--record-format", "FB", "--record-length", "80", "--block-length", "100"], lengths),
         ("A", ["--from", "cards", *form, "80", "--record-length", "80"], "records of undefined length have no record length"),
-        ("A", ["--from", "cards", "--record-format", "VB", "--block-length", "800"], "blocks of variable records have no one length"),
+        ("A", ["--from", "cards", *VARIABLE], "block 1 does not end within the file"),  # C3C1, which is CA: 50,113 bytes
+        ("A", ["--from", "zeros", *VARIABLE], "block 1 has a descriptor word that is no length"),
+        ("A", ["--from", "blocks", *VARIABLE[:-1], "14"], "block 1 is longer than the block length"),
+        ("A", ["--from", "behind", *VARIABLE], "block 3 has bytes that are no records"),
         ("A", ["--from", "cards", *form, "3626"], "a block is longer than a track"),
         ("A", ["--from", "long", *form, "3625"], "no run of free tracks is long enough"),
         ("A", ["--from", "missing", *form, "80"], "read fault"),
