@@ -1,9 +1,0 @@
-use Rattle.std.proofs.Common.{◌≡◌, ◌++◌, take}
-use Rattle.library_tracks.specs.Blocks.{all_areas}
-use Rattle.library_tracks.specs.Library.{members_areas}
-use Rattle.library_tracks.proofs.libraries.push_members.Given as goal
-
--- the members so far
-abbrev pub invariant-loop-member : goal.invariant-loop-member
-invariant-loop-member l =
-    all_areas l.records.items ≡ all_areas l.initial.records.items ++ members_areas l.length (take l.member-index l.members)

@@ -1,0 +1,115 @@
+-- How many records go on a track, and how many bytes they take there.
+use Rattle.std.proofs.Common.{◌≡◌, ◌∙◌, ap, sym, refl, subst, inl, inr, ⊎_elim, ◌⊎◌, ℕ, suc, ◌+◌, ◌-◌, ◌*◌, ◌≤◌, ◌<◌, true}
+use Rattle.std.proofs.Common.{false, List, [], ◌∷◌, length, take, drop, get_or, nat_le, sum_by, arith}
+use Rattle.std.proofs.lemmas.Bool.{cases_lt}
+use Rattle.std.proofs.lemmas.Bool.Decides.{nat_tests}
+use Rattle.std.proofs.lemmas.List.{drop_more, drop_all}
+use Rattle.std.proofs.lemmas.List.Sums.{sum_by-cons}
+use Rattle.ckd_track.specs.declared.model.DriveModel.{DriveModel}
+use Rattle.ckd_track.specs.declared.model.DriveModel.TheVariants.{D2311, D2314}
+use Rattle.ckd_track.specs.Model.{capacity_of}
+use Rattle.record_tracks.specs.Records.{Areas, GoesOn, charge_for, last_charge_for}
+use Rattle.record_tracks.specs.Tracks.{fitting, fitting_on}
+
+pub none_fits : (model : DriveModel) (taken : ℕ) → fitting model taken [] ≡ 0
+unfolding fitting
+none_fits model taken = refl
+
+module _ (model : DriveModel) (taken : ℕ) (a : Areas) (others : List Areas) where
+  pub one_fits : taken + last_charge_for model a ≤ capacity_of model
+      → fitting model taken (a ∷ others) ≡ suc (fitting model (taken + charge_for model a) others)
+  unfolding fitting
+  one_fits within = let is : nat_le (taken + last_charge_for model a) (capacity_of model) ≡ true = grind (arith, nat_tests) in rw is refl
+
+  pub is_full : capacity_of model < taken + last_charge_for model a → fitting model taken (a ∷ others) ≡ 0
+  unfolding fitting
+  is_full over = let is : nat_le (taken + last_charge_for model a) (capacity_of model) ≡ false = grind (arith, nat_tests) in rw is refl
+
+-- the bytes that the records take in a slot
+abbrev pub area_size : Areas → ℕ
+area_size a = 8 + (length a.key_area + length a.data_area)
+
+abbrev pub sizes : List Areas → ℕ
+sizes areas = sum_by area_size areas
+
+-- what a record is charged
+pub record IsCharge (model : DriveModel) (a : Areas) : Type 0 where
+  pub last : length a.key_area + length a.data_area ≤ last_charge_for model a
+  pub least : 61 + last_charge_for model a ≤ charge_for model a
+  pub most : charge_for model a ≤ 101 + 2 * last_charge_for model a
+  pub capacity : capacity_of model ≤ 7294
+  pub some : 3625 ≤ capacity_of model
+
+pub charges : (model : DriveModel) (a : Areas) → IsCharge model a
+charges D2311 a = record { last = omega arith; least = omega arith; most = omega arith; capacity = omega arith; some = omega arith }
+charges D2314 a = record { last = omega arith; least = omega arith; most = omega arith; capacity = omega arith; some = omega arith }
+
+-- a record that goes on a track has lengths that a count area can say
+pub few_bytes : (model : DriveModel) (a : Areas) → GoesOn model a → length a.data_area < 65536
+few_bytes model a goes = omega (arith, (charges model a).last, (charges model a).capacity, goes.most)
+
+-- What goes on a track: no more than there is, a number that a byte holds, and with 8 bytes more than the capacity it has room.
+pub record FitsOn (model : DriveModel) (taken : ℕ) (areas : List Areas) (n : ℕ) : Type 0 where
+  pub within : n ≤ length areas
+  pub few : 61 * n ≤ 7355 - taken
+  pub room : taken ≤ capacity_of model → taken + sizes (take n areas) ≤ capacity_of model + 8
+  pub none : capacity_of model < taken → n ≡ 0
+
+module _ (model : DriveModel) (taken : ℕ) (a : Areas) (others : List Areas) where
+  -- those behind one that fits
+  one_on : (n : ℕ) → taken + last_charge_for model a ≤ capacity_of model → FitsOn model (taken + charge_for model a) others n
+      → FitsOn model taken (a ∷ others) (suc n)
+  one_on n within more =
+      let next = taken + charge_for model a in
+      let c = charges model a in
+      let cons = sum_by-cons area_size a (take n others) in
+      let by : (capacity_of model < next) ⊎ (next ≤ capacity_of model) → taken + sizes (a ∷ take n others) ≤ capacity_of model + 8 =
+      λ either. ⊎_elim (λ over. let none = more.none over in rw none (omega (arith, within, c.last, sum_by-cons area_size a [])))
+      (λ under. omega (arith, more.room under, c.least, c.last, cons)) either in
+      record {
+        within = omega (arith, more.within);
+        few = omega (arith, more.few, c.least, c.capacity, within);
+        room = λ _. by (cases_lt (capacity_of model) next);
+        none = λ over. absurd (omega (arith, over, within));
+      }
+
+  none_on : FitsOn model taken (a ∷ others) 0
+  none_on = record { within = omega arith; few = omega arith; room = λ h. omega (arith, h); none = λ _. refl }
+
+  on_either : (capacity_of model < taken + last_charge_for model a) ⊎ (taken + last_charge_for model a ≤ capacity_of model)
+      → FitsOn model (taken + charge_for model a) others (fitting model (taken + charge_for model a) others)
+      → FitsOn model taken (a ∷ others) (fitting model taken (a ∷ others))
+  on_either (inl over) more = subst (FitsOn model taken (a ∷ others)) (sym (is_full model taken a others over)) none_on
+  on_either (inr fits) more = subst (FitsOn model taken (a ∷ others)) (sym (one_fits model taken a others fits)) (one_on _ fits more)
+
+pub fits_on : (model : DriveModel) (taken : ℕ) (areas : List Areas) → FitsOn model taken areas (fitting model taken areas)
+fits_on model taken [] = subst (FitsOn model taken []) (sym (none_fits model taken))
+    (record { within = omega arith; few = omega arith; room = λ h. omega (arith, h); none = λ _. refl })
+fits_on model taken (a ∷ others) =
+    on_either model taken a others (cases_lt (capacity_of model) (taken + last_charge_for model a))
+    (fits_on model (taken + charge_for model a) others)
+
+-- A loop over records that has passed so many, which have taken so much of the track.
+module _ (model : DriveModel) (left : List Areas) (k taken : ℕ) (d : Areas)
+    (so_far : fitting_on model left ≡ k + fitting model taken (drop k left)) where
+  next_is : k < length left → fitting_on model left ≡ k + fitting model taken (get_or left k d ∷ drop (k + 1) left)
+  next_is there = so_far ∙ ap (λ (xs : List Areas). k + fitting model taken xs) (drop_more left k d there)
+
+  pub stops : k < length left → capacity_of model < taken + last_charge_for model (get_or left k d) → k ≡ fitting_on model left
+  stops there over =
+      omega (arith, next_is there ∙ ap (λ (n : ℕ). k + n) (is_full model taken (get_or left k d) (drop (k + 1) left) over))
+
+  pub goes_on : k < length left → taken + last_charge_for model (get_or left k d) ≤ capacity_of model
+      → fitting_on model left ≡ k + 1 + fitting model (taken + charge_for model (get_or left k d)) (drop (k + 1) left)
+  goes_on there within =
+      omega (arith, next_is there ∙ ap (λ (n : ℕ). k + n) (one_fits model taken (get_or left k d) (drop (k + 1) left) within))
+
+  pub ends : length left ≤ k → k ≡ fitting_on model left
+  ends all =
+      let none = ap (λ (xs : List Areas). k + fitting model taken xs) (drop_all k left all)
+      ∙ ap (λ (n : ℕ). k + n) (none_fits model taken) in
+      omega (arith, so_far ∙ none)
+
+-- one at least goes on an empty track
+pub some_fits : (model : DriveModel) (a : Areas) (others : List Areas) → GoesOn model a → 1 ≤ fitting_on model (a ∷ others)
+some_fits model a others goes = omega (arith, one_fits model 0 a others (omega (arith, goes.most)))

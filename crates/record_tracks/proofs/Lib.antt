@@ -1,0 +1,9 @@
+pub mod Filled
+pub mod Fitting
+pub mod Behind
+pub mod Fronts
+pub mod Listed
+pub mod Spelled
+pub mod Part
+pub mod Reading
+pub mod Parts

@@ -1,0 +1,18 @@
+use Rattle.std.proofs.Common.{◌∙◌, subst, ℕ, List, ◌++◌, arith, length-append}
+use Rattle.record_tracks.specs.Writing.{PutBehind}
+use Rattle.record_tracks.proofs.Filled.{two_puts}
+use Rattle.record_tracks.proofs.slots.append_record.Goals as goal
+
+pub returns-clause-written : goal.returns-clause-written
+returns-clause-written c =
+    let count = c.count_bytes.result in
+    let key = c.args.block.key.now in
+    let bytes = c.args.block.bytes.now in
+    let s0 = c.args.slot.now in
+    let first = two_puts c.args.at c.append-at.result count key s0 c.append-at.new.slot c.append-at-2.new.slot
+    c.append-at.ensures.written c.append-at-2.ensures.written c.append-at.ensures.next c.append-at.ensures.same in
+    let both = two_puts c.args.at c.append-at-2.result (count ++ key) bytes s0 c.append-at-2.new.slot c.append.new.slot
+    first c.append.ensures.written
+    (omega (arith, c.append-at-2.ensures.next, c.append-at.ensures.next, length-append count key))
+    (c.append-at-2.ensures.same ∙ c.append-at.ensures.same) in
+    subst (λ (xs : List ℕ). PutBehind c.args.at ((xs ++ key) ++ bytes) s0 c.append.new.slot) c.count_bytes.ensures both

@@ -1,0 +1,4 @@
+pub mod Records
+pub mod Tracks
+pub mod Writing
+pub mod ReadBack
