@@ -1,7 +1,0 @@
-mod Fits
-mod Put
-mod Read
-mod Refused
-mod Told
-mod Tracks
-mod Within

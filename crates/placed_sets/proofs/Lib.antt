@@ -1,0 +1,6 @@
+mod Lost
+mod Put
+mod Read
+mod Refused
+mod Tracks
+mod Within

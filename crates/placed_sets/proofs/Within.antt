@@ -1,0 +1,52 @@
+-- A run of free tracks is on its volume.
+use Rattle.std.proofs.Common.{◌≡◌, ◌∙◌, ap, sym, ℕ, zero, suc, ◌+◌, ◌-◌, ◌≤◌, ◌<◌, ◌⊎◌, inl, inr}
+use Rattle.std.proofs.Common.{List, [], ◌∷◌, length, true, Some, arith}
+use Rattle.std.proofs.lemmas.Bool.{cases_lt}
+use Rattle.std.proofs.lemmas.Bool.Decides.{nat_tests}
+use Rattle.ckd_track.specs.declared.geometries.Geometry.{Geometry}
+use Rattle.ckd_track.specs.Geometry.{tracks_of}
+use Rattle.ckd_track.specs.declared.model.DriveModel.{DriveModel}
+use Rattle.record_tracks.specs.declared.records.NewRecord.{NewRecord}
+use Rattle.record_tracks.specs.Records.{Areas, all_areas}
+use Rattle.record_tracks.specs.Tracks.{Takes, StandsAt, fitting, fitting_on, left_behind, behind_track}
+use Rattle.volume_labels.specs.declared.fields.Extent.{Extent}
+use Rattle.placed_sets.proofs.Tracks.{none_behind}
+use Rattle.space_allocation.specs.Runs.{is_free, IsFirstRun}
+
+on_volume : (g : Geometry) (extents : List Extent) (m : ℕ) → is_free g extents m ≡ true → m < tracks_of g
+on_volume g extents m is = grind (arith, nat_tests)
+
+pub run_within : (g : Geometry) (extents : List Extent) (tracks first : ℕ) → 1 ≤ tracks → IsFirstRun g extents tracks (Some first)
+    → first + tracks ≤ tracks_of g
+run_within g extents tracks first some run =
+    let last = on_volume g extents (first + (tracks - 1)) (run.0 (tracks - 1) (omega (arith, some))) in
+    omega (arith, last, some)
+
+-- records take a track at least
+pub some_tracks : (model : DriveModel) (records : List NewRecord) (tracks : ℕ) → 1 ≤ length records
+    → Takes model (all_areas records) tracks → 1 ≤ tracks
+some_tracks model [] tracks some takes = absurd (omega (arith, some))
+some_tracks model (r ∷ others) zero some takes =
+    elim (none_behind model (all_areas (r ∷ others)) ∙ takes.all) [ ]
+some_tracks model (r ∷ others) (suc n) some takes = omega arith
+
+-- nothing is left behind more tracks than are taken
+none_left : (model : DriveModel) (areas : List Areas) (tracks k : ℕ) → left_behind model areas tracks ≡ []
+    → left_behind model areas (tracks + k) ≡ []
+unfolding left_behind
+none_left model areas tracks zero all = all
+none_left model areas tracks (suc k) all = ap (behind_track model) (none_left model areas tracks k all)
+
+-- a record that stands on a track stands on one of those that are taken
+pub stands_within : (model : DriveModel) (areas : List Areas) (tracks k track number : ℕ) → Takes model areas tracks
+    → StandsAt model areas k track number → track < tracks
+unfolding fitting
+stands_within model areas tracks k track number takes stands = by (cases_lt track tracks)
+  where
+    by : (track < tracks) ⊎ (tracks ≤ track) → track < tracks
+    by (inl less) = less
+    by (inr more) =
+        let e : tracks + (track - tracks) ≡ track = omega (arith, more) in
+        let none = ap (left_behind model areas) (sym e) ∙ none_left model areas tracks (track - tracks) takes.all in
+        let fit : fitting_on model (left_behind model areas track) ≡ 0 = ap (fitting_on model) none in
+        absurd (omega (arith, fit, stands.first, stands.there))

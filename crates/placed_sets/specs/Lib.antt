@@ -1,0 +1,5 @@
+pub mod Volumes
+pub mod Sets
+pub mod Tables
+pub mod Placed
+pub mod Parts
