@@ -7,3 +7,5 @@ pub mod Spelled
 pub mod Part
 pub mod Reading
 pub mod Parts
+pub mod Forms
+pub mod Last
