@@ -13,7 +13,7 @@ use Rattle.library_records.specs.Library.{directory_areas, member_areas, members
 use Rattle.library_records.specs.LibraryRead.{GoesOnTracks, bytes_of, end_record, IsMemberRead, IsDirectoryRead}
 use Rattle.record_tracks.proofs.Listed.{length-all}
 use Rattle.record_tracks.proofs.Behind.{none_behind, some_fit}
-use Rattle.record_tracks.proofs.Parts.{read_back}
+use Rattle.record_tracks.proofs.Forms.{read_as_data}
 use Rattle.library_records.proofs.Members.{member_data, length-member, member_written}
 use Rattle.library_records.proofs.Members.{directory_written, directory_part, member_part, library_goes}
 
@@ -50,7 +50,7 @@ module _ (model : DriveModel) (l : Library) (goes : GoesOnTracks model l) where
       let part = directory_areas l.directory.now in
       let e : length part ≡ 0 + length part = omega arith in
       let to_here = subst (λ (n : ℕ). StandsAt model (library_areas l) n last its_number) e to in
-      read_back form.Directory model (library_areas l) each part 0 0 1 0 last its_number (directory_part l)
+      read_as_data form.Directory model (library_areas l) each part 0 0 1 0 last its_number (directory_part l)
       (directory_written l.directory.now) first_stands (inr (refl, refl)) to_here g extents slots 512 same (omega (arith, within)) loaded
 
   pub member_read : (m : ℕ) → m < length l.members.now → IsMemberRead model l m
@@ -59,6 +59,6 @@ module _ (model : DriveModel) (l : Library) (goes : GoesOnTracks model l) where
       let part = member_areas l.block_length bytes in
       let e : end_record l m ≡ first_record l m + length part = omega (arith, length-member l.block_length bytes goes.some) in
       let to_here = subst (λ (n : ℕ). StandsAt model (library_areas l) n last its_number) e to in
-      read_back form.Raw model (library_areas l) each part (first_record l m) track number number last its_number (member_part l m there)
+      read_as_data form.Raw model (library_areas l) each part (first_record l m) track number number last its_number (member_part l m there)
       (member_written l.block_length bytes goes.some) from (inl refl) to_here g extents slots most same within loaded
       ∙ ap (λ (xs : List ℕ). ended_by_file xs last) (member_data l.block_length bytes goes.some)
