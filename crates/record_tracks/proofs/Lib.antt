@@ -9,3 +9,4 @@ pub mod Reading
 pub mod Parts
 pub mod Forms
 pub mod Last
+pub mod Whole
