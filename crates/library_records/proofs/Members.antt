@@ -17,6 +17,7 @@ use Rattle.library_records.specs.declared.libraries.Library.{Library}
 use Rattle.library_records.specs.declared.libraries.Member.{Member}
 use Rattle.record_tracks.specs.Records.{Areas, end_of_file, GoesOn}
 use Rattle.record_tracks.specs.ReadBack.{IsWritten, IsPart, data_of}
+use Rattle.record_tracks.proofs.Fitting.{keyless_goes, end_goes}
 use Rattle.library_records.specs.Library.{directory_area, directory_areas, member_area, block_count}
 use Rattle.library_records.specs.Library.{member_areas, with_end, contents, members_areas}
 use Rattle.library_records.specs.Library.{library_areas, first_record}
@@ -119,14 +120,6 @@ small_goes D2314 a key few = record {
       omega (arith, key, few, extra));
 }
 
-member_goes : (model : DriveModel) (bytes : List ℕ) → length bytes ≤ capacity_of model
-    → GoesOn model (record { key_area = []; data_area = bytes })
-member_goes D2311 bytes few = record { key = omega arith; most = omega (arith, few) }
-member_goes D2314 bytes few = record { key = omega arith; most = omega (arith, few) }
-
-end_goes : (model : DriveModel) → GoesOn model end_of_file
-end_goes model = small_goes model end_of_file (omega arith) (omega arith)
-
 with_end_goes : (model : DriveModel) (part : List Areas) → All (GoesOn model) part → All (GoesOn model) (with_end part)
 with_end_goes model part each = All-append (GoesOn model) part (end_of_file ∷ []) each
     (All-cons (GoesOn model) end_of_file [] (end_goes model) (All-nil (GoesOn model)))
@@ -142,7 +135,7 @@ member_all_goes : (model : DriveModel) (size : ℕ) (bytes : List ℕ) → 1 ≤
     → All (GoesOn model) (member_areas size bytes)
 member_all_goes model size bytes some most = All-from_get_or (GoesOn model) (member_areas size bytes) end_of_file (λ k there.
     subst (GoesOn model) (sym (area_is size bytes some k there)) (
-    member_goes model (take size (drop (k * size) bytes)) (omega (arith, length-take size (drop (k * size) bytes), most))))
+    keyless_goes model (take size (drop (k * size) bytes)) (omega (arith, length-take size (drop (k * size) bytes), most))))
 
 members_go : (model : DriveModel) (size : ℕ) (members : List Member) → 1 ≤ size → size ≤ capacity_of model
     → All (GoesOn model) (members_areas size members)

@@ -73,7 +73,10 @@ fn member_block<'a>(bytes: &'a [u8], length: usize, k: usize) -> NewRecord<'a>
 }
 
 // The blocks of a directory.
-fn push_directory<'a>(records: &mut Vec<NewRecord<'a>>, directory: &'a [u8]) -> Result<(), AllocError>
+fn push_directory<'a>(
+    records: &mut Vec<NewRecord<'a>>,
+    directory: &'a [u8],
+) -> Result<(), AllocError>
     ensures { IfOk result (λ _. all_areas records.new.items ≡ all_areas records.old.items ++ directory_areas directory.now) }
 {
     for k in 0..directory.len() / DIRECTORY_BLOCK {

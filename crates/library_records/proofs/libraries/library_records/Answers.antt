@@ -2,7 +2,8 @@ use Rattle.std.proofs.Common.{◌≡◌, ◌∙◌, ap, List, [], ◌∷◌, ◌
 use Rattle.record_tracks.specs.declared.records.NewRecord.{NewRecord}
 use Rattle.record_tracks.specs.Records.{Areas, all_areas, end_of_file}
 use Rattle.library_records.specs.Library.{directory_areas, members_areas, library_areas}
-use Rattle.library_records.proofs.LibraryRead.{blocks_go, each, directory_read, member_read}
+use Rattle.record_tracks.proofs.Listed.{blocks_go}
+use Rattle.library_records.proofs.LibraryRead.{each, directory_read, member_read}
 use Rattle.library_records.proofs.libraries.library_records.Goals as goal
 use Rattle.library_records.proofs.libraries.library_records.Goals.{In_ok-push_members}
 
