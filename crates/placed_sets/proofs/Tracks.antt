@@ -14,7 +14,7 @@ pub none_behind : (model : DriveModel) (areas : List Areas) → areas ≡ left_b
 unfolding left_behind
 none_behind model areas = refl
 
-one_behind : (model : DriveModel) (areas : List Areas) (n : ℕ)
+pub one_behind : (model : DriveModel) (areas : List Areas) (n : ℕ)
     → left_behind model areas (suc n) ≡ behind_track model (left_behind model areas n)
 unfolding left_behind
 one_behind model areas n = refl

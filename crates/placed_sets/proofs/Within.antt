@@ -1,6 +1,7 @@
 -- A run of free tracks is on its volume.
-use Rattle.std.proofs.Common.{◌≡◌, ◌∙◌, ap, sym, ℕ, zero, suc, ◌+◌, ◌-◌, ◌≤◌, ◌<◌, ◌⊎◌, inl, inr}
+use Rattle.std.proofs.Common.{◌≡◌, ◌∙◌, ap, sym, refl, ℕ, zero, suc, ◌+◌, ◌-◌, ◌≤◌, ◌<◌, ◌⊎◌, inl, inr}
 use Rattle.std.proofs.Common.{List, [], ◌∷◌, length, true, Some, arith}
+use Rattle.std.proofs.Math.Seq.{drop-nil}
 use Rattle.std.proofs.lemmas.Bool.{cases_lt}
 use Rattle.std.proofs.lemmas.Bool.Decides.{nat_tests}
 use Rattle.ckd_track.specs.declared.geometries.Geometry.{Geometry}
@@ -10,7 +11,9 @@ use Rattle.record_tracks.specs.declared.records.NewRecord.{NewRecord}
 use Rattle.record_tracks.specs.Records.{Areas, all_areas}
 use Rattle.record_tracks.specs.Tracks.{Takes, StandsAt, fitting, fitting_on, left_behind, behind_track}
 use Rattle.volume_labels.specs.declared.fields.Extent.{Extent}
-use Rattle.placed_sets.proofs.Tracks.{none_behind}
+use Rattle.record_tracks.proofs.Listed.{length-all}
+use Rattle.placed_sets.specs.Sets.{IsLast}
+use Rattle.placed_sets.proofs.Tracks.{none_behind, one_behind}
 use Rattle.space_allocation.specs.Runs.{is_free, IsFirstRun}
 
 on_volume : (g : Geometry) (extents : List Extent) (m : ℕ) → is_free g extents m ≡ true → m < tracks_of g
@@ -25,17 +28,19 @@ run_within g extents tracks first some run =
 -- records take a track at least
 pub some_tracks : (model : DriveModel) (records : List NewRecord) (tracks : ℕ) → 1 ≤ length records
     → Takes model (all_areas records) tracks → 1 ≤ tracks
-some_tracks model [] tracks some takes = absurd (omega (arith, some))
-some_tracks model (r ∷ others) zero some takes =
-    elim (none_behind model (all_areas (r ∷ others)) ∙ takes.all) [ ]
-some_tracks model (r ∷ others) (suc n) some takes = omega arith
+some_tracks model records zero some takes =
+    let none = none_behind model (all_areas records) ∙ takes.all in
+    absurd (omega (arith, some, length-all records, ap length none))
+some_tracks model records (suc n) some takes = omega arith
 
 -- nothing is left behind more tracks than are taken
 none_left : (model : DriveModel) (areas : List Areas) (tracks k : ℕ) → left_behind model areas tracks ≡ []
     → left_behind model areas (tracks + k) ≡ []
-unfolding left_behind
-none_left model areas tracks zero all = all
-none_left model areas tracks (suc k) all = ap (behind_track model) (none_left model areas tracks k all)
+none_left model areas tracks zero all = ap (left_behind model areas) (omega arith) ∙ all
+none_left model areas tracks (suc k) all =
+    let e : tracks + suc k ≡ suc (tracks + k) = omega arith in
+    ap (left_behind model areas) e ∙ one_behind model areas (tracks + k) ∙ ap (behind_track model) (none_left model areas tracks k all)
+    ∙ drop-nil (fitting_on model [])
 
 -- a record that stands on a track stands on one of those that are taken
 pub stands_within : (model : DriveModel) (areas : List Areas) (tracks k track number : ℕ) → Takes model areas tracks
@@ -50,3 +55,10 @@ stands_within model areas tracks k track number takes stands = by (cases_lt trac
         let none = ap (left_behind model areas) (sym e) ∙ none_left model areas tracks (track - tracks) takes.all in
         let fit : fitting_on model (left_behind model areas track) ≡ 0 = ap (fitting_on model) none in
         absurd (omega (arith, fit, stands.first, stands.there))
+
+-- the last of some records stands within two bytes' numbers of tracks
+pub last_within : (model : DriveModel) (areas : List Areas) (tracks count track number : ℕ) → Takes model areas tracks → tracks ≤ 65536
+    → IsLast model areas count track number → track < 65536
+last_within model areas tracks zero track number takes few last = omega (arith, (last.none refl).0)
+last_within model areas tracks (suc k) track number takes few last =
+    omega (arith, few, stands_within model areas tracks (suc k - 1) track number takes (last.some (omega arith)))

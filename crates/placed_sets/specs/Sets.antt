@@ -1,8 +1,8 @@
 -- Where a data set goes on a volume, and what its control block says.
-use Rattle.std.specs.Prelude.{◌≡◌, ◌⊎◌, ℕ, zero, suc, ◌≤◌, ◌<◌, List, length, take, All, Some, None}
+use Rattle.std.specs.Prelude.{◌≡◌, ◌⊎◌, ℕ, ◌-◌, ◌≤◌, ◌<◌, List, length, take, All, Some, None}
 use Rattle.ckd_track.specs.declared.model.DriveModel.{DriveModel}
-use Rattle.record_tracks.specs.Records.{Areas, all_areas, RecordGoesOn}
-use Rattle.record_tracks.specs.Tracks.{Takes, StandsAt, left_behind, balance_behind}
+use Rattle.record_tracks.specs.Records.{Areas, all_areas, RecordGoesOn, balance_behind}
+use Rattle.record_tracks.specs.Tracks.{Takes, StandsAt, left_behind}
 use Rattle.space_allocation.specs.declared.blocks.NewDataSet.{NewDataSet}
 use Rattle.space_allocation.specs.Extents.{extent_of_run}
 use Rattle.space_allocation.specs.Runs.{IsFirstRun, IsApart}
@@ -32,10 +32,11 @@ abbrev pub HasNoRoom : Labelled → (areas : List Areas) → Type 0
 HasNoRoom v areas = (tracks : ℕ) × Takes v.geometry.model areas tracks
     × ((65536 < tracks) ⊎ IsFirstRun v.geometry (taken_extents v) tracks None)
 
--- The last of the first so many records stands on this track, from 0 on, with this number; of none it is number 0 of the first track.
-abbrev pub IsLast : DriveModel → (areas : List Areas) → (count track number : ℕ) → Type 0
-IsLast model areas zero track number = (track ≡ 0) × (number ≡ 0)
-IsLast model areas (suc k) track number = StandsAt model areas k track number
+-- The last of the first so many records stands on this track, from 0 on, with this number, from 1 on; of none it is number 0 of the first
+-- track.
+pub record IsLast (model : DriveModel) (areas : List Areas) (count track number : ℕ) : Type 0 where
+  pub none : count ≡ 0 → (track ≡ 0) × (number ≡ 0)
+  pub some : 1 ≤ count → StandsAt model areas (count - 1) track number
 
 -- What the format 1 block of a data set on these tracks says: the volume's serial number, what its label is to say, the last record and what
 -- its track has left behind it, and the tracks as its one extent.

@@ -45,8 +45,26 @@ pub fn place_records(
     let Ok(mut slot) = vec![in alloc; 0u8; image.geometry().track_size as usize] else {
         return Err(NO_MEMORY);
     };
+    place_with(alloc, image, slot.as_mut_slice(), volume, set)
+}
+
+// The same by this slot, which is that of a track of the image.
+fn place_with(
+    alloc: Global,
+    image: &mut Image<VolumeFile>,
+    slot: &mut [u8],
+    volume: &LabelledVolume,
+    set: &PlacedSet,
+) -> Result<u32, PlaceFault>
+    requires geometry { volume.now.geometry ≡ image.old.geometry }
+    requires size { length slot.old ≡ image.old.geometry.track_size }
+    requires set { CanBePlaced volume.now.geometry.model set.now }
+    ensures same { IsSameImage image.old image.new }
+    ensures placed { IfOk result (λ tracks. GetsSet (labelled volume.now) set.now image.old.slots tracks image.new.slots) }
+    ensures fault { IfErr result (λ e. IsNotPlaced e (labelled volume.now) set.now image.old.slots) }
+{
     let placed = place_set(alloc, volume, set)?;
-    let address = write_set(image, slot.as_mut_slice(), volume, set, &placed)?;
+    let address = write_set(image, slot, volume, set, &placed)?;
     match confirm(alloc, image, volume, &placed.block, address) {
         Ok(()) => Ok(placed.run.tracks),
         Err(fault) => Err(fault),

@@ -5,9 +5,9 @@ ghost use Rattle.ckd_track.specs.Geometry.{tracks_of};
 ghost use Rattle.record_tracks.specs.Records.{all_areas, RecordGoesOn};
 ghost use Rattle.record_tracks.specs.Tracks.{Takes};
 ghost use Rattle.placed_sets.specs.Volumes.{labelled};
-ghost use Rattle.placed_sets.specs.Sets.{areas, GetsTracks, IsNewSet};
+ghost use Rattle.placed_sets.specs.Sets.{areas, CanBePlaced, GetsTracks, IsNewSet};
 ghost use Rattle.space_allocation.specs.Extents.{HasRun};
-ghost use Rattle.placed_sets.specs.Parts.{CanBePlaced, IsPlaced, IsUnplaced};
+ghost use Rattle.placed_sets.specs.Parts.{IsPlaced, IsUnplaced};
 
 use crate::fault::{PlaceFault, PlaceRefusal, refused};
 use crate::volumes::{LabelledVolume, taken_extents};

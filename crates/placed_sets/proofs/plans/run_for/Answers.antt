@@ -37,3 +37,8 @@ returns-clause-fault c =
     let none = subst (λ (x : List Extent). IsFirstRun g x c.tracks_needed-needed.result None) all c.in-None.ensures.first in
     subst (λ (e : PlaceFault). IsUnplaced e (labelled c.args.volume.now) (all_areas c.args.records.now)) (sym c.refused-in-None.ensures)
     (c.tracks_needed-needed.result, c.tracks_needed-needed.ensures.tracks, inr none)
+
+pub free_run-requires : goal.free_run-requires
+free_run-requires c =
+    some_tracks c.args.volume.now.geometry.model c.args.records.now c.tracks_needed-needed.result c.requires.some
+    c.tracks_needed-needed.ensures.tracks

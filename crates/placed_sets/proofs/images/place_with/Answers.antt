@@ -6,15 +6,15 @@ use Rattle.placed_sets.specs.Placed.{HasSet}
 use Rattle.placed_sets.specs.Parts.{IsUnseen}
 use Rattle.placed_sets.proofs.Put.{put}
 use Rattle.placed_sets.proofs.Refused.{unplaced, unlisted, unseen}
-use Rattle.placed_sets.proofs.images.place_records.Goals as goal
+use Rattle.placed_sets.proofs.images.place_with.Goals as goal
 
-pub returns-in-Ok-confirm : goal.returns-in-Ok-confirm
-returns-in-Ok-confirm c =
+pub returns-in-Ok : goal.returns-in-Ok
+returns-in-Ok c =
     let v = labelled c.args.volume.now in
     let p = c.in_ok-placed.placed in
     let now = c.write_set.new.image.slots in
     let has = subst (λ (g : Geometry). (i : ℕ) × HasSet v (contents_of g now) p.block c.in_ok-address.address i)
-    (c.in_ok-address.ensures.same.geometry ∙ sym c.requires.geometry) c.in-Ok-confirm.ensures.has in
+    (c.in_ok-address.ensures.same.geometry ∙ sym c.requires.geometry) c.in-Ok.ensures.has in
     record {
       same = c.in_ok-address.ensures.same;
       placed = put v c.args.set.now p c.args.image.now.slots now c.in_ok-placed.ensures.placed c.in_ok-address.address
@@ -36,16 +36,16 @@ returns-in_err-address c =
     c.in_err-address.field-0.0 c.in_err-address.ensures.fault in
     search rules
 
-pub returns-in-Err-confirm : goal.returns-in-Err-confirm
-returns-in-Err-confirm c =
+pub returns-in-Err : goal.returns-in-Err
+returns-in-Err c =
     let v = labelled c.args.volume.now in
     let p = c.in_ok-placed.placed in
     let now = c.write_set.new.image.slots in
-    let why = subst (λ (g : Geometry). IsUnseen c.in-Err-confirm.fault v (contents_of g now) p.block c.in_ok-address.address)
-    (c.in_ok-address.ensures.same.geometry ∙ sym c.requires.geometry) c.in-Err-confirm.ensures.fault in
+    let why = subst (λ (g : Geometry). IsUnseen c.in-Err.fault v (contents_of g now) p.block c.in_ok-address.address)
+    (c.in_ok-address.ensures.same.geometry ∙ sym c.requires.geometry) c.in-Err.ensures.fault in
     record {
       same = c.in_ok-address.ensures.same;
       placed = tt;
       fault = unseen v c.args.set.now c.args.image.now.slots p c.in_ok-placed.ensures.placed c.in_ok-address.address now
-          c.in_ok-address.ensures.written c.in-Err-confirm.fault why;
+          c.in_ok-address.ensures.written c.in-Err.fault why;
     }
