@@ -2,11 +2,11 @@
 
 use crate::commands::{NO_PATH, wrong};
 use crate::listings::read_paths;
-use crate::options::{AS_FAR, ArgKind, ArgRow, CommandRow, FILE, JSON, Value, WORDS};
-use crate::record_words::{BLOCK_LENGTH, FORMAT, RECORD_LENGTH, read_given};
+use crate::options::{AS_FAR, ArgKind, ArgRow, CommandRow, FILE, JSON, Value, WITH_LENGTHS, WORDS};
+use crate::record_words::{BLOCK_LENGTH, FORMAT, RECORD_LENGTH, read_form, read_given};
 use crate::requests::{
-    ExtractedSet, ExtractedTracks, ExtractedVolume, ListedLibrary, PrintedVolume, Request, SetName,
-    WordFault,
+    ExtractedSet, ExtractedTracks, ExtractedVolume, FileForm, ListedLibrary, PrintedVolume,
+    Request, SetName, WordFault,
 };
 use clap::ArgMatches;
 use std::alloc::Global;
@@ -19,7 +19,7 @@ const NO_NAME: &str =
 
 const RAW_MEMBER: &str = "error: --raw takes the tracks of a data set, and of no member\n";
 
-const RAW_TEXT: &str = "error: --raw goes with neither --text nor --all\n";
+const RAW_TEXT: &str = "error: --raw goes with neither --text nor --with-lengths nor --all\n";
 
 const ALL_JSON: &str = "error: --json goes with --all and with --list\n";
 
@@ -61,8 +61,9 @@ pub(crate) const COMMAND: CommandRow = CommandRow {
         ArgRow {
             id: "text",
             help: "writes records as lines of text, from EBCDIC; without it, blocks as they stand",
-            kind: ArgKind::Flag,
+            kind: ArgKind::FlagWithout(&["with-lengths"]),
         },
+        WITH_LENGTHS,
         FORMAT,
         RECORD_LENGTH,
         BLOCK_LENGTH,
@@ -89,11 +90,11 @@ pub(crate) fn read<'a>(alloc: Global, options: &ArgMatches<'a>) -> Result<Reques
     if options.get_flag("list") {
         return read_list(alloc, options, words);
     }
-    let is_text = options.get_flag("text");
+    let form = read_form(options);
     let json = options.get_flag("json");
     let is_raw = options.get_flag("raw");
     let as_far = options.get_flag("as-far-as-it-goes");
-    if is_raw && (is_text || options.get_str("all").is_some()) {
+    if is_raw && (form != FileForm::Blocks || options.get_str("all").is_some()) {
         return Err(wrong(alloc, RAW_TEXT));
     }
     let given = read_given(alloc, options)?;
@@ -102,7 +103,7 @@ pub(crate) fn read<'a>(alloc: Global, options: &ArgMatches<'a>) -> Result<Reques
             paths: read_paths(alloc, words)?,
             as_far,
             folder,
-            is_text,
+            form,
             json,
         }));
     }
@@ -117,7 +118,7 @@ pub(crate) fn read<'a>(alloc: Global, options: &ArgMatches<'a>) -> Result<Reques
         as_far,
         name,
         target: options.get_str("to"),
-        is_text,
+        form,
         given,
     };
     if is_raw {
@@ -132,7 +133,7 @@ fn read_list<'a>(
     options: &ArgMatches<'a>,
     words: &[&'a str],
 ) -> Result<Request<'a>, WordFault> {
-    if options.get_flag("text")
+    if read_form(options) != FileForm::Blocks
         || options.get_flag("raw")
         || options.get_str("all").is_some()
         || options.get_str("to").is_some()
@@ -163,7 +164,7 @@ fn read_raw<'a>(alloc: Global, set: ExtractedSet<'a>) -> Result<Request<'a>, Wor
         as_far,
         name,
         target,
-        is_text: _,
+        form: _,
         given: _,
     } = set;
     if name.member.is_some() {

@@ -3,9 +3,9 @@
 use crate::changes::REPLACE;
 use crate::commands::wrong;
 use crate::listings::read_paths;
-use crate::options::{ArgKind, ArgRow, CommandRow, FILE, Value, WORDS};
-use crate::record_words::read_attributes;
-use crate::requests::{LoadedFile, Request, WordFault};
+use crate::options::{ArgKind, ArgRow, CommandRow, FILE, Value, WITH_LENGTHS, WORDS};
+use crate::record_words::{read_attributes, read_form, read_key_length};
+use crate::requests::{FileForm, LoadedFile, LoadedFolder, Request, WordFault};
 use clap::ArgMatches;
 use std::alloc::Global;
 
@@ -15,20 +15,27 @@ const PATHS_AND_NAME: &str = "WORD";
 const NO_NAME: &str =
     "error: load takes the files of an image, and behind them the name of a data set\n";
 
-const NO_SOURCE: &str = "error: load takes --from\n";
+const NO_SOURCE: &str = "error: load takes --from or --all\n";
+
+const ALL_ALONE: &str = "\
+error: --all goes with --text, --with-lengths and --replace alone
+What a data set is stands in the file data_sets.txt of the folder.
+";
+
+const KEYS_APART: &str = "error: --key-length goes with --with-lengths\n";
 
 /// The command, with its words.
 pub(crate) const COMMAND: CommandRow = CommandRow {
     name: "load",
-    about: "Puts the blocks of a file onto a volume as a new data set",
+    about: "Puts a file onto a volume as a new data set, or the files of a folder",
     usage: Some(
-        "dasd load [OPTIONS] --from FILE --record-format FORMAT --block-length BYTES PATH.. NAME",
+        "dasd load [OPTIONS] --from FILE --record-format FORMAT --block-length BYTES PATH.. NAME\n       dasd load [OPTIONS] --all DIR PATH..",
     ),
     after_help: "Example: dasd load pack.ckd TEST.CARDS --from cards.bin --record-format FB --record-length 80 --block-length 3120",
     args: &[
         ArgRow {
             id: PATHS_AND_NAME,
-            help: "the files of an image, and behind them the name of the new data set",
+            help: "the files of an image, and behind them the name of the new data set; with --all no name",
             kind: WORDS,
         },
         ArgRow {
@@ -36,6 +43,20 @@ pub(crate) const COMMAND: CommandRow = CommandRow {
             help: "the file whose bytes are the data set's blocks, one behind another",
             kind: ArgKind::Valued(FILE),
         },
+        ArgRow {
+            id: "all",
+            help: "puts all data sets of this folder onto the volume, of which its file data_sets.txt tells, as extract --all writes them",
+            kind: ArgKind::Valued(Value {
+                name: "DIR",
+                ..FILE
+            }),
+        },
+        ArgRow {
+            id: "text",
+            help: "a file has lines of text, each of which is a record of F or FB, in EBCDIC with blanks behind it",
+            kind: ArgKind::FlagWithout(&["with-lengths"]),
+        },
+        WITH_LENGTHS,
         ArgRow {
             id: "record-format",
             help: "the record format: F, FB, FS, FBS, V, VB, VS, VBS or U",
@@ -60,13 +81,24 @@ pub(crate) const COMMAND: CommandRow = CommandRow {
                 ..FILE
             }),
         },
+        ArgRow {
+            id: "key-length",
+            help: "with --with-lengths, the length of keys in bytes",
+            kind: ArgKind::Valued(Value {
+                name: "BYTES",
+                ..FILE
+            }),
+        },
         REPLACE,
     ],
 };
 
-/// What it is asked: the last word is the name, and all before it are paths.
+/// What it is asked: the last word is the name, and all before it are paths; with `--all` all are paths.
 pub(crate) fn read<'a>(alloc: Global, options: &ArgMatches<'a>) -> Result<Request<'a>, WordFault> {
     let words = options.get_strs(PATHS_AND_NAME).unwrap_or(&[]);
+    if let Some(folder) = options.get_str("all") {
+        return read_folder(alloc, options, words, folder);
+    }
     let (paths, name) = match words {
         [paths @ .., name] if !paths.is_empty() => (paths, *name),
         _ => return Err(wrong(alloc, NO_NAME)),
@@ -74,11 +106,43 @@ pub(crate) fn read<'a>(alloc: Global, options: &ArgMatches<'a>) -> Result<Reques
     let Some(source) = options.get_str("from") else {
         return Err(wrong(alloc, NO_SOURCE));
     };
+    let form = read_form(options);
+    let key_length = read_key_length(alloc, options)?;
+    if key_length != 0 && form != FileForm::WithLengths {
+        return Err(wrong(alloc, KEYS_APART));
+    }
     Ok(Request::Load(LoadedFile {
         paths: read_paths(alloc, paths)?,
         replaces: options.get_flag("replace"),
         name,
         source,
+        form,
         attributes: read_attributes(alloc, options)?,
+        key_length,
+    }))
+}
+
+// A folder.
+fn read_folder<'a>(
+    alloc: Global,
+    options: &ArgMatches<'a>,
+    words: &[&'a str],
+    folder: &'a str,
+) -> Result<Request<'a>, WordFault> {
+    let others = [
+        "from",
+        "record-format",
+        "record-length",
+        "block-length",
+        "key-length",
+    ];
+    if others.iter().any(|id| options.get_str(id).is_some()) {
+        return Err(wrong(alloc, ALL_ALONE));
+    }
+    Ok(Request::LoadAll(LoadedFolder {
+        paths: read_paths(alloc, words)?,
+        replaces: options.get_flag("replace"),
+        folder,
+        form: read_form(options),
     }))
 }

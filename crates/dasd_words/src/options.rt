@@ -88,6 +88,13 @@ pub(crate) const AS_FAR: ArgRow = ArgRow {
     kind: ArgKind::Flag,
 };
 
+/// The option for files that keep the blocks of a data set apart, and their keys.
+pub(crate) const WITH_LENGTHS: ArgRow = ArgRow {
+    id: "with-lengths",
+    help: "each block stands in the file behind its lengths and its key: a byte 1, the length of the key in a byte, that of the data in two",
+    kind: ArgKind::Flag,
+};
+
 /// The option of each command, and of the program itself, for more about a fault.
 pub(crate) const VERBOSE: ArgRow = ArgRow {
     id: "verbose",

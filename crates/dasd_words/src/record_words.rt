@@ -2,7 +2,7 @@
 
 use crate::commands::wrong;
 use crate::options::{ArgKind, ArgRow, FILE, Value, not_taken};
-use crate::requests::WordFault;
+use crate::requests::{FileForm, WordFault};
 use clap::ArgMatches;
 use record_formats::{AttributeFault, RecordAttributes, layout_given};
 use std::alloc::Global;
@@ -43,6 +43,8 @@ pub(crate) const BLOCK_LENGTH: ArgRow = ArgRow {
 const FORMAT_RULE: &str = "F, FB, FS, FBS, V, VB, VS, VBS or U";
 
 const LENGTH_RULE: &str = "a number of bytes from 1 to 65535";
+
+const KEY_LENGTH_RULE: &str = "a number of bytes from 1 to 255";
 
 const NEEDS_TEXT: &str = "error: --record-format goes with --text\n";
 
@@ -119,6 +121,28 @@ pub(crate) fn read_attributes(
         record_length,
         block_length,
     })
+}
+
+/// What a file has of a data set.
+pub(crate) fn read_form(options: &ArgMatches) -> FileForm {
+    if options.get_flag("text") {
+        FileForm::Text
+    } else if options.get_flag("with-lengths") {
+        FileForm::WithLengths
+    } else {
+        FileForm::Blocks
+    }
+}
+
+/// The length of keys that words give; 0 where they give none.
+pub(crate) fn read_key_length(alloc: Global, options: &ArgMatches) -> Result<u8, WordFault> {
+    let Some(word) = options.get_str("key-length") else {
+        return Ok(0);
+    };
+    match length_of(word).and_then(|length| u8::try_from(length).ok()) {
+        Some(length) => Ok(length),
+        None => Err(not_taken(alloc, "key-length", KEY_LENGTH_RULE, word)),
+    }
 }
 
 // The bits of a label that a record format is written as (System Control Blocks, DS1RECFM).

@@ -105,6 +105,8 @@ pub enum Request<'a> {
     Relabel(RelabelledVolume<'a>),
     /// Put a data set onto a volume.
     Load(LoadedFile<'a>),
+    /// Files of a folder are put onto a volume as data sets and libraries.
+    LoadAll(LoadedFolder<'a>),
     /// Say in words what a number means.
     Explain(Noted),
     /// Print the deck of a text in words, which is the file at this path, or standard input.
@@ -205,8 +207,8 @@ pub struct ExtractedSet<'a> {
     pub name: SetName<'a>,
     /// The new file for it; none is standard output.
     pub target: Option<&'a str>,
-    /// Whether records are written as lines of text; if not, blocks are as they stand.
-    pub is_text: bool,
+    /// What is written of it.
+    pub form: FileForm,
     /// The record format and lengths that are given for lines of text.
     pub given: Option<RecordAttributes>,
 }
@@ -233,8 +235,8 @@ pub struct ExtractedVolume<'a> {
     pub as_far: bool,
     /// The folder of the new files.
     pub folder: &'a str,
-    /// Whether records are written as lines of text; if not, blocks are as they stand.
-    pub is_text: bool,
+    /// What is written of it.
+    pub form: FileForm,
     /// Whether each line of what is printed is an object of JSON.
     pub json: bool,
 }
@@ -276,7 +278,7 @@ pub struct RelabelledVolume<'a> {
     pub owner: Option<[u8; 10]>,
 }
 
-/// A file whose bytes are the blocks of a data set that is put onto a volume.
+/// A file that is put onto a volume as a data set.
 #[derive(Drop)]
 pub struct LoadedFile<'a> {
     /// The files of the image.
@@ -287,8 +289,36 @@ pub struct LoadedFile<'a> {
     pub name: &'a str,
     /// The path of the file.
     pub source: &'a str,
+    /// What the file has.
+    pub form: FileForm,
     /// The format of its records, and the lengths of these and of blocks.
     pub attributes: RecordAttributes,
+    /// The length of its keys, in bytes.
+    pub key_length: u8,
+}
+
+/// A folder whose files are put onto a volume as data sets and libraries.
+#[derive(Drop)]
+pub struct LoadedFolder<'a> {
+    /// The files of the image.
+    pub paths: Vec<&'a str>,
+    /// Whether a new file takes the place of each that changed; if not, each keeps its place.
+    pub replaces: bool,
+    /// The folder.
+    pub folder: &'a str,
+    /// What its files have.
+    pub form: FileForm,
+}
+
+/// What a file has of a data set or of a member.
+#[derive(Clone, Copy, PartialEq, Eq)]
+pub enum FileForm {
+    /// Its blocks as they stand, one behind another.
+    Blocks,
+    /// Each block behind its lengths and its key.
+    WithLengths,
+    /// Its records as lines of text, in UTF-8.
+    Text,
 }
 
 /// The name of a data set or of a member of one.

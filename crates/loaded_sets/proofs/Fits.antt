@@ -1,56 +1,60 @@
--- A volume with nothing wrong that gets a data set, or does not.
-use Rattle.std.proofs.Common.{◌≡◌, ◌∙◌, ap, sym, refl, ℕ, List, [], Result, Ok, Err, IfOk, IfErr, inl, inr}
+-- A volume that gets a data set, or does not.
+use Rattle.std.proofs.Common.{◌≡◌, ◌∙◌, ap, sym, refl, ℕ, List, [], Result, Ok, Err, IfOk, IfErr, inl, inr, None, Option}
 use Rattle.ckd_track.specs.declared.geometries.Geometry.{Geometry}
 use Rattle.std.specs.List.{position}
 use Rattle.volume_contents.specs.declared.blocks.Block.{Block}
+use Rattle.volume_contents.specs.declared.findings.Finding.{Finding}
 use Rattle.volume_contents.specs.declared.reading.Contents.{Contents}
 use Rattle.volume_contents.specs.Sets.{has_name}
 use Rattle.volume_contents.specs.Contents.{Said, contents_of, SaysOf as IsSaid}
 use Rattle.volume_changes.specs.Volumes.{said_in}
+use Rattle.placed_sets.specs.declared.fault.PlaceFault.{PlaceFault}
+use Rattle.placed_sets.specs.declared.fault.PlaceFault.TheVariants as place
+use Rattle.placed_sets.specs.declared.fault.PlaceRefusal.{PlaceRefusal}
+use Rattle.placed_sets.specs.Volumes.{Labelled, SaysOf, IsUnfit, all_findings, unfit_of, unfit_on_label, unfit_on_table, unfit_by}
 use Rattle.loaded_sets.specs.declared.fault.LoadFault.{LoadFault}
 use Rattle.loaded_sets.specs.declared.fault.LoadFault.TheVariants as fault
-use Rattle.loaded_sets.specs.declared.plans.LoadedSet.{LoadedSet}
-use Rattle.loaded_sets.specs.Volumes.{Labelled, SaysOf, all_findings, layout_on, layout_on_label, layout_on_table, layout_unless_wrong}
-use Rattle.loaded_sets.specs.Volumes.{layout_unless_taken}
+use Rattle.loaded_sets.specs.declared.contents.LoadedSet.{LoadedSet}
+use Rattle.loaded_sets.specs.Contents.{blocks_on, blocks_unless_unfit, blocks_unless_taken}
 use Rattle.loaded_sets.specs.Loaded.{Loaded, IsNotLoaded}
-use Rattle.loaded_sets.specs.Parts.{layout_for, IsPut, IsNotPut, IsUnfit}
+use Rattle.loaded_sets.specs.Parts.{blocks_for, placing_fault, IsPut, IsNotPut}
 
 pub same_said : (s : Said) (c : Contents) → IsSaid s c → said_in c ≡ s
 same_said s c is = rw (is.label, is.table, is.blocks, is.findings) refl
 
-module _ (g : Geometry) (s : Said) (v : Labelled) (says : SaysOf g s v) (nothing : all_findings g s ≡ []) (set : LoadedSet) where
-  pub fits : layout_on g set s ≡ layout_for v set
-  fits =
-      ap (layout_on_label g set s) says.label ∙ ap (layout_on_table g set s) says.table
-      ∙ ap (layout_unless_wrong g.model set s.blocks) nothing
-      ∙ ap (λ (b : List Block). layout_unless_taken g.model set (position (has_name set.name) b)) says.blocks
-      ∙ ap (λ (h : Geometry). layout_unless_taken h.model set (position (has_name set.name) v.blocks)) (sym says.geometry)
+module _ (g : Geometry) (s : Said) (v : Labelled) (says : SaysOf g s v) (nothing : all_findings g s ≡ []) where
+  fit : unfit_of g s ≡ None
+  fit = ap (unfit_on_label g s) says.label ∙ ap (unfit_on_table g s) says.table ∙ ap unfit_by nothing
 
-pub loaded : (g : Geometry) (before : List (List ℕ)) (v : Labelled) → SaysOf g (contents_of g before) v
-    → all_findings g (contents_of g before) ≡ []
-    → (set : LoadedSet) (tracks : ℕ) (now : List (List ℕ)) → IsPut v set before tracks now → Loaded set g before tracks now
-loaded g before v says nothing set tracks now (layout, is, it) = record {
-  volume = v;
-  says = says;
-  layout = layout;
-  fits = fits g (contents_of g before) v says nothing set ∙ is;
-  loaded = it;
-}
+  pub fits : (set : LoadedSet) → blocks_on g set s ≡ blocks_for v set
+  fits set =
+      ap (blocks_unless_unfit g.model set s.blocks) fit
+      ∙ ap (λ (b : List Block). blocks_unless_taken g.model set (position (has_name set.name) b)) says.blocks
+      ∙ ap (λ (h : Geometry). blocks_unless_taken h.model set (position (has_name set.name) v.blocks)) (sym says.geometry)
 
-pub not_put : (g : Geometry) (slots : List (List ℕ)) (v : Labelled) → SaysOf g (contents_of g slots) v
-    → all_findings g (contents_of g slots) ≡ []
-    → (set : LoadedSet) (f : LoadFault) → IsNotPut f v set slots → IsNotLoaded f set g slots
-not_put g slots v says nothing set (fault.Refused r) (inl why) = inl (fits g (contents_of g slots) v says nothing set ∙ why)
-not_put g slots v says nothing set (fault.Refused r) (inr (layout, is, why)) =
-    inr (v, layout, record { says = says; fits = fits g (contents_of g slots) v says nothing set ∙ is }, why)
-not_put g slots v says nothing set (fault.Job f) why = why
-not_put g slots v says nothing set (fault.Save f) why = why
+module _ (g : Geometry) (before : List (List ℕ)) (v : Labelled) (says : SaysOf g (contents_of g before) v) where
+  module _ (nothing : all_findings g (contents_of g before) ≡ []) (set : LoadedSet) where
+    pub loaded : (tracks : ℕ) (now : List (List ℕ)) → IsPut v set before tracks now → Loaded set g before tracks now
+    loaded tracks now (b, is, it) = record {
+      volume = v;
+      says = says;
+      blocks = b;
+      fits = fits g (contents_of g before) v says nothing set ∙ is;
+      loaded = it;
+    }
 
-pub unfit : (g : Geometry) (slots : List (List ℕ)) (set : LoadedSet) (f : LoadFault) → IsUnfit f g (contents_of g slots)
-    → IsNotLoaded f set g slots
-unfit g slots set (fault.Refused r) why = inl (why set)
-unfit g slots set (fault.Job f) why = why
-unfit g slots set (fault.Save f) why = why
+    pub not_put : (f : LoadFault) → IsNotPut f v set before → IsNotLoaded f set g before
+    not_put (fault.Refused r) (inl why) = inl (fits g (contents_of g before) v says nothing set ∙ why)
+    not_put (fault.Refused r) (inr (b, p, is, it, why)) =
+        inr (v, b, p, record { says = says; fits = fits g (contents_of g before) v says nothing set ∙ is; is = it }, why)
+    not_put (fault.Job f) why = why
+    not_put (fault.Save f) why = why
+
+-- a volume that gets no data set at all does not get this one
+pub unfit : (g : Geometry) (slots : List (List ℕ)) (set : LoadedSet) (f : PlaceFault) → IsUnfit f g (contents_of g slots)
+    → IsNotLoaded (placing_fault f) set g slots
+unfit g slots set (place.Refused r) why = inl (ap (blocks_unless_unfit g.model set (contents_of g slots).blocks) why)
+unfit g slots set (place.Job f) why = why
 
 -- what is known where a call went well, or failed
 pub if_ok : (r : Result ℕ LoadFault) (P Q : ℕ → Type 0) → ((n : ℕ) → P n → Q n) → IfOk r P → IfOk r Q

@@ -3,7 +3,7 @@ use Rattle.std.proofs.Common.{refl, List, ℕ, Result, Ok, Err, inr}
 use Rattle.counted_io.specs.Streams.{WritesWhole}
 use Rattle.counted_io.specs.declared.writing.WriteFault.{WriteFault}
 use Rattle.changed_volumes.specs.Files.{Around}
-use Rattle.loaded_sets.specs.declared.plans.LoadedSet.{LoadedSet}
+use Rattle.loaded_sets.specs.declared.contents.LoadedSet.{LoadedSet}
 use Rattle.loaded_sets.specs.Loads.{LoadsFiles, TellsLoad, loaded_line}
 use Rattle.loaded_sets.specs.Parts.{written_line}
 

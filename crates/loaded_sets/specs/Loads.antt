@@ -11,7 +11,6 @@ use Rattle.dasd_jobs.specs.Written.{Replaced}
 use Rattle.dasd_jobs.specs.declared.faults.JobFault.{JobFault}
 use Rattle.dasd_jobs.specs.declared.faults.JobFault.TheVariants as job
 use Rattle.volume_changes.specs.Names.{is_set_name}
-use Rattle.volume_changes.specs.declared.refusal.Refusal.TheVariants.{NoName}
 use Rattle.changed_volumes.specs.Changes.{IsSameImage}
 use Rattle.changed_volumes.specs.Files.{Around, ReadsImage, Hinders}
 use Rattle.loaded_sets.specs.Loaded.{Loaded, Refuses}
@@ -19,7 +18,7 @@ use Rattle.loaded_sets.specs.declared.fault.LoadFault.{LoadFault}
 use Rattle.loaded_sets.specs.declared.fault.LoadFault.TheVariants as fault
 use Rattle.loaded_sets.specs.declared.fault.LoadRefusal.{LoadRefusal}
 use Rattle.loaded_sets.specs.declared.fault.LoadRefusal.TheVariants as refusal
-use Rattle.loaded_sets.specs.declared.plans.LoadedSet.{LoadedSet}
+use Rattle.loaded_sets.specs.declared.contents.LoadedSet.{LoadedSet}
 use Rattle.loaded_sets.specs.declared.saves.NewSet.{NewSet}
 
 -- what is printed of a data set with so many tracks
@@ -67,7 +66,7 @@ TellsLoad (Err f) set name paths before now =
 
 -- why no volume is opened: the name is none, or the file with the blocks is not read
 abbrev pub IsUnread : LoadFault → (name : List ℕ) → Type 0
-IsUnread (fault.Refused (refusal.Volume NoName)) name = is_set_name name ≡ false
+IsUnread (fault.Refused refusal.NoName) name = is_set_name name ≡ false
 IsUnread (fault.Job job.OutOfMemory) name = is_set_name name ≡ true
 IsUnread (fault.Job job.Read) name = is_set_name name ≡ true
 IsUnread f name = ⊥
@@ -77,8 +76,9 @@ IsUnread f name = ⊥
 pub record IsAsked (asked : NewSet) (set : LoadedSet) (before now : Around) : Type 0 where
   pub named : is_set_name asked.name.now ≡ true
   pub name : Names asked.name.now set.name
-  pub attributes : set.attributes ≡ asked.attributes
-  pub bytes : ReadsFront asked.source.now 9560245800 set.bytes.now before.opened now.opened
+  pub form : set.form ≡ asked.form
+  pub source : set.source ≡ asked.source
+  pub bytes : ReadsFront asked.path.now 9560245800 set.bytes.now before.opened now.opened
   pub kept : now.written ≡ before.written
   pub silent : now.printed ≡ before.printed
 

@@ -8,14 +8,13 @@ ghost use Rattle.loaded_sets.specs.Loads.{LoadsSet, LoadsFiles, TellsLoad};
 use crate::fault::{LoadFault, LoadRefusal, of_file, of_line, refused};
 use crate::images::load_image;
 use crate::lines::write_loaded;
-use crate::plans::LoadedSet;
+use crate::contents::{LoadedSet, SetForm, SourceForm};
 use changed_volumes::{ChangedVolume, save_plan};
 use counted_io::Counted;
 use dasd_jobs::{ImageFiles, read_image, write_back};
-use record_formats::RecordAttributes;
 use std::alloc::Global;
 use std::io::Write;
-use volume_changes::{Refusal, new_set_name};
+use volume_changes::new_set_name;
 
 /// More bytes than a volume has room for: of 65,535 cylinders with 20 heads, whose tracks have 7,294 bytes each.
 const MOST_BYTES: usize = 9_560_245_800;
@@ -25,10 +24,12 @@ const MOST_BYTES: usize = 9_560_245_800;
 pub struct NewSet<'a> {
     /// Its name.
     pub name: &'a str,
-    /// The path of the file that has its blocks, one behind another.
-    pub source: &'a str,
-    /// The format of its records, and the lengths of these and of blocks.
-    pub attributes: RecordAttributes,
+    /// The path of the file that has its blocks or its lines.
+    pub path: &'a str,
+    /// What that file has.
+    pub source: SourceForm,
+    /// What its label is to say.
+    pub form: SetForm,
 }
 
 /// Puts a data set onto the volume in files, saves the files that changed, and prints what was loaded. The files of the volume are locked
@@ -60,16 +61,17 @@ pub fn load_set<F: ImageFiles, W: Write>(
     ensures flushed { OnOk result (IsFlushed (seen_by W.contents writer.new)) }
 {
     let Some(name) = new_set_name(asked.name) else {
-        return Err(refused(LoadRefusal::Volume(Refusal::NoName)));
+        return Err(refused(LoadRefusal::NoName));
     };
-    let bytes = match files.read(alloc, asked.source, MOST_BYTES) {
+    let bytes = match files.read(alloc, asked.path, MOST_BYTES) {
         Ok(bytes) => bytes,
         Err(fault) => return Err(of_file(fault)),
     };
     let set = LoadedSet {
         name,
+        form: asked.form,
+        source: asked.source,
         bytes: bytes.as_slice(),
-        attributes: asked.attributes,
     };
     load_and_tell(alloc, files, writer, volume, (&set, asked.name))
 }

@@ -1,5 +1,5 @@
 use Rattle.std.proofs.Common.{◌∙◌}
-use Rattle.loaded_sets.proofs.Refused.{not_loaded, read_behind, saved}
+use Rattle.loaded_sets.proofs.Read.{not_loaded, read_behind, saved}
 use Rattle.loaded_sets.proofs.saves.load_files.Goals as goal
 
 -- the image that was read gets no data set

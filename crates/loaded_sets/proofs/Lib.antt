@@ -1,0 +1,4 @@
+mod Fits
+mod Placed
+mod Read
+mod Told

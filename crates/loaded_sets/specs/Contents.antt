@@ -1,0 +1,144 @@
+-- What a file has for a data set, or why it has none.
+use Rattle.std.specs.Prelude.{◌≡◌, ℕ, zero, suc, ◌==◌, if◌then◌else◌, List, Option, Some, None, Result, Ok, Err}
+use Rattle.std.specs.List.{position}
+use Rattle.ckd_track.specs.declared.model.DriveModel.{DriveModel}
+use Rattle.ckd_track.specs.declared.geometries.Geometry.{Geometry}
+use Rattle.data_sets.specs.declared.records.RecordForm.{RecordForm}
+use Rattle.data_sets.specs.declared.records.RecordForm.TheVariants as form
+use Rattle.data_set_blocks.specs.declared.blocks.Cut.{Cut}
+use Rattle.data_set_blocks.specs.declared.blocks.Cut.TheVariants as cut
+use Rattle.data_set_blocks.specs.declared.faults.BlockFault.{BlockFault}
+use Rattle.data_set_blocks.specs.Blocks.{cut_by}
+use Rattle.data_set_blocks.specs.Faults.{block_fault_of}
+use Rattle.record_formats.specs.declared.layouts.AttributeFault.{AttributeFault}
+use Rattle.record_formats.specs.declared.layouts.Layout.{Layout}
+use Rattle.record_formats.specs.declared.layouts.RecordAttributes.{RecordAttributes}
+use Rattle.record_formats.specs.Layouts.{layout_given}
+use Rattle.text_records.specs.declared.faults.TextFault.{TextFault}
+use Rattle.text_records.specs.declared.faults.TextFault.TheVariants as text
+use Rattle.text_records.specs.Records.{records_of}
+use Rattle.volume_contents.specs.declared.blocks.Block.{Block}
+use Rattle.volume_contents.specs.Contents.{Said}
+use Rattle.volume_contents.specs.Sets.{has_name}
+use Rattle.changed_volumes.specs.Changes.{IsHindered}
+use Rattle.placed_sets.specs.declared.fault.PlaceRefusal.{PlaceRefusal}
+use Rattle.placed_sets.specs.declared.plans.SetLabel.{SetLabel}
+use Rattle.placed_sets.specs.Volumes.{unfit_of}
+use Rattle.loaded_sets.specs.declared.contents.LoadedSet.{LoadedSet}
+use Rattle.loaded_sets.specs.declared.contents.SetForm.{SetForm}
+use Rattle.loaded_sets.specs.declared.contents.SourceForm.{SourceForm}
+use Rattle.loaded_sets.specs.declared.contents.SourceForm.TheVariants as source
+use Rattle.loaded_sets.specs.declared.fault.LoadFault.{LoadFault}
+use Rattle.loaded_sets.specs.declared.fault.LoadFault.TheVariants as fault
+use Rattle.loaded_sets.specs.declared.fault.LoadRefusal.{LoadRefusal}
+use Rattle.loaded_sets.specs.declared.fault.LoadRefusal.TheVariants as refusal
+
+-- a label that says nothing of its records
+abbrev pub silent : RecordAttributes
+silent = record { format = 0; record_length = 0; block_length = 0 }
+
+-- how the records of a data set lie in its blocks, by what is given of it
+abbrev pub layout_of_set : SetForm → Result Layout AttributeFault
+layout_of_set f = layout_given silent f.attributes
+
+-- The length of records that a label says: of fixed ones their own; of variable ones what is given, or 0; of undefined ones 0.
+abbrev pub length_said : RecordForm → (given : ℕ) → ℕ
+length_said (form.Fixed size) given = size
+length_said form.Variable given = given
+length_said form.Spanned given = given
+length_said form.Undefined given = 0
+
+-- what the label of a data set of this layout says
+abbrev pub label_of : SetForm → Layout → SetLabel
+label_of f l = record {
+  organisation = f.organisation;
+  format = f.attributes.format;
+  block_length = l.longest;
+  record_length = length_said l.form f.attributes.record_length;
+  key_length = f.key_length;
+  created = f.created;
+  expires = f.expires;
+}
+
+-- The blocks of a data set: how its records lie in them, and how their bytes are told apart.
+pub record FileBlocks : Type 0 where
+  pub layout : Layout
+  pub cut : Cut
+  pub bytes : List ℕ
+
+-- the length of the record of a line of text; only records of one length, which is some, can be lines
+abbrev pub size_in : RecordForm → Option ℕ
+size_in (form.Fixed zero) = None
+size_in (form.Fixed (suc n)) = Some (suc n)
+size_in form.Variable = None
+size_in form.Spanned = None
+size_in form.Undefined = None
+
+abbrev pub text_size : Layout → Option ℕ
+text_size l = size_in l.form
+
+-- the records of a text, or why there are none
+abbrev pub text_fault : TextFault → LoadRefusal
+text_fault (text.Line number why) = refusal.Line number why
+text_fault text.OutOfMemory = refusal.NotText
+
+abbrev pub records_or_fault : Result (List ℕ) TextFault → Result (List ℕ) LoadRefusal
+records_or_fault (Ok bytes) = Ok bytes
+records_or_fault (Err f) = Err (text_fault f)
+
+abbrev pub text_bytes_of : Option ℕ → (text : List ℕ) → Result (List ℕ) LoadRefusal
+text_bytes_of None text = Err refusal.NotText
+text_bytes_of (Some size) text = records_or_fault (records_of size text)
+
+abbrev pub text_bytes : Layout → (text : List ℕ) → Result (List ℕ) LoadRefusal
+text_bytes l text = text_bytes_of (text_size l) text
+
+-- a text is no records for this reason, or something hinders it
+abbrev pub IsNoText : LoadFault → Layout → (text : List ℕ) → Type 0
+IsNoText (fault.Refused r) l text = text_bytes l text ≡ Err r
+IsNoText (fault.Job f) l text = IsHindered f
+IsNoText (fault.Save f) l text = ⊥
+
+-- bytes as the blocks of a data set of this layout that are told apart so
+abbrev pub cut_so : Layout → Cut → Result (List ℕ) LoadRefusal → Result FileBlocks LoadRefusal
+cut_so l c (Ok bytes) = Ok (record { layout = l; cut = c; bytes = bytes })
+cut_so l c (Err r) = Err r
+
+-- What a file has for a data set of this layout: its blocks; each behind its lengths and its key; or lines, each of which is a record.
+abbrev pub blocks_by : SourceForm → Layout → (bytes : List ℕ) → Result FileBlocks LoadRefusal
+blocks_by source.Blocks l bytes = cut_so l (cut_by l.form l.longest) (Ok bytes)
+blocks_by source.WithLengths l bytes = cut_so l cut.WithLengths (Ok bytes)
+blocks_by source.Text l bytes = cut_so l (cut_by l.form l.longest) (text_bytes l bytes)
+
+-- blocks that have no fault
+abbrev pub unless_faulty : FileBlocks → Option BlockFault → Result FileBlocks LoadRefusal
+unless_faulty b None = Ok b
+unless_faulty b (Some f) = Err (refusal.Blocks f)
+
+-- the blocks on a drive of this model
+abbrev pub blocks_fitting : DriveModel → (key_length : ℕ) → FileBlocks → Result FileBlocks LoadRefusal
+blocks_fitting model key_length b = unless_faulty b (block_fault_of model b.layout key_length b.cut b.bytes)
+
+abbrev pub blocks_with : DriveModel → (key_length : ℕ) → Result FileBlocks LoadRefusal → Result FileBlocks LoadRefusal
+blocks_with model key_length (Ok b) = blocks_fitting model key_length b
+blocks_with model key_length (Err r) = Err r
+
+abbrev pub blocks_in : DriveModel → LoadedSet → Result Layout AttributeFault → Result FileBlocks LoadRefusal
+blocks_in model set (Ok l) = blocks_with model set.form.key_length (blocks_by set.source l set.bytes.now)
+blocks_in model set (Err f) = Err (refusal.Attributes f)
+
+abbrev pub blocks_of_set : DriveModel → LoadedSet → Result FileBlocks LoadRefusal
+blocks_of_set model set = blocks_in model set (layout_of_set set.form)
+
+-- The same on a volume that says this; or why the volume does not get the data set: it gets none at all, a data set of it has the name, or the
+-- file has no such blocks. The first of these is told.
+abbrev pub blocks_unless_taken : DriveModel → LoadedSet → (same_name : Option ℕ) → Result FileBlocks LoadRefusal
+blocks_unless_taken model set None = blocks_of_set model set
+blocks_unless_taken model set (Some i) = Err refusal.NameTaken
+
+abbrev pub blocks_unless_unfit : DriveModel → LoadedSet → List Block → Option PlaceRefusal → Result FileBlocks LoadRefusal
+blocks_unless_unfit model set blocks None = blocks_unless_taken model set (position (has_name set.name) blocks)
+blocks_unless_unfit model set blocks (Some r) = Err (refusal.Placed r)
+
+abbrev pub blocks_on : Geometry → LoadedSet → Said → Result FileBlocks LoadRefusal
+blocks_on g set s = blocks_unless_unfit g.model set s.blocks (unfit_of g s)

@@ -1,0 +1,4 @@
+pub mod Contents
+pub mod Loaded
+pub mod Loads
+pub mod Parts

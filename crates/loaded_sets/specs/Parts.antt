@@ -1,0 +1,71 @@
+-- How the code holds what the contracts speak of; no public contract names these.
+use Rattle.std.specs.Prelude.{◌≡◌, ◌⊎◌, ℕ, List, Result, Ok, Err}
+use Rattle.std.specs.List.{position}
+use Rattle.counted_io.specs.declared.writing.WriteFault.{WriteFault}
+use Rattle.dasd_jobs.specs.declared.faults.JobFault.TheVariants as job
+use Rattle.dasd_jobs.specs.declared.files.FileFault.{FileFault}
+use Rattle.dasd_jobs.specs.declared.files.FileFault.TheVariants as file
+use Rattle.volume_contents.specs.Sets.{has_name}
+use Rattle.changed_volumes.specs.Changes.{IsHindered}
+use Rattle.placed_sets.specs.declared.fault.PlaceFault.{PlaceFault}
+use Rattle.placed_sets.specs.declared.fault.PlaceFault.TheVariants as place
+use Rattle.placed_sets.specs.declared.plans.PlacedSet.{PlacedSet}
+use Rattle.placed_sets.specs.Volumes.{Labelled}
+use Rattle.loaded_sets.specs.declared.contents.LoadedSet.{LoadedSet}
+use Rattle.loaded_sets.specs.declared.fault.LoadFault.{LoadFault}
+use Rattle.loaded_sets.specs.declared.fault.LoadFault.TheVariants as fault
+use Rattle.loaded_sets.specs.declared.fault.LoadRefusal.{LoadRefusal}
+use Rattle.loaded_sets.specs.declared.fault.LoadRefusal.TheVariants as refusal
+use Rattle.loaded_sets.specs.declared.images.FileBlocks as declared
+use Rattle.loaded_sets.specs.Contents.{FileBlocks, blocks_fitting, blocks_unless_taken}
+use Rattle.loaded_sets.specs.Loaded.{IsSetOf, GetsBlocks, HasNone}
+
+-- the blocks that the code has
+abbrev pub file_blocks : declared.FileBlocks → FileBlocks
+file_blocks f = record { layout = f.layout; cut = f.blocks.cut; bytes = f.blocks.bytes.now }
+
+-- something hinders it
+abbrev pub IsHinderedBy : LoadFault → Type 0
+IsHinderedBy (fault.Job f) = IsHindered f
+IsHinderedBy f = ⊥
+
+-- the blocks of a data set on a volume that can get one
+abbrev pub blocks_for : Labelled → LoadedSet → Result FileBlocks LoadRefusal
+blocks_for v set = blocks_unless_taken v.geometry.model set (position (has_name set.name) v.blocks)
+
+-- such a volume gets the data set
+abbrev pub IsPut : Labelled → LoadedSet → (before : List (List ℕ)) → (tracks : ℕ) → (now : List (List ℕ)) → Type 0
+IsPut v set before tracks now = (b : FileBlocks) × (blocks_for v set ≡ Ok b) × GetsBlocks v set b before tracks now
+
+-- it gets none for this reason
+abbrev pub IsNotPut : LoadFault → Labelled → LoadedSet → (slots : List (List ℕ)) → Type 0
+IsNotPut (fault.Refused r) v set slots =
+    (blocks_for v set ≡ Err r)
+    ⊎ ((b : FileBlocks) × (p : PlacedSet) × (blocks_for v set ≡ Ok b) × IsSetOf set b p × HasNone r v p slots)
+IsNotPut f v set slots = IsHinderedBy f
+
+-- it gets the data set with these blocks, which fit
+abbrev pub IsSet : Labelled → LoadedSet → FileBlocks → (before : List (List ℕ)) → (tracks : ℕ) → (now : List (List ℕ)) → Type 0
+IsSet v set b before tracks now =
+    (blocks_fitting v.geometry.model set.form.key_length b ≡ Ok b) × GetsBlocks v set b before tracks now
+
+abbrev pub IsNotSet : LoadFault → Labelled → LoadedSet → FileBlocks → (slots : List (List ℕ)) → Type 0
+IsNotSet (fault.Refused r) v set b slots =
+    (blocks_fitting v.geometry.model set.form.key_length b ≡ Err r)
+    ⊎ ((p : PlacedSet) × (blocks_fitting v.geometry.model set.form.key_length b ≡ Ok b) × IsSetOf set b p × HasNone r v p slots)
+IsNotSet f v set b slots = IsHinderedBy f
+
+-- what the fault of a volume that gets no records is
+abbrev pub placing_fault : PlaceFault → LoadFault
+placing_fault (place.Refused r) = fault.Refused (refusal.Placed r)
+placing_fault (place.Job f) = fault.Job f
+
+-- what a fault of the file with the blocks is
+abbrev pub file_fault : FileFault → LoadFault
+file_fault file.OutOfMemory = fault.Job job.OutOfMemory
+file_fault f = fault.Job job.Read
+
+-- what a line that is written, or not, is
+abbrev pub written_line : Result (Unit {0}) WriteFault → Result (Unit {0}) LoadFault
+written_line (Ok done) = Ok done
+written_line (Err f) = Err (fault.Job job.Write)

@@ -1,0 +1,121 @@
+//! What a file has for a data set: its blocks, and how they are told apart.
+
+ghost use Rattle.std.specs.Prelude.{◌≡◌, IfOk, IfErr, Ok};
+ghost use Rattle.data_set_blocks.specs.Faults.{IsCutFor};
+ghost use Rattle.loaded_sets.specs.Contents.{layout_of_set, length_said, label_of, text_size, text_bytes, IsNoText};
+
+use crate::fault::{LoadFault, LoadRefusal, NO_MEMORY, refused};
+use data_sets::RecordForm;
+use placed_sets::SetLabel;
+use record_formats::{AttributeFault, Layout, RecordAttributes, layout_given};
+use std::alloc::Global;
+use text_records::{TextFault, text_records};
+use volume_labels::Date;
+
+/// A label that says nothing of its records.
+const SILENT: RecordAttributes = RecordAttributes {
+    format: 0,
+    record_length: 0,
+    block_length: 0,
+};
+
+/// What the bytes of a file are.
+#[derive(Clone, Copy, PartialEq, Eq)]
+pub enum SourceForm {
+    /// The blocks of a data set as they stand, one behind another.
+    Blocks,
+    /// Each block behind its lengths and its key: a byte 1, the length of the key in a byte, that of the data in two, the key, and the data.
+    WithLengths,
+    /// Lines of text, each of which is a record.
+    Text,
+}
+
+/// What is asked of a new data set, beside its name and its file.
+#[derive(Clone, Copy)]
+pub struct SetForm {
+    /// Its organisation, as bits.
+    pub organisation: u16,
+    /// The format of its records, and the lengths of these and of blocks.
+    pub attributes: RecordAttributes,
+    /// The length of its keys, in bytes.
+    pub key_length: u8,
+    /// When it was made.
+    pub created: Date,
+    /// When it may be scratched.
+    pub expires: Date,
+}
+
+/// A data set that is put onto a volume.
+#[derive(Clone, Copy)]
+pub struct LoadedSet<'a> {
+    /// Its name, in EBCDIC, with blanks behind it.
+    pub name: [u8; 44],
+    /// What its label is to say.
+    pub form: SetForm,
+    /// What its bytes are.
+    pub source: SourceForm,
+    /// The bytes of its file.
+    pub bytes: &'a [u8],
+}
+
+/// How the records of a data set lie in its blocks, by the format and the lengths that are given.
+pub(crate) fn layout_of_set(form: &SetForm) -> Result<Layout, AttributeFault>
+    ensures { result ≡ layout_of_set form.now }
+{
+    layout_given(SILENT, form.attributes)
+}
+
+// The length of records that a label says.
+fn length_said(layout: Layout, given: u16) -> u16
+    ensures { result ≡ length_said layout.form given }
+{
+    match layout.form {
+        RecordForm::Fixed(size) => size,
+        RecordForm::Variable | RecordForm::Spanned => given,
+        RecordForm::Undefined => 0,
+    }
+}
+
+/// What the label of a data set of this layout says.
+pub(crate) fn label_of(form: &SetForm, layout: Layout) -> SetLabel
+    ensures { result ≡ label_of form.now layout }
+{
+    SetLabel {
+        organisation: form.organisation,
+        format: form.attributes.format,
+        block_length: layout.longest,
+        record_length: length_said(layout, form.attributes.record_length),
+        key_length: form.key_length,
+        created: form.created,
+        expires: form.expires,
+    }
+}
+
+// How long the record of a line of text is.
+fn text_size(layout: Layout) -> Option<u16>
+    ensures { result ≡ text_size layout }
+{
+    match layout.form {
+        RecordForm::Fixed(size) if size > 0 => Some(size),
+        _ => None,
+    }
+}
+
+/// The records of a text, one behind another.
+///
+/// # Errors
+///
+/// The layout is not of records of one length, or a line is no record; or there is no memory.
+pub(crate) fn text_bytes(alloc: Global, layout: Layout, text: &[u8]) -> Result<Vec<u8>, LoadFault>
+    ensures bytes { IfOk result (λ made. text_bytes layout text.now ≡ Ok made.items) }
+    ensures fault { IfErr result (λ e. IsNoText e layout text.now) }
+{
+    let Some(size) = text_size(layout) else {
+        return Err(refused(LoadRefusal::NotText));
+    };
+    match text_records(alloc, text, size) {
+        Ok(made) => Ok(made),
+        Err(TextFault::Line(number, fault)) => Err(refused(LoadRefusal::Line(number, fault))),
+        Err(TextFault::OutOfMemory) => Err(NO_MEMORY),
+    }
+}

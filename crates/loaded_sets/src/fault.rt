@@ -1,0 +1,105 @@
+//! Why a data set was not put onto a volume.
+
+ghost use Rattle.std.specs.Prelude.{◌≡◌};
+ghost use Rattle.loaded_sets.specs.Parts.{file_fault, written_line, placing_fault, IsHinderedBy};
+ghost use Rattle.changed_volumes.specs.Changes.{IsHinderedBy as IsChangeHindered};
+
+use changed_volumes::ChangeFault;
+use counted_io::WriteFault;
+use dasd_jobs::{FileFault, JobFault};
+use data_set_blocks::BlockFault;
+use placed_sets::{PlaceFault, PlaceRefusal};
+use record_formats::AttributeFault;
+use text_records::LineFault;
+use thiserror::Error;
+
+/// Why a volume does not get a data set as it was asked. It stays as it was.
+#[derive(Clone, Copy, Debug, Error)]
+pub enum LoadRefusal {
+    /// The name is none.
+    #[error("not a name of a data set")]
+    NoName,
+    /// The volume gets no data set, or has no place for it.
+    #[error(transparent)]
+    Placed(PlaceRefusal),
+    /// A data set of the volume has the name.
+    #[error("a data set has this name")]
+    NameTaken,
+    /// The record format and the lengths are those of no data set.
+    #[error(transparent)]
+    Attributes(AttributeFault),
+    /// Lines of text are asked for in records that are not of one length.
+    #[error("lines of text are records of one length, F or FB")]
+    NotText,
+    /// A line of the file is no record; its number, from 1 on, and why.
+    #[error("line {0} {1}")]
+    Line(usize, LineFault),
+    /// The bytes of the file are no blocks of such a data set.
+    #[error(transparent)]
+    Blocks(BlockFault),
+}
+
+/// Why a data set was not put onto a volume in files, or not told to be.
+#[derive(Clone, Copy, Debug, Error)]
+pub enum LoadFault {
+    /// The volume does not get it.
+    #[error(transparent)]
+    Refused(LoadRefusal),
+    /// Files are not read, there is no memory, or the line can't be written.
+    #[error(transparent)]
+    Job(JobFault),
+    /// A file that was changed can't be saved: it holds what it held, and so do those behind it.
+    #[error(transparent)]
+    Save(JobFault),
+}
+
+/// No memory.
+pub(crate) const NO_MEMORY: LoadFault = LoadFault::Job(JobFault::OutOfMemory);
+
+/// A refusal.
+pub(crate) fn refused(refusal: LoadRefusal) -> LoadFault
+    ensures { result ≡ LoadFault.Refused refusal }
+{
+    LoadFault::Refused(refusal)
+}
+
+/// What a fault of a volume that is read of memory is.
+pub(crate) fn of_reading(fault: ChangeFault) -> LoadFault
+    requires { IsChangeHindered fault }
+    ensures { IsHinderedBy result }
+{
+    match fault {
+        ChangeFault::Job(fault) => LoadFault::Job(fault),
+        _ => NO_MEMORY,
+    }
+}
+
+/// What the fault of a volume that gets no records is.
+pub(crate) fn of_placing(fault: PlaceFault) -> LoadFault
+    ensures { result ≡ placing_fault fault }
+{
+    match fault {
+        PlaceFault::Refused(refusal) => LoadFault::Refused(LoadRefusal::Placed(refusal)),
+        PlaceFault::Job(fault) => LoadFault::Job(fault),
+    }
+}
+
+/// What a fault of the file with the data set's blocks is.
+pub(crate) fn of_file(fault: FileFault) -> LoadFault
+    ensures { result ≡ file_fault fault }
+{
+    match fault {
+        FileFault::OutOfMemory => NO_MEMORY,
+        _ => LoadFault::Job(JobFault::Read),
+    }
+}
+
+/// What the fault of a line that is written is.
+pub(crate) fn of_line(written: Result<(), WriteFault>) -> Result<(), LoadFault>
+    ensures { result ≡ written_line written }
+{
+    match written {
+        Ok(()) => Ok(()),
+        Err(WriteFault) => Err(LoadFault::Job(JobFault::Write)),
+    }
+}

@@ -1,0 +1,133 @@
+//! An image in memory whose volume gets a data set.
+
+ghost use Rattle.std.specs.Prelude.{◌≡◌, IfOk, IfErr};
+ghost use Rattle.data_set_blocks.specs.Faults.{IsCutFor};
+ghost use Rattle.changed_volumes.specs.Changes.{IsSameImage};
+ghost use Rattle.placed_sets.specs.Volumes.{labelled};
+ghost use Rattle.loaded_sets.specs.Loaded.{Loaded, IsNotLoaded};
+ghost use Rattle.loaded_sets.specs.Parts.{file_blocks, IsPut, IsNotPut, IsSet, IsNotSet};
+
+use crate::contents::{LoadedSet, SourceForm, label_of, layout_of_set, text_bytes};
+use crate::fault::{LoadFault, LoadRefusal, NO_MEMORY, of_placing, of_reading, refused};
+use changed_volumes::read_said;
+use ckd_image::Image;
+use dasd_files::VolumeFile;
+use data_set_blocks::{Blocks, Cut, block_fault, block_records, cut_of};
+use placed_sets::{LabelledVolume, PlacedSet, judge, place_records, position_of};
+use record_formats::Layout;
+use std::alloc::Global;
+
+/// The blocks of a data set, and how its records lie in them.
+#[derive(Clone, Copy)]
+pub(crate) struct FileBlocks<'a> {
+    /// How its records lie in its blocks.
+    pub(crate) layout: Layout,
+    /// The bytes of its blocks, and how they are told apart.
+    pub(crate) blocks: Blocks<'a>,
+}
+
+/// Puts a data set onto the volume of an image in memory, and answers how many tracks it has. Its tracks are the first ones free that have
+/// room for it, one behind another.
+///
+/// # Errors
+///
+/// The volume does not get it, or there is no memory: the image then holds any bytes in the slots of those tracks and of the table of
+/// contents.
+pub fn load_image(
+    alloc: Global,
+    image: &mut Image<VolumeFile>,
+    set: &LoadedSet,
+) -> Result<u32, LoadFault>
+    ensures same { IsSameImage image.old image.new }
+    ensures loaded { IfOk result (λ tracks. Loaded set.now image.old.geometry image.old.slots tracks image.new.slots) }
+    ensures fault { IfErr result (λ e. IsNotLoaded e set.now image.old.geometry image.old.slots) }
+{
+    let geometry = image.geometry();
+    let mut contents = match read_said(alloc, image) {
+        Ok(contents) => contents,
+        Err(fault) => return Err(of_reading(fault)),
+    };
+    let volume = match judge(alloc, geometry, &mut contents) {
+        Ok(volume) => volume,
+        Err(fault) => return Err(of_placing(fault)),
+    };
+    put_set(alloc, image, &volume, set)
+}
+
+// Puts a data set onto such a volume, unless one of it has the name.
+fn put_set(
+    alloc: Global,
+    image: &mut Image<VolumeFile>,
+    volume: &LabelledVolume,
+    set: &LoadedSet,
+) -> Result<u32, LoadFault>
+    requires geometry { volume.now.geometry ≡ image.old.geometry }
+    ensures same { IsSameImage image.old image.new }
+    ensures put { IfOk result (λ tracks. IsPut (labelled volume.now) set.now image.old.slots tracks image.new.slots) }
+    ensures fault { IfErr result (λ e. IsNotPut e (labelled volume.now) set.now image.old.slots) }
+{
+    if position_of(volume.blocks, &set.name).is_some() {
+        return Err(refused(LoadRefusal::NameTaken));
+    }
+    let layout = match layout_of_set(&set.form) {
+        Ok(layout) => layout,
+        Err(fault) => return Err(refused(LoadRefusal::Attributes(fault))),
+    };
+    let cut = cut_of(layout);
+    match set.source {
+        SourceForm::Blocks => put_blocks(alloc, image, volume, set, of_bytes(layout, set.bytes, cut)),
+        SourceForm::WithLengths => {
+            put_blocks(alloc, image, volume, set, of_bytes(layout, set.bytes, Cut::WithLengths))
+        }
+        SourceForm::Text => {
+            let records = text_bytes(alloc, layout, set.bytes)?;
+            put_blocks(alloc, image, volume, set, of_bytes(layout, records.as_slice(), cut))
+        }
+    }
+}
+
+// Bytes that are cut so, as the blocks of a data set of this layout.
+fn of_bytes<'a>(layout: Layout, bytes: &'a [u8], cut: Cut) -> FileBlocks<'a>
+    ensures layout { result.layout ≡ layout }
+    ensures bytes { result.blocks.bytes.now ≡ bytes.entry.now }
+    ensures cut { result.blocks.cut ≡ cut }
+{
+    FileBlocks {
+        layout,
+        blocks: Blocks { bytes, cut },
+    }
+}
+
+// Puts a data set with these blocks onto such a volume.
+fn put_blocks(
+    alloc: Global,
+    image: &mut Image<VolumeFile>,
+    volume: &LabelledVolume,
+    set: &LoadedSet,
+    file: FileBlocks,
+) -> Result<u32, LoadFault>
+    requires geometry { volume.now.geometry ≡ image.old.geometry }
+    requires cut { IsCutFor file.layout file.blocks.cut }
+    ensures same { IsSameImage image.old image.new }
+    ensures set { IfOk result (λ tracks. IsSet (labelled volume.now) set.now (file_blocks file.entry) image.old.slots tracks image.new.slots) }
+    ensures fault { IfErr result (λ e. IsNotSet e (labelled volume.now) set.now (file_blocks file.entry) image.old.slots) }
+{
+    let FileBlocks { layout, blocks } = file;
+    let model = volume.geometry.model;
+    if let Some(fault) = block_fault(model, layout, set.form.key_length, blocks) {
+        return Err(refused(LoadRefusal::Blocks(fault)));
+    }
+    let Ok(records) = block_records(alloc, blocks) else {
+        return Err(NO_MEMORY);
+    };
+    let placed = PlacedSet {
+        name: set.name,
+        label: label_of(&set.form, layout),
+        records: records.as_slice(),
+        last: records.len() - 1,
+    };
+    match place_records(alloc, image, volume, &placed) {
+        Ok(tracks) => Ok(tracks),
+        Err(fault) => Err(of_placing(fault)),
+    }
+}
