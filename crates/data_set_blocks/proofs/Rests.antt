@@ -32,6 +32,16 @@ unfolding rests_to
 one_more cut most [] some = absurd (omega (arith, some))
 one_more cut most (b ∷ others) some = refl
 
+-- what is so of all bytes, and behind the first block of any of which it is so, is so from each block on
+pub each_rest : (P : List ℕ → Type 0) (cut : Cut) (most : ℕ) (bytes : List ℕ) → P bytes
+    → ((rest : List ℕ) → P rest → P (drop (size_of cut rest) rest)) → All P (rests_to cut most bytes)
+unfolding rests_to
+each_rest P cut zero bytes first next = All-nil P
+each_rest P cut (suc most) [] first next = All-nil P
+each_rest P cut (suc most) (b ∷ others) first next =
+    All-cons P (b ∷ others) (rests_to cut most (drop (size_of cut (b ∷ others)) (b ∷ others))) first
+    (each_rest P cut most (drop (size_of cut (b ∷ others)) (b ∷ others)) (next (b ∷ others) first) next)
+
 -- from each of them on there are bytes
 pub some_left : (cut : Cut) (most : ℕ) (bytes : List ℕ) → All (λ (rest : List ℕ). 1 ≤ length rest) (rests_to cut most bytes)
 unfolding rests_to
