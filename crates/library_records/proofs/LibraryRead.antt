@@ -31,7 +31,8 @@ module _ (model : DriveModel) (l : Library) (goes : GoesOnTracks model l) where
       let e : length part ≡ 0 + length part = omega arith in
       let to_here = subst (λ (n : ℕ). StandsAt model (library_areas l) n last its_number) e to in
       read_as_data form.Directory model (library_areas l) each part 0 0 1 0 last its_number (directory_part l)
-      (directory_written l.directory.now) (first_stands model (library_areas l) each some) (inr (refl, refl)) to_here g extents slots 512 same (omega (arith, within)) loaded
+      (directory_written l.directory.now) (first_stands model (library_areas l) each some) (inr (refl, refl)) to_here
+      g extents slots 512 same (omega (arith, within)) loaded
 
   pub member_read : (m : ℕ) → m < length l.members.now → IsMemberRead model l m
   member_read m there track number last its_number from to g extents slots most same within loaded =

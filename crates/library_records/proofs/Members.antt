@@ -17,7 +17,7 @@ use Rattle.library_records.specs.declared.libraries.Library.{Library}
 use Rattle.library_records.specs.declared.libraries.Member.{Member}
 use Rattle.record_tracks.specs.Records.{Areas, end_of_file, GoesOn}
 use Rattle.record_tracks.specs.ReadBack.{IsWritten, IsPart, data_of}
-use Rattle.record_tracks.proofs.Fitting.{keyless_goes, end_goes}
+use Rattle.record_tracks.proofs.Goes.{keyless_goes, end_goes}
 use Rattle.library_records.specs.Library.{directory_area, directory_areas, member_area, block_count}
 use Rattle.library_records.specs.Library.{member_areas, with_end, contents, members_areas}
 use Rattle.library_records.specs.Library.{library_areas, first_record}

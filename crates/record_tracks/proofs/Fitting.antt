@@ -8,7 +8,7 @@ use Rattle.std.proofs.lemmas.List.Sums.{sum_by-cons}
 use Rattle.ckd_track.specs.declared.model.DriveModel.{DriveModel}
 use Rattle.ckd_track.specs.declared.model.DriveModel.TheVariants.{D2311, D2314}
 use Rattle.ckd_track.specs.Model.{capacity_of}
-use Rattle.record_tracks.specs.Records.{Areas, GoesOn, end_of_file, charge_for, last_charge_for}
+use Rattle.record_tracks.specs.Records.{Areas, GoesOn, charge_for, last_charge_for}
 use Rattle.record_tracks.specs.Tracks.{fitting, fitting_on}
 
 pub none_fits : (model : DriveModel) (taken : ℕ) → fitting model taken [] ≡ 0
@@ -113,13 +113,3 @@ module _ (model : DriveModel) (left : List Areas) (k taken : ℕ) (d : Areas)
 -- one at least goes on an empty track
 pub some_fits : (model : DriveModel) (a : Areas) (others : List Areas) → GoesOn model a → 1 ≤ fitting_on model (a ∷ others)
 some_fits model a others goes = omega (arith, one_fits model 0 a others (omega (arith, goes.most)))
-
--- a record without a key goes on a track that has room for its data, and so does an end of file
-pub keyless_goes : (model : DriveModel) (bytes : List ℕ) → length bytes ≤ capacity_of model
-    → GoesOn model (record { key_area = []; data_area = bytes })
-keyless_goes D2311 bytes few = record { key = omega arith; most = omega (arith, few) }
-keyless_goes D2314 bytes few = record { key = omega arith; most = omega (arith, few) }
-
-pub end_goes : (model : DriveModel) → GoesOn model end_of_file
-end_goes D2311 = keyless_goes D2311 [] (omega arith)
-end_goes D2314 = keyless_goes D2314 [] (omega arith)
