@@ -1,0 +1,5 @@
+pub mod Numbers
+pub mod Names
+pub mod Words
+pub mod Forms
+pub mod Parsing

@@ -1,0 +1,126 @@
+//! The line of a data set.
+
+ghost use Rattle.std.specs.Prelude.{◌≡◌, map, OnOk};
+ghost use Rattle.std.specs.Io.KnownBytes.{Appends};
+ghost use Rattle.set_forms.specs.Forms.{closed, directory_words, start_text, lengths_text, days_text, named_set_line};
+ghost use Rattle.set_forms.specs.Parsing.{directory_read, set_read};
+
+use crate::fault::LineFault;
+use crate::forms::{SetForm, is_partitioned};
+use crate::names::data_set_name;
+use crate::numbers::{day_of, day_word, number};
+use crate::words::{format_of, format_word, organisation_of, organisation_word};
+use std::io;
+use std::io::Write;
+
+/// Writes the line of a data set, whose file has this name.
+pub(crate) fn write_set<W: Write>(writer: &mut W, name: &str, form: &SetForm) -> io::Result<()>
+    ensures { OnOk result (Appends (W.contents writer.old) (W.contents writer.new) (named_set_line name.now form.now)) }
+{
+    write_start(writer, name, form)?;
+    write_lengths(writer, form)?;
+    write_days(writer, form)?;
+    write_directory(writer, form.directory)
+}
+
+// Writes its name, its organisation and its record format.
+fn write_start<W: Write>(writer: &mut W, name: &str, form: &SetForm) -> io::Result<()>
+    ensures { OnOk result (Appends (W.contents writer.old) (W.contents writer.new) (start_text name.now form.now)) }
+{
+    let organisation = organisation_word(form.organisation);
+    let format = format_word(form.format);
+    let organisation = organisation.as_str();
+    let format = format.as_str();
+    write!(writer, "data set {name} {organisation} {format}")
+}
+
+// Writes the lengths of its records, blocks and keys.
+fn write_lengths<W: Write>(writer: &mut W, form: &SetForm) -> io::Result<()>
+    ensures { OnOk result (Appends (W.contents writer.old) (W.contents writer.new) (lengths_text form.now)) }
+{
+    let records = form.record_length;
+    let blocks = form.block_length;
+    let keys = form.key_length;
+    write!(writer, " {records} {blocks} {keys}")
+}
+
+// Writes the days when it was made, and when it may be scratched.
+fn write_days<W: Write>(writer: &mut W, form: &SetForm) -> io::Result<()>
+    ensures { OnOk result (Appends (W.contents writer.old) (W.contents writer.new) (days_text form.now)) }
+{
+    let created = day_word(form.created);
+    let expires = day_word(form.expires);
+    let created = created.as_str();
+    let expires = expires.as_str();
+    write!(writer, " {created} {expires}")
+}
+
+// Writes how many blocks a directory has, if there is one, and ends the line.
+fn write_directory<W: Write>(writer: &mut W, directory: Option<u16>) -> io::Result<()>
+    ensures { OnOk result (Appends (W.contents writer.old) (W.contents writer.new) (closed (directory_words directory))) }
+{
+    match directory {
+        None => writeln!(writer),
+        Some(blocks) => writeln!(writer, " directory {blocks}"),
+    }
+}
+
+// The length of a directory, which partitioned data sets have alone.
+fn read_directory(is_partitioned: bool, words: &[&[u8]]) -> Result<Option<u16>, LineFault>
+    ensures { result ≡ directory_read is_partitioned (map (λ w. w.now) words.now) }
+{
+    match words {
+        [] if !is_partitioned => Ok(None),
+        [word, blocks] if is_partitioned && word == &&b"directory"[..] => {
+            match number(blocks, 65535) {
+                Some(blocks) => Ok(Some(blocks as u16)),
+                None => Err(LineFault::Directory),
+            }
+        }
+        _ => Err(LineFault::Directory),
+    }
+}
+
+/// What the words of a data set's line say, behind the first one.
+pub(crate) fn read_set(words: &[&[u8]]) -> Result<SetForm, LineFault>
+    ensures { result ≡ set_read (map (λ w. w.now) words.now) }
+{
+    let [
+        kind,
+        name,
+        organisation,
+        format,
+        records,
+        blocks,
+        keys,
+        created,
+        expires,
+        directory @ ..,
+    ] = words
+    else {
+        return Err(LineFault::Words);
+    };
+    if kind != &&b"set"[..] {
+        return Err(LineFault::Kind);
+    }
+    let name = data_set_name(name).ok_or(LineFault::Name)?;
+    let organisation = organisation_of(organisation).ok_or(LineFault::Organisation)?;
+    let format = format_of(format).ok_or(LineFault::Format)?;
+    let record_length = number(records, 65535).ok_or(LineFault::RecordLength)? as u16;
+    let block_length = number(blocks, 65535).ok_or(LineFault::BlockLength)? as u16;
+    let key_length = number(keys, 255).ok_or(LineFault::KeyLength)? as u8;
+    let created = day_of(created).ok_or(LineFault::Day)?;
+    let expires = day_of(expires).ok_or(LineFault::Day)?;
+    let directory = read_directory(is_partitioned(organisation), directory)?;
+    Ok(SetForm {
+        name,
+        organisation,
+        format,
+        record_length,
+        block_length,
+        key_length,
+        created,
+        expires,
+        directory,
+    })
+}
