@@ -1,4 +1,5 @@
 mod Fits
 mod Placed
 mod Read
+mod TextLines
 mod Told

@@ -1,7 +1,10 @@
 //! An image in memory whose volume gets a data set.
 
-ghost use Rattle.std.specs.Prelude.{◌≡◌, IfOk, IfErr};
-ghost use Rattle.data_set_blocks.specs.Faults.{IsCutFor};
+ghost use Rattle.std.specs.Prelude.{◌≡◌, None, IfOk, IfErr};
+ghost use Rattle.std.specs.List.{position};
+ghost use Rattle.volume_contents.specs.Sets.{has_name};
+ghost use Rattle.data_set_blocks.specs.Blocks.{AreBlocks};
+ghost use Rattle.data_set_blocks.specs.Faults.{IsCutFor, block_fault_of};
 ghost use Rattle.changed_volumes.specs.Changes.{IsSameImage};
 ghost use Rattle.placed_sets.specs.Volumes.{labelled};
 ghost use Rattle.loaded_sets.specs.Loaded.{Loaded, IsNotLoaded};
@@ -66,9 +69,25 @@ fn put_set(
     ensures put { IfOk result (λ tracks. IsPut (labelled volume.now) set.now image.old.slots tracks image.new.slots) }
     ensures fault { IfErr result (λ e. IsNotPut e (labelled volume.now) set.now image.old.slots) }
 {
-    if position_of(volume.blocks, &set.name).is_some() {
-        return Err(refused(LoadRefusal::NameTaken));
+    match position_of(volume.blocks, &set.name) {
+        None => put_new(alloc, image, volume, set),
+        Some(_) => Err(refused(LoadRefusal::NameTaken)),
     }
+}
+
+// The same of a data set whose name none of the volume has.
+fn put_new(
+    alloc: Global,
+    image: &mut Image<VolumeFile>,
+    volume: &LabelledVolume,
+    set: &LoadedSet,
+) -> Result<u32, LoadFault>
+    requires geometry { volume.now.geometry ≡ image.old.geometry }
+    requires free { position (has_name set.now.name) volume.now.blocks.now ≡ None }
+    ensures same { IsSameImage image.old image.new }
+    ensures put { IfOk result (λ tracks. IsPut (labelled volume.now) set.now image.old.slots tracks image.new.slots) }
+    ensures fault { IfErr result (λ e. IsNotPut e (labelled volume.now) set.now image.old.slots) }
+{
     let layout = match layout_of_set(&set.form) {
         Ok(layout) => layout,
         Err(fault) => return Err(refused(LoadRefusal::Attributes(fault))),
@@ -113,10 +132,28 @@ fn put_blocks(
     ensures fault { IfErr result (λ e. IsNotSet e (labelled volume.now) set.now (file_blocks file.entry) image.old.slots) }
 {
     let FileBlocks { layout, blocks } = file;
-    let model = volume.geometry.model;
-    if let Some(fault) = block_fault(model, layout, set.form.key_length, blocks) {
-        return Err(refused(LoadRefusal::Blocks(fault)));
+    match block_fault(volume.geometry.model, layout, set.form.key_length, blocks) {
+        None => put_records(alloc, image, volume, set, file),
+        Some(fault) => Err(refused(LoadRefusal::Blocks(fault))),
     }
+}
+
+// The same of blocks that have no fault.
+fn put_records(
+    alloc: Global,
+    image: &mut Image<VolumeFile>,
+    volume: &LabelledVolume,
+    set: &LoadedSet,
+    file: FileBlocks,
+) -> Result<u32, LoadFault>
+    requires geometry { volume.now.geometry ≡ image.old.geometry }
+    requires fits { block_fault_of volume.now.geometry.model file.layout set.now.form.key_length file.blocks.cut file.blocks.bytes.now ≡ None }
+    requires blocks { AreBlocks volume.now.geometry.model file.blocks.cut file.blocks.bytes.now }
+    ensures same { IsSameImage image.old image.new }
+    ensures set { IfOk result (λ tracks. IsSet (labelled volume.now) set.now (file_blocks file.entry) image.old.slots tracks image.new.slots) }
+    ensures fault { IfErr result (λ e. IsNotSet e (labelled volume.now) set.now (file_blocks file.entry) image.old.slots) }
+{
+    let FileBlocks { layout, blocks } = file;
     let Ok(records) = block_records(alloc, blocks) else {
         return Err(NO_MEMORY);
     };

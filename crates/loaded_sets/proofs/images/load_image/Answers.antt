@@ -15,8 +15,8 @@ returns c =
     let now = c.put_set.new.image.slots in
     let v = labelled c.in-Ok-judge.volume in
     let set = c.args.set.now in
-    let read = c.in-Ok-read_said.contents in
-    let same = same_said (contents_of g before) read c.in-Ok-read_said.ensures.says in
+    let read = c.in-Ok.contents in
+    let same = same_said (contents_of g before) read c.in-Ok.ensures.says in
     let is = c.geometry-geometry.ensures.geometry in
     let says = subst (λ (s : Said). SaysOf g s v) same
     (subst (λ (h : Geometry). SaysOf h (said_in read) v) is c.in-Ok-judge.ensures.says) in
@@ -34,10 +34,10 @@ pub returns-in-Err-judge : goal.returns-in-Err-judge
 returns-in-Err-judge c =
     let g = c.args.image.now.geometry in
     let before = c.args.image.now.slots in
-    let read = c.in-Ok-read_said.contents in
+    let read = c.in-Ok.contents in
     let e = c.in-Err-judge.fault in
     let is = c.geometry-geometry.ensures.geometry in
-    let same = same_said (contents_of g before) read c.in-Ok-read_said.ensures.says in
+    let same = same_said (contents_of g before) read c.in-Ok.ensures.says in
     let why = unfit g before c.args.set.now e (subst (λ (s : Said). IsUnfit e g s) same
     (subst (λ (h : Geometry). IsUnfit e h (said_in read)) is c.in-Err-judge.ensures.fault)) in
     search rules
