@@ -55,7 +55,7 @@ block_areas cut bytes = map (first_areas cut) (rests_of cut bytes)
 abbrev pub areas_of : Cut → (bytes : List ℕ) → List Areas
 areas_of cut bytes = block_areas cut bytes ++ (end_of_file ∷ [])
 
--- a block that says its lengths ends within the bytes
+-- a block that says its lengths ends within the bytes, and begins with a byte 1 where they stand before it
 abbrev pub IsWhole : Cut → (bytes : List ℕ) → Type 0
 IsWhole (Length size) bytes = Unit {0}
 IsWhole Described bytes = number_at bytes 0 ≤ length bytes
