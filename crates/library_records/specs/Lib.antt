@@ -1,2 +1,3 @@
 pub mod Library
+pub mod Addresses
 pub mod LibraryRead
