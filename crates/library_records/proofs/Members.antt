@@ -1,10 +1,9 @@
 -- The parts of a library: its directory and its members.
-use Rattle.std.proofs.Common.{◌≡◌, ◌∙◌, ap, sym, refl, subst, ℕ, zero, suc, ◌+◌, ◌*◌, ◌/◌, ◌≤◌, ◌<◌, List, [], ◌∷◌, ◌++◌, length}
+use Rattle.std.proofs.Common.{◌≡◌, ◌∙◌, ap, sym, refl, subst, ℕ, ◌+◌, ◌*◌, ◌/◌, ◌≤◌, ◌<◌, List, [], ◌∷◌, ◌++◌, length}
 use Rattle.std.proofs.Common.{Bool, true, false, cond, nat_lt}
 use Rattle.std.proofs.Common.{map, take, drop, get_or, replicate, arith, All, append_assoc, length-append, length-take, length-drop}
-use Rattle.std.specs.List.{flat_map}
 use Rattle.std.proofs.lemmas.Grind.{flat_map-append}
-use Rattle.std.proofs.lemmas.List.{drop_more, take-append-drop, take-map, length-map, get_or-map, map-append}
+use Rattle.std.proofs.lemmas.List.{drop_more, take-append-drop, length-map, get_or-map, map-append}
 use Rattle.std.proofs.lemmas.List.{ext_get_or, length-replicate, get_or-replicate}
 use Rattle.std.proofs.lemmas.List.FromFn.{length-map-range_with_len, get_or-map-range_with_len}
 use Rattle.std.proofs.lemmas.List.Elements.{All-nil, All-cons, All-head, All-tail, All-append, All-from_get_or}
@@ -13,7 +12,7 @@ use Rattle.ckd_track.specs.declared.model.DriveModel.TheVariants.{D2311, D2314}
 use Rattle.ckd_track.specs.Charges.{key_overhead_of}
 use Rattle.dasd_extract.specs.declared.blocks.Form.TheVariants as form
 use Rattle.library_records.specs.declared.libraries.NewMember.{NewMember}
-use Rattle.record_tracks.specs.Records.{Areas, all_areas, end_of_file, GoesOn}
+use Rattle.record_tracks.specs.Records.{Areas, end_of_file, GoesOn}
 use Rattle.record_tracks.specs.ReadBack.{IsWritten, IsPart}
 use Rattle.record_tracks.proofs.Listed.{all_go}
 use Rattle.library_records.specs.Library.{directory_area, directory_areas, with_end, member_areas, members_areas}

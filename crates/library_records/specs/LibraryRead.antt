@@ -1,15 +1,15 @@
 -- What is read of a library that was put on tracks, by the definitions of the reader.
-use Rattle.std.specs.Prelude.{◌≡◌, ℕ, ◌+◌, ◌/◌, ◌≤◌, ◌<◌, List, length, drop, All}
+use Rattle.std.specs.Prelude.{◌≡◌, ℕ, ◌+◌, ◌/◌, ◌≤◌, ◌<◌, List, length, drop, flat_map, All}
 use Rattle.ckd_track.specs.declared.model.DriveModel.{DriveModel}
 use Rattle.ckd_track.specs.declared.geometries.Geometry.{Geometry}
 use Rattle.volume_labels.specs.declared.fields.Extent.{Extent}
-use Rattle.dasd_extract.specs.declared.blocks.Form.TheVariants as form
+use Rattle.dasd_extract.specs.declared.blocks.Form.{Form}
 use Rattle.dasd_extract.specs.Walk.{wanted, source_written}
 use Rattle.dasd_extract.specs.Members.{directory}
 use Rattle.library_records.specs.declared.libraries.NewMember.{NewMember}
 use Rattle.record_tracks.specs.Records.{Areas}
 use Rattle.record_tracks.specs.Tracks.{Takes}
-use Rattle.record_tracks.specs.ReadBack.{IsLoaded, IsWritten, data_of, ended_by_file}
+use Rattle.record_tracks.specs.ReadBack.{IsLoaded, IsWrittenAs, data_of, ended_by_file}
 use Rattle.library_records.specs.Library.{directory_areas, library_areas, blocks_of_member, first_record}
 use Rattle.library_records.specs.Addresses.{address_of}
 
@@ -32,14 +32,14 @@ IsDirectoryRead model bytes members =
     → directory_end model bytes members < 512
     → source_written (directory extents) g slots ≡ ended_by_file (data_of (directory_areas bytes)) (directory_end model bytes members)
 
--- And from the address of block k of a member on, as its blocks stand, it has the data of that block and of those behind it and nothing else,
--- ended by the end of file behind the member. Where k is the number of the blocks, that is the end of file alone.
+-- And from the address of block k of a member on it has, in any form, the text of that block and of those behind it and nothing else, ended by
+-- the end of file behind the member. Where k is the number of the blocks, that is the end of file alone.
 abbrev pub AreMembersRead : DriveModel → (bytes : List ℕ) → List NewMember → Type 0
 AreMembersRead model bytes members =
-    (member k : ℕ) → member < length members → k ≤ length (blocks_of_member members member)
+    (form : Form) (text : Areas → List ℕ) (member k : ℕ) → member < length members → k ≤ length (blocks_of_member members member)
     → (g : Geometry) (extents : List Extent) (slots : List (List ℕ)) → HasRecords model (library_areas bytes members) g extents slots
     → let blocks = blocks_of_member members member in
     let address = λ (i : ℕ). address_of model (library_areas bytes members) (first_record (length bytes / 264) members member + i) in
-    (most : ℕ) → (address (length blocks)).track < (address k).track + most → All (IsWritten form.Raw) (drop k blocks)
-    → source_written (wanted form.Raw extents (address k) most) g slots
-    ≡ ended_by_file (data_of (drop k blocks)) (address (length blocks)).track
+    (most : ℕ) → (address (length blocks)).track < (address k).track + most → All (IsWrittenAs form text) (drop k blocks)
+    → source_written (wanted form extents (address k) most) g slots
+    ≡ ended_by_file (flat_map text (drop k blocks)) (address (length blocks)).track

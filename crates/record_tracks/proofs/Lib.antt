@@ -7,3 +7,6 @@ pub mod Spelled
 pub mod Part
 pub mod Reading
 pub mod Parts
+pub mod Forms
+pub mod Last
+pub mod Whole

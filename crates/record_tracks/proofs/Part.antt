@@ -1,6 +1,6 @@
 -- What the reader writes of the records of one track, from one of them on.
 use Rattle.std.proofs.Common.{◌≡◌, ◌∙◌, ap, sym, refl, ℕ, zero, suc, ◌+◌, ◌-◌, ◌≤◌, ◌<◌, List, [], ◌∷◌, ◌++◌, length, take, drop}
-use Rattle.std.proofs.Common.{get_or, arith, All, Some, None, Bool, true, false, cond, nat_lt, ◌==◌, append-nil, length-append}
+use Rattle.std.proofs.Common.{flat_map, get_or, arith, All, Some, None, Bool, true, false, cond, nat_lt, ◌==◌, append-nil, length-append}
 use Rattle.std.specs.List.{position}
 use Rattle.std.proofs.lemmas.Bool.Decides.{nat_tests}
 use Rattle.std.proofs.lemmas.Grind.{flat_map-append}
@@ -11,74 +11,70 @@ use Rattle.ckd_track.specs.declared.geometries.Geometry.{Geometry}
 use Rattle.ckd_track.specs.Track.{Record, record_in, no_record}
 use Rattle.dasd_extract.specs.declared.stops.Cause.TheVariants.{EndOfFile}
 use Rattle.dasd_extract.specs.declared.blocks.Form.{Form}
-use Rattle.dasd_extract.specs.declared.blocks.Form.TheVariants as form
 use Rattle.dasd_extract.specs.Written.{Written, these_bytes, stopped, stop_at, and_then, until_stop}
 use Rattle.dasd_extract.specs.Blocks.{block_written, number_of}
 use Rattle.dasd_extract.specs.Walk.{blocks_from, first_block}
 use Rattle.dasd_extract.proofs.Endings.{until_none, until_one_more, stays_for}
 use Rattle.record_tracks.specs.Records.{Areas, end_of_file}
 use Rattle.record_tracks.specs.Tracks.{fitting_on, record_with, track_bytes, loaded_track}
-use Rattle.record_tracks.specs.ReadBack.{IsWritten, data_of, ended_by_file}
+use Rattle.record_tracks.specs.ReadBack.{IsWrittenAs, ended_by_file}
 use Rattle.record_tracks.proofs.Fitting.{fits_on}
 use Rattle.record_tracks.proofs.Spelled.{record_of, length-records_of}
 
--- What is written of one record: its data; of an end of file nothing, and that is the end.
-one_written : (f : Form) (track number : ℕ) (id : List ℕ) (a : Areas) → IsWritten f a
-    → block_written f track (record_with id number a) ≡ these_bytes a.data_area
-one_written form.Raw track number id a some = let e : (length a.data_area == 0) ≡ false = grind (arith, nat_tests) in rw e refl
-one_written form.Directory track number id a is =
-    let e : (length a.data_area == 0) ≡ false = grind (arith, nat_tests, is.1) in
-    let key : (length a.key_area == 8) ≡ true = grind (arith, nat_tests, is.0) in
-    let size : (length a.data_area == 256) ≡ true = grind (arith, nat_tests, is.1) in
-    rw (e, key, size) refl
-one_written (form.Text l) track number id a is = absurd is
-one_written form.Keyed track number id a is = absurd is
+-- What is written of one record: its text; of an end of file nothing, and that is the end.
+one_written : (f : Form) (text : Areas → List ℕ) (track number : ℕ) (id : List ℕ) (a : Areas) → IsWrittenAs f text a
+    → block_written f track (record_with id number a) ≡ these_bytes (text a)
+one_written f text track number id a is =
+    let some = is.some in
+    let e : (length a.data_area == 0) ≡ false = grind (arith, nat_tests) in
+    rw e (is.written track number id)
 
 -- Records one after another, each with its number.
-module _ (f : Form) (track first : ℕ) (id : List ℕ) (what : ℕ → Written) (xs : List Areas)
+module _ (f : Form) (text : Areas → List ℕ) (track first : ℕ) (id : List ℕ) (what : ℕ → Written) (xs : List Areas)
     (each : (k : ℕ) → k < length xs → what k ≡ block_written f track (record_with id (first + k) (get_or xs k end_of_file))) where
   -- the first of them
-  pub walked : (n : ℕ) → n ≤ length xs → ((k : ℕ) → k < n → IsWritten f (get_or xs k end_of_file))
-      → until_stop what n ≡ these_bytes (data_of (take n xs))
+  pub walked : (n : ℕ) → n ≤ length xs → ((k : ℕ) → k < n → IsWrittenAs f text (get_or xs k end_of_file))
+      → until_stop what n ≡ these_bytes (flat_map text (take n xs))
   walked zero within are = until_none what
   walked (suc n) within are =
       let e : suc n ≡ n + 1 = omega arith in
       let before = walked n (omega (arith, within)) (λ k there. are k (omega (arith, there))) in
       let a = get_or xs n end_of_file in
-      let one = each n (omega (arith, within)) ∙ one_written f track (first + n) id a (are n (omega arith)) in
-      let more : data_of (take (n + 1) xs) ≡ data_of (take n xs) ++ a.data_area =
-      ap data_of (take_more xs n end_of_file (omega (arith, within)))
-      ∙ flat_map-append (λ (x : Areas). x.data_area) (take n xs) (a ∷ [])
-      ∙ ap (λ (bytes : List ℕ). data_of (take n xs) ++ bytes) (append-nil a.data_area) in
+      let one = each n (omega (arith, within)) ∙ one_written f text track (first + n) id a (are n (omega arith)) in
+      let more : flat_map text (take (n + 1) xs) ≡ flat_map text (take n xs) ++ text a =
+      ap (flat_map text) (take_more xs n end_of_file (omega (arith, within)))
+      ∙ flat_map-append text (take n xs) (a ∷ [])
+      ∙ ap (λ (bytes : List ℕ). flat_map text (take n xs) ++ bytes) (append-nil (text a)) in
       ap (until_stop what) e ∙ until_one_more what n ∙ ap (λ (w : Written). and_then w (what n)) before
-      ∙ ap (and_then (these_bytes (data_of (take n xs)))) one ∙ ap these_bytes (sym more)
-      ∙ ap (λ (m : ℕ). these_bytes (data_of (take m xs))) (sym e)
+      ∙ ap (and_then (these_bytes (flat_map text (take n xs)))) one ∙ ap these_bytes (sym more)
+      ∙ ap (λ (m : ℕ). these_bytes (flat_map text (take m xs))) (sym e)
 
   -- all of them, where none is an end of file
-  pub all_walked : All (IsWritten f) xs → until_stop what (length xs) ≡ these_bytes (data_of xs)
+  pub all_walked : All (IsWrittenAs f text) xs → until_stop what (length xs) ≡ these_bytes (flat_map text xs)
   all_walked are =
-      walked (length xs) (omega arith) (λ k there. All-get_or (IsWritten f) xs k end_of_file there are)
-      ∙ ap (λ (ys : List Areas). these_bytes (data_of ys)) (take_all (length xs) xs (omega arith))
+      walked (length xs) (omega arith) (λ k there. All-get_or (IsWrittenAs f text) xs k end_of_file there are)
+      ∙ ap (λ (ys : List Areas). these_bytes (flat_map text ys)) (take_all (length xs) xs (omega arith))
 
   -- those before an end of file
-  pub end_walked : (part rest : List Areas) → xs ≡ part ++ (end_of_file ∷ rest) → All (IsWritten f) part
-      → until_stop what (length xs) ≡ ended_by_file (data_of part) track
+  pub end_walked : (part rest : List Areas) → xs ≡ part ++ (end_of_file ∷ rest) → All (IsWrittenAs f text) part
+      → until_stop what (length xs) ≡ ended_by_file (flat_map text part) track
   end_walked part rest is are =
       let n = length part in
       let size = ap length is ∙ length-append part (end_of_file ∷ rest) in
       let at : (k : ℕ) → k < n → get_or xs k end_of_file ≡ get_or part k end_of_file =
       λ k there. ap (λ (ys : List Areas). get_or ys k end_of_file) is ∙ get_or_append_left part (end_of_file ∷ rest) end_of_file k there in
-      let before = walked n (omega (arith, size)) (λ k there. rw (at k there) (All-get_or (IsWritten f) part k end_of_file there are))
-      ∙ ap (λ (ys : List Areas). these_bytes (data_of ys)) (ap (take n) is ∙ take_at part (end_of_file ∷ rest) n refl) in
+      let before = walked n (omega (arith, size)) (λ k there. rw (at k there)
+      (All-get_or (IsWrittenAs f text) part k end_of_file there are))
+      ∙ ap (λ (ys : List Areas). these_bytes (flat_map text ys)) (ap (take n) is ∙ take_at part (end_of_file ∷ rest) n refl) in
       let zero_on : n ≡ n + 0 = omega arith in
       let none : get_or xs n end_of_file ≡ end_of_file = ap (λ (ys : List Areas). get_or ys n end_of_file) is
       ∙ ap (λ (k : ℕ). get_or (part ++ (end_of_file ∷ rest)) k end_of_file) zero_on
       ∙ get_or-append-add part (end_of_file ∷ rest) 0 end_of_file in
       let end : what n ≡ stopped track EndOfFile = each n (omega (arith, size))
       ∙ ap (λ (a : Areas). block_written f track (record_with id (first + n) a)) none in
-      let here : until_stop what (n + 1) ≡ ended_by_file (data_of part) track =
-      until_one_more what n ∙ ap (λ (w : Written). and_then w (what n)) before ∙ ap (and_then (these_bytes (data_of part))) end
-      ∙ ap (λ (bytes : List ℕ). ended_by_file bytes track) (append-nil (data_of part)) in
+      let here : until_stop what (n + 1) ≡ ended_by_file (flat_map text part) track =
+      until_one_more what n ∙ ap (λ (w : Written). and_then w (what n)) before ∙ ap (and_then (these_bytes (flat_map text part))) end
+      ∙ ap (λ (bytes : List ℕ). ended_by_file bytes track) (append-nil (flat_map text part)) in
       let all : length xs ≡ n + 1 + (length xs - (n + 1)) = omega (arith, size) in
       ap (until_stop what) all
       ∙ stays_for what (n + 1) (length xs - (n + 1)) (stop_at track EndOfFile) (ap (λ (w : Written). w.stop) here) ∙ here

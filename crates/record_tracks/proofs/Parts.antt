@@ -1,6 +1,6 @@
 -- A part of the records is read from its place on, up to the end of file behind it.
 use Rattle.std.proofs.Common.{◌≡◌, ◌∙◌, ap, sym, subst, ℕ, zero, suc, ◌+◌, ◌-◌, ◌≤◌, ◌<◌, List, ◌∷◌, ◌++◌, length, take, drop}
-use Rattle.std.proofs.Common.{arith, All, ⊎_elim, length-append, length-drop, drop-drop}
+use Rattle.std.proofs.Common.{flat_map, arith, All, ⊎_elim, length-append, length-drop, drop-drop}
 use Rattle.std.proofs.lemmas.Grind.{flat_map-append}
 use Rattle.std.proofs.lemmas.List.{take-append-le, drop-append-le, take-append-drop, drop_at, drop-take, take-take}
 use Rattle.std.proofs.Math.Seq.{take-append-add}
@@ -16,7 +16,7 @@ use Rattle.dasd_extract.specs.Walk.{source_written, too_many}
 use Rattle.dasd_extract.proofs.Endings.{until_none, until_one_more, ended_stays, stays_for}
 use Rattle.record_tracks.specs.Records.{Areas, GoesOn, end_of_file}
 use Rattle.record_tracks.specs.Tracks.{fitting_on, left_behind, StandsAt}
-use Rattle.record_tracks.specs.ReadBack.{IsLoaded, IsWritten, IsAskedBy, IsReadBack, data_of, ended_by_file}
+use Rattle.record_tracks.specs.ReadBack.{IsLoaded, IsWrittenAs, IsAskedBy, IsReadBack, ended_by_file}
 use Rattle.record_tracks.proofs.Behind.{one_behind}
 use Rattle.record_tracks.proofs.Reading.{left_shrinks, source, left, fit, told}
 use Rattle.record_tracks.proofs.Reading.{Begins, first_begins, zero_begins, later_begins, all_told, end_told}
@@ -28,12 +28,12 @@ two_parts n m part =
     ap (λ (ys : List Areas). ys ++ take m (drop n part)) (sym one) ∙ ap (λ (ys : List Areas). take n (take (n + m) part) ++ ys)
     (sym (drop-take n m part)) ∙ front
 
-data-append : (ys zs : List Areas) → data_of ys ++ data_of zs ≡ data_of (ys ++ zs)
-data-append ys zs = sym (flat_map-append (λ (a : Areas). a.data_area) ys zs)
+texts-append : (text : Areas → List ℕ) (ys zs : List Areas) → flat_map text ys ++ flat_map text zs ≡ flat_map text (ys ++ zs)
+texts-append text ys zs = sym (flat_map-append text ys zs)
 
-module _ (f : Form) (g : Geometry) (extents : List Extent) (slots : List (List ℕ)) (most : ℕ) (areas : List Areas)
+module _ (f : Form) (text : Areas → List ℕ) (g : Geometry) (extents : List Extent) (slots : List (List ℕ)) (most : ℕ) (areas : List Areas)
     (track number last : ℕ) (each : All (GoesOn g.model) areas) (loaded : IsLoaded g extents slots areas (last + 1))
-    (part behind : List Areas) (first its_number : ℕ) (are : All (IsWritten f) part)
+    (part behind : List Areas) (first its_number : ℕ) (are : All (IsWrittenAs f text) part)
     (is : drop first areas ≡ part ++ (end_of_file ∷ behind)) (size : length areas ≡ first + length part + 1 + length behind)
     (its_own : ℕ) (from : StandsAt g.model areas first track its_own)
     (asked : IsAskedBy its_own number) (to : StandsAt g.model areas (first + length part) last its_number) where
@@ -53,7 +53,7 @@ module _ (f : Form) (g : Geometry) (extents : List Extent) (slots : List (List �
     few : q ≤ length part
     within : o ≤ room j
     begins : Begins f g extents slots most areas track number last each loaded j o
-    written : until_stop say j ≡ these_bytes (data_of (take q part))
+    written : until_stop say j ≡ these_bytes (flat_map text (take q part))
     here : drop o (on j) ≡ drop q part ++ (end_of_file ∷ behind)
 
   left_long : (j : ℕ) (s : SoFar j) → length (on j) ≡ s.o + (length part - s.q) + 1 + length behind
@@ -134,8 +134,8 @@ module _ (f : Form) (g : Geometry) (extents : List Extent) (slots : List (List �
       let these : drop s.o (take (room j) (on j)) ≡ take m rest =
       ap (λ (i : ℕ). drop s.o (take i (on j))) (sym all) ∙ drop-take s.o m (on j) ∙ ap (take m) s.here
       ∙ take-append-le m rest (end_of_file ∷ behind) within in
-      let written = all_told f g extents slots most areas track number last each loaded j s.o (omega (arith, there)) s.within s.begins
-      (subst (All (IsWritten f)) (sym these) (All-take (IsWritten f) m rest (All-drop (IsWritten f) s.q part are))) in
+      let written = all_told f g extents slots most areas track number last each loaded j s.o (omega (arith, there)) s.within s.begins text
+      (subst (All (IsWrittenAs f text)) (sym these) (All-take (IsWrittenAs f text) m rest (All-drop (IsWrittenAs f text) s.q part are))) in
       let e : suc j ≡ j + 1 = omega arith in
       let on_next : track + suc j ≡ suc (track + j) = omega arith in
       record {
@@ -145,8 +145,9 @@ module _ (f : Form) (g : Geometry) (extents : List Extent) (slots : List (List �
         within = omega arith;
         begins = later_begins f g extents slots most areas track number last each loaded j;
         written = ap (until_stop say) e ∙ until_one_more say j ∙ ap (λ (w : Written). and_then w (say j)) s.written
-            ∙ ap (and_then (these_bytes (data_of (take s.q part)))) (written ∙ ap (λ (ys : List Areas). these_bytes (data_of ys)) these)
-            ∙ ap these_bytes (data-append (take s.q part) (take m rest) ∙ ap data_of (two_parts s.q m part));
+            ∙ ap (and_then (these_bytes (flat_map text (take s.q part))))
+            (written ∙ ap (λ (ys : List Areas). these_bytes (flat_map text ys)) these)
+            ∙ ap these_bytes (texts-append text (take s.q part) (take m rest) ∙ ap (flat_map text) (two_parts s.q m part));
         here = ap (left_behind g.model areas) on_next ∙ one_behind g.model areas (track + j)
             ∙ ap (λ (i : ℕ). drop i (on j)) (sym all) ∙ sym (drop-drop m s.o (on j)) ∙ ap (drop m) s.here
             ∙ drop-append-le m rest (end_of_file ∷ behind) within
@@ -158,7 +159,7 @@ module _ (f : Form) (g : Geometry) (extents : List Extent) (slots : List (List �
   so_far (suc j) there = next j (so_far j (omega (arith, there))) (omega (arith, there))
 
   -- the last track
-  ended : (j : ℕ) → track + j ≡ last → until_stop say (j + 1) ≡ ended_by_file (data_of part) last
+  ended : (j : ℕ) → track + j ≡ last → until_stop say (j + 1) ≡ ended_by_file (flat_map text part) last
   ended j there =
       let s = so_far j (omega (arith, there)) in
       let m = room j - s.o in
@@ -170,21 +171,22 @@ module _ (f : Form) (g : Geometry) (extents : List Extent) (slots : List (List �
       let these : drop s.o (take (room j) (on j)) ≡ rest ++ (end_of_file ∷ take more behind) =
       ap (λ (i : ℕ). drop s.o (take i (on j))) (sym all) ∙ drop-take s.o m (on j) ∙ ap (take m) s.here
       ∙ ap (λ (i : ℕ). take i (rest ++ (end_of_file ∷ behind))) count ∙ take-append-add rest (end_of_file ∷ behind) (suc more) in
-      let written = end_told f g extents slots most areas track number last each loaded j s.o (omega (arith, there)) s.within s.begins
-      rest (take more behind) these (All-drop (IsWritten f) s.q part are) in
+      let written = end_told f g extents slots most areas track number last each loaded j s.o (omega (arith, there)) s.within s.begins text
+      rest (take more behind) these (All-drop (IsWrittenAs f text) s.q part are) in
       until_one_more say j ∙ ap (λ (w : Written). and_then w (say j)) s.written
-      ∙ ap (and_then (these_bytes (data_of (take s.q part)))) written
-      ∙ ap (λ (bytes : List ℕ). ended_by_file bytes (track + j)) (data-append (take s.q part) rest ∙ ap data_of (take-append-drop s.q part))
-      ∙ ap (ended_by_file (data_of part)) there
+      ∙ ap (and_then (these_bytes (flat_map text (take s.q part)))) written
+      ∙ ap (λ (bytes : List ℕ). ended_by_file bytes (track + j))
+      (texts-append text (take s.q part) rest ∙ ap (flat_map text) (take-append-drop s.q part))
+      ∙ ap (ended_by_file (flat_map text part)) there
 
   pub part_read : track ≤ last → last < track + most
-      → source_written (source f g extents slots most areas track number last each loaded) g slots ≡ ended_by_file (data_of part) last
+      → source_written (source f g extents slots most areas track number last each loaded) g slots ≡ ended_by_file (flat_map text part) last
   part_read before within =
       let j = last - track in
       let here = ended j (omega (arith, before)) in
       let stop = stop_at last EndOfFile in
       let e : j + 1 + (most - (j + 1)) ≡ most = omega (arith, within, before) in
-      let whole : until_stop say most ≡ ended_by_file (data_of part) last =
+      let whole : until_stop say most ≡ ended_by_file (flat_map text part) last =
       ap (until_stop say) (sym e) ∙ stays_for say (j + 1) (most - (j + 1)) stop (ap (λ (w : Written). w.stop) here) ∙ here in
       ended_stays (until_stop say most) (too_many (source f g extents slots most areas track number last each loaded) g slots) stop
       (ap (λ (w : Written). w.stop) whole) ∙ whole
@@ -212,8 +214,8 @@ module _ (f : Form) (g : Geometry) (extents : List Extent) (slots : List (List �
             size,
           )
 
-pub read_back : (f : Form) (model : DriveModel) (areas : List Areas) → All (GoesOn model) areas → IsReadBack f model areas
-read_back f model areas each part first track number asked last its_number whole are from is_asked to
+pub read_back : (model : DriveModel) (areas : List Areas) → All (GoesOn model) areas → IsReadBack model areas
+read_back model areas each f text part first track number asked last its_number whole are from is_asked to
     g extents slots most same within loaded =
     let each_here : All (GoesOn g.model) areas = rw same each in
     let from_here : StandsAt g.model areas first track number = rw same from in
@@ -227,8 +229,8 @@ read_back f model areas each part first track number asked last its_number whole
       length-append part (end_of_file ∷ whole.behind),
       whole.number,
     ) in
-    part_read f g extents slots most areas track asked last each_here loaded part whole.behind first its_number are is size
+    part_read f text g extents slots most areas track asked last each_here loaded part whole.behind first its_number are is size
     number from_here is_asked to_here
-    (in_order f g extents slots most areas track asked last each_here loaded part whole.behind first its_number are is size
+    (in_order f text g extents slots most areas track asked last each_here loaded part whole.behind first its_number are is size
     number from_here is_asked to_here)
     within

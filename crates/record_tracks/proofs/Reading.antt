@@ -1,6 +1,6 @@
 -- What the reader writes of a part of the records, track after track.
 use Rattle.std.proofs.Common.{◌≡◌, ◌∙◌, ap, sym, refl, subst, ℕ, zero, suc, ◌+◌, ◌-◌, ◌≤◌, ◌<◌, List, ◌∷◌, ◌++◌, length, take, drop}
-use Rattle.std.proofs.Common.{get_or, arith, All, Some, Ok, Bool, true, false, cond, nat_lt, ◌==◌, length-drop}
+use Rattle.std.proofs.Common.{flat_map, get_or, arith, All, Some, Ok, Bool, true, false, cond, nat_lt, ◌==◌, length-drop}
 use Rattle.std.proofs.lemmas.Bool.Decides.{nat_tests}
 use Rattle.std.proofs.lemmas.List.{length-take-le}
 use Rattle.std.proofs.lemmas.List.Elements.{All-drop}
@@ -21,7 +21,7 @@ use Rattle.dasd_extract.specs.Walk.{Wanted, wanted, number_on, track_written, tr
 use Rattle.dasd_extract.proofs.Told.{none_read, one_more_read}
 use Rattle.record_tracks.specs.Records.{Areas, GoesOn, end_of_file}
 use Rattle.record_tracks.specs.Tracks.{fitting_on, left_behind, loaded_track, record_with, track_bytes}
-use Rattle.record_tracks.specs.ReadBack.{IsLoadedAt, IsLoaded, IsWritten, data_of, ended_by_file}
+use Rattle.record_tracks.specs.ReadBack.{IsLoadedAt, IsLoaded, IsWrittenAs, ended_by_file}
 use Rattle.record_tracks.proofs.Fitting.{fits_on}
 use Rattle.record_tracks.proofs.Behind.{none_behind, one_behind}
 use Rattle.record_tracks.proofs.Spelled.{loaded_read}
@@ -146,11 +146,11 @@ module _ (f : Form) (g : Geometry) (extents : List Extent) (slots : List (List �
         (record_with (track_bytes g n) (o + 1 + k) (get_or xs k end_of_file))
     these_are k there = what_is f (track + j) g n (left j) o k (omega (arith, there, length-xs))
 
-    pub all_told : All (IsWritten f) xs → told j ≡ these_bytes (data_of xs)
-    all_told are = told_is j within ∙ ap (told_behind 0) (track_is
-        ∙ all_walked f (track + j) (o + 1) (track_bytes g n) these xs these_are are)
+    pub all_told : (text : Areas → List ℕ) → All (IsWrittenAs f text) xs → told j ≡ these_bytes (flat_map text xs)
+    all_told text are = told_is j within ∙ ap (told_behind 0) (track_is
+        ∙ all_walked f text (track + j) (o + 1) (track_bytes g n) these xs these_are are)
 
-    pub end_told : (part rest : List Areas) → xs ≡ part ++ (end_of_file ∷ rest) → All (IsWritten f) part
-        → told j ≡ ended_by_file (data_of part) (track + j)
-    end_told part rest is are = told_is j within ∙ ap (told_behind 0) (track_is
-        ∙ end_walked f (track + j) (o + 1) (track_bytes g n) these xs these_are part rest is are)
+    pub end_told : (text : Areas → List ℕ) (part rest : List Areas) → xs ≡ part ++ (end_of_file ∷ rest) → All (IsWrittenAs f text) part
+        → told j ≡ ended_by_file (flat_map text part) (track + j)
+    end_told text part rest is are = told_is j within ∙ ap (told_behind 0) (track_is
+        ∙ end_walked f text (track + j) (o + 1) (track_bytes g n) these xs these_are part rest is are)

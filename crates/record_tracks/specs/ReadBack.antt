@@ -11,10 +11,11 @@ use Rattle.data_sets.specs.Addresses as addresses
 use Rattle.dasd_extract.specs.declared.stops.Cause.TheVariants.{EndOfFile}
 use Rattle.dasd_extract.specs.declared.blocks.Form.{Form}
 use Rattle.dasd_extract.specs.declared.blocks.Form.TheVariants as form
-use Rattle.dasd_extract.specs.Written.{Written, stop_at}
+use Rattle.dasd_extract.specs.Written.{Written, these_bytes, stop_at}
+use Rattle.dasd_extract.specs.Blocks.{form_written, keyed_bytes}
 use Rattle.dasd_extract.specs.Walk.{wanted, source_written}
 use Rattle.record_tracks.specs.Records.{Areas, end_of_file}
-use Rattle.record_tracks.specs.Tracks.{left_behind, loaded_slot, StandsAt}
+use Rattle.record_tracks.specs.Tracks.{left_behind, loaded_slot, record_with, StandsAt}
 
 -- the volume has this track, with as many as go on it of the records that are left
 abbrev pub IsLoadedAt : Geometry → (slots : List (List ℕ)) → (left : List Areas) → TrackPlace → Type 0
@@ -26,6 +27,15 @@ IsLoadedAt g slots left place.BadExtent = ⊥
 abbrev pub IsLoaded : Geometry → List Extent → (slots : List (List ℕ)) → (areas : List Areas) → (tracks : ℕ) → Type 0
 IsLoaded g extents slots areas tracks =
     (i : ℕ) → i < tracks → IsLoadedAt g slots (left_behind g.model areas i) (addresses.track_of (heads_of g.model) extents i)
+
+-- A record that has data, so that it is no end of file, and of which the reader writes this text, wherever it stands, and goes on behind it.
+pub record IsWrittenAs (form : Form) (text : Areas → List ℕ) (a : Areas) : Type 0 where
+  pub some : 1 ≤ length a.data_area
+  pub written : (track number : ℕ) (id : List ℕ) → form_written form track (record_with id number a) ≡ these_bytes (text a)
+
+-- A record with its lengths and its key, as the reader writes it where these are kept. Where it stands is not told.
+abbrev pub keyed_text : Areas → List ℕ
+keyed_text a = keyed_bytes (record_with [] 0 a)
 
 -- A record of which the reader writes the data as they stand: any that has some, and as a block of a directory one with a key of 8 bytes
 -- and 256 bytes of data.
@@ -54,10 +64,21 @@ pub record IsPart (areas part : List Areas) (first : ℕ) : Type 0 where
 abbrev pub IsAskedBy : (number asked : ℕ) → Type 0
 IsAskedBy number asked = (asked ≡ number) ⊎ ((asked ≡ 0) × (number ≡ 1))
 
--- Wherever these tracks are on a volume, in one extent or in several: what the reader writes from the place of the first record of a part on
--- is all data of the part and nothing else, and it ends with the end of file behind it, on its track.
-abbrev pub IsReadBack : Form → DriveModel → (areas : List Areas) → Type 0
-IsReadBack f model areas =
+-- Wherever these tracks are on a volume, in one extent or in several: what the reader writes in a form from the place of the first record of
+-- a part on is the text of each record of the part, one behind another, and nothing else, and it ends with the end of file behind them, on
+-- its track.
+abbrev pub IsReadBack : DriveModel → (areas : List Areas) → Type 0
+IsReadBack model areas =
+    (form : Form) (text : Areas → List ℕ) (part : List Areas) (first track number asked last its_number : ℕ)
+    → IsPart areas part first → All (IsWrittenAs form text) part
+    → StandsAt model areas first track number → IsAskedBy number asked → StandsAt model areas (first + length part) last its_number
+    → (g : Geometry) (extents : List Extent) (slots : List (List ℕ)) (most : ℕ) → g.model ≡ model → last < track + most
+    → IsLoaded g extents slots areas (last + 1)
+    → source_written (wanted form extents (record { track = track; number = asked }) most) g slots ≡ ended_by_file (flat_map text part) last
+
+-- So where the data are written as they stand, that is all data of the part and nothing else.
+abbrev pub IsReadAsData : Form → DriveModel → (areas : List Areas) → Type 0
+IsReadAsData f model areas =
     (part : List Areas) (first track number asked last its_number : ℕ) → IsPart areas part first → All (IsWritten f) part
     → StandsAt model areas first track number → IsAskedBy number asked → StandsAt model areas (first + length part) last its_number
     → (g : Geometry) (extents : List Extent) (slots : List (List ℕ)) (most : ℕ) → g.model ≡ model → last < track + most

@@ -1,5 +1,5 @@
 -- The records of a data set, one behind another, whatever tracks they stand on.
-use Rattle.std.specs.Prelude.{ℕ, ◌≤◌, ◌<◌, List, [], length, map}
+use Rattle.std.specs.Prelude.{ℕ, ◌-◌, ◌≤◌, ◌<◌, Bool, ◌&&◌, nat_le, nat_lt, List, [], length, map, sum_by}
 use Rattle.ckd_track.specs.declared.model.DriveModel.{DriveModel}
 use Rattle.ckd_track.specs.Model.{capacity_of}
 use Rattle.ckd_track.specs.Charges.{charge_of, last_charge_of}
@@ -32,5 +32,13 @@ pub record GoesOn (model : DriveModel) (a : Areas) : Type 0 where
   pub key : length a.key_area < 255
   pub most : last_charge_for model a ≤ capacity_of model
 
+-- the same as a test
+abbrev pub goes_on : DriveModel → Areas → Bool
+goes_on model a = nat_lt (length a.key_area) 255 && nat_le (last_charge_for model a) (capacity_of model)
+
 abbrev pub RecordGoesOn : DriveModel → NewRecord → Type 0
 RecordGoesOn model b = GoesOn model (areas_of b)
+
+-- what these records leave of a track's capacity, where others follow them
+abbrev pub balance_behind : DriveModel → (areas : List Areas) → ℕ
+balance_behind model areas = capacity_of model - sum_by (charge_for model) areas

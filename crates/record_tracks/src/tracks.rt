@@ -4,7 +4,7 @@ ghost use Rattle.std.specs.Prelude.{◌≡◌, ◌≤◌, ◌+◌, ◌<◌, drop
 ghost use Rattle.dasd_extract.specs.declared.blocks.Form.{Form};
 ghost use Rattle.record_tracks.specs.Records.{all_areas, RecordGoesOn};
 ghost use Rattle.record_tracks.specs.Tracks.{fitting_on, Takes, StandsAt};
-ghost use Rattle.record_tracks.specs.ReadBack.{IsReadBack};
+ghost use Rattle.record_tracks.specs.ReadBack.{IsReadBack, IsReadAsData};
 
 use crate::records::{NewRecord, charge_for, last_charge_for};
 use ckd_track::DriveModel;
@@ -42,7 +42,8 @@ pub(crate) fn fitting(model: DriveModel, blocks: &[NewRecord], from: usize) -> u
 pub fn tracks_needed(model: DriveModel, blocks: &[NewRecord]) -> usize
     requires each { All (RecordGoesOn model) blocks.now }
     ensures tracks { Takes model (all_areas blocks.now) result }
-    ensures read { (form : Form) → IsReadBack form model (all_areas blocks.now) }
+    ensures read { IsReadBack model (all_areas blocks.now) }
+    ensures stored { (form : Form) → IsReadAsData form model (all_areas blocks.now) }
 {
     let mut next = 0;
     let mut tracks = 0;

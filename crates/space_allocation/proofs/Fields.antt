@@ -5,17 +5,17 @@ use Rattle.std.proofs.lemmas.List.{drop_more, drop_all}
 use Rattle.ckd_track.specs.Changes.{overwritten}
 use Rattle.volume_labels.specs.Labels.{data_set_block_of}
 use Rattle.space_allocation.specs.declared.blocks.NewDataSet.{NewDataSet}
-use Rattle.space_allocation.specs.Blocks.{extent_bytes, numbers_bytes, length_bytes, last_bytes, data_set_data, data_set_read}
+use Rattle.space_allocation.specs.Blocks.{extent_bytes, numbers_bytes, form_bytes, length_bytes, last_bytes, data_set_data, data_set_read}
 
 -- the fields of a block of format 1, one written over the other from the last to the first
-pub data_set_fields : (serial numbers lengths last extent : List ℕ) (format : ℕ)
-    → length serial ≡ 6 → length numbers ≡ 9 → length lengths ≡ 4 → length last ≡ 5 → length extent ≡ 10
+pub data_set_fields : (serial numbers form lengths last extent : List ℕ)
+    → length serial ≡ 6 → length numbers ≡ 9 → length form ≡ 3 → length lengths ≡ 5 → length last ≡ 5 → length extent ≡ 10
     → overwritten (overwritten (overwritten (overwritten (overwritten (overwritten (overwritten (overwritten (overwritten (replicate 96 0)
-    61 extent) 54 last) 49 (0x80 ∷ 0x80 ∷ [])) 42 lengths) 38 (0x40 ∷ 0 ∷ format ∷ [])) 18 (replicate 13 0x40)) 7 numbers) 1 serial) 0
+    61 extent) 54 last) 49 (0x80 ∷ 0x80 ∷ [])) 42 lengths) 38 form) 18 (replicate 13 0x40)) 7 numbers) 1 serial) 0
     (0xF1 ∷ [])
-    ≡ 0xF1 ∷ serial ++ (numbers ++ (0 ∷ 0 ∷ replicate 13 0x40 ++ (replicate 7 0 ++ ((0x40 ∷ 0 ∷ format ∷ []) ++ (0 ∷ lengths
-    ++ (replicate 3 0 ++ (0x80 ∷ 0x80 ∷ replicate 3 0 ++ (last ++ (0 ∷ 0 ∷ extent ++ replicate 25 0)))))))))
-data_set_fields serial numbers lengths last extent format six nine four five ten = rw (six, nine, four, five, ten) refl
+    ≡ 0xF1 ∷ serial ++ (numbers ++ (0 ∷ 0 ∷ replicate 13 0x40 ++ (replicate 7 0 ++ (form ++ (0 ∷ lengths
+    ++ (replicate 2 0 ++ (0x80 ∷ 0x80 ∷ replicate 3 0 ++ (last ++ (0 ∷ 0 ∷ extent ++ replicate 25 0)))))))))
+data_set_fields serial numbers form lengths last extent six nine three many five ten = rw (six, nine, three, many, five, ten) refl
 
 -- from a place on, the element there and those behind it
 one_more : (s rest : List ℕ) (at : ℕ) → at + 1 ≤ length s → drop (at + 1) s ≡ rest → drop at s ≡ slice_index_or s at 0 ∷ rest
@@ -39,6 +39,8 @@ spelled_out s b is =
     rw (
       is,
       two_bytes s.created.day,
+      two_bytes s.expires.day,
+      two_bytes s.organisation,
       two_bytes s.block_length,
       two_bytes s.record_length,
       two_bytes s.last.track,
@@ -53,15 +55,16 @@ pub data_set_is_read : (s : NewDataSet) → length s.serial ≡ 6 → data_set_b
 data_set_is_read s six = spelled_out s (λ i. slice_index_or s.serial i 0) (six_are s.serial six)
 
 -- the same of what was written for a data set
-pub data_set_written : (s : NewDataSet) (now numbers lengths last extent : List ℕ) → length s.serial ≡ 6
+pub data_set_written : (s : NewDataSet) (now numbers form lengths last extent : List ℕ) → length s.serial ≡ 6
     → now ≡ overwritten (overwritten (overwritten (overwritten (overwritten (overwritten (overwritten (overwritten (overwritten
     (replicate 96 0)
-    61 extent) 54 last) 49 (0x80 ∷ 0x80 ∷ [])) 42 lengths) 38 (0x40 ∷ 0 ∷ s.format ∷ [])) 18 (replicate 13 0x40)) 7 numbers) 1 s.serial)
+    61 extent) 54 last) 49 (0x80 ∷ 0x80 ∷ [])) 42 lengths) 38 form) 18 (replicate 13 0x40)) 7 numbers) 1 s.serial)
     0 (0xF1 ∷ [])
-    → numbers ≡ numbers_bytes s → lengths ≡ length_bytes s.block_length s.record_length → last ≡ last_bytes s.last s.balance
+    → numbers ≡ numbers_bytes s.created s.expires → form ≡ form_bytes s.organisation s.format
+    → lengths ≡ length_bytes s.block_length s.record_length s.key_length → last ≡ last_bytes s.last s.balance
     → extent ≡ extent_bytes s.extent → now ≡ data_set_data s
-data_set_written s now numbers lengths last extent six written is_numbers is_lengths is_last is_extent =
-    rw (written, is_numbers, is_lengths, is_last, is_extent)
-    (data_set_fields s.serial (numbers_bytes s) (length_bytes s.block_length s.record_length) (last_bytes s.last s.balance)
-    (extent_bytes s.extent)
-    s.format six refl refl refl refl)
+data_set_written s now numbers form lengths last extent six written is_numbers is_form is_lengths is_last is_extent =
+    rw (written, is_numbers, is_form, is_lengths, is_last, is_extent)
+    (data_set_fields s.serial (numbers_bytes s.created s.expires) (form_bytes s.organisation s.format)
+    (length_bytes s.block_length s.record_length s.key_length) (last_bytes s.last s.balance) (extent_bytes s.extent)
+    six refl refl refl refl refl)

@@ -24,38 +24,37 @@ record_bytes a = track_bytes a.track ++ a.number ∷ []
 abbrev pub extent_bytes : Extent → List ℕ
 extent_bytes e = e.kind ∷ e.number ∷ track_bytes e.first ++ track_bytes e.last
 
--- nowhere, no day, and no extent
+-- nowhere, and no extent
 abbrev pub nowhere : RecordAddress
 nowhere = record { track = record { cylinder = 0; head = 0 }; number = 0 }
-
-abbrev pub no_date : Date
-no_date = record { year = 0; day = 0 }
 
 abbrev pub no_extent : Extent
 no_extent = record { kind = 0; number = 0; first = record { cylinder = 0; head = 0 }; last = record { cylinder = 0; head = 0 } }
 
--- What stands at 7: volume 1, the day on which it is made, none on which it expires, and one extent.
-abbrev pub numbers_bytes : NewDataSet → List ℕ
-numbers_bytes s = 0 ∷ 1 ∷ s.created.year ∷ two s.created.day ++ (0 ∷ 0 ∷ 0 ∷ 1 ∷ [])
+-- What stands at 7: volume 1, at 9 the day on which it is made, at 12 that on which it expires, and one extent.
+abbrev pub numbers_bytes : (created expires : Date) → List ℕ
+numbers_bytes created expires = 0 ∷ 1 ∷ created.year ∷ two created.day ++ (expires.year ∷ two expires.day ++ (1 ∷ []))
 
--- at 38: physically sequential, and the record format
-abbrev pub form_bytes : NewDataSet → List ℕ
-form_bytes s = 0x40 ∷ 0 ∷ s.format ∷ []
+-- at 38: the organisation and the record format
+abbrev pub form_bytes : (organisation format : ℕ) → List ℕ
+form_bytes organisation format = two organisation ++ (format ∷ [])
 
--- at 42: the lengths of a block and of a record
-abbrev pub length_bytes : (block size : ℕ) → List ℕ
-length_bytes block size = two block ++ two size
+-- at 42: the lengths of a block, of a record and, at 46, of a key
+abbrev pub length_bytes : (block size key : ℕ) → List ℕ
+length_bytes block size key = two block ++ (two size ++ (key ∷ []))
 
 -- at 54: the last block, and what its track has left
 abbrev pub last_bytes : RelativeAddress → (balance : ℕ) → List ℕ
 last_bytes last balance = two last.track ++ (last.number ∷ two balance)
 
--- Format 1: the serial number at 1; blanks at 18 for the system that made it; no key; at 49 that this is the last volume of the data set,
--- and that it gets no more tracks where these are full; the extent at 61; no second and third one, and no further block.
+-- Format 1: the serial number at 1; blanks at 18 for the system that made it; zeros at 47, where only keys within records have a place; at 49
+-- that this is the last volume of the data set, and that it gets no more tracks where these are full; the extent at 61; no second and third
+-- one, and no further block.
 abbrev pub data_set_data : NewDataSet → List ℕ
 data_set_data s =
-    0xF1 ∷ s.serial ++ (numbers_bytes s ++ (0 ∷ 0 ∷ replicate 13 0x40 ++ (replicate 7 0 ++ (form_bytes s ++ (0 ∷ length_bytes s.block_length s.record_length
-    ++ (replicate 3 0 ++ (0x80 ∷ 0x80 ∷ replicate 3 0 ++ (last_bytes s.last s.balance ++ (0 ∷ 0 ∷ extent_bytes s.extent ++ replicate 25 0)))))))))
+    0xF1 ∷ s.serial ++ (numbers_bytes s.created s.expires ++ (0 ∷ 0 ∷ replicate 13 0x40 ++ (replicate 7 0 ++ (form_bytes s.organisation s.format
+    ++ (0 ∷ length_bytes s.block_length s.record_length s.key_length ++ (replicate 2 0 ++ (0x80 ∷ 0x80 ∷ replicate 3 0
+    ++ (last_bytes s.last s.balance ++ (0 ∷ 0 ∷ extent_bytes s.extent ++ replicate 25 0)))))))))
 
 -- what a reader of the block has, whose key is the name
 abbrev pub data_set_read : NewDataSet → DataSetBlock
@@ -64,13 +63,13 @@ data_set_read s = record {
   serial = s.serial;
   volume = 1;
   created = s.created;
-  expires = no_date;
+  expires = s.expires;
   extents = 1;
-  organisation = 0x4000;
+  organisation = s.organisation;
   format = s.format;
   block_length = s.block_length;
   record_length = s.record_length;
-  key_length = 0;
+  key_length = s.key_length;
   indicators = 0x80;
   last = s.last;
   balance = s.balance;

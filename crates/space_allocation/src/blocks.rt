@@ -2,14 +2,13 @@
 
 ghost use Rattle.std.specs.Prelude.{◌≡◌};
 ghost use Rattle.volume_labels.specs.Labels.{data_set_block_of, contents_block_of};
-ghost use Rattle.space_allocation.specs.Blocks.{track_bytes, record_bytes, extent_bytes, numbers_bytes, length_bytes, last_bytes, data_set_data, data_set_read};
-ghost use Rattle.space_allocation.specs.Blocks.{contents_data, contents_read};
+ghost use Rattle.space_allocation.specs.Blocks.{track_bytes, record_bytes, extent_bytes, numbers_bytes, form_bytes, length_bytes, last_bytes, data_set_data};
+ghost use Rattle.space_allocation.specs.Blocks.{data_set_read, contents_data, contents_read};
 
 use ckd_track::overwrite;
 use volume_labels::{Date, Extent, RecordAddress, RelativeAddress, TrackAddress};
 
-/// What the format 1 block of a new data set says: one that is physically sequential, on one volume, in one extent, without keys, and
-/// that never expires.
+/// What the format 1 block of a new data set says: one that is on one volume, in one extent.
 #[derive(Clone, Copy)]
 pub struct NewDataSet {
     /// Its name, in EBCDIC, with blanks behind it.
@@ -18,12 +17,18 @@ pub struct NewDataSet {
     pub serial: [u8; 6],
     /// When it is made.
     pub created: Date,
+    /// When it expires; all zeros where nobody says when.
+    pub expires: Date,
+    /// Its organisation, as bits: 0x4000 is physically sequential, 0x0200 partitioned.
+    pub organisation: u16,
     /// Its record format, as bits.
     pub format: u8,
     /// The length of its blocks, in bytes.
     pub block_length: u16,
     /// The length of its records, in bytes; 0 where that is undefined.
     pub record_length: u16,
+    /// The length of the keys of its blocks, in bytes; 0 where they have none.
+    pub key_length: u8,
     /// Its last block.
     pub last: RelativeAddress,
     /// How many bytes the track of its last block has left.
@@ -58,21 +63,30 @@ fn extent_bytes(extent: Extent) -> [u8; 10]
     [extent.kind, extent.number, f0, f1, f2, f3, l0, l1, l2, l3]
 }
 
-// The number of the volume, the day on which a data set is made, none on which it expires, and one extent.
-fn numbers_bytes(set: &NewDataSet) -> [u8; 9]
-    ensures { result ≡ numbers_bytes set.now }
+// The number of the volume, the days on which a data set is made and expires, and one extent.
+fn numbers_bytes(created: Date, expires: Date) -> [u8; 9]
+    ensures { result ≡ numbers_bytes created expires }
 {
-    let [d0, d1] = set.created.day.to_be_bytes();
-    [0, 1, set.created.year, d0, d1, 0, 0, 0, 1]
+    let [d0, d1] = created.day.to_be_bytes();
+    let [e0, e1] = expires.day.to_be_bytes();
+    [0, 1, created.year, d0, d1, expires.year, e0, e1, 1]
 }
 
-// The lengths of a block and of a record.
-fn length_bytes(block: u16, size: u16) -> [u8; 4]
-    ensures { result ≡ length_bytes block size }
+// Organisation and record format.
+fn form_bytes(organisation: u16, format: u8) -> [u8; 3]
+    ensures { result ≡ form_bytes organisation format }
+{
+    let [o0, o1] = organisation.to_be_bytes();
+    [o0, o1, format]
+}
+
+// The lengths of a block, of a record and of a key.
+fn length_bytes(block: u16, size: u16, key: u8) -> [u8; 5]
+    ensures { result ≡ length_bytes block size key }
 {
     let [b0, b1] = block.to_be_bytes();
     let [s0, s1] = size.to_be_bytes();
-    [b0, b1, s0, s1]
+    [b0, b1, s0, s1, key]
 }
 
 // The last block, and what its track has left.
@@ -97,12 +111,11 @@ pub fn data_set_data(set: &NewDataSet) -> [u8; 96]
     overwrite(
         &mut bytes,
         42,
-        &length_bytes(set.block_length, set.record_length),
+        &length_bytes(set.block_length, set.record_length, set.key_length),
     );
-    // physically sequential
-    overwrite(&mut bytes, 38, &[0x40, 0, set.format]);
+    overwrite(&mut bytes, 38, &form_bytes(set.organisation, set.format));
     overwrite(&mut bytes, 18, &[0x40; 13]);
-    overwrite(&mut bytes, 7, &numbers_bytes(set));
+    overwrite(&mut bytes, 7, &numbers_bytes(set.created, set.expires));
     overwrite(&mut bytes, 1, &set.serial);
     overwrite(&mut bytes, 0, &[0xF1]);
     bytes

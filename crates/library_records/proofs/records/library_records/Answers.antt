@@ -2,8 +2,9 @@ use Rattle.std.proofs.Common.{◌≡◌, ◌∙◌, ap, List, [], ◌∷◌, ◌
 use Rattle.record_tracks.specs.declared.records.NewRecord.{NewRecord}
 use Rattle.record_tracks.specs.Records.{Areas, all_areas, end_of_file}
 use Rattle.library_records.specs.Library.{directory_areas, members_areas, library_areas}
+use Rattle.record_tracks.proofs.Listed.{blocks_go}
 use Rattle.library_records.proofs.Members.{library_goes}
-use Rattle.library_records.proofs.LibraryRead.{blocks_go, directory_read, members_read}
+use Rattle.library_records.proofs.LibraryRead.{directory_read, members_read}
 use Rattle.library_records.proofs.records.library_records.Goals as goal
 
 pub returns-clause-fit : goal.returns-clause-fit

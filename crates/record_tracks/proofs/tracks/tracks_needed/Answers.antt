@@ -5,6 +5,7 @@ use Rattle.record_tracks.specs.Tracks.{left_behind}
 use Rattle.record_tracks.proofs.Listed.{length-all, all_go}
 use Rattle.record_tracks.proofs.Behind.{none_behind, some_fit, some_left, one_more}
 use Rattle.record_tracks.proofs.Parts.{read_back}
+use Rattle.record_tracks.proofs.Forms.{read_as_data}
 use Rattle.record_tracks.proofs.tracks.tracks_needed.Goals as goal
 
 pub loop-next-init : goal.loop-next-init
@@ -48,5 +49,6 @@ returns c =
             ∙ drop_all c.loop-next.next all (omega (arith, length-all c.args.blocks.now, c.loop-next-test.false));
         fewest = c.loop-next.invariant.fewest;
       };
-      read = λ form. read_back form c.args.model all (all_go c.args.model c.args.blocks.now c.requires.each);
+      read = read_back c.args.model all (all_go c.args.model c.args.blocks.now c.requires.each);
+      stored = λ form. read_as_data form c.args.model all (all_go c.args.model c.args.blocks.now c.requires.each);
     }

@@ -11,14 +11,14 @@ returns c =
     let s = c.args.set.now in
     let six : length s.serial ≡ 6 = search rules in
     let is : c.overwrite-9.new.slot ≡ data_set_data s =
-    data_set_written s _ c.numbers_bytes.result c.length_bytes.result c.last_bytes.result c.extent_bytes.result six
+    data_set_written s _ c.numbers_bytes.result c.form_bytes.result c.length_bytes.result c.last_bytes.result c.extent_bytes.result six
     (c.overwrite-9.ensures ∙ ap (λ (b : List ℕ). overwritten b 0 (0xF1 ∷ [])) (c.overwrite-8.ensures
     ∙ ap (λ (b : List ℕ). overwritten b 1 s.serial) (c.overwrite-7.ensures
     ∙ ap (λ (b : List ℕ). overwritten b 7 c.numbers_bytes.result) (c.overwrite-6.ensures
     ∙ ap (λ (b : List ℕ). overwritten b 18 (replicate 13 0x40)) (c.overwrite-5.ensures
-    ∙ ap (λ (b : List ℕ). overwritten b 38 (0x40 ∷ 0 ∷ s.format ∷ [])) (c.overwrite-4.ensures
+    ∙ ap (λ (b : List ℕ). overwritten b 38 c.form_bytes.result) (c.overwrite-4.ensures
     ∙ ap (λ (b : List ℕ). overwritten b 42 c.length_bytes.result) (c.overwrite-3.ensures
     ∙ ap (λ (b : List ℕ). overwritten b 49 (0x80 ∷ 0x80 ∷ [])) (c.overwrite-2.ensures
     ∙ ap (λ (b : List ℕ). overwritten b 54 c.last_bytes.result) c.overwrite.ensures))))))))
-    c.numbers_bytes.ensures c.length_bytes.ensures c.last_bytes.ensures c.extent_bytes.ensures in
+    c.numbers_bytes.ensures c.form_bytes.ensures c.length_bytes.ensures c.last_bytes.ensures c.extent_bytes.ensures in
     record { bytes = is; read = ap (data_set_block_of s.name) is ∙ data_set_is_read s six }
