@@ -1,3 +1,5 @@
-pub mod Addresses
+pub mod Standing
 pub mod Members
 pub mod LibraryRead
+pub mod Counts
+pub mod Leading

@@ -16,7 +16,7 @@ use Rattle.library_records.specs.LibraryRead.{HasRecords, IsDirectoryRead, AreMe
 use Rattle.record_tracks.proofs.Parts.{read_back}
 use Rattle.record_tracks.proofs.Forms.{read_as_data}
 use Rattle.record_tracks.proofs.Whole.{first_stands}
-use Rattle.library_records.proofs.Addresses.{address_stands, is_taken}
+use Rattle.library_records.proofs.Standing.{address_stands, is_taken}
 use Rattle.library_records.proofs.Members.{length-directory, directory_written, directory_part, member_part, library_goes}
 
 -- behind a part there is one record at least, which is its end of file

@@ -17,7 +17,7 @@ use Rattle.record_tracks.specs.ReadBack.{IsWritten, IsPart}
 use Rattle.record_tracks.proofs.Listed.{all_go}
 use Rattle.library_records.specs.Library.{directory_area, directory_areas, with_end, member_areas, members_areas}
 use Rattle.library_records.specs.Library.{library_areas, blocks_of_member, first_record, MemberGoesOn}
-use Rattle.library_records.proofs.Addresses.{SameLengths}
+use Rattle.library_records.proofs.Standing.{SameLengths}
 
 -- The blocks of a directory.
 module _ (directory : List ℕ) where

@@ -1,8 +1,11 @@
 //! A library as records: the directory of a partitioned data set and its members. Pure functions over bytes.
 #![tactic(auto)]
 
+mod addresses;
+mod faults;
 mod libraries;
 mod records;
 
+pub use crate::faults::LibraryFault;
 pub use crate::libraries::{MemberEntry, NewLibrary, NewMember, Note};
 pub use crate::records::library_records;
