@@ -1,11 +1,12 @@
 -- How many records a library has, and where their addresses are.
-use Rattle.std.proofs.Common.{◌≡◌, ◌∙◌, ap, sym, refl, subst, ℕ, ◌+◌, ◌-◌, ◌*◌, ◌/◌, ◌≤◌, ◌<◌, List, [], ◌∷◌, ◌++◌, length, take, drop}
+use Rattle.std.proofs.Common.{◌≡◌, ◌∙◌, ap, sym, refl, subst, ℕ, ◌+◌, ◌-◌, ◌*◌, ◌/◌, ◌≤◌, ◌<◌, List, [], ◌∷◌, length, take, drop}
 use Rattle.std.proofs.Common.{Bool, true, false, cond, get_or, nat_le, arith, All, None, Some, length-append}
 use Rattle.std.proofs.lemmas.Bool.Decides.{nat_tests}
 use Rattle.std.proofs.lemmas.Grind.{flat_map-append}
 use Rattle.std.proofs.lemmas.List.{drop_more, take-append-drop, length-replicate, get_or-map}
 use Rattle.volume_labels.specs.declared.fields.RelativeAddress.{RelativeAddress}
-use Rattle.record_tracks.specs.Records.{Areas, all_areas, end_of_file, GoesOn}
+use Rattle.record_tracks.specs.declared.records.NewRecord.{NewRecord}
+use Rattle.record_tracks.specs.Records.{Areas, all_areas, end_of_file, GoesOn, RecordGoesOn}
 use Rattle.record_tracks.specs.Tracks.{StandsAt}
 use Rattle.record_tracks.proofs.Listed.{length-all, all_go}
 use Rattle.library_records.specs.declared.addresses.Placed.{Placed}
@@ -13,7 +14,7 @@ use Rattle.library_records.specs.declared.faults.LibraryFault.{LibraryFault}
 use Rattle.library_records.specs.declared.faults.LibraryFault.TheVariants as fault
 use Rattle.library_records.specs.declared.libraries.NewMember.{NewMember}
 use Rattle.library_records.specs.declared.libraries.NewLibrary.{NewLibrary}
-use Rattle.library_records.specs.Library.{directory_areas, with_end, member_areas, members_areas, blocks_of_member, first_record}
+use Rattle.library_records.specs.Library.{directory_areas, with_end, member_areas, members_areas, library_areas, blocks_of_member, first_record}
 use Rattle.library_records.specs.Addresses.{address_of}
 use Rattle.library_records.specs.Entries.{blank_directory, blank_areas}
 use Rattle.library_records.specs.Placed.{AreRecords, ArePlaced}
@@ -138,3 +139,12 @@ is_near p placed k track number there stands =
           (subst (λ (xs : List Areas). StandsAt p.model xs k track number) placed.are.records stands)
           (address_stands p.model areas (each p placed.are) far (omega (arith, there, size))) (omega (arith, there, size)),
     )
+
+-- the records of a library with zeros in place of its directory
+pub are_records : (p : Placed) (items : List NewRecord) (directory zeros : List ℕ) → p.records.now ≡ items
+    → all_areas items ≡ library_areas directory p.library.now.members.now → directory ≡ zeros → zeros ≡ blank_directory p.library.now
+    → All (RecordGoesOn p.model) items → AreRecords p
+are_records p items directory zeros same are is blank go = record {
+  records = ap all_areas same ∙ are ∙ ap (λ (d : List ℕ). library_areas d p.library.now.members.now) (is ∙ blank);
+  go = subst (All (RecordGoesOn p.model)) (sym same) go;
+}

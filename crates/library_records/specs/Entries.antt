@@ -26,9 +26,13 @@ block_address model l member k = address_of model (blank_areas l) (first_record 
 abbrev pub note_bytes : RelativeAddress → (count : ℕ) → List ℕ
 note_bytes a count = a.track / 256 ∷ a.track % 256 ∷ a.number ∷ count ∷ []
 
--- the user data of an entry: the addresses of blocks of its member, and what is kept behind them
+-- the notes of an entry: the addresses of blocks of its member
+abbrev pub entry_notes : DriveModel → NewLibrary → MemberEntry → List ℕ
+entry_notes model l e = flat_map (λ n. note_bytes (block_address model l e.member n.block) n.count) e.notes.now
+
+-- its user data: its notes, and what is kept behind them
 abbrev pub entry_user_data : DriveModel → NewLibrary → MemberEntry → List ℕ
-entry_user_data model l e = flat_map (λ n. note_bytes (block_address model l e.member n.block) n.count) e.notes.now ++ e.user_data.now
+entry_user_data model l e = entry_notes model l e ++ e.user_data.now
 
 -- an entry, with the address of its member's first block; its notes are counted in a byte
 abbrev pub entry_contents : DriveModel → NewLibrary → MemberEntry → EntryContents

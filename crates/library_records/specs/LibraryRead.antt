@@ -1,17 +1,25 @@
 -- What is read of a library that was put on tracks, by the definitions of the reader.
-use Rattle.std.specs.Prelude.{◌≡◌, ℕ, ◌+◌, ◌/◌, ◌≤◌, ◌<◌, List, length, drop, flat_map, All}
+use Rattle.std.specs.Prelude.{◌≡◌, ℕ, ◌+◌, ◌*◌, ◌/◌, ◌≤◌, ◌<◌, List, length, drop, flat_map, slice_index_or, All}
 use Rattle.ckd_track.specs.declared.model.DriveModel.{DriveModel}
 use Rattle.ckd_track.specs.declared.geometries.Geometry.{Geometry}
 use Rattle.volume_labels.specs.declared.fields.Extent.{Extent}
+use Rattle.volume_labels.specs.declared.fields.RelativeAddress.{RelativeAddress}
+use Rattle.volume_labels.specs.Fields.{relative_address_at}
+use Rattle.data_sets.specs.Directories.{entries_of}
 use Rattle.dasd_extract.specs.declared.blocks.Form.{Form}
 use Rattle.dasd_extract.specs.Walk.{wanted, source_written}
 use Rattle.dasd_extract.specs.Members.{directory}
 use Rattle.library_records.specs.declared.libraries.NewMember.{NewMember}
+use Rattle.library_records.specs.declared.libraries.NewLibrary.{NewLibrary}
+use Rattle.library_records.specs.declared.libraries.Note.{Note}
+use Rattle.library_blocks.specs.Entries.{entry_read}
+use Rattle.library_blocks.specs.ReadBack.{these_entries}
 use Rattle.record_tracks.specs.Records.{Areas}
 use Rattle.record_tracks.specs.Tracks.{Takes}
 use Rattle.record_tracks.specs.ReadBack.{IsLoaded, IsWrittenAs, data_of, ended_by_file}
 use Rattle.library_records.specs.Library.{directory_areas, library_areas, blocks_of_member, first_record}
 use Rattle.library_records.specs.Addresses.{address_of}
+use Rattle.library_records.specs.Entries.{blank_areas, block_address, entry_user_data, entry_contents, directory_entries, directory_bytes}
 
 -- The first tracks of these extents of a volume, as many as the records take, have them.
 pub record HasRecords (model : DriveModel) (areas : List Areas) (g : Geometry) (extents : List Extent) (slots : List (List ℕ)) : Type 0 where
@@ -43,3 +51,29 @@ AreMembersRead model bytes members =
     (most : ℕ) → (address (length blocks)).track < (address k).track + most → All (IsWrittenAs form text) (drop k blocks)
     → source_written (wanted form extents (address k) most) g slots
     ≡ ended_by_file (flat_map text (drop k blocks)) (address (length blocks)).track
+
+-- all records of a library, with its own directory
+abbrev pub own_areas : DriveModel → NewLibrary → List Areas
+own_areas model l = library_areas (directory_bytes model l) l.members.now
+
+-- From this address on a reader has, in any form, the text of the blocks of a member from block k on and nothing else, ended by the end of file
+-- behind the member, wherever the tracks of the library are on a volume, in one extent or in several.
+abbrev pub IsReadFrom : DriveModel → NewLibrary → (address : RelativeAddress) → (member k : ℕ) → Type 0
+IsReadFrom model l address member k =
+    (form : Form) (text : Areas → List ℕ) (g : Geometry) (extents : List Extent) (slots : List (List ℕ)) (most : ℕ)
+    → HasRecords model (own_areas model l) g extents slots
+    → let blocks = blocks_of_member l.members.now member in
+    let end = (block_address model l member (length blocks)).track in
+    end < address.track + most → All (IsWrittenAs form text) (drop k blocks)
+    → source_written (wanted form extents address most) g slots ≡ ended_by_file (flat_map text (drop k blocks)) end
+
+-- What a reader has of a library. Its directory has these entries and no others, in their order, and nothing wrong, where it takes 512 tracks
+-- at most; from the address of an entry on there is its member; and each address in the user data of an entry is that of its block.
+pub record IsLibraryRead (model : DriveModel) (l : NewLibrary) : Type 0 where
+  pub entries : (g : Geometry) (extents : List Extent) (slots : List (List ℕ)) → HasRecords model (own_areas model l) g extents slots
+      → (address_of model (blank_areas l) l.directory_blocks).track < 512
+      → entries_of (source_written (directory extents) g slots).bytes ≡ these_entries (directory_entries model l)
+  pub members : All (λ e. IsReadFrom model l (entry_read (entry_contents model l e)).address e.member 0) l.entries.now
+  pub notes : All (λ e. (j : ℕ) (d : Note) → j < length e.notes.now
+      → IsReadFrom model l (relative_address_at (entry_user_data model l e) (4 * j)) e.member (slice_index_or e.notes.now j d).block)
+      l.entries.now

@@ -1,5 +1,5 @@
 -- The records of a library, by which its addresses are found.
-use Rattle.std.specs.Prelude.{◌≡◌, ℕ, ◌<◌, length, All, None}
+use Rattle.std.specs.Prelude.{◌≡◌, ◌<◌, length, All, None}
 use Rattle.record_tracks.specs.Records.{all_areas, RecordGoesOn}
 use Rattle.library_records.specs.declared.addresses.Placed.{Placed}
 use Rattle.library_records.specs.declared.libraries.MemberEntry.{MemberEntry}

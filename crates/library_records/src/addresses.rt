@@ -17,11 +17,11 @@ const TRACKS: usize = 65536;
 
 /// The records of a library, whose directory is not known yet, and the drive on whose tracks they go.
 #[derive(Clone, Copy)]
-pub(crate) struct Placed<'a> {
+pub(crate) struct Placed<'a, 'r, 'l> {
     pub(crate) model: DriveModel,
     /// All records: those of a directory of zeros, and those of the members.
-    pub(crate) records: &'a [NewRecord<'a>],
-    pub(crate) library: &'a NewLibrary<'a>,
+    pub(crate) records: &'a [NewRecord<'r>],
+    pub(crate) library: &'a NewLibrary<'l>,
 }
 
 /// How many blocks the member of a number has: none, where there is no such member.

@@ -2,10 +2,13 @@
 #![tactic(auto)]
 
 mod addresses;
+mod directories;
 mod faults;
 mod libraries;
 mod records;
+mod user_data;
 
+pub use crate::directories::library_directory;
 pub use crate::faults::LibraryFault;
 pub use crate::libraries::{MemberEntry, NewLibrary, NewMember, Note};
 pub use crate::records::library_records;

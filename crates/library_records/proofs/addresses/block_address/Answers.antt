@@ -1,4 +1,4 @@
-use Rattle.std.proofs.Common.{◌≡◌, ◌<◌, ◌+◌, ◌∙◌, ap, sym, ℕ, length, arith}
+use Rattle.std.proofs.Common.{◌≡◌, ◌+◌, ◌∙◌, ap, sym, arith}
 use Rattle.library_records.specs.Addresses.{address_of}
 use Rattle.library_records.specs.Entries.{blank_areas}
 use Rattle.library_records.specs.Library.{first_record}

@@ -1,4 +1,4 @@
-use Rattle.std.proofs.Common.{◌≡◌, ◌<◌, ◌≤◌, ◌+◌, ap, ℕ, List, [], length, drop, arith}
+use Rattle.std.proofs.Common.{◌≡◌, ap, List, length, drop, arith}
 use Rattle.std.proofs.lemmas.List.{drop_all}
 use Rattle.library_records.specs.declared.libraries.NewMember.{NewMember}
 use Rattle.library_records.specs.Library.{members_areas}
