@@ -4,7 +4,8 @@ use Rattle.std.proofs.Common.{length-append}
 use Rattle.std.proofs.lemmas.List.{get_or_append_left, get_or_push, get_or-map, length-map}
 use Rattle.std.proofs.lemmas.List.Elements.{All-nil, All-cons, All-head, All-tail, All-get_or}
 use Rattle.library_blocks.specs.declared.entries.NewEntry.{NewEntry}
-use Rattle.library_blocks.specs.Entries.{EntryContents, contents_of, all_contents, entry_bytes, entry_front, all_entries, last_entry, IsEntry}
+use Rattle.library_blocks.specs.Entries.{EntryContents, contents_of, all_contents, entry_bytes}
+use Rattle.library_blocks.specs.Entries.{entry_front, all_entries, last_entry, IsEntry}
 
 pub length-all : (entries : List EntryContents) → length (all_entries entries) ≡ length entries + 1
 length-all entries = omega (arith, length-append (map entry_bytes entries) (last_entry ∷ []), length-map entries entry_bytes)

@@ -14,7 +14,8 @@ use Rattle.library_records.specs.declared.faults.LibraryFault.{LibraryFault}
 use Rattle.library_records.specs.declared.faults.LibraryFault.TheVariants as fault
 use Rattle.library_records.specs.declared.libraries.NewMember.{NewMember}
 use Rattle.library_records.specs.declared.libraries.NewLibrary.{NewLibrary}
-use Rattle.library_records.specs.Library.{directory_areas, with_end, member_areas, members_areas, library_areas, blocks_of_member, first_record}
+use Rattle.library_records.specs.Library.{directory_areas, with_end, member_areas, members_areas}
+use Rattle.library_records.specs.Library.{library_areas, blocks_of_member, first_record}
 use Rattle.library_records.specs.Addresses.{address_of}
 use Rattle.library_records.specs.Entries.{blank_directory, blank_areas}
 use Rattle.library_records.specs.Placed.{AreRecords, ArePlaced}

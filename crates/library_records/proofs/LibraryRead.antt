@@ -52,7 +52,8 @@ module _ (model : DriveModel) (directory : List ℕ) (members : List NewMember) 
       let to = address_stands model areas each k (omega (arith, e, end_there areas part 0 whole)) in
       let to_here = subst (λ (n : ℕ). StandsAt model areas n end.track end.number) e to in
       read_as_data form.Directory model areas each part 0 0 1 0 end.track end.number whole (directory_written directory)
-      (first_stands model areas each (omega (arith, end_there areas part 0 whole))) (inr (refl, refl)) to_here g extents slots 512 has.same (omega (arith, within)) (loaded_to k end g extents slots to has)
+      (first_stands model areas each (omega (arith, end_there areas part 0 whole))) (inr (refl, refl)) to_here g extents slots 512 has.same
+      (omega (arith, within)) (loaded_to k end g extents slots to has)
 
   pub members_read : AreMembersRead model directory members
   members_read f text m k there few g extents slots has most within written =

@@ -1,6 +1,6 @@
 -- A library is read by its own directory.
 use Rattle.std.proofs.Common.{◌≡◌, ◌∙◌, ap, sym, refl, subst, ℕ, zero, suc, ◌+◌, ◌*◌, ◌/◌, ◌%◌, ◌≤◌, ◌<◌, List, [], ◌∷◌, ◌++◌, length}
-use Rattle.std.proofs.Common.{map, flat_map, take, drop, get_or, slice_index, arith, All, append_assoc, append-nil, length-append}
+use Rattle.std.proofs.Common.{map, flat_map, take, drop, get_or, slice_index, arith, All, Some, append_assoc, append-nil, length-append}
 use Rattle.std.specs.List.{concat, range_with_len}
 use Rattle.std.proofs.lemmas.List.{take_at, drop_at, length-replicate, length-take-le, get_or_append_left}
 use Rattle.std.proofs.lemmas.List.Concat.{get_or-flat_map}
@@ -12,7 +12,8 @@ use Rattle.volume_labels.specs.declared.fields.Extent.{Extent}
 use Rattle.volume_labels.specs.declared.fields.RelativeAddress.{RelativeAddress}
 use Rattle.volume_labels.specs.Fields.{number_at, relative_address_at}
 use Rattle.data_sets.specs.Directories.{entries_of}
-use Rattle.dasd_extract.specs.Written.{Written}
+use Rattle.dasd_extract.specs.declared.stops.Cause.TheVariants.{EndOfFile}
+use Rattle.dasd_extract.specs.Written.{Written, stop_at}
 use Rattle.dasd_extract.specs.Members as members
 use Rattle.dasd_extract.specs.Walk.{wanted, source_written}
 use Rattle.record_tracks.specs.Records.{Areas}
@@ -22,7 +23,6 @@ use Rattle.library_blocks.specs.Entries.{all_entries}
 use Rattle.library_blocks.specs.Directory.{going_in, blocks_of, left_behind, behind_block}
 use Rattle.library_blocks.specs.Directory as blocks
 use Rattle.library_blocks.specs.Faults.{AreEntries}
-use Rattle.library_blocks.specs.ReadBack.{these_entries}
 use Rattle.library_blocks.proofs.Pieces.{IsShort, entries_short}
 use Rattle.library_blocks.proofs.Reading.{no_blocks, more_blocks, length-block, read_back}
 use Rattle.library_records.specs.declared.libraries.MemberEntry.{MemberEntry}
@@ -32,7 +32,8 @@ use Rattle.library_records.specs.Library.{directory_area, directory_areas, block
 use Rattle.library_records.specs.Addresses.{address_of}
 use Rattle.library_records.specs.Entries.{blank_directory, blank_areas, block_address, note_bytes, entry_notes, entry_user_data}
 use Rattle.library_records.specs.Entries.{directory_entries, directory_bytes}
-use Rattle.library_records.specs.LibraryRead.{HasRecords, own_areas, IsReadFrom, IsLibraryRead, directory_end}
+use Rattle.library_records.specs.LibraryRead.{HasRecords, own_areas, IsReadFrom, IsLibraryRead}
+use Rattle.library_records.specs.LibraryRead.{directory_end, own_directory_end, HasEntries}
 use Rattle.library_records.specs.Placed.{Leads}
 use Rattle.library_records.proofs.Parted.{length-notes}
 use Rattle.library_records.proofs.Standing.{same_address}
@@ -65,7 +66,8 @@ cut_again (b ∷ bs) front j each at =
     ap (take 264) (drop_at front (b ++ concat bs) (j * 264) at) ∙ take_at b (concat bs) 264 whole in
     let others = cut_again bs (front ++ b) (j + 1) (All-tail IsWhole b bs each) (omega (arith, length-append front b, whole, at)) in
     ap (λ (x : List ℕ). area_in x ∷ map (directory_area (front ++ (b ++ concat bs))) (range_with_len (j + 1) (length bs))) this
-    ∙ ap (λ (xs : List ℕ). area_in b ∷ map (directory_area xs) (range_with_len (j + 1) (length bs))) (sym (append_assoc front b (concat bs)))
+    ∙ ap (λ (xs : List ℕ). area_in b ∷ map (directory_area xs) (range_with_len (j + 1) (length bs)))
+    (sym (append_assoc front b (concat bs)))
     ∙ ap (λ (xs : List Areas). area_in b ∷ xs) others
 
 all_whole : (left : List (List ℕ)) (n : ℕ) → All IsShort left → All IsWhole (blocks_of left n)
@@ -111,17 +113,18 @@ module _ (model : DriveModel) (l : NewLibrary) (goes : All (MemberGoesOn model) 
 
   pub own_entries : left_behind (all_entries (directory_entries model l)) l.directory_blocks ≡ []
       → (g : Geometry) (extents : List Extent) (slots : List (List ℕ)) → HasRecords model (own_areas model l) g extents slots
-      → (address_of model (blank_areas l) l.directory_blocks).track < 512
-      → entries_of (source_written (members.directory extents) g slots).bytes
-      ≡ these_entries (directory_entries model l)
+      → own_directory_end model l < 512 → HasEntries model l (source_written (members.directory extents) g slots)
   own_entries room g extents slots has within =
-      let end : directory_end model (directory_bytes model l) l.members.now ≡ (address_of model (blank_areas l) l.directory_blocks).track =
+      let end : directory_end model (directory_bytes model l) l.members.now ≡ own_directory_end model l =
       ap (λ (k : ℕ). (address_of model (own_areas model l) k).track) block_count
       ∙ ap (λ (a : RelativeAddress). a.track) (same l.directory_blocks) in
       let read = directory_read model (directory_bytes model l) l.members.now goes g extents slots has (omega (arith, end, within)) in
-      ap (λ (w : Written). entries_of w.bytes) read ∙ ap entries_of data_is
-      ∙ ap entries_of (sym (append-nil (blocks.data_of bs)))
-      ∙ read_back (directory_entries model l) l.directory_blocks are.each room []
+      record {
+        entries = ap (λ (w : Written). entries_of w.bytes) read ∙ ap entries_of data_is
+            ∙ ap entries_of (sym (append-nil (blocks.data_of bs)))
+            ∙ read_back (directory_entries model l) l.directory_blocks are.each room [];
+        stop = ap (λ (w : Written). w.stop) read ∙ ap (λ (n : ℕ). Some (stop_at n EndOfFile)) end;
+      }
 
   -- a block of a member stands there
   own_address : (member k : ℕ)
@@ -174,7 +177,7 @@ pub own_read : (model : DriveModel) (l : NewLibrary) → All (MemberGoesOn model
     → AreEntries (directory_entries model l) → left_behind (all_entries (directory_entries model l)) l.directory_blocks ≡ []
     → IsLibraryRead model l
 own_read model l goes lead are room = record {
-  entries = own_entries model l goes are room;
+  directory = own_entries model l goes are room;
   members = λ k d there.
       let leads = lead k d there in own_member model l goes are (get_or l.entries.now k d).member 0 leads.member (omega arith);
   notes = λ k d there j n here.

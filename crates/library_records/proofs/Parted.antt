@@ -1,5 +1,6 @@
 -- The user data of entries one behind another: that of the next one, and what stands behind it.
-use Rattle.std.proofs.Common.{◌≡◌, ◌∙◌, ap, sym, refl, ℕ, ◌+◌, ◌*◌, ◌≤◌, ◌<◌, List, [], ◌∷◌, ◌++◌, length, map, flat_map, take, drop, get_or, false, arith}
+use Rattle.std.proofs.Common.{◌≡◌, ◌∙◌, ap, sym, refl, ℕ, ◌+◌, ◌*◌, ◌≤◌, ◌<◌, List}
+use Rattle.std.proofs.Common.{[], ◌∷◌, ◌++◌, length, map, flat_map, take, drop, get_or, false, arith}
 use Rattle.std.proofs.Common.{length-append}
 use Rattle.std.proofs.lemmas.List.{drop_more, take_more, take_at, drop_at, map-append}
 use Rattle.ckd_track.specs.declared.model.DriveModel.{DriveModel}

@@ -27,8 +27,10 @@ next_bytes c =
     concat_more left k there
     ∙ ap (λ (xs : List ℕ). concat (take k left) ++ xs) (get_or-drop c.args.from all k [] ∙ sym c.bytes_at.ensures.bytes)
 
-next_size : (c : After-bytes_at) → length (concat (take (c.loop-k.k + 1) (drop c.args.from (all_entries (all_contents c.args.entries.now)))))
-    ≡ length (concat (take c.loop-k.k (drop c.args.from (all_entries (all_contents c.args.entries.now))))) + (12 + length c.bytes_at.result.user_data.now)
+next_size : (c : After-bytes_at)
+    → length (concat (take (c.loop-k.k + 1) (drop c.args.from (all_entries (all_contents c.args.entries.now)))))
+    ≡ length (concat (take c.loop-k.k (drop c.args.from (all_entries (all_contents c.args.entries.now)))))
+    + (12 + length c.bytes_at.result.user_data.now)
 next_size c =
     let all = all_entries (all_contents c.args.entries.now) in
     let left = drop c.args.from all in

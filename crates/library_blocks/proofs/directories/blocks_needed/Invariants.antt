@@ -8,7 +8,8 @@ abbrev pub invariant-loop-next : goal.invariant-loop-next
 invariant-loop-next l = record {
   within : l.next ≤ length l.entries + 1;
   few : l.blocks ≤ l.next;
-  left : (n : ℕ) → left_behind (all_entries (all_contents l.entries)) (l.blocks + n) ≡ left_behind (drop l.next (all_entries (all_contents l.entries))) n;
+  left : (n : ℕ) → left_behind (all_entries (all_contents l.entries)) (l.blocks + n)
+      ≡ left_behind (drop l.next (all_entries (all_contents l.entries))) n;
   fewest : (n : ℕ) → suc n ≡ l.blocks → left_behind (all_entries (all_contents l.entries)) n ≢ [];
 }
 

@@ -8,9 +8,11 @@ use Rattle.library_blocks.proofs.directories.going_in.Goals as goal
 use Rattle.library_blocks.proofs.directories.going_in.Goals.{After-bytes_at}
 
 -- the next entry has the bytes that were asked for
-next_length : (c : After-bytes_at) → length (get_or (drop c.args.from (all_entries (all_contents c.args.entries.now))) c.loop-count.count [])
+next_length : (c : After-bytes_at)
+    → length (get_or (drop c.args.from (all_entries (all_contents c.args.entries.now))) c.loop-count.count [])
     ≡ 12 + length c.bytes_at.result.user_data.now
-next_length c = ap length (get_or-drop c.args.from (all_entries (all_contents c.args.entries.now)) c.loop-count.count []) ∙ c.bytes_at.ensures.size
+next_length c =
+    ap length (get_or-drop c.args.from (all_entries (all_contents c.args.entries.now)) c.loop-count.count []) ∙ c.bytes_at.ensures.size
 
 next_there : (c : After-bytes_at) → c.loop-count.count < length (drop c.args.from (all_entries (all_contents c.args.entries.now)))
 next_there c =

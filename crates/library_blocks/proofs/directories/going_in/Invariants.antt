@@ -8,5 +8,6 @@ abbrev pub invariant-loop-count : goal.invariant-loop-count
 invariant-loop-count l = record {
   few : l.used ≤ 256;
   used : l.used ≡ used_by (take l.count (drop l.from (all_entries (all_contents l.entries))));
-  fit : going_in 2 (drop l.from (all_entries (all_contents l.entries))) ≡ l.count + going_in l.used (drop l.count (drop l.from (all_entries (all_contents l.entries))));
+  fit : going_in 2 (drop l.from (all_entries (all_contents l.entries)))
+      ≡ l.count + going_in l.used (drop l.count (drop l.from (all_entries (all_contents l.entries))));
 }

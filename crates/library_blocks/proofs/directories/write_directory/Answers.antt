@@ -53,4 +53,5 @@ returns-clause-blocks c =
     ∙ append-nil (take (c.loop-k.k * 264) c.loop-k.directory) ∙ take_all (c.loop-k.k * 264) c.loop-k.directory whole)
 
 pub returns-clause-read : goal.returns-clause-read
-returns-clause-read c = read_back (all_contents c.args.entries.now) (length c.args.directory.now / 264) c.requires.entries.each c.requires.room
+returns-clause-read c =
+    read_back (all_contents c.args.entries.now) (length c.args.directory.now / 264) c.requires.entries.each c.requires.room

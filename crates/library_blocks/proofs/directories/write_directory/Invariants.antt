@@ -9,5 +9,6 @@ abbrev pub invariant-loop-k : goal.invariant-loop-k
 invariant-loop-k l = record {
   within : l.from ≤ length l.entries + 1;
   blocks : concat (blocks_of (all_entries (all_contents l.entries)) (length l.fn.directory / 264))
-      ≡ take (l.k * 264) l.directory ++ concat (blocks_of (drop l.from (all_entries (all_contents l.entries))) (length l.fn.directory / 264 - l.k));
+      ≡ take (l.k * 264) l.directory
+      ++ concat (blocks_of (drop l.from (all_entries (all_contents l.entries))) (length l.fn.directory / 264 - l.k));
 }

@@ -3,7 +3,8 @@ use Rattle.library_blocks.proofs.Pieces.{entry_at, is_at, length-entry}
 use Rattle.library_blocks.proofs.entries.bytes_at.Goals as goal
 
 pub entry_front-requires : goal.entry_front-requires
-entry_front-requires c = is_at c.args.entries.now c.args.number _ c.requires.each (omega (arith, c.requires.number, c.if-number-entries.false))
+entry_front-requires c =
+    is_at c.args.entries.now c.args.number _ c.requires.each (omega (arith, c.requires.number, c.if-number-entries.false))
 
 pub returns-clause-bytes : goal.returns-clause-bytes
 returns-clause-bytes c =
