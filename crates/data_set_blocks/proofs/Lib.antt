@@ -1,11 +1,5 @@
-pub mod Areas
-pub mod Filled
-pub mod Fitting
-pub mod Fronts
-pub mod Cuts
-pub mod Takes
-pub mod Ends
-pub mod Spelled
-pub mod Extracted
-pub mod Last
-pub mod Words
+pub mod RecordsFound
+pub mod Rests
+pub mod Texts
+pub mod Fits
+pub mod Read

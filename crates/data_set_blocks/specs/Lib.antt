@@ -1,5 +1,3 @@
 pub mod Blocks
-pub mod Tracks
-pub mod Writing
 pub mod Extracted
 pub mod Faults

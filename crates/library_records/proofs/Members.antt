@@ -14,6 +14,7 @@ use Rattle.dasd_extract.specs.declared.blocks.Form.TheVariants as form
 use Rattle.library_records.specs.declared.libraries.NewMember.{NewMember}
 use Rattle.record_tracks.specs.Records.{Areas, end_of_file, GoesOn}
 use Rattle.record_tracks.specs.ReadBack.{IsWritten, IsPart}
+use Rattle.record_tracks.proofs.Goes.{end_goes}
 use Rattle.record_tracks.proofs.Listed.{all_go}
 use Rattle.library_records.specs.Library.{directory_area, directory_areas, with_end, member_areas, members_areas}
 use Rattle.library_records.specs.Library.{library_areas, blocks_of_member, first_record, MemberGoesOn}
@@ -61,9 +62,6 @@ small_goes D2314 a key few = record {
   most = (let extra : key_overhead_of D2314 (length a.key_area) ≤ 45 = at_most (nat_lt 0 (length a.key_area)) 45 in
       omega (arith, key, few, extra));
 }
-
-end_goes : (model : DriveModel) → GoesOn model end_of_file
-end_goes model = small_goes model end_of_file (omega arith) (omega arith)
 
 with_end_goes : (model : DriveModel) (part : List Areas) → All (GoesOn model) part → All (GoesOn model) (with_end part)
 with_end_goes model part each = All-append (GoesOn model) part (end_of_file ∷ []) each

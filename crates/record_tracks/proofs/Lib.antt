@@ -10,3 +10,4 @@ pub mod Parts
 pub mod Forms
 pub mod Last
 pub mod Whole
+pub mod Goes

@@ -24,9 +24,12 @@ record_bytes a = track_bytes a.track ++ a.number ∷ []
 abbrev pub extent_bytes : Extent → List ℕ
 extent_bytes e = e.kind ∷ e.number ∷ track_bytes e.first ++ track_bytes e.last
 
--- nowhere, and no extent
+-- nowhere, no day, and no extent
 abbrev pub nowhere : RecordAddress
 nowhere = record { track = record { cylinder = 0; head = 0 }; number = 0 }
+
+abbrev pub no_date : Date
+no_date = record { year = 0; day = 0 }
 
 abbrev pub no_extent : Extent
 no_extent = record { kind = 0; number = 0; first = record { cylinder = 0; head = 0 }; last = record { cylinder = 0; head = 0 } }

@@ -1,15 +1,17 @@
 -- What `dasd extract --text` prints of a data set that has the records of a text, by the definitions of the reader.
 use Rattle.std.specs.Prelude.{◌≡◌, ℕ, ◌-◌, ◌*◌, ◌≤◌, List, flat_map, Ok}
 use Rattle.ckd_track.specs.declared.geometries.Geometry.{Geometry}
+use Rattle.ckd_track.specs.Model.{capacity_of}
 use Rattle.volume_labels.specs.declared.fields.Extent.{Extent}
 use Rattle.data_sets.specs.declared.records.RecordForm.TheVariants.{Fixed}
 use Rattle.record_formats.specs.declared.layouts.Layout.{Layout}
 use Rattle.dasd_extract.specs.declared.blocks.Form.TheVariants.{Text}
 use Rattle.dasd_extract.specs.Walk.{wanted, source_written}
 use Rattle.data_set_blocks.specs.declared.blocks.Cut.TheVariants.{Length}
-use Rattle.data_set_blocks.specs.Blocks.{areas_of, FitsLength}
-use Rattle.data_set_blocks.specs.Tracks.{Takes}
-use Rattle.data_set_blocks.specs.Extracted.{IsLoaded, first_block, ended_by_file}
+use Rattle.record_tracks.specs.Tracks.{Takes}
+use Rattle.record_tracks.specs.ReadBack.{IsLoaded, ended_by_file}
+use Rattle.data_set_blocks.specs.Blocks.{areas_of}
+use Rattle.data_set_blocks.specs.Extracted.{first_block}
 use Rattle.text_records.specs.Lines.{lines_of}
 use Rattle.text_records.specs.Records.{records_of}
 use Rattle.text_records.specs.Read.{ended, without_blanks}
@@ -18,12 +20,13 @@ use Rattle.text_records.specs.Read.{ended, without_blanks}
 abbrev pub layout_of : (size count : ℕ) → Layout
 layout_of size count = record { form = Fixed size; longest = count * size }
 
--- The records of a text are a data set, in blocks of so many records each, on the first tracks of these extents.
+-- The records of a text are a data set, in blocks of so many records each, which go on a track, on the first tracks of these extents.
 pub record HasText (g : Geometry) (extents : List Extent) (slots : List (List ℕ)) (size count : ℕ) (text : List ℕ) (tracks : ℕ) : Type 0 where
   pub some : 1 ≤ size
+  pub many : 1 ≤ count
+  pub most : count * size ≤ capacity_of g.model
   pub records : List ℕ
   pub are : records_of size text ≡ Ok records
-  pub fits : FitsLength g.model (count * size)
   pub takes : Takes g.model (areas_of (Length (count * size)) records) tracks
   pub loaded : IsLoaded g extents slots (areas_of (Length (count * size)) records) tracks
 

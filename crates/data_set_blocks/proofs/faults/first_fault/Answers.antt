@@ -1,47 +1,67 @@
-use Rattle.std.proofs.Common.{◌∙◌, sym, ap, arith, Some, None}
-use Rattle.data_sets.specs.Records.{number_at}
-use Rattle.data_set_blocks.specs.Faults.{block_fault_at}
-use Rattle.data_set_blocks.proofs.Cuts.{first, next_start}
-use Rattle.data_set_blocks.proofs.Words.{at_start, ends_here, block_there, none_left}
+use Rattle.std.proofs.Common.{◌≡◌, ◌∙◌, ap, sym, ◌+◌, ◌-◌, ◌≤◌, length, drop, List, ℕ, Option}
+use Rattle.data_set_blocks.specs.declared.faults.DescribedFault.{DescribedFault}
+use Rattle.data_set_blocks.specs.Blocks.{size_of, rests_to}
+use Rattle.data_set_blocks.specs.Faults.{fault_of_first, first_fault, or_next}
+use Rattle.data_set_blocks.proofs.Rests.{is_empty, has_some, none_left, next_rest, at_first, at_last, no_fault, next_fault}
 use Rattle.data_set_blocks.proofs.faults.first_fault.Goals as goal
+use Rattle.data_set_blocks.proofs.faults.first_fault.Goals.{After-fault_of_first}
 
 pub loop-k-init : goal.loop-k-init
-loop-k-init c = record {
-  place = sym (first c.args.bytes.now);
-  within = omega arith;
-  rest = at_start c.args.form c.args.longest c.args.bytes.now;
-}
+loop-k-init c =
+    ap (λ (rests : List (List ℕ)). first_fault (fault_of_first c.args.model c.args.layout c.args.key_length c.args.blocks.cut) rests 0)
+    (at_first c.args.blocks.cut c.args.blocks.bytes.now)
 
-pub returns-then-at-bytes : goal.returns-then-at-bytes
-returns-then-at-bytes c =
-    sym (ends_here c.args.form c.args.longest c.args.bytes.now c.loop-k.k c.loop-k-test.true c.loop-k.invariant.rest
-    (omega (arith, c.if-at-bytes.true, c.loop-k.invariant.place)))
+-- no block is left
+pub returns-then-is_empty : goal.returns-then-is_empty
+returns-then-is_empty c =
+    let b = c.args.blocks in
+    let why = fault_of_first c.args.model c.args.layout c.args.key_length b.cut in
+    let empty = is_empty _ c.is_empty.result c.is_empty.ensures c.if-is_empty.true in
+    let none = none_left b.cut (length b.bytes.now - c.loop-k.k) c.loop-k.rest.now empty in
+    sym (c.loop-k.invariant ∙ ap (λ (rests : List (List ℕ)). first_fault why rests c.loop-k.k) none ∙ no_fault why c.loop-k.k)
+
+-- what is said of the next one
+said : (c : After-fault_of_first) → first_fault (fault_of_first c.args.model c.args.layout c.args.key_length c.args.blocks.cut)
+    (rests_to c.args.blocks.cut (length c.args.blocks.bytes.now - c.loop-k.k) c.loop-k.rest.now) c.loop-k.k
+    ≡ or_next c.loop-k.k c.fault_of_first.result
+    (first_fault (fault_of_first c.args.model c.args.layout c.args.key_length c.args.blocks.cut)
+    (rests_to c.args.blocks.cut (length c.args.blocks.bytes.now - (c.loop-k.k + 1))
+    (drop (size_of c.args.blocks.cut c.loop-k.rest.now) c.loop-k.rest.now)))
+said c =
+    let b = c.args.blocks in
+    let rest = c.loop-k.rest.now in
+    let k = c.loop-k.k in
+    let size = length b.bytes.now in
+    let why = fault_of_first c.args.model c.args.layout c.args.key_length b.cut in
+    let others = rests_to b.cut (size - (k + 1)) (drop (size_of b.cut rest) rest) in
+    let some : 1 ≤ length rest = has_some _ c.is_empty.result c.is_empty.ensures c.if-is_empty.false in
+    ap (λ (rests : List (List ℕ)). first_fault why rests k) (next_rest b.cut size k rest c.loop-k-test.true some)
+    ∙ next_fault why rest others k
+    ∙ ap (λ (o : Option DescribedFault). or_next k o (first_fault why others)) (sym c.fault_of_first.ensures)
 
 pub returns-in-Some : goal.returns-in-Some
 returns-in-Some c =
-    sym (block_there c.args.form c.args.longest c.args.bytes.now c.loop-k.k c.loop-k-test.true c.loop-k.invariant.rest
-    (Some c.in-Some.fault)
-    (omega (arith, c.if-at-bytes.false, c.loop-k.invariant.place))
-    (sym c.in-Some.is ∙ c.block_fault_at.ensures
-    ∙ ap (block_fault_at c.args.form c.args.longest c.args.bytes.now) c.loop-k.invariant.place))
+    let before = (goal.at.returns-in-Some c).After-fault_of_first in
+    let b = c.args.blocks in
+    let why = fault_of_first c.args.model c.args.layout c.args.key_length b.cut in
+    let rest = c.loop-k.rest.now in
+    let others = rests_to b.cut (length b.bytes.now - (c.loop-k.k + 1)) (drop (size_of b.cut rest) rest) in
+    sym (c.loop-k.invariant ∙ said before ∙ ap (λ (o : Option DescribedFault). or_next c.loop-k.k o (first_fault why others)) c.in-Some.is)
 
 pub loop-k-preserved : goal.loop-k-preserved
-loop-k-preserved c = record {
-  place = omega (
-    arith,
-    c.loop-k.invariant.place,
-    c.described_length-at.ensures.length,
-    next_start c.args.bytes.now c.loop-k.k,
-    ap (λ n. number_at c.args.bytes.now n) c.loop-k.invariant.place,
-  );
-  within = omega (arith, c.if-at-bytes.false, c.described_length-at.ensures.limit);
-  rest =
-      block_there c.args.form c.args.longest c.args.bytes.now c.loop-k.k c.loop-k-test.true c.loop-k.invariant.rest None
-      (omega (arith, c.if-at-bytes.false, c.loop-k.invariant.place))
-      (sym c.in_default.is ∙ c.block_fault_at.ensures
-      ∙ ap (block_fault_at c.args.form c.args.longest c.args.bytes.now) c.loop-k.invariant.place);
-}
+loop-k-preserved c =
+    let before = (goal.at.loop-k-preserved c).After-fault_of_first in
+    let b = c.args.blocks in
+    let why = fault_of_first c.args.model c.args.layout c.args.key_length b.cut in
+    let rest = c.loop-k.rest.now in
+    let size = length b.bytes.now - (c.loop-k.k + 1) in
+    let others = rests_to b.cut size (drop (size_of b.cut rest) rest) in
+    c.loop-k.invariant ∙ said before ∙ ap (λ (o : Option DescribedFault). or_next c.loop-k.k o (first_fault why others)) c.in_default.is
+    ∙ ap (λ (left : List ℕ). first_fault why (rests_to b.cut size left) (c.loop-k.k + 1)) (sym c.behind_first-rest.ensures)
 
 pub returns : goal.returns
 returns c =
-    sym (none_left c.args.form c.args.longest c.args.bytes.now c.loop-k.k c.loop-k-test.false c.loop-k.invariant.rest)
+    let b = c.args.blocks in
+    let why = fault_of_first c.args.model c.args.layout c.args.key_length b.cut in
+    let none = at_last b.cut (length b.bytes.now) c.loop-k.k c.loop-k.rest.now c.loop-k-test.false in
+    sym (c.loop-k.invariant ∙ ap (λ (rests : List (List ℕ)). first_fault why rests c.loop-k.k) none ∙ no_fault why c.loop-k.k)

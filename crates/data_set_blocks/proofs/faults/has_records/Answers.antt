@@ -1,7 +1,7 @@
 use Rattle.std.proofs.Common.{◌∙◌, sym, ap, subst, arith, Some, None, Ok, Err}
 use Rattle.std.specs.Prelude.{IfSome}
 use Rattle.data_sets.specs.Records.{IsWithin}
-use Rattle.data_set_blocks.proofs.Words.{next_there, no_more, at_first}
+use Rattle.data_set_blocks.proofs.RecordsFound.{next_there, no_more, at_first}
 use Rattle.data_set_blocks.proofs.faults.has_records.Goals as goal
 
 pub loop-k-init : goal.loop-k-init
