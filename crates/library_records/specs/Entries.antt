@@ -15,6 +15,7 @@ use Rattle.library_records.specs.Addresses.{address_of}
 abbrev pub blank_directory : NewLibrary → List ℕ
 blank_directory l = replicate (l.directory_blocks * 264) 0
 
+-- all records of a library with that directory
 abbrev pub blank_areas : NewLibrary → List Areas
 blank_areas l = library_areas (blank_directory l) l.members.now
 
@@ -44,6 +45,7 @@ entry_contents model l e = record {
   user_data = entry_user_data model l e;
 }
 
+-- the entries of a library, in their order
 abbrev pub directory_entries : DriveModel → NewLibrary → List EntryContents
 directory_entries model l = map (entry_contents model l) l.entries.now
 

@@ -37,12 +37,13 @@ length_fault model l =
 abbrev pub entries_fault : List EntryContents → Option LibraryFault
 entries_fault entries = option_map (λ r. fault.Entry r.number r.fault) (refused_entry entries)
 
--- how many blocks these entries take; each has one at least, so that there are no more of them than entries
+-- How many blocks the entries take that are left. Each has one at least, so that `most` is as many as there may be.
 unfoldable pub blocks_from : (most : ℕ) → (entries : List (List ℕ)) → ℕ
 blocks_from zero entries = 0
 blocks_from (suc most) [] = 0
 blocks_from (suc most) (e ∷ others) = suc (blocks_from most (behind_block (e ∷ others)))
 
+-- how many blocks these entries take
 abbrev pub blocks_taken : (entries : List (List ℕ)) → ℕ
 blocks_taken entries = blocks_from (length entries) entries
 

@@ -10,6 +10,7 @@ use Rattle.record_tracks.specs.Records.{Areas, all_areas, end_of_file, RecordGoe
 abbrev pub directory_area : (directory : List ℕ) → (k : ℕ) → Areas
 directory_area directory k = let b = take 264 (drop (k * 264) directory) in record { key_area = take 8 b; data_area = drop 8 b }
 
+-- the blocks of a directory
 abbrev pub directory_areas : (directory : List ℕ) → List Areas
 directory_areas directory = map (directory_area directory) (range_with_len 0 (length directory / 264))
 
