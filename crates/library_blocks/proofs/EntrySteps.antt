@@ -7,8 +7,7 @@ use Rattle.std.proofs.lemmas.Slice.Eq.{bytes_eq-Decides}
 use Rattle.data_sets.specs.declared.directories.DirectoryEntry.{DirectoryEntry}
 use Rattle.data_sets.specs.declared.directories.DirectoryStep.TheVariants.{Entry, End}
 use Rattle.data_sets.specs.Directories.{is_last, entry_step}
-use Rattle.library_blocks.specs.declared.entries.NewEntry.{NewEntry}
-use Rattle.library_blocks.specs.Entries.{lengths_byte, entry_bytes, entry_read, last_entry, IsEntry}
+use Rattle.library_blocks.specs.Entries.{EntryContents, lengths_byte, entry_bytes, entry_read, last_entry, IsEntry}
 use Rattle.library_blocks.proofs.Pieces.{length-entry}
 use Rattle.library_blocks.proofs.Steps.{with_entry, read_entry, ordinary, ending}
 
@@ -31,21 +30,21 @@ says false notes user few short even = record {
   user = omega arith;
 }
 
-module _ (e : NewEntry) (is : IsEntry e) (front rest : List ℕ) (at : ℕ) (is_at : length front ≡ at) where
+module _ (e : EntryContents) (is : IsEntry e) (front rest : List ℕ) (at : ℕ) (is_at : length front ≡ at) where
   abbrev bytes : List ℕ
   bytes = front ++ (entry_bytes e ++ rest)
 
   abbrev spread : List ℕ
-  spread = with_entry front e.name (e.user_data.now ++ rest) at (e.address.track / 256) (e.address.track % 256) e.address.number
+  spread = with_entry front e.name (e.user_data ++ rest) at (e.address.track / 256) (e.address.track % 256) e.address.number
       (lengths_byte e) is_at is.name
 
   spread_is : bytes ≡ spread
   spread_is = simp append_assoc
 
-  said : Says (lengths_byte e) e.is_alias e.notes (length e.user_data.now)
-  said = says e.is_alias e.notes (length e.user_data.now) is.notes is.user_data is.halfwords
+  said : Says (lengths_byte e) e.is_alias e.notes (length e.user_data)
+  said = says e.is_alias e.notes (length e.user_data) is.notes is.user_data is.halfwords
 
-  same_entry : read_entry front e.name (e.user_data.now ++ rest) at (e.address.track / 256) (e.address.track % 256) e.address.number
+  same_entry : read_entry front e.name (e.user_data ++ rest) at (e.address.track / 256) (e.address.track % 256) e.address.number
       (lengths_byte e) is_at is.name ≡ entry_read e
   same_entry =
       let track : e.address.track / 256 * 256 + e.address.track % 256 ≡ e.address.track = omega arith in
@@ -59,7 +58,7 @@ module _ (e : NewEntry) (is : IsEntry e) (front rest : List ℕ) (at : ℕ) (is_
       is.no_last ((bytes_eq-Decides e.name (replicate 8 255)).0 h)) in
       let is_next : at + 12 + lengths_byte e % 32 * 2 ≡ next = omega (arith, said.user, length-entry e is) in
       ap (λ (xs : List ℕ). entry_step xs at end) spread_is
-      ∙ ordinary front e.name (e.user_data.now ++ rest) at (e.address.track / 256) (e.address.track % 256) e.address.number
+      ∙ ordinary front e.name (e.user_data ++ rest) at (e.address.track / 256) (e.address.track % 256) e.address.number
       (lengths_byte e) is_at is.name end next no_last is_next (omega (arith, within, length-entry e is)) within
       ∙ ap (λ (x : DirectoryEntry). Entry x next) same_entry
 

@@ -13,11 +13,10 @@ use Rattle.data_sets.specs.declared.directories.DirectoryEntry.{DirectoryEntry}
 use Rattle.data_sets.specs.declared.directories.DirectoryStep.{DirectoryStep}
 use Rattle.data_sets.specs.declared.directories.DirectoryStep.TheVariants.{Entry, End}
 use Rattle.data_sets.specs.Directories.{step_at, entries_from, entry_step, from_step, Found, and_more}
-use Rattle.library_blocks.specs.declared.entries.NewEntry.{NewEntry}
-use Rattle.library_blocks.specs.Entries.{entry_bytes, entry_read, all_entries, last_entry, IsEntry}
+use Rattle.library_blocks.specs.Entries.{EntryContents, entry_bytes, entry_read, all_entries, last_entry, IsEntry}
 use Rattle.library_blocks.specs.Directory.{going_in, in_block, behind_block, left_behind, used_by, block_of, blocks_of, data_of}
 use Rattle.library_blocks.specs.ReadBack.{these_entries, IsReadBack}
-use Rattle.library_blocks.proofs.Pieces.{IsShort, length-entries, length-entry, entries_short}
+use Rattle.library_blocks.proofs.Pieces.{IsShort, length-all, length-entry, entries_short}
 use Rattle.library_blocks.proofs.Going.{goes_in}
 use Rattle.library_blocks.proofs.Behind.{all_left, one_behind}
 use Rattle.library_blocks.proofs.Steps.{one_step, HasBlock, begins, passes, enters}
@@ -30,12 +29,12 @@ all_more [] f = f
 all_more (e ∷ others) f = and_more e (all_more others f)
 
 -- the bytes of entries
-abbrev bytes_of : List NewEntry → List ℕ
+abbrev bytes_of : List EntryContents → List ℕ
 bytes_of ps = concat (map entry_bytes ps)
 
 -- Entries that stand within a block are passed, each by one step.
 module _ (bytes : List ℕ) (k used : ℕ) (has : HasBlock bytes k used) where
-  through : (ps : List NewEntry) (front rest : List ℕ) (at most : ℕ) → All IsEntry ps → length front ≡ at
+  through : (ps : List EntryContents) (front rest : List ℕ) (at most : ℕ) → All IsEntry ps → length front ≡ at
       → bytes ≡ front ++ (bytes_of ps ++ rest) → 256 * k + 2 ≤ at → at + length (bytes_of ps) ≤ 256 * k + used
       → entries_from (length ps + most) bytes at
       ≡ all_more (map entry_read ps) (entries_from most bytes (at + length (bytes_of ps)))
@@ -88,7 +87,7 @@ passed bytes k used most more has fuel = by (cases_lt used 256)
 
 -- The entries of a directory, from the block that begins with the first of them on.
 abbrev Reads : (blocks : ℕ) → Type 0
-Reads blocks = (k : ℕ) (es : List NewEntry) (front behind : List ℕ) (most : ℕ) → All IsEntry es → length front ≡ 256 * k
+Reads blocks = (k : ℕ) (es : List EntryContents) (front behind : List ℕ) (most : ℕ) → All IsEntry es → length front ≡ 256 * k
     → left_behind (all_entries es) blocks ≡ [] → 256 * blocks ≤ most
     → entries_from most (front ++ (data_of (blocks_of (all_entries es) blocks) ++ behind)) (256 * k) ≡ these_entries es
 
@@ -101,7 +100,7 @@ unfolding blocks_of
 more_blocks left n = refl
 
 -- all entries of those that are left, where some of them go into a block
-module _ (es : List NewEntry) (g : ℕ) (within : g ≤ length es) where
+module _ (es : List EntryContents) (g : ℕ) (within : g ≤ length es) where
   first_ones : take g (all_entries es) ≡ map entry_bytes (take g es)
   first_ones =
       take-append-le g (map entry_bytes es) (last_entry ∷ []) (omega (arith, within, length-map es entry_bytes)) ∙ take-map entry_bytes g es
@@ -111,13 +110,13 @@ module _ (es : List NewEntry) (g : ℕ) (within : g ≤ length es) where
       drop-append-le g (map entry_bytes es) (last_entry ∷ []) (omega (arith, within, length-map es entry_bytes))
       ∙ ap (λ (xs : List (List ℕ)). xs ++ last_entry ∷ []) (drop-map entry_bytes g es)
 
-more_entries : (xs ys : List NewEntry) → all_more (map entry_read xs) (these_entries ys) ≡ these_entries (xs ++ ys)
+more_entries : (xs ys : List EntryContents) → all_more (map entry_read xs) (these_entries ys) ≡ these_entries (xs ++ ys)
 unfolding all_more
 more_entries [] ys = refl
 more_entries (x ∷ xs) ys = ap (and_more (entry_read x)) (more_entries xs ys)
 
 -- each entry takes 12 bytes at least
-many_bytes : (ps : List NewEntry) → All IsEntry ps → 12 * length ps ≤ length (bytes_of ps)
+many_bytes : (ps : List EntryContents) → All IsEntry ps → 12 * length ps ≤ length (bytes_of ps)
 many_bytes [] each = omega arith
 many_bytes (p ∷ ps) each = omega (
   arith,
@@ -127,7 +126,7 @@ many_bytes (p ∷ ps) each = omega (
 )
 
 -- One block, and those behind it.
-module _ (n : ℕ) (later : Reads n) (k : ℕ) (es : List NewEntry) (front behind : List ℕ) (most : ℕ) (each : All IsEntry es)
+module _ (n : ℕ) (later : Reads n) (k : ℕ) (es : List EntryContents) (front behind : List ℕ) (most : ℕ) (each : All IsEntry es)
     (is_at : length front ≡ 256 * k) (all : left_behind (all_entries es) (suc n) ≡ []) (fuel : 256 * suc n ≤ most) where
   abbrev left : List (List ℕ)
   left = all_entries es
@@ -136,7 +135,7 @@ module _ (n : ℕ) (later : Reads n) (k : ℕ) (es : List NewEntry) (front behin
   g = going_in 2 left
 
   some : 1 ≤ length left
-  some = omega (arith, length-entries es)
+  some = omega (arith, length-all es)
 
   abbrev rest : List ℕ
   rest = data_of (blocks_of (behind_block left) n) ++ behind
@@ -167,7 +166,7 @@ module _ (n : ℕ) (later : Reads n) (k : ℕ) (es : List NewEntry) (front behin
       ∙ ap (λ (s : DirectoryStep). from_step s (entries_from m bytes)) (begins bytes k size (256 * k) has (omega arith) (omega arith) refl)
 
   -- Entries that begin the block, and what stands behind them in it.
-  walked : (ps : List NewEntry) (end : List ℕ) (m : ℕ) → All IsEntry ps → concat (in_block left) ≡ bytes_of ps ++ end
+  walked : (ps : List EntryContents) (end : List ℕ) (m : ℕ) → All IsEntry ps → concat (in_block left) ≡ bytes_of ps ++ end
       → most ≡ suc (length ps + m)
       → entries_from most bytes (256 * k) ≡ all_more (map entry_read ps) (entries_from m bytes (256 * k + 2 + length (bytes_of ps)))
   walked ps end m are is enough =
@@ -211,10 +210,10 @@ module _ (n : ℕ) (later : Reads n) (k : ℕ) (es : List NewEntry) (front behin
   -- all of them do, and the last one behind them
   all_in : length es < g → entries_from most bytes (256 * k) ≡ these_entries es
   all_in over =
-      let g_is : g ≡ length es + 1 = omega (arith, over, (goes_in 2 left).within, length-entries es) in
+      let g_is : g ≡ length es + 1 = omega (arith, over, (goes_in 2 left).within, length-all es) in
       let m = most - 1 - length es in
       let is : concat (in_block left) ≡ bytes_of es ++ last_entry =
-      ap concat (take_all g left (omega (arith, g_is, length-entries es)))
+      ap concat (take_all g left (omega (arith, g_is, length-all es)))
       ∙ concat-append (map entry_bytes es) (last_entry ∷ []) in
       let few = many_bytes es each in
       let full = used_most left (entries_short es each) some in
@@ -244,7 +243,7 @@ module _ (n : ℕ) (later : Reads n) (k : ℕ) (es : List NewEntry) (front behin
 
 reads : (blocks : ℕ) → Reads blocks
 reads zero k es front behind most each is_at all fuel =
-    absurd (omega (arith, ap length (sym (all_left (all_entries es)) ∙ all), length-entries es))
+    absurd (omega (arith, ap length (sym (all_left (all_entries es)) ∙ all), length-all es))
 reads (suc n) k es front behind most each is_at all fuel = next_block n (reads n) k es front behind most each is_at all fuel
 
 length-each : (left : List (List ℕ)) → All IsShort left → length (drop 8 (block_of left)) ≡ 256
@@ -254,21 +253,21 @@ length-each (e ∷ others) short = length-data (e ∷ others) short (omega arith
 pub length-block : (left : List (List ℕ)) → All IsShort left → length (block_of left) ≡ 264
 length-block left short = omega (arith, length-each left short, length-drop 8 (block_of left))
 
-length-all : (left : List (List ℕ)) (n : ℕ) → All IsShort left → length (data_of (blocks_of left n)) ≡ 256 * n
-length-all left zero short = ap (λ (bs : List (List ℕ)). length (data_of bs)) (no_blocks left)
-length-all left (suc n) short =
+length-data_of : (left : List (List ℕ)) (n : ℕ) → All IsShort left → length (data_of (blocks_of left n)) ≡ 256 * n
+length-data_of left zero short = ap (λ (bs : List (List ℕ)). length (data_of bs)) (no_blocks left)
+length-data_of left (suc n) short =
     let others = data_of (blocks_of (behind_block left) n) in
     ap (λ (bs : List (List ℕ)). length (data_of bs)) (more_blocks left n)
     ∙ omega (
       arith,
       length-append (drop 8 (block_of left)) others,
       length-each left short,
-      length-all (behind_block left) n (All-drop IsShort (going_in 2 left) left short),
+      length-data_of (behind_block left) n (All-drop IsShort (going_in 2 left) left short),
     )
 
-pub read_back : (entries : List NewEntry) (blocks : ℕ) → All IsEntry entries → left_behind (all_entries entries) blocks ≡ []
+pub read_back : (entries : List EntryContents) (blocks : ℕ) → All IsEntry entries → left_behind (all_entries entries) blocks ≡ []
     → IsReadBack entries blocks
 read_back entries blocks each all behind =
     let made = data_of (blocks_of (all_entries entries) blocks) in
-    let size = length-all (all_entries entries) blocks (entries_short entries each) in
+    let size = length-data_of (all_entries entries) blocks (entries_short entries each) in
     reads blocks 0 entries [] behind (length (made ++ behind)) each refl all (omega (arith, size, length-append made behind))

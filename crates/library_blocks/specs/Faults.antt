@@ -6,20 +6,19 @@ use Rattle.std.specs.Cmp.Lexicographic.{slice_cmp}
 use Rattle.std.specs.declared.cmp.Ordering.{Ordering}
 use Rattle.std.specs.declared.cmp.Ordering.TheVariants.{Less, Equal, Greater}
 use Rattle.data_sets.specs.Directories.{is_last}
-use Rattle.library_blocks.specs.declared.entries.NewEntry.{NewEntry}
 use Rattle.library_blocks.specs.declared.faults.EntryFault.{EntryFault}
 use Rattle.library_blocks.specs.declared.faults.EntryFault.TheVariants.{NoName, SameName, NotAscending}
 use Rattle.library_blocks.specs.declared.faults.EntryFault.TheVariants.{LongUserData, OddUserData, TooManyNotes}
 use Rattle.library_blocks.specs.declared.faults.RefusedEntry.{RefusedEntry}
-use Rattle.library_blocks.specs.Entries.{IsEntry}
+use Rattle.library_blocks.specs.Entries.{EntryContents, IsEntry}
 
 -- A name begins with no blank, and is not that of the last entry.
-abbrev pub own_fault : NewEntry → Option EntryFault
+abbrev pub own_fault : EntryContents → Option EntryFault
 own_fault e =
     if (slice_index e.name 0 == 0x40) || is_last e.name then Some NoName
-    else (if nat_lt 62 (length e.user_data.now) then Some LongUserData
-    else (if not (length e.user_data.now % 2 == 0) then Some OddUserData
-    else (if nat_lt 3 e.notes || nat_lt (length e.user_data.now) (4 * e.notes) then Some TooManyNotes
+    else (if nat_lt 62 (length e.user_data) then Some LongUserData
+    else (if not (length e.user_data % 2 == 0) then Some OddUserData
+    else (if nat_lt 3 e.notes || nat_lt (length e.user_data) (4 * e.notes) then Some TooManyNotes
     else None)))
 
 -- names stand in the collating sequence of EBCDIC, byte by byte, and each stands there once
@@ -37,7 +36,7 @@ unless_refused (Some fault) other = Some fault
 unless_refused None other = other
 
 -- what is wrong with an entry, and then with its place behind that of another name
-abbrev pub entry_fault : (before : Option (List ℕ)) → NewEntry → Option EntryFault
+abbrev pub entry_fault : (before : Option (List ℕ)) → EntryContents → Option EntryFault
 entry_fault before e = unless_refused (own_fault e) (fault_behind before e.name)
 
 abbrev pub refused_or : (number : ℕ) → Option EntryFault → Option RefusedEntry → Option RefusedEntry
@@ -45,14 +44,14 @@ refused_or number (Some fault) later = Some (record { number = number; fault = f
 refused_or number None later = later
 
 -- the first entry that is refused, the first of these having this number and standing behind this name
-unfoldable pub refused_from : (number : ℕ) → (before : Option (List ℕ)) → List NewEntry → Option RefusedEntry
+unfoldable pub refused_from : (number : ℕ) → (before : Option (List ℕ)) → List EntryContents → Option RefusedEntry
 refused_from number before [] = None
 refused_from number before (e ∷ others) = refused_or number (entry_fault before e) (refused_from (number + 1) (Some e.name) others)
 
-abbrev pub refused_entry : List NewEntry → Option RefusedEntry
+abbrev pub refused_entry : List EntryContents → Option RefusedEntry
 refused_entry entries = refused_from 0 None entries
 
 -- none of the entries is refused
-pub record AreEntries (entries : List NewEntry) : Type 0 where
+pub record AreEntries (entries : List EntryContents) : Type 0 where
   pub not_refused : refused_entry entries ≡ None
   pub each : All IsEntry entries

@@ -2,7 +2,7 @@
 
 ghost use Rattle.std.specs.Prelude.{◌≡◌, ◌≤◌, ◌+◌, ◌/◌, ◌%◌, ◌++◌, ◌∷◌, [], length, take, drop, replicate, slice_index_or, All, ℕ};
 ghost use Rattle.std.specs.List.{concat};
-ghost use Rattle.library_blocks.specs.Entries.{all_entries, IsEntry};
+ghost use Rattle.library_blocks.specs.Entries.{all_contents, all_entries, IsEntry};
 ghost use Rattle.library_blocks.specs.Faults.{AreEntries};
 ghost use Rattle.library_blocks.specs.Directory.{going_in, used_by, key_of, block_of, blocks_of, left_behind, filled, Takes};
 ghost use Rattle.library_blocks.specs.ReadBack.{IsReadBack};
@@ -23,10 +23,10 @@ struct Part {
 
 // How many entries go into a block from one of them on.
 fn going_in(entries: &[NewEntry], from: usize) -> Part
-    requires each { All IsEntry entries.now }
+    requires each { All IsEntry (all_contents entries.now) }
     requires number { from ≤ length entries.now + 1 }
-    ensures count { result.count ≡ going_in 2 (drop from (all_entries entries.now)) }
-    ensures used { result.used ≡ used_by (take result.count (drop from (all_entries entries.now))) }
+    ensures count { result.count ≡ going_in 2 (drop from (all_entries (all_contents entries.now))) }
+    ensures used { result.used ≡ used_by (take result.count (drop from (all_entries (all_contents entries.now)))) }
     ensures most { result.used ≤ 256 }
     ensures within { from + result.count ≤ length entries.now + 1 }
 {
@@ -44,9 +44,9 @@ fn going_in(entries: &[NewEntry], from: usize) -> Part
 
 /// How many blocks a directory with these entries takes, with the last one behind them.
 pub fn blocks_needed(entries: &[NewEntry]) -> usize
-    requires { AreEntries entries.now }
-    ensures blocks { Takes (all_entries entries.now) result }
-    ensures room { (blocks : ℕ) → result ≤ blocks → left_behind (all_entries entries.now) blocks ≡ [] }
+    requires { AreEntries (all_contents entries.now) }
+    ensures blocks { Takes (all_entries (all_contents entries.now)) result }
+    ensures room { (blocks : ℕ) → result ≤ blocks → left_behind (all_entries (all_contents entries.now)) blocks ≡ [] }
 {
     let mut next = 0;
     let mut blocks = 0;
@@ -81,9 +81,9 @@ fn append_entry(block: &mut [u8], at: usize, entry: EntryBytes) -> usize
 
 // The key of a block whose last entry has this number: the name of that entry.
 fn key_at(entries: &[NewEntry], number: usize) -> [u8; 8]
-    requires each { All IsEntry entries.now }
+    requires each { All IsEntry (all_contents entries.now) }
     requires number { number ≤ length entries.now }
-    ensures { result ≡ take 8 (slice_index_or (all_entries entries.now) number []) }
+    ensures { result ≡ take 8 (slice_index_or (all_entries (all_contents entries.now)) number []) }
 {
     let [n0, n1, n2, n3, n4, n5, n6, n7, ..] = bytes_at(entries, number).front;
     [n0, n1, n2, n3, n4, n5, n6, n7]
@@ -110,11 +110,11 @@ fn begin(block: &mut [u8], key: [u8; 8], used: usize)
 
 // Writes as many entries as that from one of them on, behind the first ten bytes of a block.
 fn append_entries(block: &mut [u8], entries: &[NewEntry], from: usize, count: usize)
-    requires each { All IsEntry entries.now }
+    requires each { All IsEntry (all_contents entries.now) }
     requires number { from + count ≤ length entries.now + 1 }
-    requires room { 10 + length (concat (take count (drop from (all_entries entries.now)))) ≤ length block.old }
+    requires room { 10 + length (concat (take count (drop from (all_entries (all_contents entries.now))))) ≤ length block.old }
     ensures same { length block.new ≡ length block.old }
-    ensures written { PutBehind 10 (concat (take count (drop from (all_entries entries.now)))) block.old block.new }
+    ensures written { PutBehind 10 (concat (take count (drop from (all_entries (all_contents entries.now))))) block.old block.new }
 {
     let mut at = 10;
     for k in 0..count {
@@ -126,10 +126,10 @@ fn append_entries(block: &mut [u8], entries: &[NewEntry], from: usize, count: us
 // for which none is left is all zeros.
 fn write_block(block: &mut [u8], entries: &[NewEntry], from: usize) -> usize
     requires room { length block.old ≡ 264 }
-    requires each { All IsEntry entries.now }
+    requires each { All IsEntry (all_contents entries.now) }
     requires number { from ≤ length entries.now + 1 }
-    ensures block { block.new ≡ block_of (drop from (all_entries entries.now)) }
-    ensures next { result ≡ from + going_in 2 (drop from (all_entries entries.now)) }
+    ensures block { block.new ≡ block_of (drop from (all_entries (all_contents entries.now))) }
+    ensures next { result ≡ from + going_in 2 (drop from (all_entries (all_contents entries.now))) }
     ensures within { result ≤ length entries.now + 1 }
 {
     let Part { count, used } = going_in(entries, from);
@@ -146,11 +146,11 @@ fn write_block(block: &mut [u8], entries: &[NewEntry], from: usize) -> usize
 /// 256 bytes of data, the number of its used bytes, its entries and zeros. Behind the entries stands one with a name of bytes FF, and
 /// blocks that are left are all zeros.
 pub fn write_directory(directory: &mut [u8], entries: &[NewEntry])
-    requires entries { AreEntries entries.now }
+    requires entries { AreEntries (all_contents entries.now) }
     requires blocks { length directory.old % 264 ≡ 0 }
-    requires room { left_behind (all_entries entries.now) (length directory.old / 264) ≡ [] }
-    ensures blocks { directory.new ≡ concat (blocks_of (all_entries entries.now) (length directory.old / 264)) }
-    ensures read { IsReadBack entries.now (length directory.old / 264) }
+    requires room { left_behind (all_entries (all_contents entries.now)) (length directory.old / 264) ≡ [] }
+    ensures blocks { directory.new ≡ concat (blocks_of (all_entries (all_contents entries.now)) (length directory.old / 264)) }
+    ensures read { IsReadBack (all_contents entries.now) (length directory.old / 264) }
 {
     let mut from = 0;
     for k in 0..directory.len() / DIRECTORY_BLOCK {

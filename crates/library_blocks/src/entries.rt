@@ -1,7 +1,7 @@
 //! The entries of a directory.
 
 ghost use Rattle.std.specs.Prelude.{◌≡◌, ◌≤◌, ◌+◌, ◌++◌, length, slice_index_or, replicate, [], All};
-ghost use Rattle.library_blocks.specs.Entries.{entry_front, all_entries, last_entry, lengths_byte, IsEntry};
+ghost use Rattle.library_blocks.specs.Entries.{contents_of, all_contents, entry_front, all_entries, last_entry, lengths_byte, IsEntry};
 
 use volume_labels::RelativeAddress;
 
@@ -34,8 +34,8 @@ const LAST: [u8; 12] = [0xFF, 0xFF, 0xFF, 0xFF, 0xFF, 0xFF, 0xFF, 0xFF, 0, 0, 0,
 
 // The byte behind the address: the bit of another name, the number of addresses, and the number of halfwords of user data.
 fn lengths_byte(entry: NewEntry) -> u8
-    requires { IsEntry entry }
-    ensures { result ≡ lengths_byte entry.entry }
+    requires { IsEntry (contents_of entry) }
+    ensures { result ≡ lengths_byte (contents_of entry.entry) }
 {
     let alias = if entry.is_alias { 128 } else { 0 };
     alias + entry.notes * 32 + (entry.user_data.len() / 2) as u8
@@ -43,8 +43,8 @@ fn lengths_byte(entry: NewEntry) -> u8
 
 // An entry up to its user data.
 fn entry_front(entry: NewEntry) -> [u8; 12]
-    requires { IsEntry entry }
-    ensures { result ≡ entry_front entry.entry }
+    requires { IsEntry (contents_of entry) }
+    ensures { result ≡ entry_front (contents_of entry.entry) }
 {
     let [n0, n1, n2, n3, n4, n5, n6, n7] = entry.name;
     let [t0, t1] = entry.address.track.to_be_bytes();
@@ -67,10 +67,10 @@ fn entry_front(entry: NewEntry) -> [u8; 12]
 
 /// The bytes of an entry of a directory with these entries, by its number from 0 on; behind them stands the last one.
 pub(crate) fn bytes_at<'a>(entries: &[NewEntry<'a>], number: usize) -> EntryBytes<'a>
-    requires each { All IsEntry entries.now }
+    requires each { All IsEntry (all_contents entries.now) }
     requires number { number ≤ length entries.now }
-    ensures bytes { result.front ++ result.user_data.now ≡ slice_index_or (all_entries entries.now) number [] }
-    ensures size { length (slice_index_or (all_entries entries.now) number []) ≡ 12 + length result.user_data.now }
+    ensures bytes { result.front ++ result.user_data.now ≡ slice_index_or (all_entries (all_contents entries.now)) number [] }
+    ensures size { length (slice_index_or (all_entries (all_contents entries.now)) number []) ≡ 12 + length result.user_data.now }
     ensures short { length result.user_data.now ≤ 62 }
 {
     if number == entries.len() {

@@ -1,7 +1,7 @@
 //! Why a directory can't have entries.
 
 ghost use Rattle.std.specs.Prelude.{◌≡◌, IfNone, All, Option, Some, None};
-ghost use Rattle.library_blocks.specs.Entries.{IsEntry};
+ghost use Rattle.library_blocks.specs.Entries.{contents_of, all_contents, IsEntry};
 ghost use Rattle.library_blocks.specs.Faults.{own_fault, fault_behind, entry_fault, refused_entry, AreEntries};
 
 use crate::entries::NewEntry;
@@ -42,8 +42,8 @@ pub struct RefusedEntry {
 
 // What is wrong with an entry, wherever it stands.
 fn own_fault(entry: NewEntry) -> Option<EntryFault>
-    ensures fault { result ≡ own_fault entry.entry }
-    ensures fits { IfNone result (IsEntry entry.entry) }
+    ensures fault { result ≡ own_fault (contents_of entry.entry) }
+    ensures fits { IfNone result (IsEntry (contents_of entry.entry)) }
 {
     if entry.name[0] == 0x40 || entry.name == [0xFF; 8] {
         return Some(EntryFault::NoName);
@@ -73,8 +73,8 @@ fn fault_behind(before: Option<[u8; 8]>, name: [u8; 8]) -> Option<EntryFault>
 
 // What is wrong with an entry, and then with its place behind that of another name.
 fn entry_fault(before: Option<[u8; 8]>, entry: NewEntry) -> Option<EntryFault>
-    ensures fault { result ≡ entry_fault before entry.entry }
-    ensures fits { IfNone result (IsEntry entry.entry) }
+    ensures fault { result ≡ entry_fault before (contents_of entry.entry) }
+    ensures fits { IfNone result (IsEntry (contents_of entry.entry)) }
 {
     match own_fault(entry) {
         Some(fault) => Some(fault),
@@ -84,8 +84,8 @@ fn entry_fault(before: Option<[u8; 8]>, entry: NewEntry) -> Option<EntryFault>
 
 /// The first entry that a directory can't have, and why; none where it can have these, in this order.
 pub fn refused_entry(entries: &[NewEntry]) -> Option<RefusedEntry>
-    ensures fault { result ≡ refused_entry entries.now }
-    ensures fits { IfNone result (AreEntries entries.now) }
+    ensures fault { result ≡ refused_entry (all_contents entries.now) }
+    ensures fits { IfNone result (AreEntries (all_contents entries.now)) }
 {
     let mut before = None;
     for (number, entry) in entries.iter().enumerate() {

@@ -1,6 +1,14 @@
-//! The records of a library: the blocks of its directory and those of its members. Pure functions over bytes.
+//! A library as records: the directory of a partitioned data set and its members. Pure functions over bytes.
 #![tactic(auto)]
 
+mod addresses;
+mod directories;
+mod faults;
 mod libraries;
+mod records;
+mod user_data;
 
-pub use crate::libraries::{Library, Member, library_records};
+pub use crate::directories::library_directory;
+pub use crate::faults::LibraryFault;
+pub use crate::libraries::{MemberEntry, NewLibrary, NewMember, Note};
+pub use crate::records::library_records;

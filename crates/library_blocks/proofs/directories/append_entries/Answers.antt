@@ -1,7 +1,7 @@
 use Rattle.std.proofs.Common.{◌≡◌, ◌∙◌, ap, sym, subst, ℕ, List, ◌+◌, ◌<◌, ◌++◌, [], length, drop, take, arith, length-append, length-drop}
 use Rattle.std.specs.List.{concat}
 use Rattle.std.proofs.lemmas.List.{get_or-drop}
-use Rattle.library_blocks.specs.Entries.{all_entries}
+use Rattle.library_blocks.specs.Entries.{all_contents, all_entries}
 use Rattle.library_blocks.specs.Writing.{PutBehind}
 use Rattle.library_blocks.proofs.Pieces.{length-entries}
 use Rattle.library_blocks.proofs.Going.{concat_more, concat_fewer}
@@ -10,11 +10,11 @@ use Rattle.library_blocks.proofs.directories.append_entries.Goals as goal
 use Rattle.library_blocks.proofs.directories.append_entries.Goals.{After-bytes_at}
 
 -- the bytes with one entry more
-next_bytes : (c : After-bytes_at) → concat (take (c.loop-k.k + 1) (drop c.args.from (all_entries c.args.entries.now)))
-    ≡ concat (take c.loop-k.k (drop c.args.from (all_entries c.args.entries.now)))
+next_bytes : (c : After-bytes_at) → concat (take (c.loop-k.k + 1) (drop c.args.from (all_entries (all_contents c.args.entries.now))))
+    ≡ concat (take c.loop-k.k (drop c.args.from (all_entries (all_contents c.args.entries.now))))
     ++ (c.bytes_at.result.front ++ c.bytes_at.result.user_data.now)
 next_bytes c =
-    let all = all_entries c.args.entries.now in
+    let all = all_entries (all_contents c.args.entries.now) in
     let left = drop c.args.from all in
     let k = c.loop-k.k in
     let there : k < length left = omega (
@@ -27,10 +27,12 @@ next_bytes c =
     concat_more left k there
     ∙ ap (λ (xs : List ℕ). concat (take k left) ++ xs) (get_or-drop c.args.from all k [] ∙ sym c.bytes_at.ensures.bytes)
 
-next_size : (c : After-bytes_at) → length (concat (take (c.loop-k.k + 1) (drop c.args.from (all_entries c.args.entries.now))))
-    ≡ length (concat (take c.loop-k.k (drop c.args.from (all_entries c.args.entries.now)))) + (12 + length c.bytes_at.result.user_data.now)
+next_size : (c : After-bytes_at)
+    → length (concat (take (c.loop-k.k + 1) (drop c.args.from (all_entries (all_contents c.args.entries.now)))))
+    ≡ length (concat (take c.loop-k.k (drop c.args.from (all_entries (all_contents c.args.entries.now)))))
+    + (12 + length c.bytes_at.result.user_data.now)
 next_size c =
-    let all = all_entries c.args.entries.now in
+    let all = all_entries (all_contents c.args.entries.now) in
     let left = drop c.args.from all in
     omega (
       arith,
@@ -43,14 +45,14 @@ next_size c =
 pub append_entry-at-requires : goal.append_entry-at-requires
 append_entry-at-requires c =
     let before = (goal.at.append_entry-at-requires c).After-bytes_at in
-    let left = drop c.args.from (all_entries c.args.entries.now) in
+    let left = drop c.args.from (all_entries (all_contents c.args.entries.now)) in
     let fewer = concat_fewer (c.loop-k.k + 1) c.args.count left (omega (arith, c.loop-k-test.true)) in
     omega (arith, next_size before, fewer, c.requires.room, c.loop-k.invariant.place, c.loop-k.invariant.size)
 
 pub loop-k-preserved : goal.loop-k-preserved
 loop-k-preserved c =
     let before = (goal.at.loop-k-preserved c).After-bytes_at in
-    let left = drop c.args.from (all_entries c.args.entries.now) in
+    let left = drop c.args.from (all_entries (all_contents c.args.entries.now)) in
     record {
       size = c.append_entry-at.ensures.same ∙ c.loop-k.invariant.size;
       place = omega (arith, c.append_entry-at.ensures.next, next_size before, c.loop-k.invariant.place);

@@ -1,6 +1,6 @@
 use Rattle.std.proofs.Common.{◌≡◌, ◌+◌, length, take, drop}
 use Rattle.std.specs.List.{concat}
-use Rattle.library_blocks.specs.Entries.{all_entries}
+use Rattle.library_blocks.specs.Entries.{all_contents, all_entries}
 use Rattle.library_blocks.specs.Writing.{PutBehind}
 use Rattle.library_blocks.proofs.directories.append_entries.Given as goal
 
@@ -8,6 +8,6 @@ use Rattle.library_blocks.proofs.directories.append_entries.Given as goal
 abbrev pub invariant-loop-k : goal.invariant-loop-k
 invariant-loop-k l = record {
   size : length l.block ≡ length l.fn.block;
-  place : l.at ≡ 10 + length (concat (take l.k (drop l.from (all_entries l.entries))));
-  written : PutBehind 10 (concat (take l.k (drop l.from (all_entries l.entries)))) l.fn.block l.block;
+  place : l.at ≡ 10 + length (concat (take l.k (drop l.from (all_entries (all_contents l.entries)))));
+  written : PutBehind 10 (concat (take l.k (drop l.from (all_entries (all_contents l.entries))))) l.fn.block l.block;
 }

@@ -1,5 +1,5 @@
 use Rattle.std.proofs.Common.{◌≡◌, ◌≢◌, ◌≤◌, ◌+◌, ◌-◌, ℕ, suc, [], length, drop}
-use Rattle.library_blocks.specs.Entries.{all_entries}
+use Rattle.library_blocks.specs.Entries.{all_contents, all_entries}
 use Rattle.library_blocks.specs.Directory.{left_behind}
 use Rattle.library_blocks.proofs.directories.blocks_needed.Given as goal
 
@@ -8,8 +8,9 @@ abbrev pub invariant-loop-next : goal.invariant-loop-next
 invariant-loop-next l = record {
   within : l.next ≤ length l.entries + 1;
   few : l.blocks ≤ l.next;
-  left : (n : ℕ) → left_behind (all_entries l.entries) (l.blocks + n) ≡ left_behind (drop l.next (all_entries l.entries)) n;
-  fewest : (n : ℕ) → suc n ≡ l.blocks → left_behind (all_entries l.entries) n ≢ [];
+  left : (n : ℕ) → left_behind (all_entries (all_contents l.entries)) (l.blocks + n)
+      ≡ left_behind (drop l.next (all_entries (all_contents l.entries))) n;
+  fewest : (n : ℕ) → suc n ≡ l.blocks → left_behind (all_entries (all_contents l.entries)) n ≢ [];
 }
 
 abbrev pub decreases-loop-next : goal.decreases-loop-next

@@ -1,5 +1,5 @@
 use Rattle.std.proofs.Common.{◌≡◌, ◌≤◌, ◌+◌, take, drop}
-use Rattle.library_blocks.specs.Entries.{all_entries}
+use Rattle.library_blocks.specs.Entries.{all_contents, all_entries}
 use Rattle.library_blocks.specs.Directory.{going_in, used_by}
 use Rattle.library_blocks.proofs.directories.going_in.Given as goal
 
@@ -7,6 +7,7 @@ use Rattle.library_blocks.proofs.directories.going_in.Given as goal
 abbrev pub invariant-loop-count : goal.invariant-loop-count
 invariant-loop-count l = record {
   few : l.used ≤ 256;
-  used : l.used ≡ used_by (take l.count (drop l.from (all_entries l.entries)));
-  fit : going_in 2 (drop l.from (all_entries l.entries)) ≡ l.count + going_in l.used (drop l.count (drop l.from (all_entries l.entries)));
+  used : l.used ≡ used_by (take l.count (drop l.from (all_entries (all_contents l.entries))));
+  fit : going_in 2 (drop l.from (all_entries (all_contents l.entries)))
+      ≡ l.count + going_in l.used (drop l.count (drop l.from (all_entries (all_contents l.entries))));
 }

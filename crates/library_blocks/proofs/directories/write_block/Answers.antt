@@ -5,7 +5,7 @@ use Rattle.std.specs.List.{concat}
 use Rattle.std.proofs.lemmas.Bool.{cases_lt}
 use Rattle.std.proofs.lemmas.List.{get_or-drop, get_or-take, drop_all, length-take-le}
 use Rattle.std.proofs.lemmas.List.Elements.{All-drop}
-use Rattle.library_blocks.specs.Entries.{all_entries}
+use Rattle.library_blocks.specs.Entries.{all_contents, all_entries}
 use Rattle.library_blocks.specs.Directory.{key_of, block_front, filled, block_of}
 use Rattle.library_blocks.proofs.Pieces.{IsShort, entries_short}
 use Rattle.library_blocks.proofs.Going.{goes_in}
@@ -16,12 +16,12 @@ use Rattle.library_blocks.proofs.directories.write_block.Goals as goal
 
 pub returns-then-count-eq0-clause-block : goal.returns-then-count-eq0-clause-block
 returns-then-count-eq0-clause-block c =
-    let all = all_entries c.args.entries.now in
+    let all = all_entries (all_contents c.args.entries.now) in
     let from = c.args.from in
     let past : length all ≤ from = ⊎_elim
     (λ (there : from < length all). absurd (omega (
       arith,
-      some_fit all from (entries_short c.args.entries.now c.requires.each) there,
+      some_fit all from (entries_short (all_contents c.args.entries.now) c.requires.each) there,
       c.going_in-count.ensures.count,
       c.if-count-eq0.true,
     )))
@@ -30,7 +30,7 @@ returns-then-count-eq0-clause-block c =
 
 pub returns-clause-block : goal.returns-clause-block
 returns-clause-block c =
-    let all = all_entries c.args.entries.now in
+    let all = all_entries (all_contents c.args.entries.now) in
     let from = c.args.from in
     let left = drop from all in
     let g = c.going_in-count.result.count in
@@ -51,7 +51,7 @@ returns-clause-block c =
     ∙ ap (λ (k : List ℕ). k ++ (used / 256 ∷ used % 256 ∷ concat ps)) key_is
     ∙ ap (λ (n : ℕ). key_of ps ++ (n / 256 ∷ n % 256 ∷ concat ps)) c.going_in-count.ensures.used in
     let some : 1 ≤ length left = omega (arith, within, count, c.if-count-eq0.false) in
-    let short = entries_short c.args.entries.now c.requires.each in
+    let short = entries_short (all_contents c.args.entries.now) c.requires.each in
     let short_left = All-drop IsShort from all short in
     let ten : length head ≡ 10 = omega (
       arith,

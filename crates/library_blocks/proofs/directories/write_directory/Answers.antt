@@ -4,7 +4,7 @@ use Rattle.std.specs.List.{concat}
 use Rattle.std.proofs.lemmas.List.{take_all}
 use Rattle.std.proofs.lemmas.Slice.{take-put_mid}
 use Rattle.std.proofs.lemmas.List.Elements.{All-drop}
-use Rattle.library_blocks.specs.Entries.{all_entries}
+use Rattle.library_blocks.specs.Entries.{all_contents, all_entries}
 use Rattle.library_blocks.specs.Directory.{going_in, block_of, blocks_of}
 use Rattle.library_blocks.proofs.Pieces.{IsShort, entries_short}
 use Rattle.library_blocks.proofs.Reading.{no_blocks, more_blocks, length-block, read_back}
@@ -12,7 +12,7 @@ use Rattle.library_blocks.proofs.directories.write_directory.Goals as goal
 
 pub loop-k-preserved : goal.loop-k-preserved
 loop-k-preserved c =
-    let all = all_entries c.args.entries.now in
+    let all = all_entries (all_contents c.args.entries.now) in
     let left = drop c.loop-k.from all in
     let blocks = length c.args.directory.now / 264 in
     let k = c.loop-k.k in
@@ -22,7 +22,7 @@ loop-k-preserved c =
     let n = blocks - (k + 1) in
     let one : blocks - k ≡ suc n = omega (arith, c.loop-k-test.true) in
     let size : length b ≡ 264 = ap length c.write_block-from.ensures.block ∙ length-block left (All-drop IsShort c.loop-k.from all
-    (entries_short c.args.entries.now c.requires.entries.each)) in
+    (entries_short (all_contents c.args.entries.now) c.requires.entries.each)) in
     let end : (k + 1) * 264 ≡ start + length b = omega (arith, size) in
     let there : start ≤ length d = omega (arith, c.loop-k.auto.directory, c.loop-k-test.true) in
     let others : drop (going_in 2 left) left ≡ drop c.write_block-from.result all =
@@ -42,7 +42,7 @@ loop-k-preserved c =
 
 pub returns-clause-blocks : goal.returns-clause-blocks
 returns-clause-blocks c =
-    let all = all_entries c.args.entries.now in
+    let all = all_entries (all_contents c.args.entries.now) in
     let blocks = length c.args.directory.now / 264 in
     let k : c.loop-k.k ≡ blocks = omega arith in
     let none : blocks - c.loop-k.k ≡ 0 = omega (arith, k) in
@@ -53,4 +53,5 @@ returns-clause-blocks c =
     ∙ append-nil (take (c.loop-k.k * 264) c.loop-k.directory) ∙ take_all (c.loop-k.k * 264) c.loop-k.directory whole)
 
 pub returns-clause-read : goal.returns-clause-read
-returns-clause-read c = read_back c.args.entries.now (length c.args.directory.now / 264) c.requires.entries.each c.requires.room
+returns-clause-read c =
+    read_back (all_contents c.args.entries.now) (length c.args.directory.now / 264) c.requires.entries.each c.requires.room

@@ -1,6 +1,6 @@
 use Rattle.std.proofs.Common.{◌≡◌, ◌≤◌, ◌+◌, ◌-◌, ◌*◌, ◌/◌, ◌++◌, length, take, drop}
 use Rattle.std.specs.List.{concat}
-use Rattle.library_blocks.specs.Entries.{all_entries}
+use Rattle.library_blocks.specs.Entries.{all_contents, all_entries}
 use Rattle.library_blocks.specs.Directory.{blocks_of}
 use Rattle.library_blocks.proofs.directories.write_directory.Given as goal
 
@@ -8,6 +8,7 @@ use Rattle.library_blocks.proofs.directories.write_directory.Given as goal
 abbrev pub invariant-loop-k : goal.invariant-loop-k
 invariant-loop-k l = record {
   within : l.from ≤ length l.entries + 1;
-  blocks : concat (blocks_of (all_entries l.entries) (length l.fn.directory / 264))
-      ≡ take (l.k * 264) l.directory ++ concat (blocks_of (drop l.from (all_entries l.entries)) (length l.fn.directory / 264 - l.k));
+  blocks : concat (blocks_of (all_entries (all_contents l.entries)) (length l.fn.directory / 264))
+      ≡ take (l.k * 264) l.directory
+      ++ concat (blocks_of (drop l.from (all_entries (all_contents l.entries))) (length l.fn.directory / 264 - l.k));
 }

@@ -2,7 +2,7 @@ use Rattle.std.proofs.Common.{◌≡◌, ◌++◌, map}
 use Rattle.std.specs.List.{range_with_len}
 use Rattle.record_tracks.specs.Records.{all_areas}
 use Rattle.library_records.specs.Library.{directory_area}
-use Rattle.library_records.proofs.libraries.push_directory.Given as goal
+use Rattle.library_records.proofs.records.push_directory.Given as goal
 
 -- the blocks so far
 abbrev pub invariant-loop-k : goal.invariant-loop-k
