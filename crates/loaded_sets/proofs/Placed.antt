@@ -1,6 +1,6 @@
 -- Records that were put onto a volume are the blocks of a file.
 use Rattle.std.proofs.Common.{◌≡◌, ◌∙◌, ap, sym, refl, subst, ℕ, ◌+◌, ◌-◌, List, [], ◌∷◌, length, arith, Result, Ok, Err, Some, None, All}
-use Rattle.std.proofs.Common.{IfOk, inl, inr, length-append}
+use Rattle.std.proofs.Common.{IfOk, IfErr, inl, inr, length-append}
 use Rattle.ckd_track.specs.declared.model.DriveModel.{DriveModel}
 use Rattle.record_tracks.specs.Records.{Areas, all_areas, end_of_file, RecordGoesOn}
 use Rattle.record_tracks.specs.Tracks.{Takes}
@@ -9,7 +9,7 @@ use Rattle.record_tracks.specs.declared.records.NewRecord.{NewRecord}
 use Rattle.record_tracks.proofs.Listed.{length-all}
 use Rattle.data_set_blocks.specs.declared.blocks.Cut.{Cut}
 use Rattle.data_set_blocks.specs.declared.faults.BlockFault.{BlockFault}
-use Rattle.data_set_blocks.specs.Blocks.{areas_of, block_areas}
+use Rattle.data_set_blocks.specs.Blocks.{areas_of, block_areas, cut_by}
 use Rattle.data_set_blocks.specs.Extracted.{IsReadBack}
 use Rattle.data_set_blocks.specs.Faults.{block_fault_of}
 use Rattle.volume_contents.specs.Contents.{contents_of, block_in}
@@ -25,10 +25,17 @@ use Rattle.placed_sets.specs.Sets.{areas, CanBePlaced}
 use Rattle.placed_sets.specs.Placed.{GetsSet, IsNotPlaced}
 use Rattle.loaded_sets.specs.declared.contents.LoadedSet.{LoadedSet}
 use Rattle.loaded_sets.specs.declared.fault.LoadFault.{LoadFault}
-use Rattle.loaded_sets.specs.declared.fault.LoadRefusal.{LoadRefusal}
-use Rattle.loaded_sets.specs.Contents.{FileBlocks, label_of, blocks_by, blocks_fitting, blocks_in, blocks_with, blocks_unless_taken, layout_of_set, unless_faulty}
+use Rattle.loaded_sets.specs.declared.fault.LoadFault.TheVariants as fault
+use Rattle.loaded_sets.specs.declared.fault.LoadRefusal.TheVariants as refusal
+use Rattle.loaded_sets.specs.declared.fault.ContentFault.{ContentFault}
+use Rattle.loaded_sets.specs.declared.fault.Unmade.{Unmade}
+use Rattle.loaded_sets.specs.declared.fault.Unmade.TheVariants as unmade
+use Rattle.loaded_sets.specs.declared.contents.SourceForm.{SourceForm}
+use Rattle.loaded_sets.specs.declared.contents.SourceForm.TheVariants as source
+use Rattle.loaded_sets.specs.Contents.{FileBlocks, label_of, blocks_by, blocks_fitting, blocks_in, blocks_with}
+use Rattle.loaded_sets.specs.Contents.{blocks_unless_taken, layout_of_set, unless_faulty, told_of_set, cut_so, IsNoText}
 use Rattle.loaded_sets.specs.Loaded.{IsSetOf, GetsBlocks}
-use Rattle.loaded_sets.specs.Parts.{blocks_for, placing_fault, IsPut, IsSet, IsNotSet}
+use Rattle.loaded_sets.specs.Parts.{blocks_for, placing_fault, unmade_fault, IsPut, IsNotPut, IsSet, IsNotSet}
 use Rattle.loaded_sets.proofs.TextLines.{lines_read}
 
 -- records that are the blocks and an end of file are one more than the blocks
@@ -84,23 +91,50 @@ module _ (v : Labelled) (set : LoadedSet) (b : FileBlocks) (p : PlacedSet) (is :
       )
 
     pub not_set : (f : PlaceFault) → IsNotPlaced f v p slots → IsNotSet (placing_fault f) v set b slots
-    not_set (place.Refused r) why = inr (p, fitting, is, why)
+    not_set (place.Refused r) why = (p, fitting, is, why)
     not_set (place.Job f) why = why
 
 -- the blocks of a file on a volume on which its name is free
 module _ (v : Labelled) (set : LoadedSet) (free : position (has_name set.name) v.blocks ≡ None) (l : Layout) where
   module _ (is : layout_of_set set.form ≡ Ok l) (b : FileBlocks) (by : blocks_by set.source l set.bytes.now ≡ Ok b) where
-    pub chosen : blocks_for v set ≡ blocks_fitting v.geometry.model set.form.key_length b
+    chosen : blocks_for v set ≡ told_of_set (blocks_fitting v.geometry.model set.form.key_length b)
     chosen =
-        ap (blocks_unless_taken v.geometry.model set) free ∙ ap (blocks_in v.geometry.model set) is
-        ∙ ap (blocks_with v.geometry.model set.form.key_length) by
+        ap (blocks_unless_taken v.geometry.model set) free
+        ∙ ap (λ (r : Result Layout AttributeFault). told_of_set (blocks_in v.geometry.model set r)) is
+        ∙ ap (λ (r : Result FileBlocks ContentFault). told_of_set (blocks_with v.geometry.model set.form.key_length r)) by
 
     pub put : (slots : List (List ℕ)) (now : List (List ℕ)) (r : Result ℕ LoadFault) → IfOk r (λ tracks. IsSet v set b slots tracks now)
         → IfOk r (λ tracks. IsPut v set slots tracks now)
-    put slots now (Ok tracks) it = (b, chosen ∙ it.0, it.1)
+    put slots now (Ok tracks) it = (b, chosen ∙ ap told_of_set it.0, it.1)
     put slots now (Err f) it = tt
+
+    pub not_put : (slots : List (List ℕ)) (f : LoadFault) → IsNotSet f v set b slots → IsNotPut f v set slots
+    not_put slots (fault.Refused (refusal.Content f)) why = inl (chosen ∙ ap told_of_set why)
+    not_put slots (fault.Refused (refusal.Placed r)) (p, fits, is_set, why) = inr (b, p, chosen ∙ ap told_of_set fits, is_set, why)
+    not_put slots (fault.Refused refusal.NoName) why = elim why [ ]
+    not_put slots (fault.Refused refusal.NameTaken) why = elim why [ ]
+    not_put slots (fault.Refused (refusal.Member n f)) why = elim why [ ]
+    not_put slots (fault.Refused (refusal.Library f)) why = elim why [ ]
+    not_put slots (fault.Job f) why = why
+    not_put slots (fault.Save f) why = why
+
+    pub not_put_if : (slots : List (List ℕ)) (r : Result ℕ LoadFault) → IfErr r (λ f. IsNotSet f v set b slots)
+        → IfErr r (λ f. IsNotPut f v set slots)
+    not_put_if slots (Ok tracks) it = tt
+    not_put_if slots (Err f) it = not_put slots f it
+
+  -- its text is none
+  pub no_text : layout_of_set set.form ≡ Ok l → set.source ≡ source.Text → (slots : List (List ℕ)) (f : Unmade)
+      → IsNoText f l set.bytes.now → IsNotPut (unmade_fault f) v set slots
+  no_text is text slots (unmade.Content f) why =
+      inl (ap (blocks_unless_taken v.geometry.model set) free
+      ∙ ap (λ (r : Result Layout AttributeFault). told_of_set (blocks_in v.geometry.model set r)) is
+      ∙ ap (λ (s : SourceForm). told_of_set (blocks_with v.geometry.model set.form.key_length (blocks_by s l set.bytes.now))) text
+      ∙ ap (λ (r : Result (List ℕ) ContentFault).
+      told_of_set (blocks_with v.geometry.model set.form.key_length (cut_so l (cut_by l.form l.longest) r))) why)
+  no_text is text slots unmade.OutOfMemory why = tt
 
 -- the blocks that are made of bytes that are told apart so
 pub made_so : (l : Layout) (c : Cut) (bytes : List ℕ) (b : FileBlocks) → b.layout ≡ l → b.cut ≡ c → b.bytes ≡ bytes
-    → ◌≡◌ {A = Result FileBlocks LoadRefusal} (Ok (record { layout = l; cut = c; bytes = bytes })) (Ok b)
+    → ◌≡◌ {A = Result FileBlocks ContentFault} (Ok (record { layout = l; cut = c; bytes = bytes })) (Ok b)
 made_so l c bytes b layout cut are = rw (sym layout, sym cut, sym are) refl

@@ -59,7 +59,7 @@ fit model l key_length n bytes size some form is =
     let second = passed (l.longest == 0) fault.NoBlockLength long first.1 in
     let third = passed (nat_lt (capacity_of model) l.longest) fault.LongBlock cut second.1 in
     let fixed : fixed_fault size l.longest (length bytes) ≡ None =
-      ap (λ (f : RecordForm). length_fault f l.longest (length bytes)) (sym form) ∙ third.1 in
+    ap (λ (f : RecordForm). length_fault f l.longest (length bytes)) (sym form) ∙ third.1 in
     record {
       some = grind (arith, nat_tests, second.0);
       most = grind (arith, nat_tests, third.0);

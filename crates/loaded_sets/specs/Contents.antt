@@ -20,7 +20,8 @@ use Rattle.text_records.specs.Records.{records_of}
 use Rattle.volume_contents.specs.declared.blocks.Block.{Block}
 use Rattle.volume_contents.specs.Contents.{Said}
 use Rattle.volume_contents.specs.Sets.{has_name}
-use Rattle.changed_volumes.specs.Changes.{IsHindered}
+use Rattle.loaded_sets.specs.declared.fault.Unmade.{Unmade}
+use Rattle.loaded_sets.specs.declared.fault.Unmade.TheVariants as unmade
 use Rattle.placed_sets.specs.declared.fault.PlaceRefusal.{PlaceRefusal}
 use Rattle.placed_sets.specs.declared.plans.SetLabel.{SetLabel}
 use Rattle.placed_sets.specs.Volumes.{unfit_of}
@@ -28,8 +29,8 @@ use Rattle.loaded_sets.specs.declared.contents.LoadedSet.{LoadedSet}
 use Rattle.loaded_sets.specs.declared.contents.SetForm.{SetForm}
 use Rattle.loaded_sets.specs.declared.contents.SourceForm.{SourceForm}
 use Rattle.loaded_sets.specs.declared.contents.SourceForm.TheVariants as source
-use Rattle.loaded_sets.specs.declared.fault.LoadFault.{LoadFault}
-use Rattle.loaded_sets.specs.declared.fault.LoadFault.TheVariants as fault
+use Rattle.loaded_sets.specs.declared.fault.ContentFault.{ContentFault}
+use Rattle.loaded_sets.specs.declared.fault.ContentFault.TheVariants as content
 use Rattle.loaded_sets.specs.declared.fault.LoadRefusal.{LoadRefusal}
 use Rattle.loaded_sets.specs.declared.fault.LoadRefusal.TheVariants as refusal
 
@@ -78,57 +79,60 @@ abbrev pub text_size : Layout → Option ℕ
 text_size l = size_in l.form
 
 -- the records of a text, or why there are none
-abbrev pub text_fault : TextFault → LoadRefusal
-text_fault (text.Line number why) = refusal.Line number why
-text_fault text.OutOfMemory = refusal.NotText
+abbrev pub text_fault : TextFault → ContentFault
+text_fault (text.Line number why) = content.Line number why
+text_fault text.OutOfMemory = content.NotText
 
-abbrev pub records_or_fault : Result (List ℕ) TextFault → Result (List ℕ) LoadRefusal
+abbrev pub records_or_fault : Result (List ℕ) TextFault → Result (List ℕ) ContentFault
 records_or_fault (Ok bytes) = Ok bytes
 records_or_fault (Err f) = Err (text_fault f)
 
-abbrev pub text_bytes_of : Option ℕ → (text : List ℕ) → Result (List ℕ) LoadRefusal
-text_bytes_of None text = Err refusal.NotText
+abbrev pub text_bytes_of : Option ℕ → (text : List ℕ) → Result (List ℕ) ContentFault
+text_bytes_of None text = Err content.NotText
 text_bytes_of (Some size) text = records_or_fault (records_of size text)
 
-abbrev pub text_bytes : Layout → (text : List ℕ) → Result (List ℕ) LoadRefusal
+abbrev pub text_bytes : Layout → (text : List ℕ) → Result (List ℕ) ContentFault
 text_bytes l text = text_bytes_of (text_size l) text
 
--- a text is no records for this reason, or something hinders it
-abbrev pub IsNoText : LoadFault → Layout → (text : List ℕ) → Type 0
-IsNoText (fault.Refused r) l text = text_bytes l text ≡ Err r
-IsNoText (fault.Job f) l text = IsHindered f
-IsNoText (fault.Save f) l text = ⊥
+-- this is why a text is no records, or there is no memory
+abbrev pub IsNoText : Unmade → Layout → (text : List ℕ) → Type 0
+IsNoText (unmade.Content f) l text = text_bytes l text ≡ Err f
+IsNoText unmade.OutOfMemory l text = Unit {0}
 
 -- bytes as the blocks of a data set of this layout that are told apart so
-abbrev pub cut_so : Layout → Cut → Result (List ℕ) LoadRefusal → Result FileBlocks LoadRefusal
+abbrev pub cut_so : Layout → Cut → Result (List ℕ) ContentFault → Result FileBlocks ContentFault
 cut_so l c (Ok bytes) = Ok (record { layout = l; cut = c; bytes = bytes })
 cut_so l c (Err r) = Err r
 
 -- What a file has for a data set of this layout: its blocks; each behind its lengths and its key; or lines, each of which is a record.
-abbrev pub blocks_by : SourceForm → Layout → (bytes : List ℕ) → Result FileBlocks LoadRefusal
+abbrev pub blocks_by : SourceForm → Layout → (bytes : List ℕ) → Result FileBlocks ContentFault
 blocks_by source.Blocks l bytes = cut_so l (cut_by l.form l.longest) (Ok bytes)
 blocks_by source.WithLengths l bytes = cut_so l cut.WithLengths (Ok bytes)
 blocks_by source.Text l bytes = cut_so l (cut_by l.form l.longest) (text_bytes l bytes)
 
 -- blocks that have no fault
-abbrev pub unless_faulty : FileBlocks → Option BlockFault → Result FileBlocks LoadRefusal
+abbrev pub unless_faulty : FileBlocks → Option BlockFault → Result FileBlocks ContentFault
 unless_faulty b None = Ok b
-unless_faulty b (Some f) = Err (refusal.Blocks f)
+unless_faulty b (Some f) = Err (content.Blocks f)
 
 -- the blocks on a drive of this model
-abbrev pub blocks_fitting : DriveModel → (key_length : ℕ) → FileBlocks → Result FileBlocks LoadRefusal
+abbrev pub blocks_fitting : DriveModel → (key_length : ℕ) → FileBlocks → Result FileBlocks ContentFault
 blocks_fitting model key_length b = unless_faulty b (block_fault_of model b.layout key_length b.cut b.bytes)
 
-abbrev pub blocks_with : DriveModel → (key_length : ℕ) → Result FileBlocks LoadRefusal → Result FileBlocks LoadRefusal
+abbrev pub blocks_with : DriveModel → (key_length : ℕ) → Result FileBlocks ContentFault → Result FileBlocks ContentFault
 blocks_with model key_length (Ok b) = blocks_fitting model key_length b
 blocks_with model key_length (Err r) = Err r
 
-abbrev pub blocks_in : DriveModel → LoadedSet → Result Layout AttributeFault → Result FileBlocks LoadRefusal
+abbrev pub blocks_in : DriveModel → LoadedSet → Result Layout AttributeFault → Result FileBlocks ContentFault
 blocks_in model set (Ok l) = blocks_with model set.form.key_length (blocks_by set.source l set.bytes.now)
-blocks_in model set (Err f) = Err (refusal.Attributes f)
+blocks_in model set (Err f) = Err (content.Attributes f)
+
+abbrev pub told_of_set : Result FileBlocks ContentFault → Result FileBlocks LoadRefusal
+told_of_set (Ok b) = Ok b
+told_of_set (Err f) = Err (refusal.Content f)
 
 abbrev pub blocks_of_set : DriveModel → LoadedSet → Result FileBlocks LoadRefusal
-blocks_of_set model set = blocks_in model set (layout_of_set set.form)
+blocks_of_set model set = told_of_set (blocks_in model set (layout_of_set set.form))
 
 -- The same on a volume that says this; or why the volume does not get the data set: it gets none at all, a data set of it has the name, or the
 -- file has no such blocks. The first of these is told.

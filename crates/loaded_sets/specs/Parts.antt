@@ -16,8 +16,12 @@ use Rattle.loaded_sets.specs.declared.fault.LoadFault.{LoadFault}
 use Rattle.loaded_sets.specs.declared.fault.LoadFault.TheVariants as fault
 use Rattle.loaded_sets.specs.declared.fault.LoadRefusal.{LoadRefusal}
 use Rattle.loaded_sets.specs.declared.fault.LoadRefusal.TheVariants as refusal
+use Rattle.loaded_sets.specs.declared.fault.Unmade.{Unmade}
+use Rattle.loaded_sets.specs.declared.fault.Unmade.TheVariants as unmade
+use Rattle.loaded_sets.specs.declared.fault.ContentFault.{ContentFault}
 use Rattle.loaded_sets.specs.declared.images.FileBlocks as declared
 use Rattle.loaded_sets.specs.Contents.{FileBlocks, blocks_fitting, blocks_unless_taken}
+use Rattle.placed_sets.specs.Placed.{HasNoPlace}
 use Rattle.loaded_sets.specs.Loaded.{IsSetOf, GetsBlocks, HasNone}
 
 -- the blocks that the code has
@@ -49,16 +53,22 @@ abbrev pub IsSet : Labelled → LoadedSet → FileBlocks → (before : List (Lis
 IsSet v set b before tracks now =
     (blocks_fitting v.geometry.model set.form.key_length b ≡ Ok b) × GetsBlocks v set b before tracks now
 
+-- it does not get it with these blocks: they have this fault, or the volume has no place for it
 abbrev pub IsNotSet : LoadFault → Labelled → LoadedSet → FileBlocks → (slots : List (List ℕ)) → Type 0
-IsNotSet (fault.Refused r) v set b slots =
-    (blocks_fitting v.geometry.model set.form.key_length b ≡ Err r)
-    ⊎ ((p : PlacedSet) × (blocks_fitting v.geometry.model set.form.key_length b ≡ Ok b) × IsSetOf set b p × HasNone r v p slots)
+IsNotSet (fault.Refused (refusal.Content f)) v set b slots = blocks_fitting v.geometry.model set.form.key_length b ≡ Err f
+IsNotSet (fault.Refused (refusal.Placed r)) v set b slots =
+    (p : PlacedSet) × (blocks_fitting v.geometry.model set.form.key_length b ≡ Ok b) × IsSetOf set b p × HasNoPlace r v p slots
 IsNotSet f v set b slots = IsHinderedBy f
 
 -- what the fault of a volume that gets no records is
 abbrev pub placing_fault : PlaceFault → LoadFault
 placing_fault (place.Refused r) = fault.Refused (refusal.Placed r)
 placing_fault (place.Job f) = fault.Job f
+
+-- what a file that is not made into blocks is for its data set
+abbrev pub unmade_fault : Unmade → LoadFault
+unmade_fault (unmade.Content f) = fault.Refused (refusal.Content f)
+unmade_fault unmade.OutOfMemory = fault.Job job.OutOfMemory
 
 -- what a fault of the file with the blocks is
 abbrev pub file_fault : FileFault → LoadFault

@@ -4,7 +4,7 @@ ghost use Rattle.std.specs.Prelude.{◌≡◌, IfOk, IfErr, Ok};
 ghost use Rattle.data_set_blocks.specs.Faults.{IsCutFor};
 ghost use Rattle.loaded_sets.specs.Contents.{layout_of_set, length_said, label_of, text_size, text_bytes, IsNoText};
 
-use crate::fault::{LoadFault, LoadRefusal, NO_MEMORY, refused};
+use crate::fault::{ContentFault, Unmade};
 use data_sets::RecordForm;
 use placed_sets::SetLabel;
 use record_formats::{AttributeFault, Layout, RecordAttributes, layout_given};
@@ -106,16 +106,18 @@ fn text_size(layout: Layout) -> Option<u16>
 /// # Errors
 ///
 /// The layout is not of records of one length, or a line is no record; or there is no memory.
-pub(crate) fn text_bytes(alloc: Global, layout: Layout, text: &[u8]) -> Result<Vec<u8>, LoadFault>
+pub(crate) fn text_bytes(alloc: Global, layout: Layout, text: &[u8]) -> Result<Vec<u8>, Unmade>
     ensures bytes { IfOk result (λ made. text_bytes layout text.now ≡ Ok made.items) }
     ensures fault { IfErr result (λ e. IsNoText e layout text.now) }
 {
     let Some(size) = text_size(layout) else {
-        return Err(refused(LoadRefusal::NotText));
+        return Err(Unmade::Content(ContentFault::NotText));
     };
     match text_records(alloc, text, size) {
         Ok(made) => Ok(made),
-        Err(TextFault::Line(number, fault)) => Err(refused(LoadRefusal::Line(number, fault))),
-        Err(TextFault::OutOfMemory) => Err(NO_MEMORY),
+        Err(TextFault::Line(number, fault)) => Err(Unmade::Content(ContentFault::Line(
+            number, fault,
+        ))),
+        Err(TextFault::OutOfMemory) => Err(Unmade::OutOfMemory),
     }
 }

@@ -1,17 +1,44 @@
 //! Why a data set was not put onto a volume.
 
 ghost use Rattle.std.specs.Prelude.{◌≡◌};
-ghost use Rattle.loaded_sets.specs.Parts.{file_fault, written_line, placing_fault, IsHinderedBy};
+ghost use Rattle.loaded_sets.specs.Parts.{file_fault, written_line, placing_fault, unmade_fault, IsHinderedBy};
 ghost use Rattle.changed_volumes.specs.Changes.{IsHinderedBy as IsChangeHindered};
 
 use changed_volumes::ChangeFault;
 use counted_io::WriteFault;
 use dasd_jobs::{FileFault, JobFault};
 use data_set_blocks::BlockFault;
+use library_records::LibraryFault;
 use placed_sets::{PlaceFault, PlaceRefusal};
 use record_formats::AttributeFault;
 use text_records::LineFault;
 use thiserror::Error;
+
+/// Why a file has no blocks for a data set or a member.
+#[derive(Clone, Copy, Debug, Error)]
+pub enum ContentFault {
+    /// The record format and the lengths are those of no data set.
+    #[error(transparent)]
+    Attributes(AttributeFault),
+    /// Lines of text are asked for in records that are not of one length.
+    #[error("lines of text are records of one length, F or FB")]
+    NotText,
+    /// A line of the file is no record; its number, from 1 on, and why.
+    #[error("line {0} {1}")]
+    Line(usize, LineFault),
+    /// The bytes of the file are no blocks of such a data set.
+    #[error(transparent)]
+    Blocks(BlockFault),
+}
+
+/// Why a file is not made into blocks.
+#[derive(Clone, Copy)]
+pub(crate) enum Unmade {
+    /// It has none.
+    Content(ContentFault),
+    /// Memory was refused.
+    OutOfMemory,
+}
 
 /// Why a volume does not get a data set as it was asked. It stays as it was.
 #[derive(Clone, Copy, Debug, Error)]
@@ -25,18 +52,15 @@ pub enum LoadRefusal {
     /// A data set of the volume has the name.
     #[error("a data set has this name")]
     NameTaken,
-    /// The record format and the lengths are those of no data set.
+    /// The file has no blocks for it.
     #[error(transparent)]
-    Attributes(AttributeFault),
-    /// Lines of text are asked for in records that are not of one length.
-    #[error("lines of text are records of one length, F or FB")]
-    NotText,
-    /// A line of the file is no record; its number, from 1 on, and why.
-    #[error("line {0} {1}")]
-    Line(usize, LineFault),
-    /// The bytes of the file are no blocks of such a data set.
+    Content(ContentFault),
+    /// The file of a member has none; the member's number, from 1 on, and why.
+    #[error("member {0}: {1}")]
+    Member(usize, ContentFault),
+    /// The library has no directory.
     #[error(transparent)]
-    Blocks(BlockFault),
+    Library(LibraryFault),
 }
 
 /// Why a data set was not put onto a volume in files, or not told to be.
@@ -81,6 +105,16 @@ pub(crate) fn of_placing(fault: PlaceFault) -> LoadFault
     match fault {
         PlaceFault::Refused(refusal) => LoadFault::Refused(LoadRefusal::Placed(refusal)),
         PlaceFault::Job(fault) => LoadFault::Job(fault),
+    }
+}
+
+/// What a file that is not made into blocks is for its data set.
+pub(crate) fn of_unmade(fault: Unmade) -> LoadFault
+    ensures { result ≡ unmade_fault fault }
+{
+    match fault {
+        Unmade::Content(fault) => LoadFault::Refused(LoadRefusal::Content(fault)),
+        Unmade::OutOfMemory => NO_MEMORY,
     }
 }
 

@@ -11,7 +11,9 @@ ghost use Rattle.loaded_sets.specs.Loaded.{Loaded, IsNotLoaded};
 ghost use Rattle.loaded_sets.specs.Parts.{file_blocks, IsPut, IsNotPut, IsSet, IsNotSet};
 
 use crate::contents::{LoadedSet, SourceForm, label_of, layout_of_set, text_bytes};
-use crate::fault::{LoadFault, LoadRefusal, NO_MEMORY, of_placing, of_reading, refused};
+use crate::fault::{
+    ContentFault, LoadFault, LoadRefusal, NO_MEMORY, of_placing, of_reading, of_unmade, refused,
+};
 use changed_volumes::read_said;
 use ckd_image::Image;
 use dasd_files::VolumeFile;
@@ -90,17 +92,38 @@ fn put_new(
 {
     let layout = match layout_of_set(&set.form) {
         Ok(layout) => layout,
-        Err(fault) => return Err(refused(LoadRefusal::Attributes(fault))),
+        Err(fault) => return Err(refused(LoadRefusal::Content(ContentFault::Attributes(fault)))),
     };
     let cut = cut_of(layout);
     match set.source {
-        SourceForm::Blocks => put_blocks(alloc, image, volume, set, of_bytes(layout, set.bytes, cut)),
+        SourceForm::Blocks => put_blocks(
+            alloc,
+            image,
+            volume,
+            set,
+            of_bytes(layout, set.bytes, cut),
+        ),
         SourceForm::WithLengths => {
-            put_blocks(alloc, image, volume, set, of_bytes(layout, set.bytes, Cut::WithLengths))
+            put_blocks(
+                alloc,
+                image,
+                volume,
+                set,
+                of_bytes(layout, set.bytes, Cut::WithLengths),
+            )
         }
         SourceForm::Text => {
-            let records = text_bytes(alloc, layout, set.bytes)?;
-            put_blocks(alloc, image, volume, set, of_bytes(layout, records.as_slice(), cut))
+            let records = match text_bytes(alloc, layout, set.bytes) {
+                Ok(records) => records,
+                Err(fault) => return Err(of_unmade(fault)),
+            };
+            put_blocks(
+                alloc,
+                image,
+                volume,
+                set,
+                of_bytes(layout, records.as_slice(), cut),
+            )
         }
     }
 }
@@ -134,7 +157,7 @@ fn put_blocks(
     let FileBlocks { layout, blocks } = file;
     match block_fault(volume.geometry.model, layout, set.form.key_length, blocks) {
         None => put_records(alloc, image, volume, set, file),
-        Some(fault) => Err(refused(LoadRefusal::Blocks(fault))),
+        Some(fault) => Err(refused(LoadRefusal::Content(ContentFault::Blocks(fault)))),
     }
 }
 

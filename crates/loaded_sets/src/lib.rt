@@ -9,6 +9,6 @@ mod lines;
 mod saves;
 
 pub use crate::contents::{LoadedSet, SetForm, SourceForm};
-pub use crate::fault::{LoadFault, LoadRefusal};
+pub use crate::fault::{ContentFault, LoadFault, LoadRefusal};
 pub use crate::images::load_image;
 pub use crate::saves::{NewSet, load_set};

@@ -5,10 +5,10 @@ ghost use Rattle.counted_io.specs.Streams.{seen_by, IsFlushed};
 ghost use Rattle.dasd_jobs.specs.Sources.{ReadsFront};
 ghost use Rattle.loaded_sets.specs.Loads.{LoadsSet, LoadsFiles, TellsLoad};
 
+use crate::contents::{LoadedSet, SetForm, SourceForm};
 use crate::fault::{LoadFault, LoadRefusal, of_file, of_line, refused};
 use crate::images::load_image;
 use crate::lines::write_loaded;
-use crate::contents::{LoadedSet, SetForm, SourceForm};
 use changed_volumes::{ChangedVolume, save_plan};
 use counted_io::Counted;
 use dasd_jobs::{ImageFiles, read_image, write_back};

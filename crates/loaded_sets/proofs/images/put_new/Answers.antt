@@ -2,7 +2,6 @@ use Rattle.std.proofs.Common.{◌≡◌, ◌∙◌, ap, sym, Ok, List, ℕ, Resu
 use Rattle.data_set_blocks.specs.Blocks.{cut_by}
 use Rattle.data_set_blocks.specs.declared.blocks.Cut.TheVariants as cut
 use Rattle.loaded_sets.specs.declared.contents.SourceForm.{SourceForm}
-use Rattle.loaded_sets.specs.declared.fault.LoadRefusal.{LoadRefusal}
 use Rattle.loaded_sets.specs.Contents.{blocks_by, cut_so}
 use Rattle.loaded_sets.specs.Parts.{file_blocks}
 use Rattle.placed_sets.specs.Volumes.{labelled}
@@ -25,12 +24,12 @@ returns-in-WithLengths-clause-put c =
     c.of_bytes-in-WithLengths.ensures.cut c.of_bytes-in-WithLengths.ensures.bytes)
     c.args.image.now.slots c.put_blocks-in-WithLengths.new.image.slots c.put_blocks-in-WithLengths.result c.put_blocks-in-WithLengths.ensures.set
 
-pub returns-in_ok-records-in-Text-clause-put : goal.returns-in_ok-records-in-Text-clause-put
-returns-in_ok-records-in-Text-clause-put c =
+pub returns-in-Ok-text_bytes-clause-put : goal.returns-in-Ok-text_bytes-clause-put
+returns-in-Ok-text_bytes-clause-put c =
     put (labelled c.args.volume.now) c.args.set.now c.requires.free c.in-Ok.layout (sym c.in-Ok.ensures) (file_blocks c.of_bytes-in-Text.result)
     (ap (λ (f : SourceForm). blocks_by f c.in-Ok.layout c.args.set.now.bytes.now) c.in-Text.is
-    ∙ ap (cut_so c.in-Ok.layout (cut_by c.in-Ok.layout.form c.in-Ok.layout.longest)) c.in_ok-records-in-Text.ensures.bytes
-    ∙ made_so c.in-Ok.layout (cut_by c.in-Ok.layout.form c.in-Ok.layout.longest) c.in_ok-records-in-Text.records.items _
+    ∙ ap (cut_so c.in-Ok.layout (cut_by c.in-Ok.layout.form c.in-Ok.layout.longest)) c.in-Ok-text_bytes.ensures.bytes
+    ∙ made_so c.in-Ok.layout (cut_by c.in-Ok.layout.form c.in-Ok.layout.longest) c.in-Ok-text_bytes.records.items _
     c.of_bytes-in-Text.ensures.layout (c.of_bytes-in-Text.ensures.cut ∙ c.cut_of-cut.ensures)
     (c.of_bytes-in-Text.ensures.bytes ∙ c.as_slice.ensures.value))
     c.args.image.now.slots c.put_blocks-in-Text.new.image.slots c.put_blocks-in-Text.result c.put_blocks-in-Text.ensures.set
