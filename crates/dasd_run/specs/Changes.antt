@@ -16,6 +16,12 @@ use Rattle.dasd_words.specs.declared.requests.RenamedSet.{RenamedSet}
 use Rattle.loaded_sets.specs.declared.fault.LoadFault.{LoadFault}
 use Rattle.loaded_sets.specs.declared.fault.LoadFault.TheVariants as load
 use Rattle.loaded_sets.specs.Loads.{LoadsSet}
+use Rattle.loaded_sets.specs.declared.saves.NewSet.{NewSet}
+use Rattle.loaded_sets.specs.declared.contents.SourceForm.{SourceForm}
+use Rattle.loaded_sets.specs.declared.contents.SourceForm.TheVariants as source
+use Rattle.space_allocation.specs.Blocks.{no_date}
+use Rattle.dasd_words.specs.declared.requests.FileForm.{FileForm}
+use Rattle.dasd_words.specs.declared.requests.FileForm.TheVariants as words
 use Rattle.volume_changes.specs.Volumes.{relabelled}
 
 -- how a command ends where a change of a volume ended so
@@ -55,9 +61,29 @@ load_ending (Err (load.Refused refusal)) = Err (fault.Load refusal)
 load_ending (Err (load.Job f)) = Err (fault.Job f)
 load_ending (Err (load.Save f)) = Err (fault.Save f)
 
+-- what a file has, as the loads have it
+abbrev pub source_of : FileForm → SourceForm
+source_of words.Blocks = source.Blocks
+source_of words.WithLengths = source.WithLengths
+source_of words.Text = source.Text
+
+-- the data set that is asked for: a sequential one, that was made on no day and expires on none
+abbrev pub new_set_of : LoadedFile → NewSet
+new_set_of asked = record {
+  name = asked.name;
+  path = asked.source;
+  source = source_of asked.form;
+  form = record {
+    organisation = 0x4000;
+    attributes = asked.attributes;
+    key_length = asked.key_length;
+    created = no_date;
+    expires = no_date;
+  };
+}
+
 -- the data set that is asked for is put onto the volume, and its line printed and flushed
 abbrev pub LoadsAsked : Result Ending ProgramFault → LoadedFile → (before now : Around) → Type 0
 LoadsAsked result asked before now =
     (job : Result (Unit {0}) LoadFault) × (result ≡ load_ending job)
-    × LoadsSet job (record { name = asked.name; source = asked.source; attributes = asked.attributes }) (map (λ path. path.now) asked.paths.items)
-    before now × OnOk job (IsFlushed now.printed)
+    × LoadsSet job (new_set_of asked) (map (λ path. path.now) asked.paths.items) before now × OnOk job (IsFlushed now.printed)

@@ -2,7 +2,7 @@
 
 ghost use Rattle.std.specs.Prelude.{◌≡◌, true, IfErr};
 ghost use Rattle.counted_io.specs.Streams.{seen_by};
-ghost use Rattle.dasd_run.specs.Changes.{change_ending, load_ending, RenamesAsked, DeletesAsked, RelabelsAsked, LoadsAsked};
+ghost use Rattle.dasd_run.specs.Changes.{change_ending, load_ending, source_of, new_set_of, RenamesAsked, DeletesAsked, RelabelsAsked, LoadsAsked};
 ghost use Rattle.dasd_run.specs.Faults.{keeps_files};
 
 use crate::commands::Ending;
@@ -12,11 +12,18 @@ use changed_volumes::{
 };
 use counted_io::Counted;
 use dasd_jobs::ImageFiles;
-use dasd_words::{DeletedSet, LoadedFile, RelabelledVolume, RenamedSet};
-use loaded_sets::{LoadFault, NewSet, load_set};
+use dasd_words::{DeletedSet, FileForm, LoadedFile, RelabelledVolume, RenamedSet};
+use loaded_sets::{LoadFault, NewSet, SetForm, SourceForm, load_set};
 use std::alloc::Global;
 use std::io::Write;
 use volume_changes::LabelFields;
+use volume_labels::Date;
+
+/// The organisation of a data set that is physically sequential (System Control Blocks, DS1DSORG).
+const SEQUENTIAL: u16 = 0x4000;
+
+/// No day.
+const NO_DAY: Date = Date { year: 0, day: 0 };
 
 // How a command ends that changed a volume.
 fn change_ending(changed: Result<(), ChangeFault>) -> Result<Ending, ProgramFault>
@@ -131,7 +138,36 @@ fn load_ending(loaded: Result<(), LoadFault>) -> Result<Ending, ProgramFault>
     }
 }
 
-/// Puts the blocks of a file onto the volume of its files as a data set.
+/// What a file has, as the loads have it.
+pub(crate) fn source_of(form: FileForm) -> SourceForm
+    ensures { result ≡ source_of form }
+{
+    match form {
+        FileForm::Blocks => SourceForm::Blocks,
+        FileForm::WithLengths => SourceForm::WithLengths,
+        FileForm::Text => SourceForm::Text,
+    }
+}
+
+// The data set that is asked for.
+fn new_set_of<'a>(asked: &LoadedFile<'a>) -> NewSet<'a>
+    ensures { result ≡ new_set_of asked.now }
+{
+    NewSet {
+        name: asked.name,
+        path: asked.source,
+        source: source_of(asked.form),
+        form: SetForm {
+            organisation: SEQUENTIAL,
+            attributes: asked.attributes,
+            key_length: asked.key_length,
+            created: NO_DAY,
+            expires: NO_DAY,
+        },
+    }
+}
+
+/// Puts a file onto the volume of its files as a data set.
 pub(crate) fn load_file<F: ImageFiles, W: Write>(
     alloc: Global,
     files: &mut F,
@@ -155,10 +191,6 @@ pub(crate) fn load_file<F: ImageFiles, W: Write>(
         paths: asked.paths.as_slice(),
         replaces: asked.replaces,
     };
-    let set = NewSet {
-        name: asked.name,
-        source: asked.source,
-        attributes: asked.attributes,
-    };
+    let set = new_set_of(asked);
     load_ending(load_set(alloc, files, writer, &volume, &set))
 }
