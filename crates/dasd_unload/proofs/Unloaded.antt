@@ -158,10 +158,10 @@ module _ (v : KnownVolume) (p : Plan) (d : DataSetBlock) (extents : List Extent)
 
 -- The steps of a data set: its form, and whether it has members.
 module _ (r : Result0) (v : KnownVolume) (p : Plan) (d : DataSetBlock) (extents : List Extent) (a b : Outcome) (s t : Tally) where
-  pub of_form : (form : Option Form) → form_of d p.is_text ≡ form → DoesOfVolume r v p (λ u. steps_of_form u d extents form) a b s t
-      → DoesOfVolume r v p (λ u. steps_of_form u d extents (form_of d u.plan.is_text)) a b s t
+  pub of_form : (form : Option Form) → form_of d p.block_form ≡ form → DoesOfVolume r v p (λ u. steps_of_form u d extents form) a b s t
+      → DoesOfVolume r v p (λ u. steps_of_form u d extents (form_of d u.plan.block_form)) a b s t
   of_form form is this =
-      same r v p (λ u. steps_of_form u d extents form) (λ u. steps_of_form u d extents (form_of d u.plan.is_text)) a b s t
+      same r v p (λ u. steps_of_form u d extents form) (λ u. steps_of_form u d extents (form_of d u.plan.block_form)) a b s t
       (λ slots known. ap (steps_of_form (unloading v slots p) d extents) (sym is)) this
 
   pub of_kind : (form : Form) (is : Bool) → is_partitioned d ≡ is
@@ -177,7 +177,7 @@ module _ (r : Result0) (v : KnownVolume) (p : Plan) (d : DataSetBlock) (extents 
 module _ (v : KnownVolume) (p : Plan) (d : DataSetBlock) (extents : List Extent) (fault : Option ChainFault) (files : List Replaced)
     (a b : Stream) (s t : Tally) where
   abbrev rest_steps : Unloading → List Step
-  rest_steps u = steps_of_form u d extents (form_of d u.plan.is_text)
+  rest_steps u = steps_of_form u d extents (form_of d u.plan.block_form)
 
   abbrev all_steps : Unloading → List Step
   all_steps u = set_steps u d extents fault
@@ -187,7 +187,7 @@ module _ (v : KnownVolume) (p : Plan) (d : DataSetBlock) (extents : List Extent)
 
   pub set_done : (r : Result0) (form : Option Form) (c : Outcome) (w : Tally)
       → TellsText {A = Unit {0}} (Ok tt) (flat_map (line_text p.json) (finding_lines (file_name d.name None) (chain_texts fault))) a b
-      → t ≡ fold count_line s (finding_lines (file_name d.name None) (chain_texts fault)) → form_of d p.is_text ≡ form
+      → t ≡ fold count_line s (finding_lines (file_name d.name None) (chain_texts fault)) → form_of d p.block_form ≡ form
       → DoesOfVolume r v p (λ u. steps_of_form u d extents form) (outcome files b) c t w
       → DoesOfVolume r v p (λ u. set_steps u d extents fault) (outcome files a) c s w
   set_done r form c w told counted is this =

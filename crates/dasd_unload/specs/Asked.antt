@@ -17,7 +17,7 @@ use Rattle.volume_contents.specs.Contents.{contents_of}
 use Rattle.volume_contents.specs.Sets.{FoundOf}
 use Rattle.volume_contents.specs.declared.sets.DataSet.{DataSet}
 use Rattle.dasd_extract.specs.declared.blocks.Form.{Form}
-use Rattle.dasd_extract.specs.declared.blocks.Form.TheVariants.{Raw, Text}
+use Rattle.dasd_extract.specs.declared.blocks.Form.TheVariants.{Raw, Text, Keyed}
 use Rattle.dasd_extract.specs.declared.members.Members.{Members}
 use Rattle.dasd_extract.specs.declared.stops.Stop.{Stop}
 use Rattle.dasd_extract.specs.Members.{MembersOf}
@@ -26,14 +26,17 @@ use Rattle.dasd_extract.specs.Walk.{Wanted, Extracts, PrintsSource, source_writt
 use Rattle.dasd_jobs.specs.Written.{Replaced, with_file}
 use Rattle.dasd_unload.specs.declared.fault.UnloadFault.{UnloadFault}
 use Rattle.dasd_unload.specs.declared.sets.WantedSet.{WantedSet}
+use Rattle.dasd_unload.specs.declared.sets.BlockForm.{BlockForm}
+use Rattle.dasd_unload.specs.declared.sets.BlockForm.TheVariants as by
 use Rattle.dasd_unload.specs.declared.parts.End.{End}
 use Rattle.dasd_unload.specs.Parts.{is_partitioned, end_of}
 use Rattle.dasd_unload.specs.Unloads.{Outcome, CountsPrinted, is_of_job}
 
--- blocks are written as they stand, or as lines, if the format of the data set is of some records
-abbrev pub form_of : DataSetBlock → (is_text : Bool) → Option Form
-form_of d false = Some Raw
-form_of d true = option_map (λ form. Text (layout form 0)) (records.form_of d.format d.record_length)
+-- blocks are written as they stand, with their lengths, or as lines, if the format of the data set is of some records
+abbrev pub form_of : DataSetBlock → BlockForm → Option Form
+form_of d by.Raw = Some Raw
+form_of d by.WithLengths = Some Keyed
+form_of d by.Text = option_map (λ form. Text (layout form 0)) (records.form_of d.format d.record_length)
 
 -- what a label says of its data set's records
 abbrev pub attributes_of : DataSetBlock → RecordAttributes
@@ -48,25 +51,26 @@ as_lines (Ok l) = Ok (Text l)
 as_lines (Err f) = Err f
 
 -- lines are of the label's format; or of the one that is given, if it contradicts nothing
-abbrev pub form_asked : DataSetBlock → (is_text : Bool) → (given : Option RecordAttributes) → Result Form AttributeFault
-form_asked d is_text None = or_no_format (form_of d is_text)
-form_asked d true (Some given) = as_lines (layout_given (attributes_of d) given)
-form_asked d false (Some given) = Ok Raw
+abbrev pub form_asked : DataSetBlock → BlockForm → (given : Option RecordAttributes) → Result Form AttributeFault
+form_asked d block_form None = or_no_format (form_of d block_form)
+form_asked d by.Text (Some given) = as_lines (layout_given (attributes_of d) given)
+form_asked d by.Raw (Some given) = Ok Raw
+form_asked d by.WithLengths (Some given) = Ok Keyed
 
--- a data set that is asked for: its name, a member of it, whether as lines, what is given of its records, and the path of the new file for it
+-- a data set that is asked for: its name, a member of it, how its blocks are written, what is given of its records, and the path of the new file for it
 pub record AskedSet : Type 0 where
   pub name : List ℕ
   pub member : Option (List ℕ)
-  pub is_text : Bool
+  pub block_form : BlockForm
   pub given : Option RecordAttributes
   pub target : Option (List ℕ)
 
-abbrev pub asked : (name : List ℕ) → (member : Option (List ℕ)) → (is_text : Bool) → (given : Option RecordAttributes)
+abbrev pub asked : (name : List ℕ) → (member : Option (List ℕ)) → (block_form : BlockForm) → (given : Option RecordAttributes)
     → (target : Option (List ℕ)) → AskedSet
-asked name member is_text given target = record { name = name; member = member; is_text = is_text; given = given; target = target }
+asked name member block_form given target = record { name = name; member = member; block_form = block_form; given = given; target = target }
 
 abbrev pub asked_by : WantedSet → AskedSet
-asked_by w = asked w.name.now (option_copied w.member) w.is_text w.given (option_copied w.target)
+asked_by w = asked w.name.now (option_copied w.member) w.block_form w.given (option_copied w.target)
 
 -- a volume's first data set of a name, if it has one
 pub record NamesSet (text : List ℕ) (v : KnownVolume) (found : Option DataSet) : Type 0 where
@@ -110,7 +114,7 @@ StartsAt v d (Some member) start = (is_partitioned d.block ≡ true) × IsMember
 -- what is asked for, as a source of blocks of the data set of the name
 pub record Asks (a : AskedSet) (v : KnownVolume) (set : DataSet) (s : Wanted) : Type 0 where
   pub named : SetOf a.name v (Some set)
-  pub form : form_asked set.block a.is_text a.given ≡ Ok s.form
+  pub form : form_asked set.block a.block_form a.given ≡ Ok s.form
   pub extents : s.extents ≡ set.extents.items
   pub start : StartsAt v set a.member s.start
   pub tracks : s.tracks ≡ 65535

@@ -34,7 +34,7 @@ pub record HasSet (text : List ℕ) (v : KnownVolume) (this : DataSet → Type 0
 -- member, or has members and none is named. A fault of the files or of the volume has none of these causes.
 abbrev pub WhyNot : UnloadFault → AskedSet → KnownVolume → Type 0
 WhyNot fault.NoDataSet a v = SetOf a.name v None
-WhyNot (fault.Attributes f) a v = HasSet a.name v (λ d. form_asked d.block a.is_text a.given ≡ Err f)
+WhyNot (fault.Attributes f) a v = HasSet a.name v (λ d. form_asked d.block a.block_form a.given ≡ Err f)
 WhyNot fault.NoMember a v = HasSet a.name v (λ d. HasNoMember v d a.member)
 WhyNot fault.NoMemberNamed a v = HasSet a.name v (λ d. (is_partitioned d.block ≡ true) × (a.member ≡ None))
 WhyNot (fault.Job _) a v = Unit {0}

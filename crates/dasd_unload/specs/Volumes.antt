@@ -23,25 +23,26 @@ use Rattle.dasd_jobs.specs.declared.faults.JobFault.TheVariants as job
 use Rattle.dasd_unload.specs.declared.fault.UnloadFault.{UnloadFault}
 use Rattle.dasd_unload.specs.declared.fault.UnloadFault.TheVariants.{Job}
 use Rattle.dasd_unload.specs.declared.report.Tally.{Tally}
+use Rattle.dasd_unload.specs.declared.sets.BlockForm.{BlockForm}
 use Rattle.dasd_unload.specs.Unloads.{Outcome, file_name}
 use Rattle.dasd_unload.specs.Parts.{is_partitioned, written_texts}
 use Rattle.dasd_unload.specs.Asked.{form_of, beginning}
 use Rattle.dasd_unload.specs.Told.{Line, FileLine, finding_lines, line_text, count_line, no_line, total_text, chain_texts, end_texts, directory_texts}
 use Rattle.dasd_unload.specs.Told.{contents_texts}
 
--- how a volume is unloaded: the folder of the files, whether records are written as lines of text, and the paths of the volume as a
+-- how a volume is unloaded: the folder of the files, how blocks are written, and the paths of the volume as a
 -- string of JSON, where what is told are objects of JSON
 pub record Plan : Type 0 where
   pub folder : List ℕ
-  pub is_text : Bool
+  pub block_form : BlockForm
   pub json : Option (List ℕ)
 
-abbrev pub plan : (folder : List ℕ) → (is_text : Bool) → (json : Option (List ℕ)) → Plan
-plan folder is_text json = record { folder = folder; is_text = is_text; json = json }
+abbrev pub plan : (folder : List ℕ) → (block_form : BlockForm) → (json : Option (List ℕ)) → Plan
+plan folder block_form json = record { folder = folder; block_form = block_form; json = json }
 
 -- objects of JSON have the path only if they are asked for
-abbrev pub plan_of : (folder : List ℕ) → (is_text : Bool) → (json : Bool) → (path : List ℕ) → Plan
-plan_of folder is_text json path = plan folder is_text (if json then Some path else None)
+abbrev pub plan_of : (folder : List ℕ) → (block_form : BlockForm) → (json : Bool) → (path : List ℕ) → Plan
+plan_of folder block_form json path = plan folder block_form (if json then Some path else None)
 
 -- a volume, with its slots, and how it is unloaded
 pub record Unloading : Type 0 where
@@ -82,7 +83,7 @@ steps_of_form u d extents None = Tell (file_name d.name None) (codes "its format
 
 -- of a data set it is told first if the chain of its control blocks is broken
 abbrev pub set_steps : Unloading → DataSetBlock → List Extent → Option ChainFault → List Step
-set_steps u d extents fault = Tell (file_name d.name None) (chain_texts fault) ∷ steps_of_form u d extents (form_of d u.plan.is_text)
+set_steps u d extents fault = Tell (file_name d.name None) (chain_texts fault) ∷ steps_of_form u d extents (form_of d u.plan.block_form)
 
 -- a format 1 block is that of a data set; no other is
 abbrev pub block_steps : Unloading → List Block → Block → List Step

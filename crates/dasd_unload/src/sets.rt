@@ -29,6 +29,17 @@ const FIRST: RelativeAddress = RelativeAddress {
     number: 0,
 };
 
+/// How the blocks of data sets are written to files.
+#[derive(Clone, Copy, Debug, PartialEq, Eq)]
+pub enum BlockForm {
+    /// Their data as it stands.
+    Raw,
+    /// Their records as lines of text.
+    Text,
+    /// Each with its lengths and its key, so that they can be told apart.
+    WithLengths,
+}
+
 /// A data set that is to be unloaded.
 #[derive(Clone, Copy)]
 pub struct WantedSet<'a> {
@@ -38,8 +49,8 @@ pub struct WantedSet<'a> {
     pub member: Option<&'a str>,
     /// The path of the new file for it; none is the writer.
     pub target: Option<&'a str>,
-    /// Whether records are written as lines of text; if not, blocks are as they stand.
-    pub is_text: bool,
+    /// How its blocks are written.
+    pub block_form: BlockForm,
     /// The record format and lengths that are given for lines of text.
     pub given: Option<RecordAttributes>,
 }
@@ -144,7 +155,7 @@ fn find_blocks<V: SlotReader>(
     let Some(set) = find_set(alloc, volume, asked_for.name)? else {
         return Err(UnloadFault::NoDataSet);
     };
-    let form = match form_asked(&set.block, asked_for.is_text, asked_for.given) {
+    let form = match form_asked(&set.block, asked_for.block_form, asked_for.given) {
         Ok(form) => form,
         Err(fault) => return Err(UnloadFault::Attributes(fault)),
     };
@@ -179,15 +190,18 @@ pub(crate) fn find_set<V: SlotReader>(
 }
 
 /// How the blocks of a data set are written; none where they are to be lines, and its format is of no records.
-pub(crate) fn form_of(block: &DataSetBlock, is_text: bool) -> Option<Form>
-    ensures { result ≡ form_of block.now is_text }
+pub(crate) fn form_of(block: &DataSetBlock, block_form: BlockForm) -> Option<Form>
+    ensures { result ≡ form_of block.now block_form }
 {
-    if !is_text {
-        return Some(Form::Raw);
+    match block_form {
+        BlockForm::Raw => Some(Form::Raw),
+        BlockForm::WithLengths => Some(Form::Keyed),
+        BlockForm::Text => {
+            let form = record_form(block.format, block.record_length)?;
+            let layout = Layout { form, longest: 0 };
+            Some(Form::Text(layout))
+        }
     }
-    let form = record_form(block.format, block.record_length)?;
-    let layout = Layout { form, longest: 0 };
-    Some(Form::Text(layout))
 }
 
 // What a label says of its data set's records.
@@ -204,20 +218,21 @@ fn attributes_of(block: &DataSetBlock) -> RecordAttributes
 // How the blocks of a data set are written, where a format may be given for lines.
 fn form_asked(
     block: &DataSetBlock,
-    is_text: bool,
+    block_form: BlockForm,
     given: Option<RecordAttributes>,
 ) -> Result<Form, AttributeFault>
-    ensures { result ≡ form_asked block.now is_text given }
+    ensures { result ≡ form_asked block.now block_form given }
 {
     let Some(given) = given else {
-        return form_of(block, is_text).ok_or(AttributeFault::NoFormat);
+        return form_of(block, block_form).ok_or(AttributeFault::NoFormat);
     };
-    if !is_text {
-        return Ok(Form::Raw);
-    }
-    match layout_given(attributes_of(block), given) {
-        Ok(layout) => Ok(Form::Text(layout)),
-        Err(fault) => Err(fault),
+    match block_form {
+        BlockForm::Raw => Ok(Form::Raw),
+        BlockForm::WithLengths => Ok(Form::Keyed),
+        BlockForm::Text => match layout_given(attributes_of(block), given) {
+            Ok(layout) => Ok(Form::Text(layout)),
+            Err(fault) => Err(fault),
+        },
     }
 }
 

@@ -14,7 +14,7 @@ ghost use Rattle.dasd_unload.specs.Volumes.{CountsReport, UnloadsVolume};
 use crate::fault::{NO_MEMORY, UnloadFault, of_reading};
 use crate::parts::{end_of, is_partitioned};
 use crate::report::{Named, Report, Wrong};
-use crate::sets::{form_of, unload_to, whole};
+use crate::sets::{BlockForm, form_of, unload_to, whole};
 use counted_io::Counted;
 use dasd_extract::{Form, Source, member_of, read_members};
 use dasd_jobs::{ImageFiles, JobFault, SlotReader, open_volume};
@@ -29,8 +29,8 @@ use volume_labels::{BlockKind, DataSetBlock};
 pub struct WantedVolume<'a> {
     /// The folder of the new files.
     pub folder: &'a str,
-    /// Whether records are written as lines of text; if not, blocks are as they stand.
-    pub is_text: bool,
+    /// How blocks are written.
+    pub block_form: BlockForm,
     /// The paths of the volume, as a string of JSON with its quotes.
     pub path: &'a str,
     /// Whether each line that is printed is an object of JSON, with this path.
@@ -44,7 +44,7 @@ pub struct WantedVolume<'a> {
 struct Target<'a> {
     alloc: Global,
     folder: &'a str,
-    is_text: bool,
+    block_form: BlockForm,
     json: Option<&'a str>,
 }
 
@@ -103,7 +103,7 @@ pub fn unload_volume<F: ImageFiles, W: Write>(
     volume: WantedVolume,
 ) -> Result<usize, UnloadFault>
     ensures volume { UnloadsVolume volume.entry.as_far result (map (λ path. path.now) paths.now)
-        (plan_of volume.entry.folder.now volume.entry.is_text volume.entry.json volume.entry.path.now)
+        (plan_of volume.entry.folder.now volume.entry.block_form volume.entry.json volume.entry.path.now)
         (F.opened files.old) (F.opened files.new)
         (outcome (F.written files.old) (seen_by W.contents writer.old)) (outcome (F.written files.new) (seen_by W.contents writer.new)) }
     ensures writes { CountsReport result (seen_by W.contents writer.old) (seen_by W.contents writer.new) }
@@ -118,7 +118,7 @@ pub fn unload_volume<F: ImageFiles, W: Write>(
     let target = Target {
         alloc,
         folder: volume.folder,
-        is_text: volume.is_text,
+        block_form: volume.block_form,
         json: path_if(volume.json, volume.path),
     };
     let mut report = Report::new(alloc);
@@ -146,7 +146,7 @@ fn unload_contents<F: ImageFiles, V: SlotReader, W: Write>(
     target: Target,
 ) -> Result<(), UnloadFault>
     ensures does { DoesOfVolume result (V.volume volume.old)
-        (plan target.entry.folder.now target.entry.is_text (option_copied target.entry.json))
+        (plan target.entry.folder.now target.entry.block_form (option_copied target.entry.json))
         (λ u. volume_steps u)
         (outcome (F.written files.old) (seen_by W.contents writer.old)) (outcome (F.written files.new) (seen_by W.contents writer.new))
         report.old.tally report.new.tally }
@@ -180,7 +180,7 @@ fn unload_sets<F: ImageFiles, V: SlotReader, W: Write>(
     table: Table,
 ) -> Result<(), UnloadFault>
     ensures does { DoesOfVolume result (V.volume volume.old)
-        (plan table.entry.target.folder.now table.entry.target.is_text (option_copied table.entry.target.json))
+        (plan table.entry.target.folder.now table.entry.target.block_form (option_copied table.entry.target.json))
         (λ u. flat_map (block_steps u table.entry.blocks.now) table.entry.blocks.now)
         (outcome (F.written files.old) (seen_by W.contents writer.old)) (outcome (F.written files.new) (seen_by W.contents writer.new))
         report.old.tally report.new.tally }
@@ -208,7 +208,7 @@ fn unload_block<F: ImageFiles, V: SlotReader, W: Write>(
     row: Row,
 ) -> Result<(), UnloadFault>
     ensures does { DoesOfVolume result (V.volume volume.old)
-        (plan row.entry.table.target.folder.now row.entry.table.target.is_text (option_copied row.entry.table.target.json))
+        (plan row.entry.table.target.folder.now row.entry.table.target.block_form (option_copied row.entry.table.target.json))
         (λ u. block_steps u row.entry.table.blocks.now row.entry.block.now)
         (outcome (F.written files.old) (seen_by W.contents writer.old)) (outcome (F.written files.new) (seen_by W.contents writer.new))
         report.old.tally report.new.tally }
@@ -245,7 +245,7 @@ fn unload_one<F: ImageFiles, V: SlotReader, W: Write>(
     listed: Listed,
 ) -> Result<(), UnloadFault>
     ensures does { DoesOfVolume result (V.volume volume.old)
-        (plan listed.entry.target.folder.now listed.entry.target.is_text (option_copied listed.entry.target.json))
+        (plan listed.entry.target.folder.now listed.entry.target.block_form (option_copied listed.entry.target.json))
         (λ u. set_steps u listed.entry.set.now.block listed.entry.set.now.extents.items listed.entry.set.now.fault)
         (outcome (F.written files.old) (seen_by W.contents writer.old)) (outcome (F.written files.new) (seen_by W.contents writer.new))
         report.old.tally report.new.tally }
@@ -266,7 +266,7 @@ fn unload_one<F: ImageFiles, V: SlotReader, W: Write>(
     if let Err(fault) = report.chain(writer, named, set.fault) {
         return Err(fault);
     }
-    let Some(form) = form_of(&set.block, target.is_text) else {
+    let Some(form) = form_of(&set.block, target.block_form) else {
         return report.finding(writer, named, Wrong::NoRecords);
     };
     if is_partitioned(&set.block) {
@@ -332,7 +332,7 @@ fn unload_members<F: ImageFiles, V: SlotReader, W: Write>(
     opened: Opened,
 ) -> Result<(), UnloadFault>
     ensures does { DoesOfVolume result (V.volume volume.old)
-        (plan opened.entry.target.folder.now opened.entry.target.is_text (option_copied opened.entry.target.json))
+        (plan opened.entry.target.folder.now opened.entry.target.block_form (option_copied opened.entry.target.json))
         (λ u. partitioned_steps u opened.entry.set.now.block opened.entry.set.now.extents.items opened.entry.form)
         (outcome (F.written files.old) (seen_by W.contents writer.old)) (outcome (F.written files.new) (seen_by W.contents writer.new))
         report.old.tally report.new.tally }
@@ -400,7 +400,7 @@ fn unload_item<F: ImageFiles, V: SlotReader, W: Write>(
 ) -> Result<(), UnloadFault>
     requires name { IsFileName item.name.now }
     ensures does { DoesOfVolume result (V.volume volume.old)
-        (plan item.entry.target.folder.now item.entry.target.is_text (option_copied item.entry.target.json))
+        (plan item.entry.target.folder.now item.entry.target.block_form (option_copied item.entry.target.json))
         (λ u. Unload item.entry.name.now
         (wanted item.entry.source.form item.entry.source.extents.now item.entry.source.start item.entry.source.tracks) item.entry.block.now ∷ [])
         (outcome (F.written files.old) (seen_by W.contents writer.old)) (outcome (F.written files.new) (seen_by W.contents writer.new))

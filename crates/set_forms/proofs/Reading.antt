@@ -1,12 +1,13 @@
 -- Words that are read byte by byte.
-use Rattle.std.proofs.Common.{ℕ, zero, suc, ◌+◌, ◌-◌, ◌*◌, ◌^◌, ◌<◌, ◌≤◌, ◌≡◌, List, [], ◌∷◌, ◌++◌, Option, Some, None, option_map, Result, Ok, Err, OnOk, length, get_or, Bool, true, false, ◌==◌, if◌then◌else◌, nat_lt, nat_eq, ne_eqb, replicate}
-use Rattle.std.proofs.Common.{take, drop, append_assoc, length-append, length-drop, ap, ◌∙◌, drop-cons, add-one, lit<, refl, sym, arith}
+use Rattle.std.proofs.Common.{ℕ, suc, ◌+◌, ◌-◌, ◌≤◌, ◌≡◌, List, [], ◌∷◌, ◌++◌, Option, Some, None, option_map, Result, Ok, Err, OnOk}
+use Rattle.std.proofs.Common.{length, get_or, Bool, true, false, ◌==◌, if◌then◌else◌, nat_lt, nat_eq, ne_eqb, replicate}
+use Rattle.std.proofs.Common.{take, drop, append_assoc, length-append, length-drop, ap, ◌∙◌, refl, arith}
 use Rattle.std.proofs.lemmas.Bool.{le-ltb}
 use Rattle.std.proofs.lemmas.List.{take_rest, drop-replicate}
 use Rattle.std.specs.Io.KnownBytes.{Appends}
 use Rattle.std.proofs.KnownBytes.{Appends-trans}
 use Rattle.set_forms.specs.Numbers.{byte_of, bytes_of}
-use Rattle.set_forms.specs.Names.{byte_before, left_behind, and_more, bytes_within, name_bytes, name_of}
+use Rattle.set_forms.specs.Names.{byte_before, left_behind, bytes_within, name_bytes, name_of}
 
 paired : (bytes : List ℕ) (byte : ℕ) (more : Option (List ℕ)) → option_map (λ more. (bytes ++ byte ∷ []) ++ more) more
     ≡ option_map (λ more. bytes ++ more) (option_map (λ more. byte ∷ more) more)
@@ -39,7 +40,8 @@ one_name_byte_more bytes (c ∷ rest) left size all byte some fits spelled behin
     ∙ rw (one, ← spelled) at is)
 
 -- one text behind another
-pub after : {A E : Type 0} (r : Result A E) (a b c : Option (List ℕ)) (first second : List ℕ) → Appends a b first → OnOk r (Appends b c second)
+pub after : {A E : Type 0} (r : Result A E) (a b c : Option (List ℕ)) (first second : List ℕ) → Appends a b first
+    → OnOk r (Appends b c second)
     → OnOk r (Appends a c (first ++ second))
 after (Ok _) a b c first second x y = Appends-trans a b c first second x y
 after (Err _) a b c first second x y = tt

@@ -1,5 +1,6 @@
 -- The lines of data sets and of the entries of their directories.
-use Rattle.std.specs.Prelude.{ℕ, ◌==◌, Bool, not, List, [], ◌∷◌, ◌++◌, map, length, if◌then◌else◌, bit_and, codes, Option, Some, None, option_map}
+use Rattle.std.specs.Prelude.{ℕ, ◌==◌, Bool, not, List, [], ◌∷◌, ◌++◌, map, length, if◌then◌else◌, bit_and, codes, Option, Some, None}
+use Rattle.std.specs.Prelude.{option_map}
 use Rattle.std.specs.List.{flat_map, concat}
 use Rattle.std.specs.Fmt.{decimal}
 use Rattle.text_lines.specs.Text.{hexadecimal, bytes_text}
@@ -26,7 +27,8 @@ abbrev pub closed : List (List ℕ) → List ℕ
 closed [] = 10 ∷ []
 closed (word ∷ words) = 32 ∷ (word ++ closed words)
 
--- A line of a data set: its name, its organisation, its record format, the lengths of its records, blocks and keys, the days when it was made
+-- A line of a data set: its name, its organisation, its record format, the lengths of its records, blocks and keys, the days when it was
+-- made
 -- and when it may be scratched, and of a partitioned one how many blocks its directory has.
 
 abbrev pub directory_words : Option ℕ → List (List ℕ)

@@ -3,3 +3,4 @@ pub mod Names
 pub mod Words
 pub mod Forms
 pub mod Parsing
+pub mod Laws

@@ -1,5 +1,5 @@
 -- Numbers in digits, and days, as a text has them. Letters are capitals.
-use Rattle.std.specs.Prelude.{ℕ, ◌+◌, ◌-◌, ◌*◌, ◌==◌, ◌&&◌, ◌||◌, not, nat_lt, nat_le, if◌then◌else◌, List, [], ◌∷◌, ◌++◌, length, take, drop}
+use Rattle.std.specs.Prelude.{ℕ, ◌+◌, ◌-◌, ◌*◌, ◌==◌, ◌&&◌, ◌||◌, not, nat_lt, nat_le, if◌then◌else◌, List, [], ◌∷◌, length, take, drop}
 use Rattle.std.specs.Prelude.{slice_index, bytes_eq, codes, Option, Some, None, option_map, option_and_then}
 use Rattle.std.specs.List.{concat}
 use Rattle.std.specs.Fmt.{decimal}
@@ -70,4 +70,5 @@ unfoldable pub day_of : List ℕ → Option Date
 day_of word =
     if bytes_eq word (codes "-") then Some (record { year = 0; day = 0 })
     else (if nat_lt (length word) 5 || not (slice_index word 4 == 45) then None
-    else option_and_then (λ year. option_map (λ day. record { year = year; day = day }) (number_of 65535 (drop 5 word))) (year_of (take 4 word)))
+    else option_and_then (λ year. option_map (λ day. record { year = year; day = day }) (number_of 65535 (drop 5 word))) (year_of
+    (take 4 word)))

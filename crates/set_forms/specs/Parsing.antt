@@ -1,6 +1,8 @@
 -- The forms that a text has.
-use Rattle.std.specs.Prelude.{◌≡◌, ℕ, ◌+◌, ◌-◌, ◌*◌, ◌%◌, ◌==◌, Bool, true, false, ◌&&◌, ◌||◌, not, nat_lt, nat_le, if◌then◌else◌, List, [], ◌∷◌, ◌++◌}
-use Rattle.std.specs.Prelude.{length, take, drop, filter, slice_get, slice_index, bytes_eq, codes, Option, Some, None, option_map, option_and_then, is_some}
+use Rattle.std.specs.Prelude.{◌≡◌, ℕ, ◌+◌, ◌-◌, ◌*◌, ◌%◌, ◌==◌, Bool, true, false, ◌&&◌, ◌||◌, not, nat_lt, nat_le, if◌then◌else◌, List, []}
+use Rattle.std.specs.Prelude.{◌∷◌, ◌++◌}
+use Rattle.std.specs.Prelude.{length, take, drop, filter, slice_get, slice_index, bytes_eq, codes, Option, Some, None, option_map}
+use Rattle.std.specs.Prelude.{option_and_then, is_some}
 use Rattle.std.specs.Prelude.{Result, Ok, Err}
 use Rattle.std.specs.List.{slice_split}
 use Rattle.std.specs.Global.{Vec}
@@ -80,7 +82,8 @@ note_at front byte =
 
 abbrev pub note_of : List ℕ → Option Note
 note_of word =
-    option_and_then (note_at (take (length word - 3) word)) (byte_of (slice_index word (length word - 2)) (slice_index word (length word - 1)))
+    option_and_then (note_at (take (length word - 3) word)) (byte_of (slice_index word (length word - 2)) (slice_index word
+    (length word - 1)))
 
 -- at most three notes, and before the user data
 abbrev pub note_added : EntryForm → Option Note → Result EntryForm LineFault
@@ -93,7 +96,8 @@ note_added e (Some note) =
 abbrev pub user_added : EntryForm → Option (List ℕ) → Result EntryForm LineFault
 user_added e None = Err fault.UserData
 user_added e (Some bytes) =
-    if nat_lt 0 (length e.user.items) || (not (length bytes % 2 == 0) || nat_lt 62 (4 * length e.notes.items + length bytes)) then Err fault.UserData
+    if nat_lt 0 (length e.user.items) || (not (length bytes % 2 == 0) || nat_lt 62 (4 * length e.notes.items + length bytes))
+    then Err fault.UserData
     else Ok (record e { user = record { items = bytes } })
 
 abbrev pub added : EntryForm → (word : List ℕ) → Result EntryForm LineFault
@@ -180,7 +184,8 @@ line_added forms (Ok None) = Ok forms
 line_added forms (Ok (Some form)) = if fits forms form then Ok (forms ++ form ∷ []) else Err fault.NoDirectory
 
 -- the first line that is wrong ends it
-abbrev pub on_line : (number : ℕ) → Result (List FormLine) LineFault → (List FormLine → Result (List FormLine) TextFault) → Result (List FormLine) TextFault
+abbrev pub on_line : (number : ℕ) → Result (List FormLine) LineFault → (List FormLine → Result (List FormLine) TextFault)
+    → Result (List FormLine) TextFault
 on_line number (Ok forms) next = next forms
 on_line number (Err f) next = Err (Line number f)
 
@@ -199,7 +204,8 @@ abbrev pub parsed : List ℕ → Result (List FormLine) TextFault
 parsed text = forms_behind [] 1 (lines_of text)
 
 -- A line was added so. Where memory ran out, this says nothing.
-abbrev pub IsAdded : {A : Type 0} → (number : ℕ) → (all : Result (List FormLine) LineFault) → Result A TextFault → (forms : List FormLine) → Type 0
+abbrev pub IsAdded : {A : Type 0} → (number : ℕ) → (all : Result (List FormLine) LineFault) → Result A TextFault
+    → (forms : List FormLine) → Type 0
 IsAdded number all (Ok _) forms = all ≡ Ok forms
 IsAdded number all (Err OutOfMemory) forms = Unit {0}
 IsAdded number all (Err (Line n f)) forms = (n ≡ number) × (all ≡ Err f)

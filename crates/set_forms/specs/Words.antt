@@ -1,19 +1,21 @@
 -- The words of organisations and record formats (System Control Blocks, 'Data Set Control Block', format 1, DS1DSORG and DS1RECFM).
-use Rattle.std.specs.Prelude.{ℕ, ◌+◌, ◌-◌, ◌*◌, ◌/◌, ◌==◌, Bool, ◌&&◌, ◌||◌, not, nat_lt, if◌then◌else◌, List, [], ◌∷◌, length, bit_and, bit_or}
+use Rattle.std.specs.Prelude.{ℕ, ◌+◌, ◌-◌, ◌*◌, ◌/◌, ◌%◌, ◌==◌, Bool, ◌&&◌, ◌||◌, not, nat_lt, if◌then◌else◌, List, [], ◌∷◌, length}
+use Rattle.std.specs.Prelude.{bit_and, bit_or}
 use Rattle.std.specs.Prelude.{slice_index, slice_range, bytes_eq, codes, Option, Some, None, option_map, option_and_then}
 use Rattle.std.specs.List.{concat}
-use Rattle.text_lines.specs.Text.{hexadecimal}
+use Rattle.text_lines.specs.Text.{bytes_text}
 use Rattle.set_forms.specs.Numbers.{byte_of}
 
 -- Bits in hexadecimal digits, as X'91'.
 
-abbrev pub bits_text : (width n : ℕ) → List ℕ
-bits_text width n = concat (codes "X'" ∷ hexadecimal width n ∷ codes "'" ∷ [])
+abbrev pub bits_text : (bytes : List ℕ) → List ℕ
+bits_text bytes = concat (codes "X'" ∷ bytes_text bytes ∷ codes "'" ∷ [])
 
 -- the digits of such a word
 abbrev pub quoted : List ℕ → Option (List ℕ)
 quoted word =
-    if nat_lt (length word) 3 || (not (slice_index word 0 == 88) || (not (slice_index word 1 == 39) || not (slice_index word (length word - 1) == 39))) then None
+    if nat_lt (length word) 3 || not ((slice_index word 0 == 88) && ((slice_index word 1 == 39)
+    && (slice_index word (length word - 1) == 39))) then None
     else Some (slice_range word 2 (length word - 1))
 
 -- Organisations: physical sequential, partitioned, direct, and indexed sequential have letters.
@@ -24,7 +26,7 @@ organisation_text bits =
     else (if bits == 0x0200 then codes "PO"
     else (if bits == 0x2000 then codes "DA"
     else (if bits == 0x8000 then codes "IS"
-    else bits_text 4 bits)))
+    else bits_text (bits / 256 ∷ bits % 256 ∷ []))))
 
 abbrev pub organisation_bits : List ℕ → Option ℕ
 organisation_bits (a ∷ b ∷ c ∷ d ∷ []) = option_and_then (λ high. option_map (λ low. 256 * high + low) (byte_of c d)) (byte_of a b)
@@ -57,7 +59,7 @@ format_letters format = concat (
     ∷ letter_if format 0x04 (codes "A") ∷ letter_if format 0x02 (codes "M") ∷ [])
 
 unfoldable pub format_text : ℕ → List ℕ
-format_text format = if is_lettered format then format_letters format else bits_text 2 format
+format_text format = if is_lettered format then format_letters format else bits_text (format ∷ [])
 
 -- the bits of a letter
 abbrev pub form_of : ℕ → Option ℕ

@@ -5,6 +5,7 @@
 mod entries;
 mod fault;
 mod forms;
+pub mod laws;
 mod lines;
 mod names;
 mod numbers;

@@ -7,7 +7,7 @@ ghost use Rattle.set_forms.specs.Words.{letter_if, is_lettered, letters_behind, 
 
 use crate::numbers::byte_of;
 use arrayvec::ArrayString;
-use text_lines::put_hexadecimal;
+use text_lines::put_bytes;
 
 /// A word.
 type Word = ArrayString<16>;
@@ -23,13 +23,13 @@ fn word_of(letters: &str) -> Word
 }
 
 // The word of these bits, in hexadecimal digits: as X'91'.
-fn bits_word(width: usize, bits: u16) -> Word
-    requires { width ≤ 4 }
-    ensures { result.bytes ≡ bits_text width bits }
+fn bits_word(bytes: &[u8]) -> Word
+    requires { length bytes.now ≤ 2 }
+    ensures { result.bytes ≡ bits_text bytes.now }
 {
     let mut word = ArrayString::new();
     word.push_str("X'");
-    put_hexadecimal(&mut word, width, u32::from(bits));
+    put_bytes(&mut word, bytes);
     word.push_str("'");
     word
 }
@@ -39,7 +39,7 @@ fn quoted(word: &[u8]) -> Option<&[u8]>
     ensures { option_copied result ≡ quoted word.now }
 {
     let len = word.len();
-    if len < 3 || word[0] != b'X' || word[1] != b'\'' || word[len - 1] != b'\'' {
+    if len < 3 || !(word[0] == b'X' && word[1] == b'\'' && word[len - 1] == b'\'') {
         return None;
     }
     Some(&word[2..len - 1])
@@ -55,7 +55,7 @@ pub(crate) fn organisation_word(bits: u16) -> Word
         0x0200 => word_of("PO"),
         0x2000 => word_of("DA"),
         0x8000 => word_of("IS"),
-        _ => bits_word(4, bits),
+        _ => bits_word(&[(bits / 256) as u8, (bits % 256) as u8]),
     }
 }
 
@@ -136,7 +136,7 @@ pub(crate) fn format_word(format: u8) -> Word
     if is_lettered(format) {
         return format_letters(format);
     }
-    bits_word(2, u16::from(format))
+    bits_word(&[format])
 }
 
 // The bits of a form.

@@ -9,7 +9,7 @@ use Rattle.dasd_unload.proofs.volumes.unload_block.Goals as goal
 pub returns-then-not-is_data_set-clause-does : goal.returns-then-not-is_data_set-clause-does
 returns-then-not-is_data_set-clause-does g c =
     let t = c.args.row.table.target in
-    no_block (g.V.SlotReader.volume c.args.volume.now) (plan t.folder.now t.is_text (option_copied t.json)) c.args.row.table.blocks.now
+    no_block (g.V.SlotReader.volume c.args.volume.now) (plan t.folder.now t.block_form (option_copied t.json)) c.args.row.table.blocks.now
     c.args.row.block.now _ _
     (grind (arith, c.is_data_set.ensures, c.if-not-is_data_set.true))
 
@@ -19,6 +19,6 @@ returns-in_default-clause-does g c = gave_up _ _ _ _ _ _ _ _ _ refl
 pub returns-clause-does : goal.returns-clause-does
 returns-clause-does g c =
     let t = c.args.row.table.target in
-    of_block c.unload_one.result (g.V.SlotReader.volume c.args.volume.now) (plan t.folder.now t.is_text (option_copied t.json))
+    of_block c.unload_one.result (g.V.SlotReader.volume c.args.volume.now) (plan t.folder.now t.block_form (option_copied t.json))
     c.args.row.table.blocks.now c.args.row.block.now _ _ _ _
     c.in-Ok.set (grind (arith, c.is_data_set.ensures, c.if-not-is_data_set.false)) c.in-Ok.ensures c.unload_one.ensures.does

@@ -12,14 +12,14 @@ returns-in-Err-clause-does g c = gave_up _ _ _ _ _ _ _ _ _ refl
 pub returns-in-Err-contents-clause-does : goal.returns-in-Err-contents-clause-does
 returns-in-Err-contents-clause-does g c =
     let t = c.args.target in
-    contents_stopped (g.V.SlotReader.volume c.args.volume.now) (plan t.folder.now t.is_text (option_copied t.json)) c.in-Ok.contents
+    contents_stopped (g.V.SlotReader.volume c.args.volume.now) (plan t.folder.now t.block_form (option_copied t.json)) c.in-Ok.contents
     c.in-Ok.ensures.contents _ _ _ _ _ _
     (rw c.as_slice-findings.ensures.value at c.in-Err-contents.ensures.text)
 
 pub returns-clause-does : goal.returns-clause-does
 returns-clause-does g c =
     let t = c.args.target in
-    contents_done (g.V.SlotReader.volume c.args.volume.now) (plan t.folder.now t.is_text (option_copied t.json)) c.in-Ok.contents
+    contents_done (g.V.SlotReader.volume c.args.volume.now) (plan t.folder.now t.block_form (option_copied t.json)) c.in-Ok.contents
     c.in-Ok.ensures.contents _ _ _ _ _
     c.unload_sets.result _ _ (rw c.as_slice-findings.ensures.value at c.in_default.ensures.text)
     (rw c.as_slice-findings.ensures.value at c.in_default.ensures.counted)

@@ -13,7 +13,7 @@ pub returns-in-Ok-unload_to-clause-does : goal.returns-in-Ok-unload_to-clause-do
 returns-in-Ok-unload_to-clause-does g c =
     let t = c.args.item.target in
     let s = c.args.item.source in
-    came c.unloaded.result (g.V.SlotReader.volume c.args.volume.now) (plan t.folder.now t.is_text (option_copied t.json))
+    came c.unloaded.result (g.V.SlotReader.volume c.args.volume.now) (plan t.folder.now t.block_form (option_copied t.json))
     c.args.item.name.now c.as_str.result.now
     (wanted s.form s.extents.now s.start s.tracks) c.args.item.block.now _ _ c.in-Ok-unload_to.unloaded _ _ _ _
     (c.as_str.ensures.value ∙ c.in-Ok.ensures.path) c.in-Ok-unload_to.ensures.file
@@ -23,7 +23,7 @@ pub returns-in-Err-Job-Exists-clause-does : goal.returns-in-Err-Job-Exists-claus
 returns-in-Err-Job-Exists-clause-does g c =
     let t = c.args.item.target in
     let s = c.args.item.source in
-    kept_out c.finding.result (g.V.SlotReader.volume c.args.volume.now) (plan t.folder.now t.is_text (option_copied t.json))
+    kept_out c.finding.result (g.V.SlotReader.volume c.args.volume.now) (plan t.folder.now t.block_form (option_copied t.json))
     c.args.item.name.now _ _ _ _ _
     (wanted s.form s.extents.now s.start s.tracks) c.args.item.block.now _ c.in-Err-Job-Exists.ensures.file
     c.finding.ensures.text c.finding.ensures.counted

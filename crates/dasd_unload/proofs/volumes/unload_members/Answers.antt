@@ -26,7 +26,7 @@ pub returns-in-Err-directory-clause-does : goal.returns-in-Err-directory-clause-
 returns-in-Err-directory-clause-does g c =
     let set = c.args.opened.set.now in
     let t = c.args.opened.target in
-    directory_stopped (g.V.SlotReader.volume c.args.volume.now) (plan t.folder.now t.is_text (option_copied t.json)) set.block
+    directory_stopped (g.V.SlotReader.volume c.args.volume.now) (plan t.folder.now t.block_form (option_copied t.json)) set.block
     set.extents.items c.args.opened.form
     c.in-Ok.members (rw c.as_slice-extents.ensures.value at c.in-Ok.ensures.members) c.in-Ok.members.entries.items refl _ _ _ _ _ _
     (rw (c.as_str.ensures.value ∙ c.in-Ok-name_of_set.ensures.name) at c.in-Err-directory.ensures.text)
@@ -40,7 +40,7 @@ loop-entry-init g c =
       same = refl;
       kept = c.in-Ok.ensures.volume.0;
       steps =
-          directory_told (g.V.SlotReader.volume c.args.volume.now) (plan t.folder.now t.is_text (option_copied t.json)) set.block
+          directory_told (g.V.SlotReader.volume c.args.volume.now) (plan t.folder.now t.block_form (option_copied t.json)) set.block
           set.extents.items c.args.opened.form
           c.in-Ok.members (rw c.as_slice-extents.ensures.value at c.in-Ok.ensures.members) c.as_slice-entries.result.now
           c.as_slice-entries.ensures.value _ _ _ _ _
@@ -60,7 +60,7 @@ returns-in-Err-unload_item-clause-does g c =
     let set = c.args.opened.set.now in
     let t = c.args.opened.target in
     let form = c.args.opened.form in
-    stop_next (g.V.SlotReader.volume c.args.volume.now) (plan t.folder.now t.is_text (option_copied t.json))
+    stop_next (g.V.SlotReader.volume c.args.volume.now) (plan t.folder.now t.block_form (option_copied t.json))
     (λ u. partitioned_steps u set.block set.extents.items form)
     (λ u e. member_step set.block set.extents.items form e ∷ []) c.as_slice-entries.result.now c.loop-entry.entry-index _ _ _ _
     c.loop-entry.invariant.steps _ _ _ _ _
@@ -86,7 +86,7 @@ loop-entry-preserved g c =
       same = c.unload_item.ensures.same ∙ c.loop-entry.invariant.same;
       kept = c.unload_item.ensures.kept ∙ c.loop-entry.invariant.kept;
       steps =
-          next (g.V.SlotReader.volume c.args.volume.now) (plan t.folder.now t.is_text (option_copied t.json))
+          next (g.V.SlotReader.volume c.args.volume.now) (plan t.folder.now t.block_form (option_copied t.json))
           (λ u. partitioned_steps u set.block set.extents.items form)
           (λ u e. member_step set.block set.extents.items form e ∷ []) c.as_slice-entries.result.now c.loop-entry.entry-index _ _ _
           _ c.loop-entry.invariant.steps _ _ _
@@ -108,7 +108,7 @@ returns-clause-does g c =
     let set = c.args.opened.set.now in
     let t = c.args.opened.target in
     let form = c.args.opened.form in
-    all (g.V.SlotReader.volume c.args.volume.now) (plan t.folder.now t.is_text (option_copied t.json))
+    all (g.V.SlotReader.volume c.args.volume.now) (plan t.folder.now t.block_form (option_copied t.json))
     (λ u. partitioned_steps u set.block set.extents.items form)
     (λ u e. member_step set.block set.extents.items form e ∷ []) c.as_slice-entries.result.now c.loop-entry.entry-index _ _ _ _
     c.loop-entry.invariant.steps c.loop-entry-test.false

@@ -18,7 +18,7 @@ invariant-loop-entry g l =
       files : AddsIn l.target.folder.now (written l.fn.files) (written l.files);
       same : g.F.ImageFiles.opened l.files ≡ g.F.ImageFiles.opened l.fn.files;
       kept : g.V.SlotReader.volume l.volume ≡ v;
-      steps : SoFar v (plan l.target.folder.now l.target.is_text (option_copied l.target.json))
+      steps : SoFar v (plan l.target.folder.now l.target.block_form (option_copied l.target.json))
           (λ u. flat_map (λ e. member_step set.block set.extents.items l.opened.form e ∷ []) (drop l.entry-index l.entries))
           (λ u. partitioned_steps u set.block set.extents.items l.opened.form)
           (outcome (written l.fn.files) (printed l.fn.writer)) (outcome (written l.files) (printed l.writer)) l.fn.report.tally

@@ -23,7 +23,7 @@ pub returns-in-Err-chain-clause-does : goal.returns-in-Err-chain-clause-does
 returns-in-Err-chain-clause-does g c =
     let set = c.args.listed.set.now in
     let t = c.args.listed.target in
-    set_stopped (g.V.SlotReader.volume c.args.volume.now) (plan t.folder.now t.is_text (option_copied t.json)) set.block
+    set_stopped (g.V.SlotReader.volume c.args.volume.now) (plan t.folder.now t.block_form (option_copied t.json)) set.block
     set.extents.items set.fault _ _ _ _ _ _
     (rw (c.as_str.ensures.value ∙ c.in-Ok.ensures.name) at c.in-Err-chain.ensures.text)
 
@@ -34,7 +34,7 @@ returns-in_default-form_of-clause-does g c =
     let t = c.args.listed.target in
     let named = c.as_str.ensures.value ∙ c.in-Ok.ensures.name in
     let v = g.V.SlotReader.volume c.args.volume.now in
-    let p = plan t.folder.now t.is_text (option_copied t.json) in
+    let p = plan t.folder.now t.block_form (option_copied t.json) in
     set_done v p set.block set.extents.items set.fault _ _ _ _ _ c.finding.result None _ _ (rw named at c.in_default.ensures.text)
     (rw named at c.in_default.ensures.counted)
     (grind (arith, c.form_of.ensures, c.in_default-form_of.is, c.in_default-form_of.ensures))
@@ -48,7 +48,7 @@ returns-then-is_partitioned-clause-does g c =
     let t = c.args.listed.target in
     let named = c.as_str.ensures.value ∙ c.in-Ok.ensures.name in
     let v = g.V.SlotReader.volume c.args.volume.now in
-    let p = plan t.folder.now t.is_text (option_copied t.json) in
+    let p = plan t.folder.now t.block_form (option_copied t.json) in
     set_done v p set.block set.extents.items set.fault _ _ _ _ _ c.unload_members.result (Some c.in-Some.form) _ _
     (rw named at c.in_default.ensures.text)
     (rw named at c.in_default.ensures.counted) (sym c.in-Some.ensures)
@@ -63,7 +63,7 @@ returns-clause-does g c =
     let t = c.args.listed.target in
     let named = c.as_str.ensures.value ∙ c.in-Ok.ensures.name in
     let v = g.V.SlotReader.volume c.args.volume.now in
-    let p = plan t.folder.now t.is_text (option_copied t.json) in
+    let p = plan t.folder.now t.block_form (option_copied t.json) in
     set_done v p set.block set.extents.items set.fault _ _ _ _ _ c.unload_item.result (Some c.in-Some.form) _ _
     (rw named at c.in_default.ensures.text)
     (rw named at c.in_default.ensures.counted) (sym c.in-Some.ensures)

@@ -17,7 +17,7 @@ pub returns-in-Err-clause-does : goal.returns-in-Err-clause-does
 returns-in-Err-clause-does g c =
     let t = c.args.table.target in
     let blocks = c.args.table.blocks.now in
-    stop_next (g.V.SlotReader.volume c.args.volume.now) (plan t.folder.now t.is_text (option_copied t.json))
+    stop_next (g.V.SlotReader.volume c.args.volume.now) (plan t.folder.now t.block_form (option_copied t.json))
     (λ u. flat_map (block_steps u blocks) blocks)
     (λ u k. block_steps u blocks k) blocks c.loop-block.block-index _ _ _ _ c.loop-block.invariant.steps _ _ _ _ _ c.loop-block-test.true
     (rw c.loop-block.invariant.kept at c.in-Err.ensures.does)
@@ -31,7 +31,7 @@ loop-block-preserved g c =
       same = c.unload_block.ensures.same ∙ c.loop-block.invariant.same;
       kept = c.unload_block.ensures.kept ∙ c.loop-block.invariant.kept;
       steps =
-          next (g.V.SlotReader.volume c.args.volume.now) (plan t.folder.now t.is_text (option_copied t.json))
+          next (g.V.SlotReader.volume c.args.volume.now) (plan t.folder.now t.block_form (option_copied t.json))
           (λ u. flat_map (block_steps u blocks) blocks)
           (λ u k. block_steps u blocks k) blocks c.loop-block.block-index _ _ _ _ c.loop-block.invariant.steps _ _ _ c.loop-block-test.true
           (rw c.loop-block.invariant.kept at c.in_default.ensures.does);
@@ -41,6 +41,6 @@ pub returns-clause-does : goal.returns-clause-does
 returns-clause-does g c =
     let t = c.args.table.target in
     let blocks = c.args.table.blocks.now in
-    all (g.V.SlotReader.volume c.args.volume.now) (plan t.folder.now t.is_text (option_copied t.json))
+    all (g.V.SlotReader.volume c.args.volume.now) (plan t.folder.now t.block_form (option_copied t.json))
     (λ u. flat_map (block_steps u blocks) blocks)
     (λ u k. block_steps u blocks k) blocks c.loop-block.block-index _ _ _ _ c.loop-block.invariant.steps c.loop-block-test.false

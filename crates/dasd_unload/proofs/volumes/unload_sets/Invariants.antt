@@ -17,7 +17,7 @@ invariant-loop-block g l =
       files : AddsIn l.table.target.folder.now (written l.fn.files) (written l.files);
       same : g.F.ImageFiles.opened l.files ≡ g.F.ImageFiles.opened l.fn.files;
       kept : g.V.SlotReader.volume l.volume ≡ v;
-      steps : SoFar v (plan l.table.target.folder.now l.table.target.is_text (option_copied l.table.target.json))
+      steps : SoFar v (plan l.table.target.folder.now l.table.target.block_form (option_copied l.table.target.json))
           (λ u. flat_map (block_steps u l.blocks) (drop l.block-index l.blocks)) (λ u. flat_map (block_steps u l.blocks) l.blocks)
           (outcome (written l.fn.files) (printed l.fn.writer)) (outcome (written l.files) (printed l.writer)) l.fn.report.tally
           l.report.tally;

@@ -9,7 +9,7 @@ returns-in-Ok-unloaded-clause-volume g c =
     let w = c.args.volume in
     let opens = c.in-Ok.ensures.opens in
     let same = c.settle.ensures.same ∙ c.unload_contents-unloaded.ensures.same ∙ opens.opened in
-    volume_ended w.as_far _ (plan_of w.folder.now w.is_text w.json w.path.now) _ _ c.in-Ok.opened _ _ _
+    volume_ended w.as_far _ (plan_of w.folder.now w.block_form w.json w.path.now) _ _ c.in-Ok.opened _ _ _
     (record { opened = same; count = opens.count }) c.in-Ok.ensures.mounts c.end.result _
     (rw (c.path_if.ensures, c.open_volume.ensures.kept, c.new-report.ensures, ← c.settle.ensures.kept) at c.in-Ok-unloaded.ensures.does)
     (rw c.path_if.ensures at c.end.ensures.text) c.end.ensures.findings
@@ -20,6 +20,6 @@ returns-clause-volume g c =
     let w = c.args.volume in
     let opens = c.in-Ok.ensures.opens in
     let same = c.settle.ensures.same ∙ c.unload_contents-unloaded.ensures.same ∙ opens.opened in
-    volume_stopped w.as_far _ (plan_of w.folder.now w.is_text w.json w.path.now) _ _ c.in-Ok.opened _ _ _
+    volume_stopped w.as_far _ (plan_of w.folder.now w.block_form w.json w.path.now) _ _ c.in-Ok.opened _ _ _
     (record { opened = same; count = opens.count }) c.in-Ok.ensures.mounts c.in-Err-unloaded.fault
     (rw (c.path_if.ensures, c.open_volume.ensures.kept, c.new-report.ensures, ← c.settle.ensures.kept) at c.in-Err-unloaded.ensures.does)

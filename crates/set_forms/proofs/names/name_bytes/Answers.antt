@@ -1,4 +1,4 @@
-use Rattle.std.proofs.Common.{arith, length-append, sym, ◌≤◌, ◌+◌, length}
+use Rattle.std.proofs.Common.{arith, length-append, sym}
 use Rattle.set_forms.proofs.Reading.{one_name_byte_more, no_name_byte, left_shorter}
 use Rattle.set_forms.proofs.names.name_bytes.Goals as goal
 

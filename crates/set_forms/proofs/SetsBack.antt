@@ -1,0 +1,110 @@
+-- The line of a data set, written and read back.
+use Rattle.std.proofs.Common.{ℕ, ◌≡◌, List, [], ◌∷◌, ◌++◌, Bool, true, false, Option, Some, None, Ok, codes, append_assoc}
+use Rattle.std.proofs.Common.{append-nil, ap, refl, lit<, arith}
+use Rattle.std.specs.Fmt.{decimal}
+use Rattle.std.proofs.lemmas.List.Concat.{flat_map-append}
+use Rattle.data_sets.specs.Names.{safe_name_of}
+use Rattle.set_forms.specs.declared.forms.SetForm.{SetForm}
+use Rattle.set_forms.specs.declared.forms.FormLine.{FormLine}
+use Rattle.set_forms.specs.declared.forms.FormLine.TheVariants.{Set}
+use Rattle.set_forms.specs.Numbers.{day_text}
+use Rattle.set_forms.specs.Words.{organisation_text, format_text}
+use Rattle.set_forms.specs.Forms.{is_partitioned, spaced, closed, directory_words, form_line}
+use Rattle.set_forms.specs.Parsing.{directory_read, set_read, words_read, a_set}
+use Rattle.set_forms.specs.Laws.{HasDirectory, IsSetForm}
+use Rattle.set_forms.proofs.Split.{IsWord, AreWords}
+use Rattle.set_forms.proofs.Digits.{number_back, number_word, day_back, day_word}
+use Rattle.set_forms.proofs.Spelling.{name_back, name_word}
+use Rattle.set_forms.proofs.Letters.{format_back, format_word, organisation_back, organisation_word}
+
+-- a line that is read back: its words, and that they are the form's
+pub record IsLine (form : FormLine) : Type 0 where
+  pub first : List ℕ
+  pub words : List (List ℕ)
+  pub are : form_line form ≡ (first ++ spaced words) ++ 10 ∷ []
+  pub is_word : IsWord first
+  pub are_words : AreWords words
+  pub read : words_read (first ∷ words) ≡ Ok (Some form)
+
+pub closed_is : (words : List (List ℕ)) → closed words ≡ spaced words ++ 10 ∷ []
+closed_is [] = refl
+closed_is (word ∷ words) = rw (closed_is words, append_assoc word (spaced words) (10 ∷ [])) refl
+
+line_is : (first second third last : List (List ℕ))
+    → (codes "data set" ++ (spaced first ++ [])) ++ (spaced second ++ (spaced third ++ closed last))
+    ≡ (codes "data" ++ spaced (codes "set" ∷ (first ++ (second ++ (third ++ last))))) ++ 10 ∷ []
+line_is first second third last = rw (closed_is last, append-nil (spaced first)) (simp (append_assoc, flat_map-append))
+
+directory_back : (p : Bool) (d : Option ℕ) → HasDirectory p d → directory_read p (directory_words d) ≡ Ok d
+directory_back true (Some n) h = rw (number_back 65535 n (omega arith) (omega arith)) refl
+directory_back true None h = absurd h
+directory_back false (Some n) h = absurd h
+directory_back false None h = refl
+
+directory_are : (p : Bool) (d : Option ℕ) → HasDirectory p d → AreWords (directory_words d)
+directory_are true (Some n) h = (record { some = lit< tt; inner = refl }, (number_word n (omega arith), tt))
+directory_are true None h = absurd h
+directory_are false (Some n) h = absurd h
+directory_are false None h = tt
+
+module _ (s : SetForm) (is : IsSetForm s) where
+  rest : List (List ℕ)
+  rest =
+      codes "set" ∷ safe_name_of s.name ∷ organisation_text s.organisation ∷ format_text s.format ∷ decimal s.record_length
+      ∷ decimal s.block_length
+      ∷ decimal s.key_length ∷ day_text s.created ∷ day_text s.expires ∷ directory_words s.directory
+
+  read : set_read rest ≡ Ok s
+  unfolding rest
+  read =
+      rw (
+        name_back 44 s.name is.name (lit< tt) (omega arith),
+        organisation_back s.organisation is.organisation,
+        format_back s.format is.format,
+        number_back 65535 s.record_length (omega (arith, is.record_length)) (omega (arith, is.record_length)),
+        number_back 65535 s.block_length (omega (arith, is.block_length)) (omega (arith, is.block_length)),
+        number_back 255 s.key_length (omega (arith, is.key_length)) (omega (arith, is.key_length)),
+        day_back s.created is.created,
+        day_back s.expires is.expires,
+        directory_back (is_partitioned s.organisation) s.directory is.directory,
+      ) refl
+
+  pub set_is_line : IsLine (Set s)
+  unfolding rest
+  set_is_line = record {
+    first = codes "data";
+    words = rest;
+    are = line_is (safe_name_of s.name ∷ organisation_text s.organisation ∷ format_text s.format ∷ [])
+        (decimal s.record_length ∷ decimal s.block_length ∷ decimal s.key_length ∷ []) (day_text s.created ∷ day_text s.expires ∷ [])
+        (directory_words s.directory);
+    is_word = record { some = lit< tt; inner = refl };
+    are_words = (
+      record { some = lit< tt; inner = refl },
+      (
+        name_word 44 s.name is.name,
+        (
+          organisation_word s.organisation is.organisation,
+          (
+            format_word s.format is.format,
+            (
+              number_word s.record_length (omega (arith, is.record_length)),
+              (
+                number_word s.block_length (omega (arith, is.block_length)),
+                (
+                  number_word s.key_length (omega (arith, is.key_length)),
+                  (
+                    day_word s.created is.created,
+                    (
+                      day_word s.expires is.expires,
+                      directory_are (is_partitioned s.organisation) s.directory is.directory,
+                    ),
+                  ),
+                ),
+              ),
+            ),
+          ),
+        ),
+      ),
+    );
+    read = ap a_set read;
+  }
