@@ -18,6 +18,10 @@ use Rattle.dasd_run.specs.declared.fault.ProgramFault.{ProgramFault}
 use Rattle.dasd_run.specs.declared.fault.ProgramFault.TheVariants as fault
 use Rattle.dasd_run.specs.Paths.{quoted_paths}
 use Rattle.dasd_run.specs.Printed.{ending_of, WhyUnopened}
+use Rattle.dasd_unload.specs.declared.sets.BlockForm.{BlockForm}
+use Rattle.dasd_unload.specs.declared.sets.BlockForm.TheVariants as form
+use Rattle.dasd_words.specs.declared.requests.FileForm.{FileForm}
+use Rattle.dasd_words.specs.declared.requests.FileForm.TheVariants as words
 
 -- how the program ends with what was unloaded: so, where that is done; and else its fault is the program's
 abbrev pub unload_ending : {A : Type 0} → (A → Ending) → Result A UnloadFault → Result Ending ProgramFault
@@ -30,9 +34,15 @@ abbrev pub NothingCame : (as_far : Bool) → Result Ending ProgramFault → (pat
 NothingCame as_far (Ok ending) paths opened_before opened before now = ⊥
 NothingCame as_far (Err f) paths opened_before opened before now = WhyUnopened as_far f paths opened_before opened × (now ≡ before)
 
+-- how blocks are written to what a file is to have
+abbrev pub block_form_of : FileForm → BlockForm
+block_form_of words.Blocks = form.Raw
+block_form_of words.WithLengths = form.WithLengths
+block_form_of words.Text = form.Text
+
 -- the data set that is asked for, or the member of one
 abbrev pub asked_set : ExtractedSet → AskedSet
-asked_set e = asked e.name.data_set.now (option_copied e.name.member) e.is_text e.given (option_copied e.target)
+asked_set e = asked e.name.data_set.now (option_copied e.name.member) (block_form_of e.form) e.given (option_copied e.target)
 
 -- It was unloaded from the volume in the files that were named, and no other file was opened; or its fault says why it was not, or not to
 -- its end.
@@ -64,7 +74,7 @@ ExtractsTracks result e opened_before opened before now =
 
 -- where all data sets go, and how what is told of them is printed
 abbrev pub asked_plan : ExtractedVolume → Plan
-asked_plan e = plan_of e.folder.now e.is_text e.json (quoted_paths (map (λ path. path.now) e.paths.items))
+asked_plan e = plan_of e.folder.now (block_form_of e.form) e.json (quoted_paths (map (λ path. path.now) e.paths.items))
 
 -- All were unloaded from the volume in the files that were named, and no other file was opened; it is reported if something is wrong, and
 -- nothing that is told is held back. Or a fault stopped it.

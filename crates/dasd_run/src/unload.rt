@@ -5,7 +5,7 @@ ghost use Rattle.counted_io.specs.Streams.{seen_by};
 ghost use Rattle.dasd_unload.specs.Unloads.{outcome};
 ghost use Rattle.dasd_run.specs.Faults.{keeps_files};
 ghost use Rattle.dasd_run.specs.Printed.{ending_of};
-ghost use Rattle.dasd_run.specs.Unloads.{ExtractsSet, ExtractsTracks, ExtractsVolume, unload_ending};
+ghost use Rattle.dasd_run.specs.Unloads.{block_form_of, ExtractsSet, ExtractsTracks, ExtractsVolume, unload_ending};
 
 use crate::commands::Ending;
 use crate::fault::ProgramFault;
@@ -13,11 +13,22 @@ use crate::printed_paths::quoted;
 use counted_io::Counted;
 use dasd_jobs::{ImageFiles, open_volume};
 use dasd_unload::{
-    UnloadFault, WantedSet, WantedTracks, WantedVolume, unload_set, unload_tracks, unload_volume,
+    BlockForm, UnloadFault, WantedSet, WantedTracks, WantedVolume, unload_set, unload_tracks, unload_volume,
 };
-use dasd_words::{ExtractedSet, ExtractedTracks, ExtractedVolume};
+use dasd_words::{ExtractedSet, ExtractedTracks, ExtractedVolume, FileForm};
 use std::alloc::Global;
 use std::io::Write;
+
+// How blocks are written to what a file is to have.
+fn block_form_of(form: FileForm) -> BlockForm
+    ensures { result ≡ block_form_of form }
+{
+    match form {
+        FileForm::Blocks => BlockForm::Raw,
+        FileForm::WithLengths => BlockForm::WithLengths,
+        FileForm::Text => BlockForm::Text,
+    }
+}
 
 /// Takes a data set, or a member of one, out of the volume of its files.
 pub(crate) fn extract_set<F: ImageFiles, W: Write>(
@@ -34,7 +45,7 @@ pub(crate) fn extract_set<F: ImageFiles, W: Write>(
         name: asked.name.data_set,
         member: asked.name.member,
         target: asked.target,
-        is_text: asked.is_text,
+        block_form: block_form_of(asked.form),
         given: asked.given,
     };
     let mut volume = match open_volume(alloc, files, asked.paths.as_slice(), asked.as_far) {
@@ -90,7 +101,7 @@ pub(crate) fn extract_volume<F: ImageFiles, W: Write>(
     };
     let volume = WantedVolume {
         folder: asked.folder,
-        is_text: asked.is_text,
+        block_form: block_form_of(asked.form),
         path: path.as_str(),
         json: asked.json,
         as_far: asked.as_far,
