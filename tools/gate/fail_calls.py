@@ -103,6 +103,13 @@ def deck_for(unit: str) -> bytes:
 # The words that say what a data set is loaded from.
 CARDS = ["--from", "cards", "--record-format", "FB", "--record-length", "80", "--block-length", "800"]
 
+# The files of a folder whose data sets are loaded.
+FOLDER = {
+    "data_sets.txt": "data set NEW.CARDS PS FB 80 800 0 - -\ndata set NEW.LIB PO FB 80 800 0 - - directory 1\nmember ALPHA\n",
+    "NEW.CARDS": "A CARD\n",
+    "NEW.LIB(ALPHA)": "IN ALPHA\n",
+}
+
 COMMANDS = [
     Command("format a new file", ["format", "new.ckd", "--cylinders", "1"]),
     Command("format over a file", ["format", "one.ckd", "--cylinders", "2"]),
@@ -127,6 +134,7 @@ COMMANDS = [
     Command("delete", ["delete", "pack.ckd", "PAY.CARDS"]),
     Command("load", ["load", "pack.ckd", "NEW.CARDS", *CARDS]),
     Command("load --replace", ["load", "--replace", "pack.ckd", "NEW.CARDS", *CARDS]),
+    Command("load --all", ["load", "--all", "in", "--text", "pack.ckd"]),
     Command("relabel", ["relabel", "pack.ckd", "--label", "ABC123", "--owner", "SIXAMBRA"]),
     Command("explain", ["explain", "csw", "00000428", "0E000320"]),
     Command("assemble", ["assemble"], b" ORG X'48'\n DC A(START)\nSTART TIC START\n SIO 190\n"),
@@ -177,6 +185,9 @@ def fill(folder: Path) -> None:
     (folder / "core").write_bytes(bytes(range(200)))
     (folder / "cards").write_bytes(b"\x40" * 160)
     (folder / "out").mkdir()
+    (folder / "in").mkdir()
+    for name, held in FOLDER.items():
+        (folder / "in" / name).write_text(held, encoding="ascii")
 
 
 def files_in(folder: Path) -> dict[str, bytes]:

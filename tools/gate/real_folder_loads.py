@@ -94,7 +94,7 @@ def worn_in(s: Scratch) -> None:
     tracks_of = library_tracks(2) | {8: [*BETA, END_OF_FILE], 4: keyed[:4], 5: keyed[4:6], 12: [*keyed[6:], END_OF_FILE], 9: [END_OF_FILE]}
     image = pack(s, "pack.ckd", sets, tracks_of)
     key, data = image.block((1, 4))
-    image.put_block((1, 4), key, data[:40] + bytes([0xC0, 0, 0x1C, 0x20, 0, 0, 8]) + data[47:])
+    image.put_block((1, 4), key, data[:40] + bytes([0xC0, 0, 0x0E, 0x10, 0, 0, 8]) + data[47:])
     image.save()
 
 
@@ -142,7 +142,7 @@ def text_of_a_folder_that_is_wrong_leaves_the_pack(s: Scratch) -> None:
     name = "a name has capital letters, digits and .-_@#$, and any other byte in EBCDIC as %40; it is one of 44 bytes at most, and of a member of 8"
     directory = "a partitioned data set, and no other, has at its end `directory` and the number of its blocks, to 65535"
     for lines, number, why in [
-        ("data sets\n", 1, begins),
+        ("dataset TEST.CARDS PS FB 80 160 0 - -\n", 1, begins),
         (CARDS_LINE + "\n# note\nfile A\n", 4, begins),
         ("data set TEST.CARDS PS FB 80 160 0 1974-365\n", 1, "too few words or too many"),
         ("data set test PS FB 80 160 0 - -\n", 1, name),
@@ -151,7 +151,7 @@ def text_of_a_folder_that_is_wrong_leaves_the_pack(s: Scratch) -> None:
         ("data set A PS FB 65536 160 0 - -\n", 1, "a record length is a number to 65535"),
         ("data set A PS FB 80 1x 0 - -\n", 1, "a block length is a number to 65535"),
         ("data set A PS FB 80 160 256 - -\n", 1, "a key length is a number to 255"),
-        ("data set A PS FB 80 160 0 1974-1 -\n", 1, "a day is a year from 1900 to 2155 and its day, as 1974-365, or a hyphen for none"),
+        ("data set A PS FB 80 160 0 1899-365 -\n", 1, "a day is a year from 1900 to 2155 and its day, as 1974-365, or a hyphen for none"),
         ("data set A PO FB 80 160 0 - -\n", 1, directory),
         ("data set A PS FB 80 160 0 - - directory 1\n", 1, directory),
         (CARDS_LINE + "member A\n", 2, "a member or an alias stands behind its data set, which has a directory"),
@@ -168,13 +168,14 @@ def files_of_a_folder_that_are_wrong_leave_the_pack(s: Scratch) -> None:
     stays(s, held, BY_HAND, files | {"TEST.CARDS": b"ONE\n" + b"A" * 81}, "TEST.CARDS: line 2 is longer than a record")
     stays(s, held, BY_HAND, files | {"TEST.LIB(OTHER)": b"A\tB\n"}, "TEST.LIB: member 2: line 1 has a character that is no text of EBCDIC")
     stays(s, held, BY_HAND.replace("LATER ALPHA", "LATER BETA"), files, "TEST.LIB(LATER): no such member")
-    stays(s, held, BY_HAND.replace("2/01", "3/01"), files, "TEST.LIB: entry 3 has an address of no block")
-    stays(s, held, BY_HAND.replace("2/01", "0/01"), files, "TEST.LIB(OTHER): a note leads to no block")
+    stays(s, held, BY_HAND.replace("2/01", "3/01"), files, "TEST.LIB: entry 2 has an address of no block")
+    notes = "at most three notes stand before the user data: a number of a block and a byte, as 5/00, or an address and a byte, as @000102/00"
+    stays(s, held, BY_HAND.replace("2/01", "0/01"), files, f"{TEXT}: line 8: {notes}")
     stays(s, held, BY_HAND.replace("2/01", "@000102/01"), files, "TEST.LIB(OTHER): a note leads to no block")
-    stays(s, held, BY_HAND.replace("LATER", "A"), files, "TEST.LIB: entry 2: names are not in ascending order")
-    stays(s, held, BY_HAND.replace("LATER", "ALPHA"), files, "TEST.LIB: entry 2: two entries have one name")
+    stays(s, held, BY_HAND.replace("LATER", "A"), files, "TEST.LIB: entry 1: names are not in ascending order")
+    stays(s, held, BY_HAND.replace("LATER", "ALPHA"), files, "TEST.LIB: entry 1: two entries have one name")
     stays(s, held, BY_HAND.replace("directory 2", "directory 0"), files, "TEST.LIB: the directory takes 1 blocks")
-    stays(s, held, BY_HAND.replace("TEST.LIB PO FB", "TEST.LIB PO VB"), files, "TEST.LIB: member 1: lines of text are records of one length, F or FB")
+    stays(s, held, BY_HAND.replace("TEST.LIB PO FB 80 80", "TEST.LIB PO VB 80 88"), files, "TEST.LIB: member 1: lines of text are records of one length, F or FB")
     stays(s, held, BY_HAND.replace("FB 80 80", "FB 80 100"), files, "TEST.LIB: record length and block length contradict each other")
 
 
@@ -183,7 +184,6 @@ def volume_that_gets_no_folder_stays(s: Scratch) -> None:
     held = fresh(s)
     files = dict(HAND_FILES)
     stays(s, held, BY_HAND + "\n" + CARDS_LINE, files, "TEST.CARDS: a data set has this name")
-    stays(s, held, CARDS_LINE.replace("TEST.CARDS", "1A"), {"1A": b"A\n"}, "1A: not a name of a data set")
     stays(s, held, BY_HAND.replace("directory 2", "directory 300"), files, "TEST.LIB: no run of free tracks is long enough")
     lines = "".join(f"data set A{number} PS F 80 80 0 - -\n" for number in range(15))
     files = {f"A{number}": b"A\n" for number in range(15)}
@@ -194,6 +194,16 @@ def volume_that_gets_no_folder_stays(s: Scratch) -> None:
     stays(s, held, CARDS_LINE, HAND_FILES, "TEST.CARDS: no free control block in the volume table of contents")
     same(s.dasd("format", "new.ckd", "--cylinders", "1")[0], 0)
     stays(s, s.path("new.ckd").read_bytes(), CARDS_LINE, HAND_FILES, "TEST.CARDS: no volume label")
+
+
+@row
+def names_that_no_system_gives_are_loaded_as_volumes_have_them(s: Scratch) -> None:
+    fresh(s)
+    names = ["1A", "%4B.%61ETC", "A..B", "A" * 44, "%40B"]
+    put_folder(s, "".join(CARDS_LINE.replace("TEST.CARDS", it) for it in names), {it: b"A\n" for it in names})
+    same(load(s, "--text"), (0, "".join(f"loaded {it} 1 track\n" for it in names), ""))
+    keys = [it.key for it in Image(s.path("new.ckd")).records(1)[3:8]]
+    same(keys, [ebcdic(it, 44) for it in ("1A", "../ETC", "A..B", "A" * 44, " B")])
 
 
 @row

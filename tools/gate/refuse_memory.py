@@ -3,8 +3,8 @@ with status 1, with a front of what it prints otherwise, in a trace too, and no 
 that take memory are made by rows/player/memory.py.
 
 For a word that is misspelled `clap` suggests those that are like it. It collects the letters of each, and where the standard library
-collects items whose number is not known, it asks once more, for less, when it is refused. There, and nowhere else, a refusal changes
-nothing; how often it may is reckoned from the words.
+collects items whose number is not known, it asks once more, for less, when it is refused. There, and where the lines and words of a folder's
+text are collected, and nowhere else, a refusal changes nothing; how often it may is reckoned from the words.
 
 It runs crates/dasd_cmd/out/dasd_cmd, as `rt ci` or `rt run` leaves it; with --built FOLDER the dasd_cmd of that folder. It needs a C
 compiler, $CC or cc. The last line is 'N takings of memory refused, M came out wrong', and the status 1
@@ -41,6 +41,10 @@ START    SEEK  *+16,CC,6
 # What is put onto a volume: cards, lines, and blocks behind their lengths and keys.
 LOAD = ["load", "old.ckd", "NEW.SET", "--from", "/dev/stdin"]
 CARDS, LINES, KEYED = " " * 400, "ONE\nTWO\n" * 30, "\1\3\0\5KEYBLOCK" * 30
+FOLDER = {
+    "data_sets.txt": "# all\ndata set NEW.CARDS PS FB 80 80 0 - -\ndata set NEW.LIB PO FB 80 80 0 - - directory 1\nmember A 0102\nmember B 1/00\nalias C B\n",
+    **{"NEW.CARDS": LINES, "NEW.LIB(A)": "ONE\n", "NEW.LIB(B)": LINES},
+}
 CHANGES = ["load", "rename", "delete", "relabel"]
 COMMANDS = ["format", "list", "check", "dump", "compare", "hash", "vtoc", "extract", *CHANGES, "explain", "assemble", "disassemble", "run", "help"]
 WRONG = "fomrat"
@@ -60,13 +64,20 @@ def growths(length: int) -> int:
     return count
 
 
+def growths_of(text: str) -> int:
+    """How often lists of its lines, and of the words of each, grow."""
+    lines = text.split("\n")
+    return growths(len(lines)) + sum(growths(len(it.split())) for it in lines)
+
+
 @dataclass(frozen=True)
 class Job:
-    """A job of `dasd`: its words, a deck, and how many refusals are asked for again, or are done without."""
+    """A job of `dasd`: its words, a deck, how many refusals are asked for again, or are done without, and the files of a folder `in`."""
 
     words: list[str]
     deck: str = ""
     asked_again: int = 0
+    folder: dict[str, str] | None = None
 
 
 JOBS = {
@@ -93,6 +104,7 @@ JOBS = {
     "a file that is loaded": Job([*LOAD, "--record-format", "FB", "--record-length", "80", "--block-length", "160"], CARDS),
     "a text that is loaded": Job([*LOAD, "--text", "--record-format", "F", "--block-length", "80"], LINES),
     "blocks with keys that are loaded": Job([*LOAD, "--with-lengths", "--key-length", "3", "--record-format", "U", "--block-length", "5"], KEYED),
+    "a folder that is loaded": Job(["load", "--all", "in", "--text", "old.ckd"], "", growths_of(FOLDER["data_sets.txt"]), FOLDER),
     "a data set that is renamed": Job(["rename", "old.ckd", "PAY.CARDS", "PAY.OLD"]),
     "a data set that is deleted": Job(["delete", "old.ckd", "PAY.CARDS"]),
     "a volume that is relabelled": Job(["relabel", "old.ckd", "--label", "ABC123"]),
@@ -134,11 +146,15 @@ class Program:
         with tempfile.TemporaryDirectory() as folder:
             if old is not None:
                 Path(folder, "old.ckd").write_bytes(old)
+            if job.folder is not None:
+                Path(folder, "in").mkdir()
+                for name, held in job.folder.items():
+                    Path(folder, "in", name).write_text(held, encoding="ascii")
             log = Path(f"{self.refusing}.log")
             given = {"REFUSE_AT": str(refused_at), "REFUSE_LOG": str(log), "LD_PRELOAD": self.refusing}
             words = [self.path, *job.words]
             ran = subprocess.run(words, input=job.deck.encode(), capture_output=True, cwd=folder, env=given, timeout=60, check=False)
-            files = {it.name: it.read_bytes() for it in Path(folder).iterdir()}
+            files = {it.name: it.read_bytes() for it in Path(folder).iterdir() if it.is_file()}
         noted = [(int(count), int(length)) for count, length in map(str.split, log.read_text(encoding="ascii").splitlines())]
         return Came(ran.returncode, ran.stdout.decode(), ran.stderr.decode(), files), noted
 
