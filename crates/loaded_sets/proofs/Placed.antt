@@ -68,11 +68,13 @@ module _ (v : Labelled) (set : LoadedSet) (b : FileBlocks) (p : PlacedSet) (is :
     fitting : blocks_fitting v.geometry.model set.form.key_length b ≡ Ok b
     fitting = ap (unless_faulty b) fits
 
-    module _ (tracks : ℕ) (now : List (List ℕ)) (read : IsReadBack v.geometry.model b.cut b.bytes) (gets : GetsSet v p slots tracks now) where
+    module _ (tracks : ℕ) (now : List (List ℕ)) (read : IsReadBack v.geometry.model b.cut b.bytes)
+        (gets : GetsSet v p slots tracks now) where
       takes : Takes v.geometry.model (areas_of b.cut b.bytes) tracks
       takes = subst (λ (a : List Areas). Takes v.geometry.model a tracks) is.records gets.gets.takes
 
-      loaded : IsLoaded v.geometry (extents_behind (contents_of v.geometry now).blocks (block_in (contents_of v.geometry now).blocks gets.place))
+      loaded : IsLoaded v.geometry
+          (extents_behind (contents_of v.geometry now).blocks (block_in (contents_of v.geometry now).blocks gets.place))
           now (areas_of b.cut b.bytes) tracks
       loaded = subst (λ (a : List Areas). IsLoaded v.geometry
           (extents_behind (contents_of v.geometry now).blocks (block_in (contents_of v.geometry now).blocks gets.place)) now a tracks)

@@ -22,7 +22,8 @@ returns-in-Ok-place_records-clause-set c =
     (set_of c.args.set.now (file_blocks c.args.file) _ refl c.label_of.ensures
     (ap all_areas c.as_slice.ensures.value ∙ c.in-Ok.ensures.records) (ap (λ (n : ℕ). n - 1) (c.len.ensures ∙ sym c.as_slice.ensures.len)))
     c.args.image.now.slots c.requires.fits c.in-Ok-place_records.tracks
-    c.place_records.new.image.slots (c.in-Ok.ensures.read c.args.volume.now.geometry.model c.requires.blocks) c.in-Ok-place_records.ensures.placed
+    c.place_records.new.image.slots (c.in-Ok.ensures.read c.args.volume.now.geometry.model c.requires.blocks)
+    c.in-Ok-place_records.ensures.placed
 
 pub returns-clause-fault : goal.returns-clause-fault
 returns-clause-fault c =
