@@ -77,7 +77,8 @@ some_many (suc n) size some = omega arith
 
 module _ (g : Geometry) (b : FileBlocks) (key_length : ℕ) (fits : block_fault_of g.model b.layout key_length b.cut b.bytes ≡ None) where
   module _ (size : ℕ) (text : List ℕ) (has : HasLines b size text) (tracks : ℕ) where
-    module _ (takes : Takes g.model (areas_of b.cut b.bytes) tracks) (extents : List Extent) (slots : List (List ℕ)) (loaded : IsLoaded g extents slots (areas_of b.cut b.bytes) tracks) where
+    module _ (takes : Takes g.model (areas_of b.cut b.bytes) tracks) (extents : List Extent) (slots : List (List ℕ))
+        (loaded : IsLoaded g extents slots (areas_of b.cut b.bytes) tracks) where
       it : Fit g.model b.layout.longest size
       it = fit g.model b.layout key_length b.layout.longest b.bytes size has.some has.fixed
           (ap (λ (c : Cut). block_fault_of g.model b.layout key_length c b.bytes) (sym has.cut) ∙ fits)
