@@ -6,7 +6,8 @@ use Rattle.library_contents.specs.Notes.{note_at, and_notes, notes_from}
 use Rattle.library_contents.proofs.Placed.{before_all, one_before, last_before}
 
 module _ (l : Library) (member user : List ℕ) where
-  more_notes : (count k : ℕ) → notes_from l member user (suc count) k ≡ and_notes (note_at l member user k) (notes_from l member user count (k + 1))
+  more_notes : (count k : ℕ) → notes_from l member user (suc count) k
+      ≡ and_notes (note_at l member user k) (notes_from l member user count (k + 1))
   unfolding notes_from
   more_notes count k = refl
 
@@ -25,7 +26,8 @@ module _ (l : Library) (member user : List ℕ) where
 
     pub one_more_note : (note : ReadNote) → Some note ≡ note_at l member user k → k < count
         → notes_from l member user all 0 ≡ before_all (notes ++ note ∷ []) (notes_from l member user (count - (k + 1)) (k + 1))
-    one_more_note note is inside = this_note (Some note) is inside ∙ one_before notes note (notes_from l member user (count - (k + 1)) (k + 1))
+    one_more_note note is inside =
+        this_note (Some note) is inside ∙ one_before notes note (notes_from l member user (count - (k + 1)) (k + 1))
 
     pub leads_nowhere : None ≡ note_at l member user k → k < count → None ≡ notes_from l member user all 0
     leads_nowhere is inside = sym (this_note None is inside)

@@ -1,5 +1,6 @@
 -- A walk over the entries of a directory.
-use Rattle.std.proofs.Common.{ℕ, zero, suc, ◌+◌, ◌-◌, ◌<◌, ◌≤◌, ◌≡◌, ◌∙◌, List, [], ◌∷◌, ◌++◌, length, map, Option, Some, None, option_map, ap, sym, refl}
+use Rattle.std.proofs.Common.{ℕ, zero, suc, ◌+◌, ◌-◌, ◌<◌, ◌≤◌, ◌≡◌, ◌∙◌, List, []}
+use Rattle.std.proofs.Common.{◌∷◌, ◌++◌, length, map, Option, Some, None, option_map, ap, sym, refl}
 use Rattle.std.proofs.Common.{append-nil, append_assoc, arith}
 use Rattle.data_sets.specs.declared.directories.DirectoryEntry.{DirectoryEntry}
 use Rattle.data_sets.specs.declared.directories.DirectoryFault.{DirectoryFault}
@@ -71,7 +72,8 @@ module _ (bytes : List ℕ) where
   over_right e None entries = refl
   over_right e (Some f) entries = refl
 
-  one_more : (e : DirectoryEntry) (end : ℕ) (placed : Option (List PlacedEntry)) (fault : Option DirectoryFault) (entries : List DirectoryEntry)
+  one_more : (e : DirectoryEntry) (end : ℕ) (placed : Option (List PlacedEntry)) (fault : Option DirectoryFault)
+      (entries : List DirectoryEntry)
       → plain placed ≡ if_right fault entries → plain (and_more e end placed) ≡ if_right fault (e ∷ entries)
   one_more e end placed fault entries is =
       over_more e end placed ∙ ap (λ o. option_map (λ (es : List DirectoryEntry). e ∷ es) o) is ∙ over_right e fault entries

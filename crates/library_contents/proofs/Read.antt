@@ -1,5 +1,6 @@
 -- The entries of a library that are read one after another.
-use Rattle.std.proofs.Common.{ℕ, zero, suc, ◌+◌, ◌-◌, ◌<◌, ◌≤◌, ◌≡◌, ◌∙◌, List, [], ◌∷◌, ◌++◌, length, map, take, drop, get_or, Option, Some, None, Result, Ok, Err}
+use Rattle.std.proofs.Common.{ℕ, zero, suc, ◌+◌, ◌-◌, ◌<◌, ◌≤◌, ◌≡◌, ◌∙◌, List, [], ◌∷◌}
+use Rattle.std.proofs.Common.{◌++◌, length, map, take, drop, get_or, Option, Some, None, Result, Ok, Err}
 use Rattle.std.proofs.Common.{ap, sym, refl, subst, arith, append_assoc, append-nil, position}
 use Rattle.std.proofs.lemmas.List.{map-append, take_more, take_all, drop_more, drop_all}
 use Rattle.volume_labels.specs.declared.fields.Extent.{Extent}
@@ -47,13 +48,15 @@ module _ (l : Library) (bytes : List ℕ) where
 
   module _ (placed : List PlacedEntry) (k : ℕ) (entries : List ReadEntry)
       (so_far : entries_read l bytes 0 placed ≡ after_these (map said_by entries) (entries_read l bytes k (drop k placed))) where
-    this_entry : (d : PlacedEntry) → k < length placed → entries_read l bytes 0 placed ≡ after_these (map said_by entries)
-        (and_entries (entry_read l bytes k (get_or placed k d)) (entries_read l bytes (k + 1) (drop (k + 1) placed)))
+    this_entry : (d : PlacedEntry) → k < length placed → entries_read l bytes 0 placed
+        ≡ after_these (map said_by entries) (and_entries (entry_read l bytes k (get_or placed k d)) (entries_read l bytes (k + 1) (drop (k + 1) placed)))
     this_entry d inside =
-        so_far ∙ ap (λ (ps : List PlacedEntry). after_these (map said_by entries) (entries_read l bytes k ps)) (drop_more placed k d inside)
+        so_far
+        ∙ ap (λ (ps : List PlacedEntry). after_these (map said_by entries) (entries_read l bytes k ps)) (drop_more placed k d inside)
         ∙ ap (after_these (map said_by entries)) (more_entries k (get_or placed k d) (drop (k + 1) placed))
 
-    pub one_more_entry : (d : PlacedEntry) (e : ReadEntry) → k < length placed → entry_read l bytes k (get_or placed k d) ≡ Ok (said_by e)
+    pub one_more_entry : (d : PlacedEntry) (e : ReadEntry) → k < length placed
+        → entry_read l bytes k (get_or placed k d) ≡ Ok (said_by e)
         → entries_read l bytes 0 placed ≡ after_these (map said_by (entries ++ e ∷ [])) (entries_read l bytes (k + 1) (drop (k + 1) placed))
     one_more_entry d e inside is =
         let rest = entries_read l bytes (k + 1) (drop (k + 1) placed) in
@@ -61,7 +64,8 @@ module _ (l : Library) (bytes : List ℕ) where
         ∙ one_before (map said_by entries) (said_by e) rest
         ∙ ap (λ (es : List EntryRead). after_these es rest) (sym (map-append said_by entries (e ∷ [])))
 
-    one_fault : (d : PlacedEntry) (f : LibraryReadFault) → k < length placed → entry_read l bytes k (get_or placed k d) ≡ Err f
+    one_fault : (d : PlacedEntry) (f : LibraryReadFault) → k < length placed
+        → entry_read l bytes k (get_or placed k d) ≡ Err f
         → entries_read l bytes 0 placed ≡ Err f
     one_fault d f inside is =
         this_entry d inside
@@ -69,11 +73,12 @@ module _ (l : Library) (bytes : List ℕ) where
 
     pub all_entries : length placed ≤ k → entries_read l bytes 0 placed ≡ Ok (map said_by entries)
     all_entries passed =
-        so_far ∙ ap (λ (ps : List PlacedEntry). after_these (map said_by entries) (entries_read l bytes k ps)) (drop_all k placed passed)
+        so_far
+        ∙ ap (λ (ps : List PlacedEntry). after_these (map said_by entries) (entries_read l bytes k ps)) (drop_all k placed passed)
         ∙ ap (after_these (map said_by entries)) (no_entries k) ∙ ap Ok (append-nil (map said_by entries))
 
-    pub that_fault : (f : LibraryReadFault) (d : PlacedEntry) → k < length placed → GivesEntry (entry_read l bytes k (get_or placed k d)) (Err f)
-        → IsFault l bytes placed f
+    pub that_fault : (f : LibraryReadFault) (d : PlacedEntry) → k < length placed
+        → GivesEntry (entry_read l bytes k (get_or placed k d)) (Err f) → IsFault l bytes placed f
     that_fault (Volume fault) d inside is = tt
     that_fault Directory d inside is = is
     that_fault (Member number) d inside is = one_fault d (Member number) inside is
@@ -93,7 +98,8 @@ module _ (placed : List PlacedEntry) (k : ℕ) (starts : List RelativeAddress) (
         ∙ sym (more_starts starts (get_or placed k d) (drop (k + 1) placed))
         ∙ ap (starts_from starts) (sym (drop_more placed k d inside)) ∙ left
 
-    pub one_more_number : (entries : List ReadEntry) (e : ReadEntry) → position (same_address (get_or placed k d).entry.address) now ≡ Some e.member
+    pub one_more_number : (entries : List ReadEntry) (e : ReadEntry)
+        → position (same_address (get_or placed k d).entry.address) now ≡ Some e.member
         → numbers_in entries ≡ map (member_of placed) (take k placed)
         → numbers_in (entries ++ e ∷ []) ≡ map (member_of placed) (take (k + 1) placed)
     one_more_number entries e found so_far =
@@ -106,6 +112,6 @@ module _ (placed : List PlacedEntry) (k : ℕ) (starts : List RelativeAddress) (
         ∙ ap (map (member_of placed)) (sym (take_more placed k d inside))
 
 -- what was read of a volume that stayed
-pub of_same_volume : (extents : List Extent) (v w : KnownVolume) (bytes : List ℕ) (n : Numbered) (r : Result ReadEntry LibraryReadFault) → w ≡ v
-    → ReadsEntry w extents bytes n r → ReadsEntry v extents bytes n r
+pub of_same_volume : (extents : List Extent) (v w : KnownVolume) (bytes : List ℕ) (n : Numbered)
+    (r : Result ReadEntry LibraryReadFault) → w ≡ v → ReadsEntry w extents bytes n r → ReadsEntry v extents bytes n r
 of_same_volume extents v w bytes n r is read = subst (λ (v : KnownVolume). ReadsEntry v extents bytes n r) is read

@@ -1,5 +1,6 @@
 -- The addresses of members, each once, and the members that were read from them.
-use Rattle.std.proofs.Common.{ℕ, zero, suc, ◌+◌, ◌-◌, ◌<◌, ◌≤◌, ◌≡◌, ◌∙◌, Bool, true, false, cond, nat_lt, ◌&&◌, ◌==◌, List, [], ◌∷◌, ◌++◌, length, map, get_or}
+use Rattle.std.proofs.Common.{ℕ, zero, suc, ◌+◌, ◌-◌, ◌<◌, ◌≤◌, ◌≡◌, ◌∙◌, Bool, true}
+use Rattle.std.proofs.Common.{false, cond, nat_lt, ◌&&◌, ◌==◌, List, [], ◌∷◌, ◌++◌, length, map, get_or}
 use Rattle.std.proofs.Common.{not, drop, Option, Some, None, ap, sym, refl, arith, position, length-append}
 use Rattle.std.specs.List.{position_or_len}
 use Rattle.std.specs.Global.{Vec}
@@ -117,8 +118,9 @@ stays_in (p ∷ placed) starts start n is =
     ∙ stays_in placed (with_start starts p.entry.address) start n (stays_there starts p.entry.address start n is)
 
 -- A member that was not read before.
-module _ (extents : List Extent) (v : KnownVolume) (start : RelativeAddress) (m now : Members) (x : Vec ℕ) (read : AreRead extents v m)
-    (none : position (same_address start) m.starts.items ≡ None) (adds : AddsMember m now start x) (whole : WholeFrom extents start v (Some x)) where
+module _ (extents : List Extent) (v : KnownVolume) (start : RelativeAddress) (m now : Members) (x : Vec ℕ)
+    (read : AreRead extents v m) (none : position (same_address start) m.starts.items ≡ None) (adds : AddsMember m now start x)
+    (whole : WholeFrom extents start v (Some x)) where
   one_more_start : length now.starts.items ≡ length m.starts.items + 1
   one_more_start = ap (λ (l : List RelativeAddress). length l) adds.starts ∙ length-append m.starts.items (start ∷ [])
 

@@ -14,6 +14,7 @@ is_end_of_file EndOfFile = true
 is_end_of_file EndBehindAlternates = true
 is_end_of_file other = false
 
+-- these bytes, if that is how they end
 abbrev pub whole_for : Option Stop → List ℕ → Option (List ℕ)
 whole_for None bytes = None
 whole_for (Some stop) bytes = if is_end_of_file stop.cause then Some bytes else None

@@ -12,6 +12,7 @@ use Rattle.library_contents.specs.declared.directories.PlacedEntry.{PlacedEntry}
 abbrev pub and_more : DirectoryEntry → (end : ℕ) → Option (List PlacedEntry) → Option (List PlacedEntry)
 and_more e end more = option_map (λ (l : List PlacedEntry). record { entry = e; end = end } ∷ l) more
 
+-- what stands at an offset, and what is behind it
 abbrev pub on_step : DirectoryStep → (ℕ → Option (List PlacedEntry)) → Option (List PlacedEntry)
 on_step (Entry e next) more = and_more e next (more next)
 on_step (Skip next) more = more next

@@ -23,6 +23,7 @@ pub record EntryRead : Type 0 where
   pub notes : List ReadNote
   pub user_data : List ℕ
 
+-- the same of an entry in memory
 abbrev pub said_by : ReadEntry → EntryRead
 said_by r = record { entry = r.entry; notes = r.notes.items; user_data = r.user_data.items }
 

@@ -26,6 +26,7 @@ directory_bytes l = whole_bytes (source_written (directory l.extents) l.geometry
 abbrev pub member_of : List PlacedEntry → PlacedEntry → Option ℕ
 member_of placed p = position (same_address p.entry.address) (starts_of placed)
 
+-- the numbers of the members of entries
 abbrev pub numbers_in : List ReadEntry → List (Option ℕ)
 numbers_in entries = map (λ (e : ReadEntry). Some e.member) entries
 
@@ -44,6 +45,7 @@ IsFault l bytes placed (Member number) = entries_read l bytes 0 placed ≡ Err (
 IsFault l bytes placed (ShortUserData number) = entries_read l bytes 0 placed ≡ Err (ShortUserData number)
 IsFault l bytes placed (NoBlock number) = entries_read l bytes 0 placed ≡ Err (NoBlock number)
 
+-- its contents, or that fault
 abbrev pub GivesContents : Library → (bytes : List ℕ) → List PlacedEntry → Result LibraryContents LibraryReadFault → Type 0
 GivesContents l bytes placed (Ok contents) = IsContents l bytes placed contents
 GivesContents l bytes placed (Err fault) = IsFault l bytes placed fault
@@ -62,14 +64,17 @@ IsRefused (Err (Member number)) = ⊥
 IsRefused (Err (ShortUserData number)) = ⊥
 IsRefused (Err (NoBlock number)) = ⊥
 
+-- what is read of a library, by what its directory has
 abbrev pub GivesPlaced : Library → (bytes : List ℕ) → Option (List PlacedEntry) → Result LibraryContents LibraryReadFault → Type 0
 GivesPlaced l bytes None result = IsRefused result
 GivesPlaced l bytes (Some placed) result = GivesContents l bytes placed result
 
+-- the same, by the blocks of its directory
 abbrev pub GivesLibrary : Library → (bytes : Option (List ℕ)) → Result LibraryContents LibraryReadFault → Type 0
 GivesLibrary l None result = IsRefused result
 GivesLibrary l (Some bytes) result = GivesPlaced l bytes (placed_entries bytes) result
 
+-- a library on a volume whose directory has these bytes, if its slots are known
 abbrev pub ReadsPlaced : List Extent → KnownVolume → (bytes : List ℕ) → Result LibraryContents LibraryReadFault → Type 0
 ReadsPlaced extents v bytes result = (slots : List (List ℕ)) → v.slots ≡ Some slots
     → GivesPlaced (library_on extents v.geometry slots) bytes (placed_entries bytes) result

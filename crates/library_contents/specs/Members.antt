@@ -22,6 +22,7 @@ pub record Library : Type 0 where
   pub geometry : Geometry
   pub slots : List (List ℕ)
 
+-- a library with these extents on a volume with these slots
 abbrev pub library_on : List Extent → Geometry → (slots : List (List ℕ)) → Library
 library_on extents g slots = record { extents = extents; geometry = g; slots = slots }
 
@@ -29,6 +30,7 @@ library_on extents g slots = record { extents = extents; geometry = g; slots = s
 abbrev pub blocks_at : Library → RelativeAddress → Option (List ℕ)
 blocks_at l start = whole_bytes (source_written (from_address l.extents start) l.geometry l.slots)
 
+-- these are they, if the slots of the volume are known
 abbrev pub WholeFrom : List Extent → RelativeAddress → KnownVolume → Option (Vec ℕ) → Type 0
 WholeFrom extents start v blocks = IsWhole (from_address extents start) v blocks
 
@@ -41,14 +43,16 @@ abbrev pub behind_others : (found : Option ℕ) → List RelativeAddress → Rel
 behind_others (Some number) starts start = starts
 behind_others None starts start = starts ++ start ∷ []
 
+-- addresses with one more, if it is none of them
 abbrev pub with_start : List RelativeAddress → RelativeAddress → List RelativeAddress
 with_start starts start = behind_others (position (same_address start) starts) starts start
 
--- the addresses of entries, each once, in the order in which they are first named
+-- addresses, and behind them those of entries, each once, in the order in which they are first named
 unfoldable pub starts_from : List RelativeAddress → List PlacedEntry → List RelativeAddress
 starts_from starts [] = starts
 starts_from starts (p ∷ placed) = starts_from (with_start starts p.entry.address) placed
 
+-- the addresses that entries name
 abbrev pub starts_of : List PlacedEntry → List RelativeAddress
 starts_of placed = starts_from [] placed
 

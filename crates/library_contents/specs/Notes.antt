@@ -27,6 +27,16 @@ number_from (suc most) number blocks others =
 abbrev pub block_number : (member blocks : List ℕ) → Option ℕ
 block_number member blocks = if length blocks == 0 then None else number_from (length member) 0 member blocks
 
+-- the blocks from that of a number on
+unfoldable pub from_block : (blocks : List ℕ) → (number : ℕ) → List ℕ
+from_block blocks zero = blocks
+from_block blocks (suc number) = from_block (behind_block blocks) number
+
+-- From the block of this number on the blocks of a member are these.
+abbrev pub NumberIsWhereTheyBegin : Type 0
+NumberIsWhereTheyBegin =
+    (member blocks : List ℕ) (number : ℕ) → block_number member blocks ≡ Some number → from_block member number ≡ blocks
+
 -- a note that leads to these blocks, if there are any that an end of file ends
 abbrev pub note_of : (member : List ℕ) → (count : ℕ) → (blocks : Option (List ℕ)) → Option ReadNote
 note_of member count None = None

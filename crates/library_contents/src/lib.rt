@@ -11,5 +11,5 @@ mod members;
 mod notes;
 
 pub use crate::contents::{LibraryContents, LibraryReadFault, ReadEntry, ReadNote};
-pub use crate::laws::entries_are_those_of_the_directory;
+pub use crate::laws::{entries_are_those_of_the_directory, number_is_where_they_begin};
 pub use crate::libraries::read_library;

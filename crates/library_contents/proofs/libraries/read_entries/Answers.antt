@@ -8,7 +8,8 @@ use Rattle.library_contents.proofs.libraries.read_entries.Goals as goal
 
 pub returns-in-Err-clause-library : goal.returns-in-Err-clause-library
 returns-in-Err-clause-library g c = λ slots known.
-    let nobody : DirectoryEntry = record { name = []; address = record { track = 0; number = 0 }; is_alias = false; notes = 0; user_bytes = 0 } in
+    let nobody : DirectoryEntry =
+    record { name = []; address = record { track = 0; number = 0 }; is_alias = false; notes = 0; user_bytes = 0 } in
     let placed = get_or c.args.placed.now c.loop-number.number (record { entry = nobody; end = 0 }) in
     let entry = of_same_volume c.args.directory.extents.now (g.V.SlotReader.volume c.args.volume.now)
     (g.V.SlotReader.volume c.loop-number.volume) c.args.directory.bytes.now (record { placed = placed; number = c.loop-number.number })
@@ -41,5 +42,6 @@ returns-clause-library g c = λ slots known.
     record {
       entries = all_entries _ _ _ _ _ (so_far.entries slots known) passed;
       numbers = so_far.numbers ∙ ap (map (member_of placed)) (take_all c.loop-number.number placed passed);
-      members = so_far.members.blocks slots known ∙ ap (map (blocks_at l)) (all_starts placed c.loop-number.number c.loop-number.members.starts.items so_far.starts passed);
+      members = so_far.members.blocks slots known
+          ∙ ap (map (blocks_at l)) (all_starts placed c.loop-number.number c.loop-number.members.starts.items so_far.starts passed);
     }
