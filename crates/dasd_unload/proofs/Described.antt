@@ -63,5 +63,6 @@ none_left text whole forms none left = sym (append-nil text) ∙ ap (λ l. text 
 -- a form, and others behind it
 pub form_and : {A E : Type 0} (r : Result A E) (before between now : List ℕ) (f : FormLine) (rest : List FormLine)
     → between ≡ before ++ form_line f → OnOk r (now ≡ between ++ text_of rest) → OnOk r (now ≡ before ++ text_of (f ∷ rest))
-form_and (Ok _) before between now f rest first behind = behind ∙ ap (λ l. l ++ text_of rest) first ∙ append_assoc before (form_line f) (text_of rest)
+form_and (Ok _) before between now f rest first behind = behind ∙ ap (λ l. l ++ text_of rest) first
+    ∙ append_assoc before (form_line f) (text_of rest)
 form_and (Err _) before between now f rest first behind = tt

@@ -294,7 +294,8 @@ module _ (v : KnownVolume) (p : Plan) (m : Contents) (is : IsContents v m) where
       let said = contents_of v.geometry slots in
       ap (λ (l : List Block). Tell (codes "volume table of contents") (contents_texts (length m.found.findings.items)) ∷ table_steps u l)
       k.blocks
-      ∙ ap (λ (l : List Finding). Tell (codes "volume table of contents") (contents_texts (length l)) ∷ table_steps u said.blocks) k.findings
+      ∙ ap (λ (l : List Finding). Tell (codes "volume table of contents") (contents_texts (length l))
+      ∷ table_steps u said.blocks) k.findings
 
   -- of the table it was told if something is wrong, and its data sets were unloaded; or a fault stopped that
   module _ (files : List Replaced) (a b : Stream) (s t : Tally) where

@@ -225,13 +225,13 @@ fn unload_text<F: ImageFiles, V: SlotReader, W: Write>(
         Ok(path) => path,
         Err(fault) => return Err(fault),
     };
-    let named = Named {
+    let described = Named {
         name: FILE_NAME,
         json: target.json,
     };
     match put_text(target.alloc, files, path.as_str(), text.as_slice()) {
         Ok(()) => Ok(()),
-        Err(UnloadFault::Job(JobFault::Exists)) => report.finding(writer, named, Wrong::Exists),
+        Err(UnloadFault::Job(JobFault::Exists)) => report.finding(writer, described, Wrong::Exists),
         Err(fault) => Err(fault),
     }
 }

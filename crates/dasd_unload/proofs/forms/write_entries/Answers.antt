@@ -18,7 +18,8 @@ loop-preserved c = elim c.match-directory_step.branch [
 
 pub returns-in-End : goal.returns-in-End
 returns-in-End c =
-    none_left _ _ _ (this_step c.args.entries.now c.args.bytes.now c.loop.counter c.loop.at _ (sym c.directory_step.ensures) c.loop-test.true
+    none_left _ _ _ (this_step c.args.entries.now c.args.bytes.now c.loop.counter c.loop.at _
+    (sym c.directory_step.ensures) c.loop-test.true
     ∙ at_end c.args.entries.now c.args.bytes.now _ c.in-End.is _) c.loop.invariant
 
 pub returns : goal.returns

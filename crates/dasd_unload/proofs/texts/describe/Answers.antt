@@ -10,4 +10,5 @@ loop-block-preserved g c = record {
 }
 
 pub returns-clause-text : goal.returns-clause-text
-returns-clause-text g c = whole (g.V.SlotReader.volume c.args.volume.now) c.args.blocks.now _ _ c.loop-block-test.false c.loop-block.invariant.text
+returns-clause-text g c = whole
+    (g.V.SlotReader.volume c.args.volume.now) c.args.blocks.now _ _ c.loop-block-test.false c.loop-block.invariant.text
