@@ -2,6 +2,7 @@
 //! folder, with a text that describes them. The files are behind a trait, so that nothing here touches a host.
 #![tactic(auto)]
 
+mod entries;
 mod fault;
 mod forms;
 mod names;

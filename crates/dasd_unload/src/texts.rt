@@ -3,34 +3,17 @@
 ghost use Rattle.std.specs.Prelude.{◌≡◌, ◌≢◌, IfOk, IfErr, OnOk, true};
 ghost use Rattle.std.specs.List.{flat_map};
 ghost use Rattle.dasd_unload.specs.Unloads.{is_of_job};
-ghost use Rattle.dasd_unload.specs.Described.{set_forms, block_forms, IsDescribed, AddsText, DirectoryBytes, PutsText};
+ghost use Rattle.dasd_unload.specs.Described.{set_forms, block_forms, IsDescribed, AddsText, PutsText};
 
-use crate::fault::{NO_MEMORY, UnloadFault, of_reading};
-use crate::forms::{write_library, write_set};
+use crate::entries::{read_blocks, write_library};
+use crate::fault::{NO_MEMORY, UnloadFault};
+use crate::forms::write_set;
 use crate::parts::is_partitioned;
 use counted_io::{Counted, WriteFault, write_whole};
-use dasd_extract::{directory_of, extract};
+use dasd_extract::directory_of;
 use dasd_jobs::{ImageFiles, JobFault, SlotReader, begin_file, put_file};
 use std::alloc::Global;
 use volume_contents::{Block, DataSet, data_set_of, is_data_set};
-use volume_labels::Extent;
-
-// The blocks of a directory, one behind another.
-fn read_blocks<V: SlotReader>(
-    alloc: Global,
-    volume: &mut V,
-    extents: &[Extent],
-) -> Result<Vec<u8>, UnloadFault>
-    ensures bytes { IfOk result (λ bytes. DirectoryBytes extents.now (V.volume volume.old) bytes.items) }
-    ensures fault { IfErr result (λ e. is_of_job e ≡ true) }
-    ensures kept { V.volume volume.new ≡ V.volume volume.old }
-{
-    let mut blocks = Counted::new(Vec::new(alloc));
-    match extract(alloc, volume, &mut blocks, directory_of(extents)) {
-        Ok(_) => Ok(blocks.into_inner()),
-        Err(fault) => Err(of_reading(fault)),
-    }
-}
 
 // What the text says of a data set goes to its end.
 fn describe_set<V: SlotReader>(
@@ -49,11 +32,8 @@ fn describe_set<V: SlotReader>(
             Err(_) => Err(NO_MEMORY),
         };
     }
-    let bytes = read_blocks(alloc, volume, set.extents.as_slice())?;
-    match write_library(alloc, text, &set.block, bytes.as_slice()) {
-        Ok(()) => Ok(()),
-        Err(_) => Err(NO_MEMORY),
-    }
+    let bytes = read_blocks(alloc, volume, directory_of(set.extents.as_slice()))?;
+    write_library(alloc, volume, text, set, bytes.as_slice())
 }
 
 // What the text says of the data set of a control block goes to its end, if it is one's.
