@@ -1,8 +1,8 @@
 -- The entries of a library that are read one after another.
-use Rattle.std.proofs.Common.{ℕ, zero, suc, ◌+◌, ◌-◌, ◌<◌, ◌≤◌, ◌≡◌, ◌∙◌, List, [], ◌∷◌}
-use Rattle.std.proofs.Common.{◌++◌, length, map, take, drop, get_or, Option, Some, None, Result, Ok, Err}
-use Rattle.std.proofs.Common.{ap, sym, refl, subst, arith, append_assoc, append-nil, position}
-use Rattle.std.proofs.lemmas.List.{map-append, take_more, take_all, drop_more, drop_all}
+use Rattle.std.proofs.Common.{ℕ, ◌+◌, ◌<◌, ◌≤◌, ◌≡◌, ◌∙◌, List, [], ◌∷◌}
+use Rattle.std.proofs.Common.{◌++◌, length, map, take, drop, get_or, Option, Some, Result, Ok, Err}
+use Rattle.std.proofs.Common.{ap, sym, refl, subst, append_assoc, append-nil, position}
+use Rattle.std.proofs.lemmas.List.{map-append, take_more, drop_more, drop_all}
 use Rattle.volume_labels.specs.declared.fields.Extent.{Extent}
 use Rattle.volume_labels.specs.declared.fields.RelativeAddress.{RelativeAddress}
 use Rattle.dasd_volumes.specs.Reading.{KnownVolume}
@@ -11,7 +11,7 @@ use Rattle.library_contents.specs.declared.contents.LibraryReadFault.{LibraryRea
 use Rattle.library_contents.specs.declared.contents.LibraryReadFault.TheVariants.{Volume, Directory, Member, ShortUserData, NoBlock}
 use Rattle.library_contents.specs.declared.directories.PlacedEntry.{PlacedEntry}
 use Rattle.library_contents.specs.declared.entries.Numbered.{Numbered}
-use Rattle.library_contents.specs.Members.{Library, same_address, with_start, starts_from, starts_of, AreRead}
+use Rattle.library_contents.specs.Members.{Library, same_address, with_start, starts_from, starts_of}
 use Rattle.library_contents.specs.Entries.{EntryRead, said_by, entry_read, and_entries, entries_read, GivesEntry, ReadsEntry}
 use Rattle.library_contents.specs.Libraries.{numbers_in, member_of, IsFault}
 use Rattle.library_contents.proofs.Starts.{more_starts, no_starts, stays_in}
@@ -49,7 +49,8 @@ module _ (l : Library) (bytes : List ℕ) where
   module _ (placed : List PlacedEntry) (k : ℕ) (entries : List ReadEntry)
       (so_far : entries_read l bytes 0 placed ≡ after_these (map said_by entries) (entries_read l bytes k (drop k placed))) where
     this_entry : (d : PlacedEntry) → k < length placed → entries_read l bytes 0 placed
-        ≡ after_these (map said_by entries) (and_entries (entry_read l bytes k (get_or placed k d)) (entries_read l bytes (k + 1) (drop (k + 1) placed)))
+        ≡ after_these (map said_by entries) (and_entries (entry_read l bytes k (get_or placed k d))
+        (entries_read l bytes (k + 1) (drop (k + 1) placed)))
     this_entry d inside =
         so_far
         ∙ ap (λ (ps : List PlacedEntry). after_these (map said_by entries) (entries_read l bytes k ps)) (drop_more placed k d inside)
@@ -86,7 +87,8 @@ module _ (l : Library) (bytes : List ℕ) where
     that_fault (NoBlock number) d inside is = one_fault d (NoBlock number) inside is
 
 -- The addresses of members, and the numbers of the members of entries.
-module _ (placed : List PlacedEntry) (k : ℕ) (starts : List RelativeAddress) (left : starts_from starts (drop k placed) ≡ starts_of placed) where
+module _ (placed : List PlacedEntry) (k : ℕ) (starts : List RelativeAddress)
+    (left : starts_from starts (drop k placed) ≡ starts_of placed) where
   pub all_starts : length placed ≤ k → starts ≡ starts_of placed
   all_starts passed = sym (no_starts starts) ∙ ap (starts_from starts) (sym (drop_all k placed passed)) ∙ left
 

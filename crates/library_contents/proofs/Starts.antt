@@ -1,7 +1,7 @@
 -- The addresses of members, each once, and the members that were read from them.
-use Rattle.std.proofs.Common.{ℕ, zero, suc, ◌+◌, ◌-◌, ◌<◌, ◌≤◌, ◌≡◌, ◌∙◌, Bool, true}
+use Rattle.std.proofs.Common.{ℕ, ◌+◌, ◌<◌, ◌≤◌, ◌≡◌, ◌∙◌, Bool, true}
 use Rattle.std.proofs.Common.{false, cond, nat_lt, ◌&&◌, ◌==◌, List, [], ◌∷◌, ◌++◌, length, map, get_or}
-use Rattle.std.proofs.Common.{not, drop, Option, Some, None, ap, sym, refl, arith, position, length-append}
+use Rattle.std.proofs.Common.{not, Option, Some, None, ap, sym, refl, arith, position, length-append}
 use Rattle.std.specs.List.{position_or_len}
 use Rattle.std.specs.Global.{Vec}
 use Rattle.std.proofs.lemmas.Bool.{eqb-true, eq-eqb}

@@ -5,7 +5,7 @@ use Rattle.data_sets.specs.declared.directories.DirectoryEntry.{DirectoryEntry}
 use Rattle.data_sets.specs.declared.directories.DirectoryFault.{DirectoryFault}
 use Rattle.data_sets.specs.declared.directories.DirectoryStep.{DirectoryStep}
 use Rattle.data_sets.specs.declared.directories.DirectoryStep.TheVariants.{Entry, Skip, End, Fault}
-use Rattle.data_sets.specs.Directories.{step_at, entries_of, Found}
+use Rattle.data_sets.specs.Directories.{step_at, entries_of}
 use Rattle.library_contents.specs.declared.directories.PlacedEntry.{PlacedEntry}
 
 -- an entry, and those behind it, if these can be read

@@ -1,10 +1,7 @@
 -- A library as it is read.
 use Rattle.std.specs.Prelude.{◌≡◌, ℕ, List, map, Option, Some, None, Result, Ok, Err}
 use Rattle.std.specs.List.{position}
-use Rattle.std.specs.Global.{Vec}
-use Rattle.ckd_track.specs.declared.geometries.Geometry.{Geometry}
 use Rattle.volume_labels.specs.declared.fields.Extent.{Extent}
-use Rattle.volume_labels.specs.declared.fields.RelativeAddress.{RelativeAddress}
 use Rattle.dasd_volumes.specs.Reading.{KnownVolume}
 use Rattle.dasd_extract.specs.Members.{directory}
 use Rattle.dasd_extract.specs.Walk.{source_written}
@@ -16,7 +13,7 @@ use Rattle.library_contents.specs.declared.directories.PlacedEntry.{PlacedEntry}
 use Rattle.library_contents.specs.Blocks.{whole_bytes}
 use Rattle.library_contents.specs.Directories.{placed_entries}
 use Rattle.library_contents.specs.Members.{Library, library_on, blocks_at, buffers, same_address, starts_of}
-use Rattle.library_contents.specs.Entries.{EntryRead, said_by, entries_read}
+use Rattle.library_contents.specs.Entries.{said_by, entries_read}
 
 -- the bytes of the directory, if an end of file ends its blocks
 abbrev pub directory_bytes : Library → Option (List ℕ)
