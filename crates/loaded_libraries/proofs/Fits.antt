@@ -6,7 +6,6 @@ use Rattle.volume_contents.specs.declared.blocks.Block.{Block}
 use Rattle.volume_contents.specs.Sets.{has_name}
 use Rattle.volume_contents.specs.Contents.{Said, contents_of}
 use Rattle.data_set_blocks.specs.declared.blocks.Cut.{Cut}
-use Rattle.record_formats.specs.declared.layouts.AttributeFault.{AttributeFault}
 use Rattle.record_formats.specs.declared.layouts.Layout.{Layout}
 use Rattle.placed_sets.specs.declared.fault.PlaceFault.{PlaceFault}
 use Rattle.placed_sets.specs.declared.fault.PlaceFault.TheVariants as place
@@ -15,7 +14,6 @@ use Rattle.loaded_sets.specs.declared.contents.SourceForm.{SourceForm}
 use Rattle.loaded_sets.specs.declared.contents.SourceForm.TheVariants as source
 use Rattle.loaded_sets.specs.declared.fault.LoadFault.{LoadFault}
 use Rattle.loaded_sets.specs.declared.fault.LoadFault.TheVariants as fault
-use Rattle.loaded_sets.specs.declared.fault.LoadRefusal.{LoadRefusal}
 use Rattle.loaded_sets.specs.Contents.{layout_of_set}
 use Rattle.loaded_sets.specs.Faults.{placing_fault}
 use Rattle.loaded_sets.proofs.Fits.{fit}
@@ -24,7 +22,6 @@ use Rattle.loaded_libraries.specs.Members.{MemberBlocks, cut_in, members_by, fit
 use Rattle.loaded_libraries.specs.Members.{blocks_unless_taken, blocks_unless_barred, blocks_on}
 use Rattle.loaded_libraries.specs.Loaded.{Loaded, IsNotLoaded}
 use Rattle.loaded_libraries.specs.Parts.{blocks_for, IsUnmade, IsSet, IsNotSet, IsPut, IsNotPut}
-use Rattle.loaded_libraries.proofs.Made.{Made}
 
 -- blocks by their parts
 same : (l : Layout) (c : Cut) (members : List (List ℕ)) (b : MemberBlocks) → b.layout ≡ l → b.cut ≡ c → b.members ≡ members
@@ -57,7 +54,8 @@ module _ (v : Labelled) (library : LoadedLibrary) (free : position (has_name lib
         chosen : blocks_for v library ≡ unless_unfit b (fitting_members v.geometry.model library.form.key_length b)
         chosen =
             with_layout ∙ ap (blocks_with v.geometry.model library l) by
-            ∙ ap (λ (c : MemberBlocks). unless_unfit c (fitting_members v.geometry.model library.form.key_length c)) (same l (cut_in library.source l) b.members b layout cut refl)
+            ∙ ap (λ (c : MemberBlocks). unless_unfit c (fitting_members v.geometry.model library.form.key_length c))
+            (same l (cut_in library.source l) b.members b layout cut refl)
 
         pub put : (slots now : List (List ℕ)) (r : Result ℕ LoadFault) → IfOk r (λ tracks. IsSet v library b slots tracks now)
             → IfOk r (λ tracks. IsPut v library slots tracks now)

@@ -1,5 +1,6 @@
 -- What is made of the files of members, one after another.
-use Rattle.std.proofs.Common.{◌≡◌, ◌∙◌, ap, sym, refl, ℕ, ◌+◌, ◌<◌, List, [], ◌∷◌, ◌++◌, length, drop, take, get_or, Result, Ok, Err, arith, map, Bor, ◌≤◌}
+use Rattle.std.proofs.Common.{◌≡◌, ◌∙◌, ap, sym, refl, ℕ, ◌+◌, ◌<◌, List, [], ◌∷◌}
+use Rattle.std.proofs.Common.{◌++◌, length, drop, take, get_or, Result, Ok, Err, arith, map, Bor, ◌≤◌}
 use Rattle.std.proofs.lemmas.List.{drop_more, append_assoc, append-nil, drop_all, take_more, get_or-map, length-map, map-append}
 use Rattle.record_formats.specs.declared.layouts.Layout.{Layout}
 use Rattle.loaded_sets.specs.Contents.{text_bytes, IsNoText}
@@ -49,7 +50,8 @@ module _ (make : List ℕ → Result (List ℕ) ContentFault) (files : List (Lis
       (each_made make (k + 1 + 1) (drop (k + 1) files))) is)
 
 -- the same of files that stand in memory
-module _ (make : List ℕ → Result (List ℕ) ContentFault) (files : List (Bor (List ℕ))) (k : ℕ) (d : Bor (List ℕ)) (there : k < length files) where
+module _ (make : List ℕ → Result (List ℕ) ContentFault) (files : List (Bor (List ℕ))) (k : ℕ) (d : Bor (List ℕ))
+    (there : k < length files) where
   abbrev held : List (List ℕ)
   held = map (λ (f : Bor (List ℕ)). f.now) files
 

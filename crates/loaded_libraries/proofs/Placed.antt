@@ -1,13 +1,13 @@
 -- The records of a library on a volume.
-use Rattle.std.proofs.Common.{◌≡◌, ◌∙◌, ap, sym, subst, ℕ, ◌+◌, ◌≤◌, ◌<◌, List, [], ◌∷◌, length, map, arith, All, get_or, length-append, None, ◌++◌}
+use Rattle.std.proofs.Common.{◌≡◌, ◌∙◌, ap, sym, ℕ, ◌≤◌, ◌<◌, List}
+use Rattle.std.proofs.Common.{[], ◌∷◌, length, map, arith, All, get_or, length-append, None, ◌++◌}
 use Rattle.std.proofs.lemmas.List.{get_or-map, length-map}
 use Rattle.std.proofs.lemmas.List.Elements.{All-map}
 use Rattle.ckd_track.specs.declared.model.DriveModel.{DriveModel}
-use Rattle.record_tracks.specs.Records.{Areas, all_areas, end_of_file, GoesOn, RecordGoesOn}
+use Rattle.record_tracks.specs.Records.{Areas, end_of_file, GoesOn, RecordGoesOn}
 use Rattle.record_tracks.proofs.Listed.{length-all, blocks_go}
 use Rattle.data_set_blocks.specs.declared.blocks.Cut.{Cut}
 use Rattle.data_set_blocks.specs.Blocks.{first_areas, rests_of, block_areas, AreBlocks}
-use Rattle.library_records.specs.declared.libraries.NewLibrary.{NewLibrary}
 use Rattle.library_records.specs.declared.libraries.NewMember.{NewMember}
 use Rattle.library_records.specs.Library.{directory_areas, members_areas, member_areas, library_areas, MemberGoesOn}
 use Rattle.library_records.specs.Faults.{library_fault}
@@ -33,8 +33,8 @@ some_records directory members = omega (
 )
 
 -- they can be put onto a volume
-pub can_be : (model : DriveModel) (p : PlacedSet) (directory : List ℕ) (members : List NewMember) → areas p ≡ library_areas directory members
-    → All (RecordGoesOn model) p.records.now → p.last ≡ length p.records.now → CanBePlaced model p
+pub can_be : (model : DriveModel) (p : PlacedSet) (directory : List ℕ) (members : List NewMember)
+    → areas p ≡ library_areas directory members → All (RecordGoesOn model) p.records.now → p.last ≡ length p.records.now → CanBePlaced model p
 can_be model p directory members is each last = record {
   each = each;
   some = omega (arith, length-all p.records.now, ap length is, some_records directory members);

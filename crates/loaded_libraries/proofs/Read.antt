@@ -1,16 +1,16 @@
 -- A library on a volume is read: its directory, and the bytes of its members.
-use Rattle.std.proofs.Common.{◌≡◌, ◌∙◌, ap, sym, refl, subst, ℕ, zero, suc, ◌+◌, ◌<◌, ◌≤◌, List, [], ◌∷◌, length, map, get_or, flat_map, arith, All, Result, Ok, Err, IfOk, IfErr, inr}
+use Rattle.std.proofs.Common.{◌≡◌, ◌∙◌, ap, sym, refl, subst, ℕ, zero, suc, ◌+◌, ◌<◌, List}
+use Rattle.std.proofs.Common.{[], ◌∷◌, length, map, get_or, flat_map, arith, All, Result, Ok, Err, IfOk, IfErr, inr}
 use Rattle.std.proofs.Math.ListN as at
 use Rattle.std.proofs.lemmas.List.Elements.{All-nil, All-head, All-tail}
 use Rattle.ckd_track.specs.declared.model.DriveModel.{DriveModel}
-use Rattle.ckd_track.specs.declared.geometries.Geometry.{Geometry}
 use Rattle.volume_labels.specs.declared.fields.Extent.{Extent}
 use Rattle.dasd_extract.specs.Walk.{wanted, source_written}
 use Rattle.record_tracks.specs.Records.{Areas}
 use Rattle.record_tracks.specs.Tracks.{Takes}
 use Rattle.record_tracks.specs.ReadBack.{IsLoaded, IsWrittenAs, ended_by_file}
 use Rattle.data_set_blocks.specs.declared.blocks.Cut.{Cut}
-use Rattle.data_set_blocks.specs.Blocks.{block_areas, IsBlock, AreBlocks, rests_of}
+use Rattle.data_set_blocks.specs.Blocks.{block_areas, IsBlock}
 use Rattle.data_set_blocks.specs.Extracted.{form_of}
 use Rattle.data_set_blocks.proofs.Rests.{none_left}
 use Rattle.data_set_blocks.proofs.Texts.{text_of, blocks_text, have_texts, IsByte}

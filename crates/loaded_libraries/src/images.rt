@@ -23,14 +23,15 @@ use loaded_sets::{
 use placed_sets::{LabelledVolume, judge, position_of};
 use std::alloc::Global;
 
-/// Puts a library onto the volume of an image in memory, and answers how many tracks it has. Its tracks are the first ones free that have room
-/// for its directory and its members, one behind another. A member whose file has no bytes has its end of file alone.
+/// Puts a library onto the volume of an image in memory, and answers how many tracks it has. Its tracks are the first ones free that have
+/// room for its directory and its members, one behind another. A member whose file has no bytes has its end of file alone.
 ///
 /// # Errors
 ///
-/// The first of these, in this order: the volume gets no data set; a data set of it has the name; the format and the lengths are those of no
-/// data set; the text of a member has no records; the bytes of a member are no blocks of such a data set; the library has no directory; the
-/// volume has no place for it. Or there is no memory. The image then holds any bytes in the slots of those tracks and of the table of contents.
+/// The first of these, in this order: the volume gets no data set; a data set of it has the name; the format and the lengths are those of
+/// no data set; the text of a member has no records; the bytes of a member are no blocks of such a data set; the library has no directory;
+/// the volume has no place for it. Or there is no memory. The image then holds any bytes in the slots of those tracks and of the table of
+/// contents.
 pub fn load_library(
     alloc: Global,
     image: &mut Image<VolumeFile>,

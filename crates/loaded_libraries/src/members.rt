@@ -51,7 +51,8 @@ pub(crate) fn text_members(
     layout: Layout,
     files: &[&[u8]],
 ) -> Result<Vec<Vec<u8>>, LoadFault>
-    ensures made { IfOk result (λ texts. each_made (text_bytes layout) 1 (map (λ f. f.now) files.now) ≡ Ok (map (λ t. t.items) texts.items)) }
+    ensures made { IfOk result (λ texts. each_made (text_bytes layout) 1 (map (λ f. f.now) files.now)
+        ≡ Ok (map (λ t. t.items) texts.items)) }
     ensures fault { IfErr result (λ e. IsUnmade e (each_made (text_bytes layout) 1 (map (λ f. f.now) files.now))) }
 {
     let mut texts = Vec::new(alloc);
@@ -122,7 +123,8 @@ fn push_records<'a>(
     all: &mut Vec<Vec<NewRecord<'a>>>,
     records: Vec<NewRecord<'a>>,
 ) -> Result<(), LoadFault>
-    ensures all { OnOk result (map (λ r. all_areas r.items) all.new.items ≡ map (λ r. all_areas r.items) all.old.items ++ all_areas records.entry.items ∷ []) }
+    ensures all { OnOk result (map (λ r. all_areas r.items) all.new.items
+        ≡ map (λ r. all_areas r.items) all.old.items ++ all_areas records.entry.items ∷ []) }
     ensures fault { IfErr result IsHinderedBy }
 {
     match all.push(records) {
@@ -143,9 +145,10 @@ pub(crate) fn all_records<'a>(
     members: &'a [&[u8]],
 ) -> Result<Vec<Vec<NewRecord<'a>>>, LoadFault>
     requires { IsCutFor measure.layout cut }
-    ensures fit { IfOk result (λ _. each_made (fitting measure.model measure.layout measure.key_length cut) 1 (map (λ f. f.now) members.entry.now)
-        ≡ Ok (map (λ f. f.now) members.entry.now)) }
-    ensures areas { IfOk result (λ all. map (λ r. all_areas r.items) all.items ≡ map (block_areas cut) (map (λ f. f.now) members.entry.now)) }
+    ensures fit { IfOk result (λ _. each_made (fitting measure.model measure.layout measure.key_length cut) 1
+        (map (λ f. f.now) members.entry.now) ≡ Ok (map (λ f. f.now) members.entry.now)) }
+    ensures areas { IfOk result (λ all. map (λ r. all_areas r.items) all.items
+        ≡ map (block_areas cut) (map (λ f. f.now) members.entry.now)) }
     ensures each { IfOk result (λ _. All (HasBlocks measure.model cut) (map (λ f. f.now) members.entry.now)) }
     ensures fault { IfErr result (λ e. IsUnmade e
         (each_made (fitting measure.model measure.layout measure.key_length cut) 1 (map (λ f. f.now) members.entry.now))) }

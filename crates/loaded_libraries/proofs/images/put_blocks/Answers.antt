@@ -1,10 +1,9 @@
-use Rattle.std.proofs.Common.{◌≡◌, ◌∙◌, ap, refl, map}
-use Rattle.record_tracks.specs.Records.{all_areas}
+use Rattle.std.proofs.Common.{◌∙◌, ap, refl, map}
 use Rattle.library_records.specs.Library.{member_areas}
 use Rattle.placed_sets.specs.Volumes.{labelled}
 use Rattle.loaded_libraries.specs.Parts.{member_blocks}
 use Rattle.loaded_libraries.proofs.Placed.{members_go}
-use Rattle.loaded_libraries.proofs.Read.{is_set, is_not_set}
+use Rattle.loaded_libraries.proofs.Read.{is_set}
 use Rattle.loaded_libraries.proofs.images.put_blocks.Goals as goal
 
 pub put_named-requires-clause-members : goal.put_named-requires-clause-members

@@ -1,11 +1,8 @@
-use Rattle.std.proofs.Common.{◌≡◌, ◌∙◌, ap, sym, refl, subst, ℕ, Ok, List, map, Bor, Result}
-use Rattle.loaded_sets.specs.declared.contents.SourceForm.{SourceForm}
-use Rattle.loaded_sets.specs.declared.fault.LoadFault.{LoadFault}
-use Rattle.loaded_sets.specs.declared.fault.LoadRefusal.{LoadRefusal}
+use Rattle.std.proofs.Common.{◌≡◌, sym, refl, ℕ, Ok, List, map, Bor}
 use Rattle.placed_sets.specs.Volumes.{labelled}
 use Rattle.loaded_libraries.specs.Members.{members_by}
 use Rattle.loaded_libraries.specs.Parts.{member_blocks}
-use Rattle.loaded_libraries.proofs.Fits.{as_they_are, put, not_put_if, not_made}
+use Rattle.loaded_libraries.proofs.Fits.{as_they_are, put, not_put_if}
 use Rattle.loaded_libraries.proofs.images.put_new.Goals as goal
 
 pub returns-in-Blocks : goal.returns-in-Blocks

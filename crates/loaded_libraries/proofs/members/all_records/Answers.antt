@@ -1,7 +1,6 @@
-use Rattle.std.proofs.Common.{◌≡◌, ◌∙◌, ap, sym, subst, ◌≤◌, ◌+◌, Ok, drop, List, ℕ, [], ◌∷◌, ◌++◌, length, map, take, arith, All, Bor}
+use Rattle.std.proofs.Common.{◌≡◌, ◌∙◌, ap, sym, subst, ◌≤◌, ◌+◌, Ok, drop, List, ℕ, [], length, map, arith, All, Bor}
 use Rattle.std.proofs.lemmas.List.{length-map, take_all}
 use Rattle.std.proofs.lemmas.List.Elements.{All-append, All-cons, All-nil}
-use Rattle.record_tracks.specs.Records.{Areas}
 use Rattle.data_set_blocks.specs.Blocks.{block_areas}
 use Rattle.loaded_sets.specs.declared.fault.LoadFault.{LoadFault}
 use Rattle.loaded_libraries.specs.Members.{each_made, fitting}
@@ -28,7 +27,8 @@ loop-number-preserved c =
     let files : List (List ℕ) = map (λ (f : Bor (List ℕ)). f.now) c.args.members.now in
     let longer = one_longer make c.args.members.now k _ there in
     record {
-      fit = subst (λ (made : List (List ℕ)). each_made make 1 files ≡ behind made (each_made make (k + 1 + 1) (drop (k + 1) files))) (sym longer)
+      fit = subst (λ (made : List (List ℕ)). each_made make 1 files ≡ behind made (each_made make (k + 1 + 1) (drop (k + 1) files)))
+          (sym longer)
           (next_made make c.args.members.now k _ there (each_made make 1 files) _ _ c.loop-number.invariant.fit c.in-Ok.ensures.fits);
       areas = c.in_ok-push_records-in-Ok.ensures.all
           ∙ next_found make c.args.members.now k _ there (block_areas cut) _ _ c.loop-number.invariant.areas c.in-Ok.ensures.areas;

@@ -1,6 +1,5 @@
-use Rattle.std.proofs.Common.{◌≡◌, ◌∙◌, ap, sym, subst, ◌≤◌, ◌+◌, Ok, List, ℕ, [], ◌∷◌, ◌++◌, length, map, drop, arith, Bor, Result}
+use Rattle.std.proofs.Common.{◌∙◌, ap, sym, subst, ◌≤◌, ◌+◌, List, ℕ, length, map, drop, arith, Bor}
 use Rattle.std.proofs.lemmas.List.{length-map}
-use Rattle.loaded_sets.specs.declared.fault.ContentFault.{ContentFault}
 use Rattle.loaded_sets.specs.declared.fault.LoadFault.{LoadFault}
 use Rattle.loaded_sets.specs.Contents.{text_bytes}
 use Rattle.loaded_libraries.specs.Members.{each_made}

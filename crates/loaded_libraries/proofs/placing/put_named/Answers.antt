@@ -1,10 +1,6 @@
-use Rattle.std.proofs.Common.{◌≡◌, ◌∙◌, ap, sym, refl, subst, All}
+use Rattle.std.proofs.Common.{◌∙◌, ap, sym, subst, All}
 use Rattle.record_tracks.specs.Records.{all_areas, RecordGoesOn}
-use Rattle.library_records.specs.Library.{library_areas}
-use Rattle.placed_sets.specs.Volumes.{labelled}
-use Rattle.loaded_sets.specs.declared.fault.LoadFault.{LoadFault}
-use Rattle.loaded_libraries.specs.Parts.{IsNotNamed}
-use Rattle.loaded_libraries.proofs.Placed.{can_be, set_of, not_named}
+use Rattle.loaded_libraries.proofs.Placed.{can_be}
 use Rattle.loaded_libraries.proofs.placing.put_named.Goals as goal
 
 pub place_records-requires-clause-set : goal.place_records-requires-clause-set
