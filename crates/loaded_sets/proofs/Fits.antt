@@ -17,7 +17,8 @@ use Rattle.loaded_sets.specs.declared.fault.LoadFault.TheVariants as fault
 use Rattle.loaded_sets.specs.declared.contents.LoadedSet.{LoadedSet}
 use Rattle.loaded_sets.specs.Contents.{blocks_on, blocks_unless_unfit, blocks_unless_taken}
 use Rattle.loaded_sets.specs.Loaded.{Loaded, IsNotLoaded}
-use Rattle.loaded_sets.specs.Parts.{blocks_for, placing_fault, IsPut, IsNotPut}
+use Rattle.loaded_sets.specs.Faults.{placing_fault}
+use Rattle.loaded_sets.specs.Parts.{blocks_for, IsPut, IsNotPut}
 
 pub same_said : (s : Said) (c : Contents) → IsSaid s c → said_in c ≡ s
 same_said s c is = rw (is.label, is.table, is.blocks, is.findings) refl

@@ -35,7 +35,8 @@ use Rattle.loaded_sets.specs.declared.contents.SourceForm.TheVariants as source
 use Rattle.loaded_sets.specs.Contents.{FileBlocks, label_of, blocks_by, blocks_fitting, blocks_in, blocks_with}
 use Rattle.loaded_sets.specs.Contents.{blocks_unless_taken, layout_of_set, unless_faulty, told_of_set, cut_so, IsNoText}
 use Rattle.loaded_sets.specs.Loaded.{IsSetOf, GetsBlocks}
-use Rattle.loaded_sets.specs.Parts.{blocks_for, placing_fault, unmade_fault, IsPut, IsNotPut, IsSet, IsNotSet}
+use Rattle.loaded_sets.specs.Faults.{placing_fault}
+use Rattle.loaded_sets.specs.Parts.{blocks_for, unmade_fault, IsPut, IsNotPut, IsSet, IsNotSet}
 use Rattle.loaded_sets.proofs.TextLines.{lines_read}
 
 -- records that are the blocks and an end of file are one more than the blocks
