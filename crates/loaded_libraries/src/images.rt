@@ -10,7 +10,7 @@ ghost use Rattle.loaded_libraries.specs.Loaded.{Loaded, IsNotLoaded};
 ghost use Rattle.loaded_libraries.specs.Parts.{member_blocks, IsPut, IsNotPut, IsSet, IsNotSet};
 
 use crate::libraries::{LoadedLibrary, MemberBlocks, NamedLibrary, cut_in};
-use crate::members::{all_records, new_members, text_members, text_slices};
+use crate::members::{Measure, all_records, new_members, text_members, text_slices};
 use crate::placing::put_named;
 use changed_volumes::read_said;
 use ckd_image::Image;
@@ -127,14 +127,23 @@ fn put_blocks(
         image.new.slots) }
     ensures fault { IfErr result (λ e. IsNotSet e (labelled volume.now) library.now (member_blocks blocks.entry) image.old.slots) }
 {
-    let model = volume.geometry.model;
-    let records = all_records(alloc, model, library.form.key_length, blocks)?;
+    let MemberBlocks {
+        layout,
+        cut,
+        members,
+    } = blocks;
+    let measure = Measure {
+        model: volume.geometry.model,
+        layout,
+        key_length: library.form.key_length,
+    };
+    let records = all_records(alloc, measure, cut, members)?;
     let Ok(members) = new_members(alloc, records.as_slice()) else {
         return Err(NO_MEMORY);
     };
     let named = NamedLibrary {
         name: library.name,
-        label: label_of(&library.form, blocks.layout),
+        label: label_of(&library.form, layout),
         library: NewLibrary {
             directory_blocks: library.directory_blocks,
             entries: library.entries,
