@@ -1,16 +1,14 @@
 -- A volume that gets a data set, or does not.
-use Rattle.std.proofs.Common.{◌≡◌, ◌∙◌, ap, sym, refl, ℕ, List, [], Result, Ok, Err, IfOk, IfErr, inl, inr, None, Option}
+use Rattle.std.proofs.Common.{◌≡◌, ◌∙◌, ap, sym, refl, ℕ, List, [], Result, Ok, Err, IfOk, IfErr, inl, inr, None}
 use Rattle.ckd_track.specs.declared.geometries.Geometry.{Geometry}
 use Rattle.std.specs.List.{position}
 use Rattle.volume_contents.specs.declared.blocks.Block.{Block}
-use Rattle.volume_contents.specs.declared.findings.Finding.{Finding}
 use Rattle.volume_contents.specs.declared.reading.Contents.{Contents}
 use Rattle.volume_contents.specs.Sets.{has_name}
 use Rattle.volume_contents.specs.Contents.{Said, contents_of, SaysOf as IsSaid}
 use Rattle.volume_changes.specs.Volumes.{said_in}
 use Rattle.placed_sets.specs.declared.fault.PlaceFault.{PlaceFault}
 use Rattle.placed_sets.specs.declared.fault.PlaceFault.TheVariants as place
-use Rattle.placed_sets.specs.declared.fault.PlaceRefusal.{PlaceRefusal}
 use Rattle.placed_sets.specs.Volumes.{Labelled, SaysOf, IsUnfit, all_findings, unfit_of, unfit_on_label, unfit_on_table, unfit_by}
 use Rattle.loaded_sets.specs.declared.fault.LoadFault.{LoadFault}
 use Rattle.loaded_sets.specs.declared.fault.LoadFault.TheVariants as fault

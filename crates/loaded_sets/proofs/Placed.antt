@@ -1,5 +1,5 @@
 -- Records that were put onto a volume are the blocks of a file.
-use Rattle.std.proofs.Common.{◌≡◌, ◌∙◌, ap, sym, refl, subst, ℕ, ◌+◌, ◌-◌, List, [], ◌∷◌, length, arith, Result, Ok, Err, Some, None, All}
+use Rattle.std.proofs.Common.{◌≡◌, ◌∙◌, ap, sym, refl, subst, ℕ, ◌+◌, ◌-◌, List, [], ◌∷◌, length, arith, Result, Ok, Err, None, All}
 use Rattle.std.proofs.Common.{IfOk, IfErr, inl, inr, length-append}
 use Rattle.ckd_track.specs.declared.model.DriveModel.{DriveModel}
 use Rattle.record_tracks.specs.Records.{Areas, all_areas, end_of_file, RecordGoesOn}
@@ -8,7 +8,6 @@ use Rattle.record_tracks.specs.ReadBack.{IsLoaded}
 use Rattle.record_tracks.specs.declared.records.NewRecord.{NewRecord}
 use Rattle.record_tracks.proofs.Listed.{length-all}
 use Rattle.data_set_blocks.specs.declared.blocks.Cut.{Cut}
-use Rattle.data_set_blocks.specs.declared.faults.BlockFault.{BlockFault}
 use Rattle.data_set_blocks.specs.Blocks.{areas_of, block_areas, cut_by}
 use Rattle.data_set_blocks.specs.Extracted.{IsReadBack}
 use Rattle.data_set_blocks.specs.Faults.{block_fault_of}
@@ -34,7 +33,7 @@ use Rattle.loaded_sets.specs.declared.contents.SourceForm.{SourceForm}
 use Rattle.loaded_sets.specs.declared.contents.SourceForm.TheVariants as source
 use Rattle.loaded_sets.specs.Contents.{FileBlocks, label_of, blocks_by, blocks_fitting, blocks_in, blocks_with}
 use Rattle.loaded_sets.specs.Contents.{blocks_unless_taken, layout_of_set, unless_faulty, told_of_set, cut_so, IsNoText}
-use Rattle.loaded_sets.specs.Loaded.{IsSetOf, GetsBlocks}
+use Rattle.loaded_sets.specs.Loaded.{IsSetOf}
 use Rattle.loaded_sets.specs.Faults.{placing_fault}
 use Rattle.loaded_sets.specs.Parts.{blocks_for, unmade_fault, IsPut, IsNotPut, IsSet, IsNotSet}
 use Rattle.loaded_sets.proofs.TextLines.{lines_read}

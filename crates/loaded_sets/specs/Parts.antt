@@ -15,7 +15,6 @@ use Rattle.loaded_sets.specs.declared.fault.LoadRefusal.{LoadRefusal}
 use Rattle.loaded_sets.specs.declared.fault.LoadRefusal.TheVariants as refusal
 use Rattle.loaded_sets.specs.declared.fault.Unmade.{Unmade}
 use Rattle.loaded_sets.specs.declared.fault.Unmade.TheVariants as unmade
-use Rattle.loaded_sets.specs.declared.fault.ContentFault.{ContentFault}
 use Rattle.loaded_sets.specs.declared.images.FileBlocks as declared
 use Rattle.loaded_sets.specs.Faults.{IsHinderedBy}
 use Rattle.loaded_sets.specs.Contents.{FileBlocks, blocks_fitting, blocks_unless_taken}

@@ -1,4 +1,4 @@
-use Rattle.std.proofs.Common.{◌≡◌, ◌∙◌, ap, sym, Ok, List, ℕ, Result}
+use Rattle.std.proofs.Common.{◌∙◌, ap, sym}
 use Rattle.data_set_blocks.specs.Blocks.{cut_by}
 use Rattle.data_set_blocks.specs.declared.blocks.Cut.TheVariants as cut
 use Rattle.loaded_sets.specs.declared.contents.SourceForm.{SourceForm}
