@@ -1,11 +1,10 @@
 -- A volume with a library that was put onto it.
-use Rattle.std.specs.Prelude.{◌≡◌, ◌⊎◌, ℕ, ◌+◌, ◌<◌, List, [], length, map, slice_index_or, All, Option, None, Some, Ok, Err}
+use Rattle.std.specs.Prelude.{◌≡◌, ◌⊎◌, ℕ, ◌+◌, ◌<◌, List, [], length, map, slice_index_or, All, None, Some, Ok, Err}
 use Rattle.ckd_track.specs.declared.geometries.Geometry.{Geometry}
 use Rattle.ckd_track.specs.declared.model.DriveModel.{DriveModel}
 use Rattle.volume_labels.specs.declared.fields.Extent.{Extent}
 use Rattle.dasd_extract.specs.Members.{directory}
 use Rattle.dasd_extract.specs.Walk.{wanted, source_written}
-use Rattle.data_set_blocks.specs.declared.blocks.Cut.{Cut}
 use Rattle.data_set_blocks.specs.Blocks.{block_areas}
 use Rattle.data_set_blocks.specs.Extracted.{form_of}
 use Rattle.record_tracks.specs.ReadBack.{ended_by_file}
@@ -45,8 +44,8 @@ pub record IsSetOf (its_name : List ℕ) (its_label : SetLabel) (model : DriveMo
   pub records : areas p ≡ own_areas model l
   pub last : p.last ≡ length (own_areas model l)
 
--- The library has a directory; a volume of these slots gets its records as a data set of this name and label; and wherever they are, a reader
--- has its entries, its members, and the blocks that its user data lead to.
+-- The library has a directory; a volume of these slots gets its records as a data set of this name and label; and wherever they are, a
+-- reader has its entries, its members, and the blocks that its user data lead to.
 pub record GetsRecords (v : Labelled) (name : List ℕ) (label : SetLabel) (l : NewLibrary) (before : List (List ℕ)) (tracks : ℕ)
     (now : List (List ℕ)) : Type 0 where
   pub sound : library_fault v.geometry.model l ≡ None
@@ -101,8 +100,8 @@ HasNone (refusal.Placed r) v name label l slots =
     (library_fault v.geometry.model l ≡ None) × (p : PlacedSet) × IsSetOf name label v.geometry.model l p × HasNoPlace r v p slots
 HasNone r v name label l slots = ⊥
 
--- Why a volume does not get a library: it gets none, or the files of its members have no such blocks, for this reason; or it has none of its
--- directory or of a place for it.
+-- Why a volume does not get a library: it gets none, or the files of its members have no such blocks, for this reason; or it would get the
+-- library, which has no directory, or for which it has no place.
 abbrev pub Refuses : LoadRefusal → LoadedLibrary → Geometry → (slots : List (List ℕ)) → Type 0
 Refuses r library g slots =
     (blocks_on g library (contents_of g slots) ≡ Err r)

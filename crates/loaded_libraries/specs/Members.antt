@@ -36,7 +36,8 @@ put_first bytes (Ok others) = Ok (bytes ∷ others)
 put_first bytes (Err r) = Err r
 
 -- what is made of the file of the member of this number, and then of the others; or why nothing is made of it
-abbrev pub and_others : (number : ℕ) → Result (List ℕ) ContentFault → Result (List (List ℕ)) LoadRefusal → Result (List (List ℕ)) LoadRefusal
+abbrev pub and_others : (number : ℕ) → Result (List ℕ) ContentFault → Result (List (List ℕ)) LoadRefusal
+    → Result (List (List ℕ)) LoadRefusal
 and_others number (Ok bytes) others = put_first bytes others
 and_others number (Err f) others = Err (refusal.Member number f)
 

@@ -1,9 +1,10 @@
 -- How the code holds what the contracts speak of; no public contract names these.
-use Rattle.std.specs.Prelude.{◌≡◌, ◌⊎◌, ℕ, List, map, Result, Ok, Err}
+use Rattle.std.specs.Prelude.{◌≡◌, ◌⊎◌, ℕ, ◌<◌, List, map, Result, Ok, Err, All}
 use Rattle.std.specs.List.{position}
+use Rattle.ckd_track.specs.declared.model.DriveModel.{DriveModel}
+use Rattle.data_set_blocks.specs.declared.blocks.Cut.{Cut}
+use Rattle.data_set_blocks.specs.Blocks.{AreBlocks}
 use Rattle.dasd_jobs.specs.declared.faults.JobFault.TheVariants as job
-use Rattle.record_tracks.specs.declared.records.NewRecord.{NewRecord}
-use Rattle.record_tracks.specs.Records.{Areas, all_areas}
 use Rattle.library_records.specs.declared.faults.LibraryFault.{LibraryFault}
 use Rattle.library_records.specs.declared.faults.LibraryFault.TheVariants as library
 use Rattle.library_records.specs.declared.libraries.NewLibrary.{NewLibrary}
@@ -27,6 +28,11 @@ use Rattle.loaded_libraries.specs.Loaded.{IsLibraryOf, GetsRecords, GetsLibrary,
 -- the blocks that the code has
 abbrev pub member_blocks : declared.MemberBlocks → MemberBlocks
 member_blocks b = record { layout = b.layout; cut = b.cut; members = map (λ m. m.now) b.members.now }
+
+-- the bytes of a member are bytes, and its blocks are some
+pub record HasBlocks (model : DriveModel) (cut : Cut) (bytes : List ℕ) : Type 0 where
+  pub blocks : AreBlocks model cut bytes
+  pub below : All (λ byte. byte < 256) bytes
 
 -- what the file of a member that is not made into blocks is for its library
 abbrev pub member_fault : (number : ℕ) → Unmade → LoadFault

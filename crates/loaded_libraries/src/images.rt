@@ -10,7 +10,7 @@ ghost use Rattle.loaded_libraries.specs.Loaded.{Loaded, IsNotLoaded};
 ghost use Rattle.loaded_libraries.specs.Parts.{member_blocks, IsPut, IsNotPut, IsSet, IsNotSet};
 
 use crate::libraries::{LoadedLibrary, MemberBlocks, NamedLibrary, cut_in};
-use crate::members::{all_records, new_members, text_members, text_slices};
+use crate::members::{Measure, all_records, new_members, text_members, text_slices};
 use crate::placing::put_named;
 use changed_volumes::read_said;
 use ckd_image::Image;
@@ -23,14 +23,15 @@ use loaded_sets::{
 use placed_sets::{LabelledVolume, judge, position_of};
 use std::alloc::Global;
 
-/// Puts a library onto the volume of an image in memory, and answers how many tracks it has. Its tracks are the first ones free that have room
-/// for its directory and its members, one behind another. A member whose file has no bytes has its end of file alone.
+/// Puts a library onto the volume of an image in memory, and answers how many tracks it has. Its tracks are the first ones free that have
+/// room for its directory and its members, one behind another. A member whose file has no bytes has its end of file alone.
 ///
 /// # Errors
 ///
-/// The first of these, in this order: the volume gets no data set; a data set of it has the name; the format and the lengths are those of no
-/// data set; the text of a member has no records; the bytes of a member are no blocks of such a data set; the library has no directory; the
-/// volume has no place for it. Or there is no memory. The image then holds any bytes in the slots of those tracks and of the table of contents.
+/// The first of these, in this order: the volume gets no data set; a data set of it has the name; the format and the lengths are those of
+/// no data set; the text of a member has no records; the bytes of a member are no blocks of such a data set; the library has no directory;
+/// the volume has no place for it. Or there is no memory. The image then holds any bytes in the slots of those tracks and of the table of
+/// contents.
 pub fn load_library(
     alloc: Global,
     image: &mut Image<VolumeFile>,
@@ -127,14 +128,23 @@ fn put_blocks(
         image.new.slots) }
     ensures fault { IfErr result (λ e. IsNotSet e (labelled volume.now) library.now (member_blocks blocks.entry) image.old.slots) }
 {
-    let model = volume.geometry.model;
-    let records = all_records(alloc, model, library.form.key_length, blocks)?;
+    let MemberBlocks {
+        layout,
+        cut,
+        members,
+    } = blocks;
+    let measure = Measure {
+        model: volume.geometry.model,
+        layout,
+        key_length: library.form.key_length,
+    };
+    let records = all_records(alloc, measure, cut, members)?;
     let Ok(members) = new_members(alloc, records.as_slice()) else {
         return Err(NO_MEMORY);
     };
     let named = NamedLibrary {
         name: library.name,
-        label: label_of(&library.form, blocks.layout),
+        label: label_of(&library.form, layout),
         library: NewLibrary {
             directory_blocks: library.directory_blocks,
             entries: library.entries,

@@ -1,6 +1,7 @@
 //! What is put onto a volume as a library.
 
 ghost use Rattle.std.specs.Prelude.{◌≡◌};
+ghost use Rattle.data_set_blocks.specs.Faults.{IsCutFor};
 ghost use Rattle.loaded_libraries.specs.Members.{cut_in};
 
 use data_set_blocks::{Cut, cut_of};
@@ -28,13 +29,13 @@ pub struct LoadedLibrary<'a> {
 
 /// The blocks of a library's members, and how its records lie in them.
 #[derive(Clone, Copy)]
-pub(crate) struct MemberBlocks<'a> {
+pub(crate) struct MemberBlocks<'a, 'b> {
     /// How its records lie in its blocks.
     pub(crate) layout: Layout,
     /// How the bytes of a member are cut into blocks.
     pub(crate) cut: Cut,
     /// The bytes of each member.
-    pub(crate) members: &'a [&'a [u8]],
+    pub(crate) members: &'a [&'b [u8]],
 }
 
 /// A library with its records, and what its label says of it.
@@ -50,7 +51,8 @@ pub(crate) struct NamedLibrary<'a> {
 
 /// How the blocks of members are told apart in their files.
 pub(crate) fn cut_in(source: SourceForm, layout: Layout) -> Cut
-    ensures { result ≡ cut_in source layout }
+    ensures cut { result ≡ cut_in source layout }
+    ensures fit { IsCutFor layout result }
 {
     match source {
         SourceForm::WithLengths => Cut::WithLengths,

@@ -1,19 +1,18 @@
 //! The records of a library's members.
 
-ghost use Rattle.std.specs.Prelude.{◌≡◌, ◌+◌, ◌++◌, ◌∷◌, [], All, map, OnOk, IfOk, IfErr, Ok};
+ghost use Rattle.std.specs.Prelude.{◌≡◌, ◌+◌, ◌<◌, ◌++◌, ◌∷◌, [], All, map, OnOk, IfOk, IfErr, Ok};
 ghost use Rattle.record_tracks.specs.Records.{all_areas};
 ghost use Rattle.data_set_blocks.specs.Blocks.{block_areas, AreBlocks};
 ghost use Rattle.data_set_blocks.specs.Faults.{IsCutFor};
 ghost use Rattle.library_records.specs.Library.{member_areas};
 ghost use Rattle.loaded_sets.specs.Contents.{text_bytes};
 ghost use Rattle.loaded_sets.specs.Faults.{IsHinderedBy};
-ghost use Rattle.loaded_libraries.specs.Members.{each_made, fitting, fitting_members};
-ghost use Rattle.loaded_libraries.specs.Parts.{member_blocks, IsUnmade, IsNoneFor};
+ghost use Rattle.loaded_libraries.specs.Members.{each_made, fitting};
+ghost use Rattle.loaded_libraries.specs.Parts.{HasBlocks, IsUnmade, IsNoneFor};
 
 use crate::fault::of_member;
-use crate::libraries::MemberBlocks;
 use ckd_track::DriveModel;
-use data_set_blocks::{Blocks, block_fault, block_records};
+use data_set_blocks::{Blocks, Cut, block_fault, block_records};
 use library_records::NewMember;
 use loaded_sets::{ContentFault, LoadFault, NO_MEMORY, Unmade, text_bytes};
 use record_formats::Layout;
@@ -52,7 +51,8 @@ pub(crate) fn text_members(
     layout: Layout,
     files: &[&[u8]],
 ) -> Result<Vec<Vec<u8>>, LoadFault>
-    ensures made { IfOk result (λ texts. each_made (text_bytes layout) 1 (map (λ f. f.now) files.now) ≡ Ok (map (λ t. t.items) texts.items)) }
+    ensures made { IfOk result (λ texts. each_made (text_bytes layout) 1 (map (λ f. f.now) files.now)
+        ≡ Ok (map (λ t. t.items) texts.items)) }
     ensures fault { IfErr result (λ e. IsUnmade e (each_made (text_bytes layout) 1 (map (λ f. f.now) files.now))) }
 {
     let mut texts = Vec::new(alloc);
@@ -97,16 +97,17 @@ pub(crate) fn text_slices<'a>(
 fn member_records<'a>(
     alloc: Global,
     measure: Measure,
-    blocks: Blocks<'a>,
+    cut: Cut,
+    bytes: &'a [u8],
 ) -> Result<Vec<NewRecord<'a>>, Unmade>
-    requires { IsCutFor measure.layout blocks.cut }
-    ensures fits { IfOk result (λ _. fitting measure.model measure.layout measure.key_length blocks.entry.cut blocks.entry.bytes.now
-        ≡ Ok blocks.entry.bytes.now) }
-    ensures areas { IfOk result (λ records. all_areas records.items ≡ block_areas blocks.entry.cut blocks.entry.bytes.now) }
-    ensures each { IfOk result (λ _. AreBlocks measure.model blocks.entry.cut blocks.entry.bytes.now) }
-    ensures fault { IfErr result (λ e. IsNoneFor e
-        (fitting measure.model measure.layout measure.key_length blocks.entry.cut blocks.entry.bytes.now)) }
+    requires { IsCutFor measure.layout cut }
+    ensures fits { IfOk result (λ _. fitting measure.model measure.layout measure.key_length cut bytes.entry.now ≡ Ok bytes.entry.now) }
+    ensures areas { IfOk result (λ records. all_areas records.items ≡ block_areas cut bytes.entry.now) }
+    ensures blocks { IfOk result (λ _. AreBlocks measure.model cut bytes.entry.now) }
+    ensures bytes { IfOk result (λ _. All (λ byte. byte < 256) bytes.entry.now) }
+    ensures fault { IfErr result (λ e. IsNoneFor e (fitting measure.model measure.layout measure.key_length cut bytes.entry.now)) }
 {
+    let blocks = Blocks { bytes, cut };
     if let Some(fault) = block_fault(measure.model, measure.layout, measure.key_length, blocks) {
         return Err(Unmade::Content(ContentFault::Blocks(fault)));
     }
@@ -122,7 +123,8 @@ fn push_records<'a>(
     all: &mut Vec<Vec<NewRecord<'a>>>,
     records: Vec<NewRecord<'a>>,
 ) -> Result<(), LoadFault>
-    ensures all { OnOk result (map (λ r. all_areas r.items) all.new.items ≡ map (λ r. all_areas r.items) all.old.items ++ all_areas records.items ∷ []) }
+    ensures all { OnOk result (map (λ r. all_areas r.items) all.new.items
+        ≡ map (λ r. all_areas r.items) all.old.items ++ all_areas records.entry.items ∷ []) }
     ensures fault { IfErr result IsHinderedBy }
 {
     match all.push(records) {
@@ -138,31 +140,22 @@ fn push_records<'a>(
 /// The first member whose bytes are no such blocks, told with its number; or there is no memory.
 pub(crate) fn all_records<'a>(
     alloc: Global,
-    model: DriveModel,
-    key_length: u8,
-    blocks: MemberBlocks<'a>,
+    measure: Measure,
+    cut: Cut,
+    members: &'a [&[u8]],
 ) -> Result<Vec<Vec<NewRecord<'a>>>, LoadFault>
-    requires { IsCutFor blocks.layout blocks.cut }
-    ensures fit { IfOk result (λ _. fitting_members model key_length (member_blocks blocks.entry)
-        ≡ Ok (map (λ f. f.now) blocks.entry.members.now)) }
+    requires { IsCutFor measure.layout cut }
+    ensures fit { IfOk result (λ _. each_made (fitting measure.model measure.layout measure.key_length cut) 1
+        (map (λ f. f.now) members.entry.now) ≡ Ok (map (λ f. f.now) members.entry.now)) }
     ensures areas { IfOk result (λ all. map (λ r. all_areas r.items) all.items
-        ≡ map (block_areas blocks.entry.cut) (map (λ f. f.now) blocks.entry.members.now)) }
-    ensures each { IfOk result (λ _. All (AreBlocks model blocks.entry.cut) (map (λ f. f.now) blocks.entry.members.now)) }
-    ensures fault { IfErr result (λ e. IsUnmade e (fitting_members model key_length (member_blocks blocks.entry))) }
+        ≡ map (block_areas cut) (map (λ f. f.now) members.entry.now)) }
+    ensures each { IfOk result (λ _. All (HasBlocks measure.model cut) (map (λ f. f.now) members.entry.now)) }
+    ensures fault { IfErr result (λ e. IsUnmade e
+        (each_made (fitting measure.model measure.layout measure.key_length cut) 1 (map (λ f. f.now) members.entry.now))) }
 {
-    let MemberBlocks {
-        layout,
-        cut,
-        members,
-    } = blocks;
-    let measure = Measure {
-        model,
-        layout,
-        key_length,
-    };
     let mut all = Vec::new(alloc);
     for (number, bytes) in members.iter().enumerate() {
-        match member_records(alloc, measure, Blocks { bytes: *bytes, cut }) {
+        match member_records(alloc, measure, cut, bytes) {
             Ok(records) => push_records(&mut all, records)?,
             Err(fault) => return Err(of_member(number + 1, fault)),
         }
@@ -171,9 +164,9 @@ pub(crate) fn all_records<'a>(
 }
 
 // One member more.
-fn push_member<'a>(
+fn push_member<'a, 'b>(
     members: &mut Vec<NewMember<'a>>,
-    records: &'a [NewRecord<'a>],
+    records: &'a [NewRecord<'b>],
 ) -> Result<(), AllocError>
     ensures { OnOk result (map member_areas members.new.items ≡ map member_areas members.old.items ++ all_areas records.entry.now ∷ []) }
 {
@@ -188,9 +181,9 @@ fn push_member<'a>(
 /// # Errors
 ///
 /// There is no memory for them.
-pub(crate) fn new_members<'a>(
+pub(crate) fn new_members<'a, 'b>(
     alloc: Global,
-    all: &'a [Vec<NewRecord<'a>>],
+    all: &'a [Vec<NewRecord<'b>>],
 ) -> Result<Vec<NewMember<'a>>, AllocError>
     ensures { IfOk result (λ members. map member_areas members.items ≡ map (λ r. all_areas r.items) all.entry.now) }
 {

@@ -24,7 +24,7 @@ pub same_said : (s : Said) (c : Contents) → IsSaid s c → said_in c ≡ s
 same_said s c is = rw (is.label, is.table, is.blocks, is.findings) refl
 
 module _ (g : Geometry) (s : Said) (v : Labelled) (says : SaysOf g s v) (nothing : all_findings g s ≡ []) where
-  fit : unfit_of g s ≡ None
+  pub fit : unfit_of g s ≡ None
   fit = ap (unfit_on_label g s) says.label ∙ ap (unfit_on_table g s) says.table ∙ ap unfit_by nothing
 
   pub fits : (set : LoadedSet) → blocks_on g set s ≡ blocks_for v set
