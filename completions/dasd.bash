@@ -62,6 +62,10 @@ _dasd() {
         _dasd_files
         return
         ;;
+    load:--all)
+        _dasd_files -d
+        return
+        ;;
     load:--record-format)
         return
         ;;
@@ -69,6 +73,9 @@ _dasd() {
         return
         ;;
     load:--block-length)
+        return
+        ;;
+    load:--key-length)
         return
         ;;
     relabel:--label)
@@ -132,11 +139,11 @@ _dasd() {
         _dasd_files
         ;;
     extract)
-        if [[ $word == -* ]]; then _dasd_words --to --all --text --record-format --record-length --block-length --raw --list --as-far-as-it-goes --json --verbose -h --help; return; fi
+        if [[ $word == -* ]]; then _dasd_words --to --all --text --with-lengths --record-format --record-length --block-length --raw --list --as-far-as-it-goes --json --verbose -h --help; return; fi
         _dasd_files
         ;;
     load)
-        if [[ $word == -* ]]; then _dasd_words --from --record-format --record-length --block-length --replace --verbose -h --help; return; fi
+        if [[ $word == -* ]]; then _dasd_words --from --all --text --with-lengths --record-format --record-length --block-length --key-length --replace --verbose -h --help; return; fi
         _dasd_files
         ;;
     rename)

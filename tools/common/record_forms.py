@@ -18,6 +18,11 @@ def described(body: bytes, code: int = 0) -> bytes:
     return (len(body) + DESCRIPTOR).to_bytes(2, "big") + bytes([code, 0]) + body
 
 
+def with_lengths(blocks: list[tuple[bytes, bytes]]) -> bytes:
+    """Blocks as a file keeps them behind their lengths: a byte 1, the length of the key in a byte, that of the data in two, key and data."""
+    return b"".join(bytes([1, len(key)]) + len(data).to_bytes(2, "big") + key + data for key, data in blocks)
+
+
 def fixed_blocks(records: list[bytes], block_length: int) -> list[bytes]:
     """As many whole records in each block as it has room for."""
     count = block_length // len(records[0])

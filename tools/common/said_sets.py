@@ -9,7 +9,7 @@ from dataclasses import dataclass
 
 from conformance.suite.volumes import Track
 from tools.common.images import Image, Place
-from tools.common.record_forms import cut
+from tools.common.record_forms import cut, with_lengths
 from tools.common.volume_layouts import END, EXTENT, EXTENTS, control_blocks
 
 ORGANISATION, PARTITIONED = 38, 0x02
@@ -21,8 +21,7 @@ Block = tuple[bytes, bytes]
 
 def blocks_hash(blocks: list[Block], is_whole: bool = True) -> str:
     """The hash of a data set or of a member that has these blocks."""
-    said = [bytes([1, len(key)]) + len(data).to_bytes(2, "big") + key + data for key, data in blocks]
-    return hashlib.sha256(b"blocks" + b"".join(said) + ending(is_whole)).hexdigest()
+    return hashlib.sha256(b"blocks" + with_lengths(blocks) + ending(is_whole)).hexdigest()
 
 
 def library_hash(members: list[tuple[bytes, str]], is_whole: bool = True) -> str:

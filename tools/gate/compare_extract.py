@@ -7,7 +7,8 @@ source, load modules and records of variable length. The program is the word, or
 package hercules. Each difference is a line; the last line is 'N compared, M differ', and the status 1 where M is not 0.
 
 Each data set and each member is taken out to standard output, to a file with --to, and as text; and each volume by --all, raw, as text and
-with lines of JSON, whose files must be those that were put there, under their names, and no others. The members of each partitioned data set
+with lines of JSON, whose files must be those that were put there, under their names, and beside them the text of what labels and directories say, as
+Python reads these (tools/common/folder_texts.py), and no others. The members of each partitioned data set
 are listed too, with --list and by `dasd vtoc --members`. Beside what was put there stand:
 
 - `dasdcat`, for each member: its bytes, and the names of a directory, in their order;
@@ -38,6 +39,7 @@ import tempfile
 from dataclasses import dataclass
 
 from tools.common import hercules_readings as readings, volume_layouts as layouts
+from tools.common.folder_texts import TEXT, folder_text
 from tools.common.images import Image
 from tools.common.record_forms import cut, records_of, text_of
 from tools.common.written_labels import LAST_VOLUME
@@ -218,6 +220,7 @@ class Extraction:
         with tempfile.TemporaryDirectory(dir=self.folder) as name:
             ended = readings.run(self.dasd, "extract", "--all", name, *options, self.image)
             found = {path.name: path.read_bytes() for path in pathlib.Path(name).iterdir()}
+        self.same(f"{title} {TEXT}", found.pop(TEXT, b"").decode(), folder_text(Image(self.image)), "Python")
         bodies = {it.file: it.text() if is_text else it.raw() for it in self.pieces}
         wanted = {file: body for file, body in bodies.items() if body is not None}
         self.same(f"{title} files", sorted(found), sorted(wanted), "what was put there")

@@ -3,10 +3,11 @@ of it.
 
     tools/run gate/play_changes [--built FILE] [--changes N] [--seed N]
 
-A pack is one that `dasd format --label` has made. Then come loads of files with blocks of a form by chance, deletions and renames, some of
-them refused: for a name, a form or a length that can't be, for a pack that is full. Behind each, what was printed, the pack's bytes, and what
-`dasd extract` takes out of each new data set must be what the model says. It shares no code with `dasd`: the layouts are those of System Control
-Blocks (GC28-6628), 'Data Set Control Block', and what goes on a track is by the capacities of the 2841 and the 2314."""
+A pack is one that `dasd format --label` has made. Then come loads of files with blocks of a form by chance, as they stand, behind their lengths
+and keys, or as lines of text; deletions and renames; some of them refused: for a name, a form or a length that can't be, for a pack that is full.
+Behind each, what was printed, the pack's bytes, and what `dasd extract` takes out of each new data set, in each way, must be what the model says. It
+shares no code with `dasd`: the layouts are those of System Control Blocks (GC28-6628), 'Data Set Control Block', and what goes on a track is by the
+capacities of the 2841 and the 2314."""
 
 import argparse
 import random
@@ -20,64 +21,24 @@ from pathlib import Path
 from conformance.suite.volumes import Record
 from tools import TOP
 from tools.common.images import Image, Place
-from tools.common.record_forms import cut, described, variable_blocks
+from tools.common.said_sets import Block
 from tools.common.volume_layouts import Run, ebcdic
+from tools.gate.chance_files import FORMATS, Form, Refused, check, file_by_chance, form_by_chance
 
 BUILT = TOP / "crates" / "dasd_cmd" / "out" / "dasd_cmd"
 # What a command did: its status, what it printed, and what it said on standard error.
 Ended = tuple[int, str, str]
-# The byte of a record format.
-FORMATS = {"F": 0x80, "FB": 0x90, "FS": 0x88, "FBS": 0x98, "V": 0x40, "VB": 0x50, "U": 0xC0}
 # How many changes a pack gets.
 CHANGES = 40
-
-
-@dataclass(frozen=True)
-class Form:
-    """The form of a data set's records, as it is asked for."""
-
-    name: str
-    record: int | None
-    block: int
-
-    def words(self) -> list[str]:
-        """The words that ask for it."""
-        record = [] if self.record is None else ["--record-length", str(self.record)]
-        return ["--record-format", self.name, *record, "--block-length", str(self.block)]
-
-    def is_variable(self) -> bool:
-        """Whether its blocks say their own lengths."""
-        return self.name in ("V", "VB")
-
-    def record_length(self) -> int:
-        """What the label says of it."""
-        if self.name == "U" or (self.is_variable() and self.record is None):
-            return 0
-        return self.block if self.record is None else self.record
-
-    def cut(self, data: bytes) -> list[bytes]:
-        """The blocks of a file."""
-        if not self.is_variable():
-            return cut(data, self.block)
-        blocks, at = [], 0
-        while at < len(data):
-            length = int.from_bytes(data[at : at + 2], "big")
-            blocks.append(data[at : at + length])
-            at += length
-        return blocks
 
 
 @dataclass
 class Layout:
     """Blocks on tracks: those of each track, the last of them the end of file; where the last block is, and what it leaves of its track."""
 
-    tracks: list[list[bytes]]
+    tracks: list[list[Block]]
     last: tuple[int, int]
     balance: int
-
-
-class Refused(Exception):
-    """Why a load is refused."""
 
 
 class Pack:
@@ -103,20 +64,22 @@ class Pack:
         tracks = range(self.table[0], self.table[1] + 1)
         return [((track, at), it) for track in tracks for at, it in enumerate(self.image.records(track)) if at > 0]
 
-    def laid(self, blocks: list[bytes]) -> Layout:
+    def laid(self, blocks: list[Block]) -> Layout:
         """These blocks, the last of them the end of file, on as few tracks as have them."""
-        tracks: list[list[bytes]] = [[]]
-        for block in blocks:
-            used = sum(self.model.charge(0, len(it)) for it in tracks[-1])
-            if used + self.model.last_charge(0, len(block)) > self.model.capacity:
+        tracks: list[list[Block]] = [[]]
+        for key, data in blocks:
+            if self.used(tracks[-1]) + self.model.last_charge(len(key), len(data)) > self.model.capacity:
                 tracks.append([])
-            tracks[-1].append(block)
+            tracks[-1].append((key, data))
         if len(blocks) == 1:
             return Layout(tracks, (0, 0), self.model.capacity)
         track = len(tracks) - (2 if len(tracks[-1]) == 1 else 1)
-        own = [it for it in tracks[track] if it]
-        left = self.model.capacity - sum(self.model.charge(0, len(it)) for it in own)
-        return Layout(tracks, (track, len(own)), max(0, left))
+        own = [it for it in tracks[track] if it[1]]
+        return Layout(tracks, (track, len(own)), max(0, self.model.capacity - self.used(own)))
+
+    def used(self, blocks: list[Block]) -> int:
+        """What blocks take of a track, where others follow them."""
+        return sum(self.model.charge(len(key), len(data)) for key, data in blocks)
 
     def free_run(self, count: int) -> int:
         """The first of the first tracks in a row that nothing has."""
@@ -133,8 +96,8 @@ class Pack:
             raise Refused("not a name of a data set")
         if name in self.taken:
             raise Refused("a data set has this name")
-        check(form, data, self.model.capacity)
-        laid = self.laid([*form.cut(data), b""])
+        check(form, data, self.model)
+        laid = self.laid([*form.cut(data), (b"", b"")])
         first = self.free_run(len(laid.tracks))
         run = first, first + len(laid.tracks) - 1
         place = next((it[0] for it in self.blocks() if it[1].key == bytes(44) and it[1].data == bytes(96)), None)
@@ -144,7 +107,7 @@ class Pack:
         self.count(max(self.address(place), self.told()[1]), -1)
         self.take(first, len(laid.tracks))
         for number, blocks in enumerate(laid.tracks, first):
-            self.image.put_blocks(number, [(b"", it) for it in blocks])
+            self.image.put_blocks(number, blocks)
         self.taken[name] = run
         return f"loaded {name} {len(laid.tracks)} track{'' if len(laid.tracks) == 1 else 's'}\n"
 
@@ -208,7 +171,7 @@ class Pack:
         """The data of the format 1 block."""
         block = b"\xf1" + self.serial + b"\0\1" + bytes(6) + b"\1\0\0" + ebcdic("", 13) + bytes(7)
         block += b"\x40\0" + bytes([FORMATS[form.name], 0]) + form.block.to_bytes(2, "big") + form.record_length().to_bytes(2, "big")
-        block += bytes(3) + b"\x80\x80" + bytes(3) + laid.last[0].to_bytes(2, "big") + bytes([laid.last[1]])
+        block += bytes([form.key, 0, 0]) + b"\x80\x80" + bytes(3) + laid.last[0].to_bytes(2, "big") + bytes([laid.last[1]])
         block += laid.balance.to_bytes(2, "big") + bytes(2) + b"\1\0" + b"".join(map(self.image.address, run))
         return block.ljust(96, b"\0")
 
@@ -235,67 +198,6 @@ def is_name(name: str) -> bool:
     letters = "ABCDEFGHIJKLMNOPQRSTUVWXYZ$#@"
     parts = name.split(".")
     return len(name) <= 44 and all(1 <= len(it) <= 8 and it[0] in letters and set(it) <= set(letters + "0123456789-") for it in parts)
-
-
-def check(form: Form, data: bytes, capacity: int) -> None:
-    """Refuses a form that can't be, or a file that has none such."""
-    size = form.record_length()
-    if form.block > capacity:
-        raise Refused("a block is longer than a track")
-    if form.is_variable():
-        check_described(form, data)
-        return
-    if size and form.block % size:
-        raise Refused("record length and block length contradict each other")
-    if size and len(data) % size:
-        raise Refused("the file ends within a record")
-
-
-def check_described(form: Form, data: bytes) -> None:
-    """Refuses a file that has a block of variable records cut off, or too long."""
-    at, number = 0, 1
-    while at < len(data):
-        length = int.from_bytes(data[at : at + 2], "big")
-        if len(data) - at < 4:
-            raise Refused(f"block {number} has a descriptor word that is no length")
-        if at + length > len(data):
-            raise Refused(f"block {number} does not end within the file")
-        if length > form.block:
-            raise Refused(f"block {number} is longer than the block length")
-        at, number = at + length, number + 1
-
-
-def form_by_chance(chance: random.Random, capacity: int) -> Form:
-    """A form, mostly one that can be."""
-    name = chance.choice(sorted(FORMATS))
-    record = chance.choice([1, 8, 80, 121, 133, chance.randint(1, 400)])
-    most = max(1, min(capacity, chance.choice([200, 1000, 4000, capacity])) // record)
-    if name in ("FB", "FBS"):
-        return Form(name, record, record * chance.randint(1, most))
-    if name in ("V", "VB"):
-        return Form(name, chance.choice([None, record]), min(capacity, record + 8) + chance.choice([0, 0, chance.randint(0, 3000)]))
-    block = chance.choice([record, chance.randint(1, capacity), capacity, capacity + 1])
-    return Form(name, None, block)
-
-
-def file_by_chance(chance: random.Random, form: Form) -> bytes:
-    """The bytes of a file, mostly whole records."""
-    if form.is_variable():
-        return variable_by_chance(chance, form)
-    size = form.record_length() or 1
-    count = chance.choice([0, 1, 2, chance.randint(0, 30), chance.randint(0, 40_000 // size)])
-    odd = 1 if chance.random() < 0.05 else 0
-    return chance.randbytes(count * size + odd)
-
-
-def variable_by_chance(chance: random.Random, form: Form) -> bytes:
-    """The bytes of a file of variable records, each in its block or several in one, mostly whole and not too long."""
-    most = form.block - 8
-    records = [chance.randbytes(chance.randint(0, most)) for _ in range(chance.choice([0, 1, chance.randint(0, 60)]))]
-    longest = form.block + (9 if chance.random() < 0.05 else 0)
-    blocks = variable_blocks(records, longest) if form.name == "VB" else [described(described(it)) for it in records]
-    data = b"".join(blocks)
-    return data[: -chance.randint(1, 3)] if data and chance.random() < 0.05 else data
 
 
 def name_by_chance(chance: random.Random, taken: list[str]) -> str:
@@ -354,9 +256,11 @@ class Player:
         data, name = file_by_chance(self.chance, form), name_by_chance(self.chance, list(pack.taken))
         (self.folder / "file").write_bytes(data)
         if self.is_so(pack, ["load", "pack.ckd", name, "--from", "file", *form.words()], lambda: pack.load(name, form, data)):
-            (self.folder / "out").unlink(missing_ok=True)
-            same(self.dasd("extract", "pack.ckd", name, "--to", "out"), (0, "", ""), f"change {self.changes}: extract")
-            same((self.folder / "out").read_bytes() == data, True, f"change {self.changes}: what was taken out")
+            for word, taken in form.taken_out(data).items():
+                (self.folder / "out").unlink(missing_ok=True)
+                words = ["extract", "pack.ckd", name, "--to", "out", *([word] if word else [])]
+                same(self.dasd(*words), (0, "", ""), f"change {self.changes}: {' '.join(words)}")
+                same((self.folder / "out").read_bytes() == taken, True, f"change {self.changes}: what {' '.join(words)} takes out")
 
     def delete(self, pack: Pack) -> None:
         """A deletion, mostly of a data set that is there."""
@@ -383,7 +287,7 @@ def main() -> None:
     """Reads the words, and plays packs until so many loads were made."""
     words = argparse.ArgumentParser(description=__doc__, formatter_class=argparse.RawDescriptionHelpFormatter)
     words.add_argument("--built", type=Path, default=BUILT)
-    words.add_argument("--changes", type=int, default=300)
+    words.add_argument("--changes", type=int, default=500)
     words.add_argument("--seed", type=int, default=1)
     said = words.parse_args()
     if not said.built.exists():

@@ -28,6 +28,17 @@ SETS: tuple[Set, ...] = (
     ("NO.FORM", "PS", SHAPELESS),
     ("PAY.CARDS", "PS", TWIN),
 )
+# What the text says that stands in a folder with all of them.
+SAID = """\
+data set PAY.CARDS PS FB 80 160 0 1974-365 1999-365
+data set SYS1.MACLIB PO FB 80 160 0 1974-365 1999-365 directory 1
+member ALPHA
+member BETA
+data set %4B.%61..%61ETC%61PASSWD PS FB 80 160 0 1974-365 1999-365
+data set OPEN.END PS FB 80 160 0 1974-365 1999-365
+data set NO.FORM PS X'00' 80 160 0 1974-365 1999-365
+data set PAY.CARDS PS FB 80 160 0 1974-365 1999-365
+"""
 LINES = ["//CARDS    JOB", "FIRST  CARD", "", "LAST CARD"]
 
 
@@ -168,6 +179,7 @@ def all_of_a_volume_goes_to_a_folder_and_nothing_leaves_it(s: Scratch) -> None:
             "%4B.%61..%61ETC%61PASSWD": raw("ROOT"),
             "OPEN.END": raw("ONE", "TWO"),
             "NO.FORM": raw("ANY"),
+            "data_sets.txt": SAID.encode(),
         },
     )
     same(sorted(it.name for it in s.path("deep").iterdir()), ["out"])

@@ -1,15 +1,15 @@
 """Runs the built program `dasd` over real files in a scratch folder, and compares what stands there afterwards byte for byte.
 
-Each row makes files, runs commands and says what they print, end with and leave: links, pipes, devices, modes, owners, full disks, broken
-pipes, odd names and files that are no images; kills, runs at once and traces in tools/gate/real_runs.py, `dasd extract` in
-tools/gate/real_extracts.py, record formats that are given and tracks as they stand in tools/gate/real_formats.py, strict checks, dumps and
-comparisons in tools/gate/real_archives.py, findings in tools/gate/real_findings.py, hashes of data sets and members in
+Each row makes files, runs commands and says what they print, end with and leave: links, pipes, devices, modes, owners, full disks, broken pipes,
+odd names and files that are no images; kills, runs at once and traces in tools/gate/real_runs.py, `dasd extract` in tools/gate/real_extracts.py, with
+lengths and keys in tools/gate/real_keyed_extracts.py, record formats that are given and tracks as they stand in tools/gate/real_formats.py, strict
+checks, dumps and comparisons in tools/gate/real_archives.py, findings in tools/gate/real_findings.py, hashes of data sets and members in
 tools/gate/real_hashes.py, links and files that are written in place in tools/gate/real_in_place.py, new volumes with a label in
 tools/gate/real_labels.py, volumes that are changed in tools/gate/real_changes.py and tools/gate/real_deletes.py, odd lengths in
-tools/gate/real_lengths.py, lists in tools/gate/real_lists.py, data sets that are put onto a volume in tools/gate/real_loads.py, options of
-checks, dumps and runs in tools/gate/real_options.py, data sets that share cylinders, tracks that have alternates and parts of data sets in
-tools/gate/real_packs.py, and what is told beside a fault's line in tools/gate/real_reasons.py. A row that needs root, a small file system
-of its own or a device, where these can't be had, is skipped, with a word.
+tools/gate/real_lengths.py, lists in tools/gate/real_lists.py, data sets that are put onto a volume in tools/gate/real_loads.py, texts and blocks with
+lengths and keys among them in tools/gate/real_load_forms.py, options of checks, dumps and runs in tools/gate/real_options.py, data sets that share
+cylinders, tracks that have alternates and parts of data sets in tools/gate/real_packs.py, and what is told beside a fault's line in
+tools/gate/real_reasons.py. A row that needs root, a small file system of its own or a device, where these can't be had, is skipped, with a word.
 
 It runs crates/dasd_cmd/out/dasd_cmd, as `rt ci` or `rt run` leaves it; with --built FILE that program; with words behind, the
 rows whose names have one of them. The last line is 'N rows over real files, M came out wrong, K skipped', and the status 1 where M
@@ -38,12 +38,16 @@ from tools.gate import (
     real_deletes,
     real_extracts,
     real_findings,
+    real_folder_loads,
+    real_folders,
     real_formats,
     real_hashes,
     real_in_place,
+    real_keyed_extracts,
     real_labels,
     real_lengths,
     real_lists,
+    real_load_forms,
     real_loads,
     real_options,
     real_packs,
@@ -60,12 +64,16 @@ OTHERS = (
     real_deletes,
     real_extracts,
     real_findings,
+    real_folder_loads,
+    real_folders,
     real_formats,
     real_hashes,
     real_in_place,
+    real_keyed_extracts,
     real_labels,
     real_lengths,
     real_lists,
+    real_load_forms,
     real_loads,
     real_options,
     real_packs,

@@ -207,7 +207,7 @@ def words_of_tracks_that_are_wrong(s: Scratch) -> None:
     dos(s.path("pack.ckd"))
     raw_member = "error: --raw takes the tracks of a data set, and of no member\n"
     same(s.dasd("extract", "pack.ckd", "LIB(ALPHA)", "--raw"), (2, "", raw_member))
-    either = "error: --raw goes with neither --text nor --all\n"
+    either = "error: --raw goes with neither --text nor --with-lengths nor --all\n"
     same(s.dasd("extract", "pack.ckd", "OS.CARDS", "--raw", "--text"), (2, "", either))
     same(s.dasd("extract", "--all", "out", "pack.ckd", "--raw"), (2, "", either))
     same(s.dasd("extract", "pack.ckd", "OS.CARDS", "--raw", "--record-format", "F")[0], 2)

@@ -107,7 +107,7 @@ def one_byte_of_one_data_set_is_one_file(s: Scratch) -> None:
     image.save()
     s.path("out").mkdir()
     same(s.dasd("extract", "--all", "out", "pack.ckd"), (0, "ONE 1 byte\n1 file, 0 findings\n", ""))
-    same(s.dasd("extract", "--all", "out", "pack.ckd"), (1, "ONE: file exists\n0 files, 1 finding\n", ""))
+    same(s.dasd("extract", "--all", "out", "pack.ckd"), (1, "ONE: file exists\ndata_sets.txt: file exists\n0 files, 2 findings\n", ""))
     status, printed, told = s.dasd("check", "--strict", "--warnings", "pack.ckd")
     same((status, printed, told), (0, "0 errors, 0 warnings, 1 note\n", ""))
 

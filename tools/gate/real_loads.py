@@ -37,11 +37,16 @@ def tracks(held: bytes) -> list[bytes]:
 
 
 def spelled(track: int, blocks: list[bytes]) -> bytes:
-    """The slot of a track with these blocks behind its record 0."""
+    """The slot of a track with these blocks, without keys, behind its record 0."""
+    return spelled_with_keys(track, [(b"", it) for it in blocks])
+
+
+def spelled_with_keys(track: int, blocks: list[tuple[bytes, bytes]]) -> bytes:
+    """The slot of a track with blocks of these keys and data behind its record 0."""
     cchh = bytes([0, track // 10, 0, track % 10])
     slot = bytes([0]) + cchh + cchh + bytes([0, 0, 0, 8]) + bytes(8)
-    for number, block in enumerate(blocks, 1):
-        slot += cchh + bytes([number, 0]) + len(block).to_bytes(2, "big") + block
+    for number, (key, data) in enumerate(blocks, 1):
+        slot += cchh + bytes([number, len(key)]) + len(data).to_bytes(2, "big") + key + data
     return (slot + b"\xff" * 8).ljust(SLOT, b"\0")
 
 
@@ -137,7 +142,7 @@ def loads_that_are_refused_leave_the_pack(s: Scratch) -> None:
         is_held(s.path("pack.ckd"), held)
     s.put("bare.ckd", volume())
     same(s.dasd("load", "bare.ckd", "A", "--from", "cards", *BLOCKED), fault("no volume label"))
-    same(s.dasd("load", "pack.ckd", "A", *BLOCKED), (2, "", "error: load takes --from\n"))
+    same(s.dasd("load", "pack.ckd", "A", *BLOCKED), (2, "", "error: load takes --from or --all\n"))
     same(s.dasd("load", "pack.ckd", "A", "--from", "cards", "--block-length", "80"), (2, "", "error: load takes --record-format\n"))
     same(s.dasd("load", "pack.ckd", "A", "--from", "cards", "--record-format", "U"), (2, "", "error: load takes --block-length\n"))
     is_held(s.path("pack.ckd"), held)

@@ -268,8 +268,7 @@ def parts_are_told_of_all_of_a_volume(s: Scratch) -> None:
         sums = "1 file, 0 findings\n" if text is None else f"LONG.SET: {text}\n1 file, 1 finding\n"
         same(s.dasd("extract", "--all", "out", "pack.ckd"), (0 if text is None else 1, "LONG.SET 80 bytes\n" + sums, ""), f"{what}")
         is_held(s.path("out/LONG.SET"), raw("A CARD"))
-        s.path("out/LONG.SET").unlink()
-        s.path("out").rmdir()
+        shutil.rmtree(s.path("out"))
 
 
 @row

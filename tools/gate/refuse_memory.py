@@ -38,6 +38,9 @@ START    SEEK  *+16,CC,6
          TIC   START
          SHOW  START 8
 """
+# What is put onto a volume: cards, lines, and blocks behind their lengths and keys.
+LOAD = ["load", "old.ckd", "NEW.SET", "--from", "/dev/stdin"]
+CARDS, LINES, KEYED = " " * 400, "ONE\nTWO\n" * 30, "\1\3\0\5KEYBLOCK" * 30
 CHANGES = ["load", "rename", "delete", "relabel"]
 COMMANDS = ["format", "list", "check", "dump", "compare", "hash", "vtoc", "extract", *CHANGES, "explain", "assemble", "disassemble", "run", "help"]
 WRONG = "fomrat"
@@ -87,6 +90,9 @@ JOBS = {
     "a data set": Job(["extract", "old.ckd", "PAY.CARDS", "--text"]),
     "a member to a file": Job(["extract", "old.ckd", "SYS1.MACLIB(BETA)", "--to", "beta"], "", NOTED),
     ALL: Job(["extract", "--all", ".", "old.ckd"], "", NOTED),
+    "a file that is loaded": Job([*LOAD, "--record-format", "FB", "--record-length", "80", "--block-length", "160"], CARDS),
+    "a text that is loaded": Job([*LOAD, "--text", "--record-format", "F", "--block-length", "80"], LINES),
+    "blocks with keys that are loaded": Job([*LOAD, "--with-lengths", "--key-length", "3", "--record-format", "U", "--block-length", "5"], KEYED),
     "a data set that is renamed": Job(["rename", "old.ckd", "PAY.CARDS", "PAY.OLD"]),
     "a data set that is deleted": Job(["delete", "old.ckd", "PAY.CARDS"]),
     "a volume that is relabelled": Job(["relabel", "old.ckd", "--label", "ABC123"]),
