@@ -34,12 +34,12 @@ some_records directory members = omega (
 
 -- they can be put onto a volume
 pub can_be : (model : DriveModel) (p : PlacedSet) (directory : List ℕ) (members : List NewMember)
-    → areas p ≡ library_areas directory members → All (RecordGoesOn model) p.records.now → p.last ≡ length p.records.now
+    → areas p ≡ library_areas directory members → All (RecordGoesOn model) p.records.now → p.last ≤ length p.records.now
     → CanBePlaced model p
 can_be model p directory members is each last = record {
   each = each;
   some = omega (arith, length-all p.records.now, ap length is, some_records directory members);
-  last = omega (arith, last);
+  last = last;
 }
 
 -- they are its data set

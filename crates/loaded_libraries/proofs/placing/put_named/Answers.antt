@@ -1,4 +1,4 @@
-use Rattle.std.proofs.Common.{◌∙◌, ap, sym, subst, All}
+use Rattle.std.proofs.Common.{◌∙◌, ap, sym, subst, All, arith}
 use Rattle.record_tracks.specs.Records.{all_areas, RecordGoesOn}
 use Rattle.loaded_libraries.proofs.Placed.{can_be}
 use Rattle.loaded_libraries.proofs.placing.put_named.Goals as goal
@@ -10,4 +10,4 @@ place_records-requires-clause-set c =
     (ap all_areas c.as_slice-2.ensures.value ∙ c.in-Ok-library_records.ensures.records)
     (subst (All (RecordGoesOn model)) (sym c.as_slice-2.ensures.value)
     (c.in-Ok-library_records.ensures.fit model c.requires.members))
-    (c.len.ensures ∙ sym c.as_slice-2.ensures.len)
+    (omega (arith, c.len.ensures, c.as_slice-2.ensures.len))
