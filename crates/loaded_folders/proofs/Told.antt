@@ -1,6 +1,5 @@
 -- Faults, by what they tell.
-use Rattle.std.proofs.Common.{◌≡◌, ◌∙◌, ap, sym, refl, subst, List, [], ◌∷◌, ◌++◌, ℕ, Option, None, Some, Result, Ok, Err, inl, inr, append_assoc}
-use Rattle.std.specs.String.{string_bytes}
+use Rattle.std.proofs.Common.{◌≡◌, ◌∙◌, ap, sym, refl, subst, List, [], ◌∷◌, ◌++◌, ℕ, None, Some, Result, inl, inr, append_assoc}
 use Rattle.ckd_track.specs.declared.geometries.Geometry.{Geometry}
 use Rattle.dasd_jobs.specs.Sources.{SourceFile, ReadsFront}
 use Rattle.dasd_unload.specs.Volumes.{path_in}
@@ -19,7 +18,7 @@ use Rattle.loaded_folders.specs.declared.fault.FolderFault.TheVariants as fault
 use Rattle.loaded_folders.specs.Sets.{FolderSet}
 use Rattle.loaded_folders.specs.Entries.{EntryParts, EntryRefused, entry_parts, entries_of, entries_behind, on_entry}
 use Rattle.loaded_folders.specs.Reading.{ReadsFiles}
-use Rattle.loaded_folders.specs.Loads.{IsSequential, IsPartitioned, StopsAt, IsStopped, GetsAll}
+use Rattle.loaded_folders.specs.Loads.{IsSequential, IsPartitioned, IsStopped, GetsAll}
 use Rattle.loaded_folders.specs.Parts.{IsUnled, TellsUnled, TellsEntry, IsNoFile, IsNoMemory, StopsReading, IsToldOf, IsNotBy, IsNotOne}
 use Rattle.loaded_folders.proofs.Chains.{reads_more}
 

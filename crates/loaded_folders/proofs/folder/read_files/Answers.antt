@@ -1,6 +1,5 @@
-use Rattle.std.proofs.Common.{◌∙◌, ap, sym, ◌++◌, ◌∷◌, [], subst}
+use Rattle.std.proofs.Common.{◌∙◌, ◌++◌, ◌∷◌, []}
 use Rattle.std.specs.String.{string_bytes}
-use Rattle.loaded_folders.specs.Reading.{ReadsFiles}
 use Rattle.loaded_folders.proofs.Chains.{split, one_more, reads_more}
 use Rattle.loaded_folders.proofs.Told.{read_stops, none_for}
 use Rattle.loaded_folders.proofs.folder.read_files.Goals as goal
