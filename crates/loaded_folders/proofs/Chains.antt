@@ -1,5 +1,6 @@
 -- Files that are read and data sets that are loaded, one behind another.
-use Rattle.std.proofs.Common.{◌≡◌, ◌∙◌, ap, sym, refl, subst, ℕ, suc, ◌+◌, ◌<◌, ◌≤◌, List, [], ◌∷◌, ◌++◌, length, map, drop, get_or, append_assoc, append-nil}
+use Rattle.std.proofs.Common.{◌≡◌, ◌∙◌, ap, sym, refl, subst, ℕ, suc, ◌+◌, ◌<◌, ◌≤◌, List, [], ◌∷◌, ◌++◌, length}
+use Rattle.std.proofs.Common.{map, drop, get_or, append_assoc, append-nil}
 use Rattle.std.proofs.lemmas.List.{drop_more, drop_all}
 use Rattle.ckd_image.specs.Image.{ImageState}
 use Rattle.ckd_track.specs.declared.geometries.Geometry.{Geometry}
@@ -35,8 +36,8 @@ module _ {X Y : Type 0} (f : X → Y) (xs : List X) (i : ℕ) (done : List Y) (s
   all_passed passed = sym (append-nil done) ∙ sym (ap (λ l. done ++ map f l) (drop_all i xs passed)) ∙ so_far.all
 
 -- files were read, and one more
-pub reads_more : (folder : List ℕ) (names bytes : List (List ℕ)) (n b : List ℕ) (a m z : List SourceFile) → ReadsFiles folder names bytes a m
-    → ReadsFront (path_in folder n) 9560245800 b m z → ReadsFiles folder (names ++ n ∷ []) (bytes ++ b ∷ []) a z
+pub reads_more : (folder : List ℕ) (names bytes : List (List ℕ)) (n b : List ℕ) (a m z : List SourceFile)
+    → ReadsFiles folder names bytes a m → ReadsFront (path_in folder n) 9560245800 b m z → ReadsFiles folder (names ++ n ∷ []) (bytes ++ b ∷ []) a z
 reads_more folder [] [] n b a m z is read =
     (z, subst (λ (s : List SourceFile). ReadsFront (path_in folder n) 9560245800 b s z) is read, refl)
 reads_more folder [] (x ∷ bytes) n b a m z is read = elim is [ ]

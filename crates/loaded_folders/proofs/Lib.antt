@@ -1,4 +1,4 @@
 mod Chains
-mod Folder
 mod Saved
 mod Told
+mod Unread

@@ -1,6 +1,5 @@
 -- Data sets that are put onto the volume in files, or not.
-use Rattle.std.proofs.Common.{◌≡◌, refl, subst, sym, List, ℕ, Result, Ok, Err, inl, inr}
-use Rattle.std.specs.String.{string_bytes}
+use Rattle.std.proofs.Common.{◌≡◌, refl, subst, sym, List, ℕ, Result, Ok, Err, inr}
 use Rattle.counted_io.specs.Streams.{WritesWhole}
 use Rattle.counted_io.specs.declared.writing.WriteFault.{WriteFault}
 use Rattle.ckd_image.specs.Image.{ImageState, HoldsImage}
@@ -14,7 +13,7 @@ use Rattle.loaded_sets.specs.declared.contents.SourceForm.{SourceForm}
 use Rattle.loaded_folders.specs.declared.fault.FolderFault.{FolderFault}
 use Rattle.loaded_folders.specs.declared.fault.FolderFault.TheVariants as fault
 use Rattle.loaded_folders.specs.Sets.{FolderSet}
-use Rattle.loaded_folders.specs.Loads.{GetsAll, StopsAt, IsStopped, LoadsFiles, SavesLoaded, TellsLoads}
+use Rattle.loaded_folders.specs.Loads.{GetsAll, IsStopped, LoadsFiles, SavesLoaded, TellsLoads}
 use Rattle.loaded_folders.specs.Parts.{written_lines}
 
 -- an image was read, behind a call that opened nothing

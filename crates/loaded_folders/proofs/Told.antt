@@ -1,6 +1,5 @@
 -- Faults, by what they tell.
-use Rattle.std.proofs.Common.{◌≡◌, ◌∙◌, ap, sym, refl, subst, List, [], ◌∷◌, ◌++◌, ℕ, Option, None, Some, Result, Ok, Err, inl, inr, append_assoc}
-use Rattle.std.specs.String.{string_bytes}
+use Rattle.std.proofs.Common.{◌≡◌, ◌∙◌, ap, sym, refl, subst, List, [], ◌∷◌, ◌++◌, ℕ, None, Some, Result, inl, inr, append_assoc}
 use Rattle.ckd_track.specs.declared.geometries.Geometry.{Geometry}
 use Rattle.dasd_jobs.specs.Sources.{SourceFile, ReadsFront}
 use Rattle.dasd_unload.specs.Volumes.{path_in}
@@ -19,7 +18,7 @@ use Rattle.loaded_folders.specs.declared.fault.FolderFault.TheVariants as fault
 use Rattle.loaded_folders.specs.Sets.{FolderSet}
 use Rattle.loaded_folders.specs.Entries.{EntryParts, EntryRefused, entry_parts, entries_of, entries_behind, on_entry}
 use Rattle.loaded_folders.specs.Reading.{ReadsFiles}
-use Rattle.loaded_folders.specs.Loads.{IsSequential, IsPartitioned, StopsAt, IsStopped, GetsAll}
+use Rattle.loaded_folders.specs.Loads.{IsSequential, IsPartitioned, IsStopped, GetsAll}
 use Rattle.loaded_folders.specs.Parts.{IsUnled, TellsUnled, TellsEntry, IsNoFile, IsNoMemory, StopsReading, IsToldOf, IsNotBy, IsNotOne}
 use Rattle.loaded_folders.proofs.Chains.{reads_more}
 
@@ -44,8 +43,8 @@ entry_fault members done e others all is r data_set why unled told =
     subst (TellsEntry r data_set) is
     (entry_told r data_set e.name why (entry_parts members e) (λ p. entries_behind members (done ++ p ∷ []) others) unled told)
 
-module _ (folder : List ℕ) (names first others : List (List ℕ)) (n : List ℕ) (all : names ≡ first ++ n ∷ others) (bytes : List (List ℕ)) where
-  module _ (a m : List SourceFile) (read : ReadsFiles folder first bytes a m) where
+module _ (folder : List ℕ) (names first others : List (List ℕ)) (n : List ℕ) (all : names ≡ first ++ n ∷ others) where
+  module _ (bytes : List (List ℕ)) (a m : List SourceFile) (read : ReadsFiles folder first bytes a m) where
     -- the next file is not read
     pub read_stops : (r : FolderFault) (z : List SourceFile) → z ≡ m → IsNoFile r n → StopsReading r folder names a z
     read_stops (fault.NoFile told) z same is = (
@@ -92,7 +91,8 @@ module _ (source : SourceForm) (s : FolderSet) (g : Geometry) (slots : List (Lis
   -- a data set is not loaded
   pub set_told : (l : LoadedSet) (r : FolderFault) (f : LoadFault) → IsSequential source s l → set.IsNotLoaded f l g slots
       → IsToldOf r s.lines.form.name f → IsNotBy None r source s g slots
-  set_told l (fault.Refused n r) f is why (spelled, told) = (spelled, (l, is, subst (λ (x : LoadFault). set.IsNotLoaded x l g slots) told why))
+  set_told l (fault.Refused n r) f is why (spelled, told) =
+      (spelled, (l, is, subst (λ (x : LoadFault). set.IsNotLoaded x l g slots) told why))
   set_told l (fault.Job j) f is why (inl none) = subst IsHindered (sym none) tt
   set_told l (fault.Job j) f is why (inr told) = subst (λ (x : LoadFault). set.IsNotLoaded x l g slots) told why
   set_told l (fault.Save j) f is why told = subst (λ (x : LoadFault). set.IsNotLoaded x l g slots) told why
@@ -116,7 +116,8 @@ module _ (source : SourceForm) (s : FolderSet) (g : Geometry) (slots : List (Lis
     library_told l (fault.Entry n x) f is why told = elim told [ ]
 
     -- an entry of it leads nowhere
-    pub no_entry : (r : FolderFault) → TellsEntry r s.lines.form.name (entries_of s.lines.entries) → IsNotBy (Some blocks) r source s g slots
+    pub no_entry : (r : FolderFault) → TellsEntry r s.lines.form.name (entries_of s.lines.entries)
+        → IsNotBy (Some blocks) r source s g slots
     no_entry (fault.Entry n f) told = told
     no_entry (fault.Job f) told = subst IsHindered (sym told) tt
     no_entry fault.TooLong told = elim told [ ]

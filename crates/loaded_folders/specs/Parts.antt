@@ -1,5 +1,6 @@
 -- How the code holds what the contracts speak of; no public contract names these.
-use Rattle.std.specs.Prelude.{◌≡◌, ◌⊎◌, ℕ, ◌<◌, List, ◌∷◌, ◌++◌, length, map, Option, Some, None, Result, Ok, Err, String, Global}
+use Rattle.std.specs.Prelude.{◌≡◌, ◌⊎◌, ℕ, ◌<◌, List, ◌∷◌, ◌++◌, length, map, Option, Some, None, Result, Ok, Err, String}
+use Rattle.std.specs.Global.{Global}
 use Rattle.std.specs.String.{string_bytes}
 use Rattle.dasd_jobs.specs.declared.faults.JobFault.TheVariants.{OutOfMemory, Write}
 use Rattle.counted_io.specs.declared.writing.WriteFault.{WriteFault}

@@ -9,7 +9,8 @@ use Rattle.loaded_folders.proofs.entries.entries_of.Goals as goal
 pub returns-in-Err-clause-fault : goal.returns-in-Err-clause-fault
 returns-in-Err-clause-fault c =
     let done = map folder_entry c.loop-entry.made.items in
-    entry_fault c.in-Ok.members.items done c.entry-item.result.now (map (λ e. e.now) (drop (c.loop-entry.entry-index + 1) c.args.entries.now)) _
+    entry_fault c.in-Ok.members.items done c.entry-item.result.now
+    (map (λ e. e.now) (drop (c.loop-entry.entry-index + 1) c.args.entries.now)) _
     (sym (ap (entries_behind c.in-Ok.members.items done)
     (next_of (λ e. e.now) c.args.entries.now c.loop-entry.entry-index c.entry-item.result c.entry-item.is c.loop-entry-test.true))
     ∙ c.loop-entry.invariant)

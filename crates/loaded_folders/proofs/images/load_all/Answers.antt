@@ -1,4 +1,4 @@
-use Rattle.std.proofs.Common.{◌∙◌, ap, sym, ◌++◌, ◌∷◌, [], subst}
+use Rattle.std.proofs.Common.{◌++◌, ◌∷◌, [], subst}
 use Rattle.ckd_track.specs.declared.geometries.Geometry.{Geometry}
 use Rattle.loaded_folders.specs.Loads.{GetsOne}
 use Rattle.loaded_folders.specs.Parts.{folder_set, IsNotOne}

@@ -7,4 +7,5 @@ use Rattle.loaded_folders.proofs.names.file_names.Given as goal
 -- the names so far, and those of the other data sets
 abbrev pub invariant-loop-set : goal.invariant-loop-set
 invariant-loop-set l =
-    map string_bytes l.names.items ++ flat_map file_names (map lines_of (drop l.set-index l.sets)) ≡ flat_map file_names (map lines_of l.sets)
+    map string_bytes l.names.items ++ flat_map file_names (map lines_of (drop l.set-index l.sets))
+    ≡ flat_map file_names (map lines_of l.sets)

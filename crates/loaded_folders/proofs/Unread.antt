@@ -1,5 +1,5 @@
 -- A folder that is read, or not.
-use Rattle.std.proofs.Common.{◌≡◌, ◌∙◌, ap, sym, refl, subst, ℕ, List, [], ◌∷◌, ◌++◌, length, flat_map, append-nil, Result, Ok, Err, inl, inr}
+use Rattle.std.proofs.Common.{◌≡◌, ◌∙◌, ap, sym, refl, subst, ℕ, List, [], ◌∷◌, length, flat_map, append-nil, Result, Ok, Err, inl, inr}
 use Rattle.std.specs.String.{string_bytes}
 use Rattle.dasd_jobs.specs.Sources.{SourceFile}
 use Rattle.dasd_jobs.specs.Written.{Replaced}
@@ -88,7 +88,8 @@ module _ (folder text : List ℕ) (a m : List SourceFile) (has : HasText folder 
                   bytes,
                   subst (λ (f : List ℕ). ReadsBefore f sets [] bytes b.opened now.opened) (sym at_folder)
                       (subst (λ (s : List SourceFile). ReadsBefore folder sets [] bytes s now.opened) (sym at_start)
-                      (subst (λ (s : List SourceFile). ReadsBefore folder sets [] bytes a s) (ap (λ (x : Around). x.opened) (same ∙ sym kept)) all_read)),
+                      (subst (λ (s : List SourceFile). ReadsBefore folder sets [] bytes a s)
+                      (ap (λ (x : Around). x.opened) (same ∙ sym kept)) all_read)),
                 )),
               ),
               kept ∙ sym same ∙ ap (λ (x : Around). with_opened b x.opened) (same ∙ sym kept),
