@@ -1,5 +1,5 @@
 -- How many blocks the entries of a directory take.
-use Rattle.std.proofs.Common.{◌≡◌, ◌∙◌, ap, sym, refl, ℕ, zero, suc, ◌≤◌, ◌<◌, List, [], ◌∷◌, length, arith, All, length-drop}
+use Rattle.std.proofs.Common.{◌≡◌, ◌+◌, ◌∙◌, ap, sym, refl, ℕ, zero, suc, ◌≤◌, ◌<◌, List, [], ◌∷◌, length, arith, All, length-drop}
 use Rattle.std.proofs.Common.{true, false, cond, nat_lt, Option, Some, None}
 use Rattle.std.specs.Option.{option_or, option_map}
 use Rattle.std.proofs.lemmas.Bool.Decides.{nat_tests}
