@@ -41,7 +41,7 @@ pub record HasNew (added : AddedMember) (g : Geometry) (slots : List (List ℕ))
   pub made : member_blocks g.model old.form added ≡ Ok blocks
 
 -- behind the deletion of the old data set the slots are these, onto which this library is to be put
-pub record IsDeleted (added : AddedMember) (g : Geometry) (before : List (List ℕ)) (between : List (List ℕ)) (l : LoadedLibrary) : Type 0 where
+pub record IsDeleted (added : AddedMember) (g : Geometry) (before between : List (List ℕ)) (l : LoadedLibrary) : Type 0 where
   pub library : OldLibrary
   pub blocks : List ℕ
   pub new : HasNew added g before library blocks
@@ -55,8 +55,8 @@ pub record Added (added : AddedMember) (g : Geometry) (before : List (List ℕ))
   pub deleted : IsDeleted added g before between library
   pub loaded : Loaded library g between tracks now
 
--- Why a library does not get a member: it is not there or not whole; a member of it has the name; the file has no blocks for it; its data set
--- is not deleted; or the library with the member is not put onto the volume.
+-- Why a library does not get a member: it is not there or not whole; a member of it has the name; the file has no blocks for it; its data
+-- set is not deleted; or the library with the member is not put onto the volume.
 abbrev pub Refuses : AddRefusal → AddedMember → Geometry → (slots : List (List ℕ)) → Type 0
 Refuses refusal.NameTaken added g slots = (old : OldLibrary) × IsOld added.library g slots old × (is_taken added old ≡ true)
 Refuses (refusal.Content f) added g slots =

@@ -19,6 +19,7 @@ all_keyed areas = flat_map keyed_text areas
 abbrev pub keyed_blocks : FileBlocks → List ℕ
 keyed_blocks b = all_keyed (block_areas b.cut b.bytes)
 
+-- the same, if there are blocks
 abbrev pub keyed_or_fault : Result FileBlocks ContentFault → Result (List ℕ) ContentFault
 keyed_or_fault (Ok b) = Ok (keyed_blocks b)
 keyed_or_fault (Err f) = Err f

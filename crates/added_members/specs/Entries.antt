@@ -48,20 +48,22 @@ has_name name e = bytes_eq e.entry.name name
 abbrev pub names_member : (name : List ℕ) → List ReadEntry → Bool
 names_member name entries = list_any (has_name name) entries
 
--- an entry comes behind a name in the collating sequence of EBCDIC, byte by byte
+-- of two names the first is less in the collating sequence of EBCDIC
 abbrev pub is_less : Ordering → Bool
 is_less Less = true
 is_less Equal = false
 is_less Greater = false
 
+-- an entry comes behind a name in it, byte by byte
 abbrev pub comes_behind : (name : List ℕ) → ReadEntry → Bool
 comes_behind name e = is_less (slice_cmp nat_cmp name e.entry.name)
 
--- how many entries stand before one of a name: those before the first that comes behind it
+-- a place, or behind all
 abbrev pub place_or : (all : ℕ) → Option ℕ → ℕ
 place_or all (Some place) = place
 place_or all None = all
 
+-- how many entries stand before one of a name: those before the first that comes behind it
 abbrev pub place_for : (name : List ℕ) → List ReadEntry → ℕ
 place_for name entries = place_or (length entries) (position (comes_behind name) entries)
 

@@ -44,16 +44,18 @@ label_in b = data_set_block_of b.key b.bytes
 abbrev pub if_partitioned : Block → Bool → Result Block AddRefusal
 if_partitioned b is = if is then Ok b else Err refusal.NotPartitioned
 
+-- the control block at a place, if it is that of a library
 abbrev pub library_block : List Block → Option ℕ → Result Block AddRefusal
 library_block blocks (Some i) = if_partitioned (block_in blocks i) (is_partitioned (label_in (block_in blocks i)).organisation)
 library_block blocks None = Err refusal.NoDataSet
 
--- The control block of the library of a name on a volume that says this; or why there is none: nothing is put onto the volume at all, it has
--- no such data set, or that has no directory. The first of these is told.
+-- The control block of the library of a name on a volume with these blocks; or why there is none: nothing is put onto the volume at all, it
+-- has no such data set, or that has no directory. The first of these is told.
 abbrev pub library_unless_unfit : (name : List ℕ) → List Block → Option PlaceRefusal → Result Block AddRefusal
 library_unless_unfit name blocks None = library_block blocks (position (has_name name) blocks)
 library_unless_unfit name blocks (Some r) = Err (refusal.Volume r)
 
+-- the same on a volume that says this
 abbrev pub found_library : Geometry → (name : List ℕ) → Said → Result Block AddRefusal
 found_library g name s = library_unless_unfit name s.blocks (unfit_of g s)
 

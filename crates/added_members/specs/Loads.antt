@@ -28,8 +28,8 @@ added_line library member tracks = concat (
     codes "loaded " ∷ library ∷ codes "(" ∷ member ∷ codes ") " ∷ decimal tracks ∷ (if tracks == 1 then codes " track" else codes " tracks")
     ∷ (10 ∷ []) ∷ [])
 
--- The volume in the files at these paths was read whole, its library got the member, and the files of it that changed were written; or those
--- before one of them, at which it stopped.
+-- The volume in the files at these paths was read whole, its library got the member, and the files of it that changed were written; or
+-- those before one of them, at which it stopped.
 pub record SavesAdded {A : Type 0} (result : Result A JobFault) (added : AddedMember) (tracks : ℕ) (paths : List (List ℕ))
     (opened_before opened : List SourceFile) (before now : List Replaced) : Type 0 where
   pub image : ImageState
@@ -58,8 +58,8 @@ AddsFiles (Err (fault.Job f)) added paths opened_before opened before now = Hind
 
 -- The same, and this line is printed; with a write fault it may be only its beginning, and a write or a flush has failed. With every other
 -- fault nothing is printed.
-abbrev pub TellsMember : {A : Type 0} → Result A AddFault → AddedMember → (line : ℕ → List ℕ) → (paths : List (List ℕ)) → (before now : Around)
-    → Type 0
+abbrev pub TellsMember : {A : Type 0} → Result A AddFault → AddedMember → (line : ℕ → List ℕ) → (paths : List (List ℕ))
+    → (before now : Around) → Type 0
 TellsMember (Ok _) added line paths before now =
     (tracks : ℕ) × AddsFiles (Ok tracks) added paths before.opened now.opened before.written now.written
     × Takes before.printed now.printed (line tracks) × NoneFailed before.printed now.printed
@@ -82,8 +82,8 @@ IsUnread (fault.Job job.OutOfMemory) asked = AreNames asked
 IsUnread (fault.Job job.Read) asked = AreNames asked
 IsUnread f asked = ⊥
 
--- This member is asked for: of this name, for the library of this name, with the first bytes of the file, which are all where a volume has room
--- for them. They were read, no file was written and nothing printed.
+-- This member is asked for: of this name, for the library of this name, with the first bytes of the file, which are all where a volume has
+-- room for them. They were read, no file was written and nothing printed.
 pub record IsAsked (asked : NewMemberFile) (added : AddedMember) (before now : Around) : Type 0 where
   pub named : AreNames asked
   pub library : Names asked.library.now added.library
@@ -93,8 +93,8 @@ pub record IsAsked (asked : NewMemberFile) (added : AddedMember) (before now : A
   pub kept : now.written ≡ before.written
   pub silent : now.printed ≡ before.printed
 
--- A member is put into a library of the volume in files; or a name is none or the file is not read, and no other file is opened, none written
--- and nothing printed.
+-- A member is put into a library of the volume in files; or a name is none or the file is not read, and no other file is opened, none
+-- written and nothing printed.
 abbrev pub LoadsMember : {A : Type 0} → Result A AddFault → NewMemberFile → (paths : List (List ℕ)) → (before now : Around) → Type 0
 LoadsMember result asked paths before now =
     ((f : AddFault) × (result ≡ Err f) × IsUnread f asked × (now ≡ before))

@@ -9,6 +9,7 @@ use Rattle.volume_changes.specs.Names.{is_set_name}
 abbrev pub joins_names : ℕ → Bool
 joins_names c = (c == 46) || (c == 45)
 
+-- a text has one
 abbrev pub has_joint : List ℕ → Bool
 has_joint text = list_any joins_names text
 

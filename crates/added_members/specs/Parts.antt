@@ -39,7 +39,9 @@ IsLibrarySet blocks name set = (b : Block) × (library_block blocks (position (h
 
 -- there is none for this reason, or something hinders it
 abbrev pub IsNoLibrary : AddFault → List Block → (name : List ℕ) → Type 0
-IsNoLibrary (fault.Refused r) blocks name = library_block blocks (position (has_name name) blocks) ≡ Err r
+IsNoLibrary (fault.Refused refusal.NoDataSet) blocks name = library_block blocks (position (has_name name) blocks) ≡ Err refusal.NoDataSet
+IsNoLibrary (fault.Refused refusal.NotPartitioned) blocks name =
+    library_block blocks (position (has_name name) blocks) ≡ Err refusal.NotPartitioned
 IsNoLibrary f blocks name = IsHinderedBy f
 
 -- so many blocks has the directory in these extents, if the slots of the volume are known
@@ -61,6 +63,7 @@ abbrev pub spelled : DriveModel → Layout → (key_length : ℕ) → Cut → (b
 spelled model l key_length c bytes =
     keyed_or_fault (blocks_fitting model key_length (record { layout = l; cut = c; bytes = bytes }))
 
+-- they do not fit for this reason, or there is no memory
 abbrev pub IsUnspelled : Unmade → DriveModel → Layout → (key_length : ℕ) → Cut → (bytes : List ℕ) → Type 0
 IsUnspelled (unmade.Content f) model l key_length c bytes = spelled model l key_length c bytes ≡ Err f
 IsUnspelled unmade.OutOfMemory model l key_length c bytes = Unit {0}

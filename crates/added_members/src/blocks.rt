@@ -1,9 +1,9 @@
 //! The blocks of a member's file, as a library that is read has those of its members.
 
-ghost use Rattle.std.specs.Prelude.{◌≡◌, ◌∷◌, ◌++◌, Ok, IfOk, IfErr, All};
+ghost use Rattle.std.specs.Prelude.{◌≡◌, ◌∷◌, ◌++◌, flat_map, Ok, IfOk, IfErr, All};
 ghost use Rattle.record_tracks.specs.Records.{areas_of, all_areas, RecordGoesOn};
 ghost use Rattle.record_tracks.specs.ReadBack.{keyed_text};
-ghost use Rattle.data_set_blocks.specs.Blocks.{block_areas};
+ghost use Rattle.data_set_blocks.specs.Blocks.{block_areas, AreBlocks};
 ghost use Rattle.data_set_blocks.specs.Faults.{IsCutFor};
 ghost use Rattle.loaded_sets.specs.Contents.{blocks_in};
 ghost use Rattle.added_members.specs.Contents.{all_keyed, member_blocks};
@@ -80,14 +80,19 @@ fn spelled(alloc: Global, measure: Measure, blocks: Blocks) -> Result<Vec<u8>, U
     if let Some(fault) = block_fault(measure.model, measure.layout, measure.key_length, blocks) {
         return Err(Unmade::Content(ContentFault::Blocks(fault)));
     }
-    let Ok(mut records) = block_records(alloc, blocks) else {
-        return Err(Unmade::OutOfMemory);
-    };
-    let _end_of_file = records.pop();
-    match spell_records(alloc, measure.model, records.as_slice()) {
+    match spell_blocks(alloc, measure.model, blocks) {
         Ok(bytes) => Ok(bytes),
         Err(_) => Err(Unmade::OutOfMemory),
     }
+}
+
+// The same of blocks that have no fault.
+fn spell_blocks(alloc: Global, model: DriveModel, blocks: Blocks) -> Result<Vec<u8>, AllocError>
+    requires { AreBlocks model blocks.cut blocks.bytes.now }
+    ensures { IfOk result (λ bytes. bytes.items ≡ all_keyed (block_areas blocks.entry.cut blocks.entry.bytes.now)) }
+{
+    let records = block_records(alloc, blocks)?;
+    spell_records(alloc, model, &records[..records.len() - 1])
 }
 
 // Records one behind another.
@@ -97,7 +102,7 @@ fn spell_records(
     records: &[NewRecord],
 ) -> Result<Vec<u8>, AllocError>
     requires { All (RecordGoesOn model) records.now }
-    ensures { IfOk result (λ bytes. bytes.items ≡ all_keyed (all_areas records.now)) }
+    ensures { IfOk result (λ bytes. bytes.items ≡ flat_map (λ b. keyed_text (areas_of b)) records.now) }
 {
     let mut bytes = Vec::new(alloc);
     for block in records {

@@ -1,6 +1,6 @@
 //! The entries and the members of a library with one more.
 
-ghost use Rattle.std.specs.Prelude.{◌≡◌, ◌≤◌, ◌∷◌, ◌++◌, [], map, IfOk, OnOk, length};
+ghost use Rattle.std.specs.Prelude.{◌≡◌, ◌<◌, ◌≤◌, ◌∷◌, ◌++◌, [], map, IfOk, IfSome, OnOk, length};
 ghost use Rattle.std.specs.List.{position, list_any};
 ghost use Rattle.added_members.specs.Entries.{note_anew, kept_entry, said_by, has_name, names_member, comes_behind, place_for, new_entry, with_entry};
 ghost use Rattle.added_members.specs.Parts.{kept};
@@ -48,17 +48,24 @@ fn comes_behind(entry: &ReadEntry, name: &[u8; 8]) -> bool
     }
 }
 
+// The first entry that comes behind a name.
+fn first_behind(entries: &[ReadEntry], name: &[u8; 8]) -> Option<usize>
+    ensures place { result ≡ position (comes_behind name.now) entries.now }
+    ensures within { IfSome result (λ place. place < length entries.now) }
+{
+    entries.iter().position(
+        |entry: &ReadEntry| -> bool
+            ensures { result ≡ comes_behind name.entry.now entry.now }
+        { comes_behind(entry, name) },
+    )
+}
+
 // How many entries stand before an entry of a name.
 fn place_for(entries: &[ReadEntry], name: &[u8; 8]) -> usize
     ensures place { result ≡ place_for name.now entries.now }
     ensures within { result ≤ length entries.now }
 {
-    let found = entries.iter().position(
-        |entry: &ReadEntry| -> bool
-            ensures { result ≡ comes_behind name.entry.now entry.now }
-        { comes_behind(entry, name) },
-    );
-    match found {
+    match first_behind(entries, name) {
         Some(place) => place,
         None => entries.len(),
     }

@@ -2,7 +2,8 @@
 
 ghost use Rattle.std.specs.Prelude.{◌≡◌};
 ghost use Rattle.changed_volumes.specs.Changes.{IsHinderedBy as IsChangeHindered};
-ghost use Rattle.added_members.specs.Faults.{IsHinderedBy, placing_fault, reading_fault, unmade_fault, deletion_fault, loading_fault, file_fault, written_line};
+ghost use Rattle.added_members.specs.Faults.{IsHinderedBy, placing_fault, reading_fault, unmade_fault, deletion_fault, loading_fault};
+ghost use Rattle.added_members.specs.Faults.{file_fault, written_line};
 
 use changed_volumes::ChangeFault;
 use counted_io::WriteFault;

@@ -46,10 +46,10 @@ pub fn add_member(
         Ok(blocks) => blocks,
         Err(fault) => return Err(fault),
     };
-    if let Err(fault) = delete_old(alloc, image, added.library) {
-        return Err(fault);
+    match delete_old(alloc, image, added.library) {
+        Ok(()) => put_new(alloc, image, &old, added, blocks.as_slice()),
+        Err(fault) => Err(fault),
     }
-    put_new(alloc, image, &old, added, blocks.as_slice())
 }
 
 // The blocks of a member's file in such a library, no member of which has the name.
