@@ -28,7 +28,7 @@ pub enum AddRefusal {
     #[error(transparent)]
     Volume(PlaceRefusal),
     /// No data set of the volume has the name.
-    #[error("no data set has this name")]
+    #[error("no such data set")]
     NoDataSet,
     /// The data set of the name has no directory.
     #[error("not a partitioned data set")]
