@@ -36,7 +36,7 @@ pub enum VolumeChange {
 ///
 /// The volume is not changed so, or there is no memory; the image then holds what it held, but for a slot that could not be written, or
 /// those that were.
-pub(crate) fn change_image(
+pub fn change_image(
     alloc: Global,
     image: &mut Image<VolumeFile>,
     change: &VolumeChange,

@@ -9,7 +9,7 @@ mod lines;
 mod saves;
 
 pub use crate::fault::ChangeFault;
-pub use crate::images::{VolumeChange, read_said, write_change};
+pub use crate::images::{VolumeChange, change_image, read_said, write_change};
 pub use crate::saves::{
     ChangedVolume, NewName, delete_data_set, relabel_volume, rename_data_set, save_plan,
 };

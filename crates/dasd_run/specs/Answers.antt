@@ -24,6 +24,7 @@ use Rattle.dasd_run.specs.declared.commands.Ending.{Ending}
 use Rattle.dasd_run.specs.declared.commands.Ending.TheVariants.{Done}
 use Rattle.dasd_run.specs.declared.fault.ProgramFault.{ProgramFault}
 use Rattle.dasd_run.specs.declared.fault.ProgramFault.TheVariants as fault
+use Rattle.dasd_run.specs.Folders.{FolderAsked, MemberAsked}
 use Rattle.dasd_run.specs.Changes.{around, RenamesAsked, DeletesAsked, RelabelsAsked, LoadsAsked}
 use Rattle.dasd_run.specs.Compared.{ComparesFiles}
 use Rattle.dasd_run.specs.Details.{ListsDetails, ListsMembers}
@@ -138,6 +139,8 @@ Answers (request.Rename asked) result before now = RenamesAsked result asked (ar
 Answers (request.Delete asked) result before now = DeletesAsked result asked (around before) (around now) × (now.read ≡ before.read)
 Answers (request.Relabel asked) result before now = RelabelsAsked result asked (around before) (around now) × (now.read ≡ before.read)
 Answers (request.Load asked) result before now = LoadsAsked result asked (around before) (around now) × (now.read ≡ before.read)
+Answers (request.LoadAll asked) result before now = FolderAsked result asked (around before) (around now) × (now.read ≡ before.read)
+Answers (request.LoadMember asked) result before now = MemberAsked result asked (around before) (around now) × (now.read ≡ before.read)
 Answers (request.Explain noted) result before now = OnOk result (IsFlushed now.printed) × (now.opened ≡ before.opened) × Looks before now
 Answers (request.Assemble path) result before now = WithText AssemblesText result (option_map (λ path. path.now) path) before now
 Answers (request.Disassemble path) result before now = WithText PrintsWords result (option_map (λ path. path.now) path) before now

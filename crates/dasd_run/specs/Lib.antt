@@ -17,3 +17,4 @@ pub mod Loads
 pub mod Words
 pub mod Labels
 pub mod Answers
+pub mod Folders

@@ -15,6 +15,7 @@ use crate::decks::{read_deck, run_deck, tell_fault};
 use crate::details::{list_details, list_library};
 use crate::explain::explain;
 use crate::fault::ProgramFault;
+use crate::folders::{load_all, load_one};
 use crate::hash::hash_volume;
 use crate::labels::format_with_label;
 use crate::list::list_part;
@@ -126,6 +127,8 @@ pub fn answer<F: Traces, R: Read, W: Write, P: Progress>(
         Request::Delete(asked) => delete_set(alloc, files, writer, &asked),
         Request::Relabel(asked) => relabel(alloc, files, writer, &asked),
         Request::Load(asked) => load_file(alloc, files, writer, &asked),
+        Request::LoadAll(asked) => load_all(alloc, files, writer, &asked),
+        Request::LoadMember(asked) => load_one(alloc, files, writer, &asked),
         Request::Explain(noted) => explain(writer, noted),
         Request::Assemble(path) => assemble_text(alloc, files, reader, writer, path),
         Request::Disassemble(path) => disassemble_deck(alloc, files, reader, writer, path),

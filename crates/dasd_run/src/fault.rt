@@ -3,10 +3,12 @@
 ghost use Rattle.std.specs.Prelude.{◌≡◌};
 ghost use Rattle.dasd_run.specs.Faults.{attach_fault, volume_fault, printing_fault};
 
+use added_members::AddRefusal;
 use dasd_jobs::JobFault;
 use dasd_unload::UnloadFault;
 use dasd_volumes::VolumeFault;
 use dasd_words::WordFault;
+use loaded_folders::FolderFault;
 use loaded_sets::LoadRefusal;
 use new_labels::TableFault;
 use s360_assembler::AssemblyFault;
@@ -62,6 +64,12 @@ pub enum ProgramFault {
     /// A volume does not get a data set as it was asked, and stays as it was.
     #[error(transparent)]
     Load(LoadRefusal),
+    /// A volume does not get the data sets of a folder, and stays as it was.
+    #[error(transparent)]
+    Folder(FolderFault),
+    /// A library does not get a member as it was asked, and its volume stays as it was.
+    #[error(transparent)]
+    Member(AddRefusal),
     /// The file of a trace can't be opened.
     #[error("trace file not opened")]
     TraceNotOpened,

@@ -9,6 +9,7 @@ mod decks;
 mod details;
 mod explain;
 mod fault;
+mod folders;
 mod hash;
 mod labels;
 mod list;

@@ -13,7 +13,8 @@ use crate::printed_paths::quoted;
 use counted_io::Counted;
 use dasd_jobs::{ImageFiles, open_volume};
 use dasd_unload::{
-    BlockForm, UnloadFault, WantedSet, WantedTracks, WantedVolume, unload_set, unload_tracks, unload_volume,
+    BlockForm, UnloadFault, WantedSet, WantedTracks, WantedVolume, unload_set, unload_tracks,
+    unload_volume,
 };
 use dasd_words::{ExtractedSet, ExtractedTracks, ExtractedVolume, FileForm};
 use std::alloc::Global;

@@ -1,3 +1,5 @@
+pub mod TextOf
+pub mod Described
 pub mod Folder
 mod Found
 mod SetUnloaded

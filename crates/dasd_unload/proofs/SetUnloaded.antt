@@ -1,5 +1,5 @@
 -- A data set or a member that was unloaded, or stopped, by what was found and what was written.
-use Rattle.std.proofs.Common.{◌≡◌, refl, sym, subst, ℕ, true, List, Option, Some, None, Ok, inr}
+use Rattle.std.proofs.Common.{◌≡◌, refl, sym, subst, ℕ, true, List, Some, None, Ok, inr}
 use Rattle.counted_io.specs.Streams.{IsFlushed}
 use Rattle.dasd_volumes.specs.Reading.{KnownVolume}
 use Rattle.volume_contents.specs.declared.sets.DataSet.{DataSet}

@@ -1,10 +1,11 @@
 -- The steps of a volume, as they were done.
-use Rattle.std.proofs.Common.{◌≡◌, ◌∙◌, inl, inr, sym, ap, subst, ℕ, Bool, true, false, if◌then◌else◌, List, [], ◌∷◌, ◌++◌, map, codes}
+use Rattle.std.proofs.Common.{◌≡◌, ◌∙◌, inl, inr, sym, refl, ap, subst, ℕ, Bool, true, false, if◌then◌else◌, List, [], ◌∷◌, ◌++◌, map}
+use Rattle.std.proofs.Common.{codes}
 use Rattle.std.proofs.Common.{length, Option, Some, None, Result, Ok, Err, IfOk, OnOk, append-nil}
 use Rattle.std.specs.List.{flat_map, fold}
 use Rattle.std.proofs.lemmas.List.Concat.{flat_map_single}
 use Rattle.counted_io.specs.Streams.{Stream, Takes, TakesFront}
-use Rattle.counted_io.proofs.Written.{takes_more}
+use Rattle.counted_io.proofs.Written.{takes_more, takes_nothing}
 use Rattle.volume_labels.specs.declared.fields.Extent.{Extent}
 use Rattle.volume_labels.specs.declared.blocks.DataSetBlock.{DataSetBlock}
 use Rattle.volume_labels.specs.Labels.{data_set_block_of}
@@ -30,13 +31,16 @@ use Rattle.dasd_jobs.specs.Written.{Replaced, with_file}
 use Rattle.dasd_unload.specs.declared.fault.UnloadFault.{UnloadFault}
 use Rattle.dasd_unload.specs.declared.report.Tally.{Tally}
 use Rattle.dasd_unload.specs.declared.sets.Unloaded.{Unloaded}
-use Rattle.dasd_unload.specs.Unloads.{Outcome, outcome, Unloads, file_name}
+use Rattle.dasd_unload.specs.Unloads.{Outcome, outcome, Unloads, file_name, text_name}
+use Rattle.dasd_unload.specs.Described.{described, IsDescribed}
 use Rattle.dasd_unload.specs.Parts.{is_partitioned, written_texts}
 use Rattle.dasd_unload.specs.Asked.{form_of, beginning}
 use Rattle.dasd_unload.specs.Told.{Line, FileLine, FindingLine, finding_lines, line_text, count_line, no_line, total_text, contents_texts}
 use Rattle.dasd_unload.specs.Told.{chain_texts, directory_texts, end_texts, TellsText}
-use Rattle.dasd_unload.specs.Volumes.{Plan, Unloading, unloading, Step, Unload, Tell, Done, path_in, member_step, partitioned_steps}
-use Rattle.dasd_unload.specs.Volumes.{steps_of_form, set_steps, block_steps, volume_steps, unloaded_lines, DoesOfVolume, UnloadsKnown}
+use Rattle.dasd_unload.specs.Volumes.{Plan, Unloading, unloading, Step, Unload, Tell, Describe, Done, path_in, member_step}
+use Rattle.dasd_unload.specs.Volumes.{partitioned_steps}
+use Rattle.dasd_unload.specs.Volumes.{steps_of_form, set_steps, block_steps, table_steps, volume_steps, unloaded_lines, DoesOfVolume}
+use Rattle.dasd_unload.specs.Volumes.{UnloadsKnown}
 use Rattle.dasd_unload.specs.Volumes.{UnloadsVolume}
 use Rattle.dasd_unload.proofs.Steps.{SoFar, one, counts_told, nothing, finished, with_more, stop_in, with_last, same, of_steps}
 
@@ -104,6 +108,54 @@ module _ (r : Result0) (v : KnownVolume) (p : Plan) (name : List ℕ) where
         (subst (λ l. TellsText r (flat_map (line_text p.json) l) a b) lines told)
         (subst (λ l. OnOk r (t ≡ fold count_line s l)) lines counted);
   }
+
+-- the text was put into its file, and nothing is told of it; or it was kept out, and that was told
+module _ (v : KnownVolume) (p : Plan) (blocks : List Block) (text : List ℕ) (is : IsDescribed v blocks text) where
+  abbrev describe_steps : Unloading → List Step
+  describe_steps u = Describe (described blocks u.volume.geometry u.slots) ∷ []
+
+  pub described_step : (path : List ℕ) (files now : List Replaced) (a : Stream) (t : Tally) → path ≡ path_in p.folder text_name
+      → now ≡ with_file files path text
+      → DoesOfVolume {A = Unit {0}} (Ok tt) v p describe_steps (outcome files a) (outcome now a) t t
+  described_step path files now a t at put = record {
+    counts = refl;
+    does = λ slots known.
+        one (Ok tt) (unloading v slots p) (record { step = Describe (described blocks v.geometry slots); is_kept_out = false })
+        (outcome files a) (outcome now a) t t
+        (put ∙ ap (λ (q : List ℕ). with_file files q text) at
+        ∙ ap (λ (l : List ℕ). with_file files (path_in p.folder text_name) l) (is slots known))
+        (takes_nothing a, refl) refl;
+  }
+
+  pub description_kept_out : (r : Result0) (files now : List Replaced) (a b : Stream) (s t : Tally) → now ≡ files
+      → TellsText r (line_text p.json (FindingLine text_name (codes "file exists"))) a b
+      → t ≡ count_line s (FindingLine text_name (codes "file exists"))
+      → DoesOfVolume r v p describe_steps (outcome files a) (outcome now b) s t
+  description_kept_out r files now a b s t same_files told counted = record {
+    counts = counts_told r _ a b told;
+    does = λ slots known.
+        one r (unloading v slots p) (record { step = Describe (described blocks v.geometry slots); is_kept_out = true }) (outcome files a)
+        (outcome now b) s t (same_files ∙ sym (append-nil files)) (as_one r v p text_name files a b s t (codes "file exists") told)
+        (on_ok r _ counted);
+  }
+
+-- the data sets of a table were unloaded, and then they were described
+pub table_done : (r : Result0) (v : KnownVolume) (p : Plan) (blocks : List Block) (a b c : Outcome) (s t w : Tally)
+    → DoesOfVolume {A = Unit {0}} (Ok tt) v p (λ u. flat_map (block_steps u blocks) blocks) a b s t
+    → DoesOfVolume r v p (λ u. Describe (described blocks u.volume.geometry u.slots) ∷ []) b c t w
+    → DoesOfVolume r v p (λ u. table_steps u blocks) a c s w
+table_done r v p blocks a b c s t w sets text =
+    with_last v p (λ u. table_steps u blocks) r (λ u. Describe (described blocks u.volume.geometry u.slots) ∷ []) a b c s t w
+    (with_more v p (λ u. table_steps u blocks) (λ u. flat_map (block_steps u blocks) blocks)
+    (λ u. Describe (described blocks u.volume.geometry u.slots) ∷ []) a a b s s t
+    (nothing v p (λ u. table_steps u blocks) a s) sets) text
+
+pub table_stopped : (f : UnloadFault) (v : KnownVolume) (p : Plan) (blocks : List Block) (a b : Outcome) (s t : Tally)
+    → DoesOfVolume {A = Unit {0}} (Err f) v p (λ u. flat_map (block_steps u blocks) blocks) a b s t
+    → DoesOfVolume {A = Unit {0}} (Err f) v p (λ u. table_steps u blocks) a b s t
+table_stopped f v p blocks a b s t sets =
+    stop_in v p (λ u. table_steps u blocks) f (λ u. flat_map (block_steps u blocks) blocks)
+    (λ u. Describe (described blocks u.volume.geometry u.slots) ∷ []) a a b s s t t (nothing v p (λ u. table_steps u blocks) a s) sets
 
 -- The steps of a directory.
 module _ (v : KnownVolume) (p : Plan) (d : DataSetBlock) (extents : List Extent) (form : Form) (m : Members)
@@ -234,16 +286,16 @@ no_block v p blocks k a t is = either (Ok tt) v p blocks k a a t t false is (fin
 module _ (v : KnownVolume) (p : Plan) (m : Contents) (is : IsContents v m) where
   pub are_volume_steps : (slots : List (List ℕ)) → v.slots ≡ Some slots
       → let u = unloading v slots p in
-      Tell (codes "volume table of contents") (contents_texts (length m.found.findings.items)) ∷ flat_map
-      (block_steps u m.found.blocks.items) m.found.blocks.items ≡ volume_steps u
+      Tell (codes "volume table of contents") (contents_texts (length m.found.findings.items)) ∷ table_steps u m.found.blocks.items
+      ≡ volume_steps u
   are_volume_steps slots known =
       let u = unloading v slots p in
       let k = is slots known in
       let said = contents_of v.geometry slots in
-      ap (λ (l : List Block). Tell (codes "volume table of contents") (contents_texts (length m.found.findings.items)) ∷ flat_map
-      (block_steps u l) l) k.blocks
-      ∙ ap (λ (l : List Finding). Tell (codes "volume table of contents") (contents_texts (length l)) ∷ flat_map
-      (block_steps u said.blocks) said.blocks) k.findings
+      ap (λ (l : List Block). Tell (codes "volume table of contents") (contents_texts (length m.found.findings.items)) ∷ table_steps u l)
+      k.blocks
+      ∙ ap (λ (l : List Finding). Tell (codes "volume table of contents") (contents_texts (length l))
+      ∷ table_steps u said.blocks) k.findings
 
   -- of the table it was told if something is wrong, and its data sets were unloaded; or a fault stopped that
   module _ (files : List Replaced) (a b : Stream) (s t : Tally) where
@@ -254,7 +306,7 @@ module _ (v : KnownVolume) (p : Plan) (m : Contents) (is : IsContents v m) where
     the_texts = contents_texts (length m.found.findings.items)
 
     abbrev the_sets : Unloading → List Step
-    the_sets u = flat_map (block_steps u m.found.blocks.items) m.found.blocks.items
+    the_sets u = table_steps u m.found.blocks.items
 
     abbrev the_steps : Unloading → List Step
     the_steps u = Tell the_name the_texts ∷ the_sets u

@@ -1,5 +1,5 @@
 -- The data set or the member that is asked for, and what of it is written.
-use Rattle.std.specs.Prelude.{◌≡◌, ◌⊎◌, ℕ, Bool, true, false, List, [], bytes_eq, find, Option, Some, None, option_map, Result, Ok, Err}
+use Rattle.std.specs.Prelude.{◌≡◌, ◌⊎◌, ℕ, true, false, List, [], bytes_eq, find, Option, Some, None, option_map, Result, Ok, Err}
 use Rattle.std.specs.Option.{option_copied}
 use Rattle.counted_io.specs.Streams.{Stream, TakesFront, IsFlushed}
 use Rattle.volume_labels.specs.declared.fields.Extent.{Extent}

@@ -5,3 +5,4 @@ pub mod Parts
 pub mod Told
 pub mod Tracks
 pub mod Volumes
+pub mod Described

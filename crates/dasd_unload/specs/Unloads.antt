@@ -78,10 +78,14 @@ pub record IsFileName (name : List ℕ) : Type 0 where
   pub member : Option (List ℕ)
   pub made : name ≡ file_name data_set member
 
--- a file stands in a folder, under the name of a data set or of a member
+-- the name of the file of the text that describes all; it has small letters, which no name of a data set has
+abbrev pub text_name : List ℕ
+text_name = codes "data_sets.txt"
+
+-- a file stands in a folder, under the name of a data set or of a member, or of the text
 pub record StandsIn (folder : List ℕ) (f : Replaced) : Type 0 where
   pub name : List ℕ
-  pub is_name : IsFileName name
+  pub is_name : IsFileName name ⊎ (name ≡ text_name)
   pub path : f.path ≡ folder ++ codes "/" ++ name
 
 -- files came to these, and each stands in the folder

@@ -1,5 +1,6 @@
 -- All data sets of a volume, unloaded to the files of a folder: step by step, in the order of the table of contents and of the directories.
-use Rattle.std.specs.Prelude.{◌≡◌, ◌⊎◌, ℕ, Bool, true, false, if◌then◌else◌, List, [], ◌∷◌, ◌++◌, length, map, codes, Option, Some, None, Result, Ok, Err}
+use Rattle.std.specs.Prelude.{◌≡◌, ◌⊎◌, ℕ, Bool, true, false, if◌then◌else◌, List, [], ◌∷◌, ◌++◌, length, map, codes, Option, Some, None}
+use Rattle.std.specs.Prelude.{Result, Ok, Err}
 use Rattle.std.specs.List.{flat_map, fold}
 use Rattle.counted_io.specs.Streams.{Stream, Takes, TakesFront, NoneFailed, OneFailed}
 use Rattle.volume_labels.specs.declared.fields.Extent.{Extent}
@@ -24,10 +25,12 @@ use Rattle.dasd_unload.specs.declared.fault.UnloadFault.{UnloadFault}
 use Rattle.dasd_unload.specs.declared.fault.UnloadFault.TheVariants.{Job}
 use Rattle.dasd_unload.specs.declared.report.Tally.{Tally}
 use Rattle.dasd_unload.specs.declared.sets.BlockForm.{BlockForm}
-use Rattle.dasd_unload.specs.Unloads.{Outcome, file_name}
+use Rattle.dasd_unload.specs.Unloads.{Outcome, file_name, text_name}
+use Rattle.dasd_unload.specs.Described.{described}
 use Rattle.dasd_unload.specs.Parts.{is_partitioned, written_texts}
 use Rattle.dasd_unload.specs.Asked.{form_of, beginning}
-use Rattle.dasd_unload.specs.Told.{Line, FileLine, finding_lines, line_text, count_line, no_line, total_text, chain_texts, end_texts, directory_texts}
+use Rattle.dasd_unload.specs.Told.{Line, FileLine, finding_lines, line_text, count_line, no_line, total_text, chain_texts, end_texts}
+use Rattle.dasd_unload.specs.Told.{directory_texts}
 use Rattle.dasd_unload.specs.Told.{contents_texts}
 
 -- how a volume is unloaded: the folder of the files, how blocks are written, and the paths of the volume as a
@@ -54,10 +57,11 @@ abbrev pub unloading : KnownVolume → (slots : List (List ℕ)) → Plan → Un
 unloading v slots p = record { volume = v; slots = slots; plan = p }
 
 -- What is done of a volume: a data set without members, or a member, is unloaded to the file of this name, by the label of the data set; or it
--- is told what is wrong with what has this name, if something is.
+-- is told what is wrong with what has this name, if something is; or a text is put into the file that describes all.
 pub data Step : Type 0 where
   Unload : (name : List ℕ) → (source : Wanted) → (label : DataSetBlock) → Step
   Tell : (name : List ℕ) → (texts : List (List ℕ)) → Step
+  Describe : (text : List ℕ) → Step
 
 abbrev pub member_step : DataSetBlock → List Extent → Form → DirectoryEntry → Step
 member_step d extents form e = Unload (file_name d.name (Some e.name)) (wanted form extents e.address 65535) d
@@ -90,11 +94,15 @@ abbrev pub block_steps : Unloading → List Block → Block → List Step
 block_steps u blocks b =
     if is_data_set b.kind then set_steps u (data_set_block_of b.key b.bytes) (extents_behind blocks b) (behind_block blocks b).fault else []
 
+-- the data sets of a table come in its order, and behind them the text of the table
+abbrev pub table_steps : Unloading → List Block → List Step
+table_steps u blocks = flat_map (block_steps u blocks) blocks ++ Describe (described blocks u.volume.geometry u.slots) ∷ []
+
 abbrev pub said_steps : Unloading → Said → List Step
-said_steps u said = Tell (codes "volume table of contents") (contents_texts (length said.findings)) ∷ flat_map (block_steps u said.blocks) said.blocks
+said_steps u said = Tell (codes "volume table of contents") (contents_texts (length said.findings)) ∷ table_steps u said.blocks
 
 -- All steps of a volume: it is told if something is wrong with its table of contents; and then those of its data sets come, in the
--- order of the table.
+-- order of the table, and the text.
 abbrev pub volume_steps : Unloading → List Step
 volume_steps u = said_steps u (contents_of u.volume.geometry u.slots)
 
@@ -106,17 +114,20 @@ pub record Done : Type 0 where
 abbrev pub path_in : (folder name : List ℕ) → List ℕ
 path_in folder name = folder ++ codes "/" ++ name
 
--- the file of a step: the blocks, under the name in the folder
+-- the file of a step: the blocks, or the text, under the name in the folder
 abbrev pub files_of_step : Unloading → Step → (is_kept_out : Bool) → List Replaced
 files_of_step u (Unload name s d) false =
     record { path = path_in u.plan.folder name; bytes = (source_written s u.volume.geometry u.slots).bytes } ∷ []
 files_of_step u (Unload name s d) true = []
 files_of_step u (Tell name texts) is_kept_out = []
+files_of_step u (Describe text) false = record { path = path_in u.plan.folder text_name; bytes = text } ∷ []
+files_of_step u (Describe text) true = []
 
 abbrev pub files_of : Unloading → Done → List Replaced
 files_of u d = files_of_step u d.step d.is_kept_out
 
--- what is told of it: how long its file is, and where its blocks end, if they are not whole; or that it is kept out
+-- what is told of it: how long its file is, and where its blocks end, if they are not whole; or that it is kept out; and nothing of a text that
+-- came
 abbrev pub unloaded_lines : (name : List ℕ) → DataSetBlock → Written → List Line
 unloaded_lines name d w = FileLine name (length w.bytes) ∷ finding_lines name (written_texts d w.stop)
 
@@ -124,6 +135,8 @@ abbrev pub lines_of_step : Unloading → Step → (is_kept_out : Bool) → List 
 lines_of_step u (Unload name s d) false = unloaded_lines name d (source_written s u.volume.geometry u.slots)
 lines_of_step u (Unload name s d) true = finding_lines name (codes "file exists" ∷ [])
 lines_of_step u (Tell name texts) is_kept_out = finding_lines name texts
+lines_of_step u (Describe text) false = []
+lines_of_step u (Describe text) true = finding_lines text_name (codes "file exists" ∷ [])
 
 abbrev pub lines_of : Unloading → Done → List Line
 lines_of u d = lines_of_step u d.step d.is_kept_out

@@ -1,11 +1,15 @@
 //! Data sets and members of partitioned ones, unloaded from a volume: one to a writer or to a new file, or all of them to the files of a
-//! folder. The files are behind a trait, so that nothing here touches a host.
+//! folder, with a text that describes them. The files are behind a trait, so that nothing here touches a host.
 #![tactic(auto)]
 
+mod entries;
 mod fault;
+mod forms;
+mod names;
 mod parts;
 mod report;
 mod sets;
+mod texts;
 mod tracks;
 mod volumes;
 

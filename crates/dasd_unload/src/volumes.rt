@@ -1,24 +1,26 @@
 //! All data sets of a volume, each unloaded to a file.
 
-ghost use Rattle.std.specs.Prelude.{◌≡◌, ◌++◌, ◌∷◌, [], if◌then◌else◌, None, Some, codes, map, IfOk, IfErr, OnOk, true};
+ghost use Rattle.std.specs.Prelude.{◌≡◌, ◌∷◌, [], if◌then◌else◌, None, Some, codes, map, IfOk, IfErr, OnOk, true};
 ghost use Rattle.std.specs.List.{flat_map};
 ghost use Rattle.std.specs.Option.{option_copied};
-ghost use Rattle.std.specs.String.{string_bytes};
 ghost use Rattle.counted_io.specs.Streams.{seen_by, IsFlushed};
 ghost use Rattle.volume_contents.specs.Sets.{is_data_set};
 ghost use Rattle.dasd_extract.specs.Walk.{wanted};
-ghost use Rattle.dasd_unload.specs.Unloads.{AddsIn, IsFileName, outcome, file_name, is_of_job};
-ghost use Rattle.dasd_unload.specs.Volumes.{plan, plan_of, Unload, path_in, block_steps, partitioned_steps, set_steps, volume_steps, DoesOfVolume};
-ghost use Rattle.dasd_unload.specs.Volumes.{CountsReport, UnloadsVolume};
+ghost use Rattle.dasd_unload.specs.Unloads.{AddsIn, IsFileName, outcome, is_of_job};
+ghost use Rattle.dasd_unload.specs.Described.{described};
+ghost use Rattle.dasd_unload.specs.Volumes.{plan, plan_of, Unload, Describe, block_steps, table_steps, partitioned_steps, set_steps, volume_steps};
+ghost use Rattle.dasd_unload.specs.Volumes.{DoesOfVolume, CountsReport, UnloadsVolume};
 
 use crate::fault::{NO_MEMORY, UnloadFault, of_reading};
+use crate::names::{name_of_member, name_of_set, path_in};
 use crate::parts::{end_of, is_partitioned};
 use crate::report::{Named, Report, Wrong};
 use crate::sets::{BlockForm, form_of, unload_to, whole};
+use crate::texts::{describe, put_text};
 use counted_io::Counted;
 use dasd_extract::{Form, Source, member_of, read_members};
 use dasd_jobs::{ImageFiles, JobFault, SlotReader, open_volume};
-use data_sets::{DirectoryEntry, safe_name};
+use set_forms::FILE_NAME;
 use std::alloc::Global;
 use std::io::Write;
 use volume_contents::{Block, DataSet, data_set_of, read_contents};
@@ -89,7 +91,8 @@ struct Item<'a> {
 /// Unloads all data sets and members from the volume of these files, each once to a new file of a folder, under a name that can't lead
 /// out of it, in the order of the table of contents and of the directories. It prints a line for each of them, for each that is not
 /// whole or not unloaded, with why, and for how many there are of both; and answers how many things were wrong. A file that is there
-/// already stays, and is one of these.
+/// already stays, and is one of these. Behind all of them it puts what the labels and the directories say into the file `data_sets.txt`
+/// of the folder, as a text of [`set_forms`], which has no line and is not counted.
 ///
 /// # Errors
 ///
@@ -168,7 +171,69 @@ fn unload_contents<F: ImageFiles, V: SlotReader, W: Write>(
         return Err(fault);
     }
     let blocks = contents.found.blocks.as_slice();
-    unload_sets(files, volume, writer, report, Table { target, blocks })
+    unload_table(files, volume, writer, report, Table { target, blocks })
+}
+
+// Unloads the data sets of control blocks, and describes them behind all.
+fn unload_table<F: ImageFiles, V: SlotReader, W: Write>(
+    files: &mut F,
+    volume: &mut V,
+    writer: &mut Counted<W>,
+    report: &mut Report,
+    table: Table,
+) -> Result<(), UnloadFault>
+    ensures does { DoesOfVolume result (V.volume volume.old)
+        (plan table.entry.target.folder.now table.entry.target.block_form (option_copied table.entry.target.json))
+        (λ u. table_steps u table.entry.blocks.now)
+        (outcome (F.written files.old) (seen_by W.contents writer.old)) (outcome (F.written files.new) (seen_by W.contents writer.new))
+        report.old.tally report.new.tally }
+    ensures files { AddsIn table.entry.target.folder.now (F.written files.old) (F.written files.new) }
+    ensures same { F.opened files.new ≡ F.opened files.old }
+    ensures kept { V.volume volume.new ≡ V.volume volume.old }
+    ensures fault { IfErr result (λ e. is_of_job e ≡ true) }
+{
+    if let Err(fault) = unload_sets(files, volume, writer, report, table) {
+        return Err(fault);
+    }
+    unload_text(files, volume, writer, report, table)
+}
+
+// Describes the data sets of control blocks in a new file. A file that is there stays, and is a finding.
+fn unload_text<F: ImageFiles, V: SlotReader, W: Write>(
+    files: &mut F,
+    volume: &mut V,
+    writer: &mut Counted<W>,
+    report: &mut Report,
+    table: Table,
+) -> Result<(), UnloadFault>
+    ensures does { DoesOfVolume result (V.volume volume.old)
+        (plan table.entry.target.folder.now table.entry.target.block_form (option_copied table.entry.target.json))
+        (λ u. Describe (described table.entry.blocks.now u.volume.geometry u.slots) ∷ [])
+        (outcome (F.written files.old) (seen_by W.contents writer.old)) (outcome (F.written files.new) (seen_by W.contents writer.new))
+        report.old.tally report.new.tally }
+    ensures files { AddsIn table.entry.target.folder.now (F.written files.old) (F.written files.new) }
+    ensures same { F.opened files.new ≡ F.opened files.old }
+    ensures kept { V.volume volume.new ≡ V.volume volume.old }
+    ensures fault { IfErr result (λ e. is_of_job e ≡ true) }
+{
+    let target = table.target;
+    let text = match describe(target.alloc, volume, table.blocks) {
+        Ok(text) => text,
+        Err(fault) => return Err(fault),
+    };
+    let path = match path_in(target.alloc, target.folder, FILE_NAME) {
+        Ok(path) => path,
+        Err(fault) => return Err(fault),
+    };
+    let described = Named {
+        name: FILE_NAME,
+        json: target.json,
+    };
+    match put_text(target.alloc, files, path.as_str(), text.as_slice()) {
+        Ok(()) => Ok(()),
+        Err(UnloadFault::Job(JobFault::Exists)) => report.finding(writer, described, Wrong::Exists),
+        Err(fault) => Err(fault),
+    }
 }
 
 // Unloads the data sets of control blocks.
@@ -282,47 +347,6 @@ fn unload_one<F: ImageFiles, V: SlotReader, W: Write>(
     unload_item(files, volume, writer, report, item)
 }
 
-// The name of the file for a data set.
-fn name_of_set(alloc: Global, set: &DataSet) -> Result<String, UnloadFault>
-    ensures name { IfOk result (λ name. string_bytes name ≡ file_name set.now.block.name None) }
-    ensures fault { IfErr result (λ e. is_of_job e ≡ true) }
-{
-    match safe_name(alloc, &set.block.name) {
-        Ok(name) => Ok(name),
-        Err(_) => Err(NO_MEMORY),
-    }
-}
-
-// The name of the file for a member.
-fn name_of_member(
-    alloc: Global,
-    set: &DataSet,
-    entry: &DirectoryEntry,
-) -> Result<String, UnloadFault>
-    ensures name { IfOk result (λ name. string_bytes name ≡ file_name set.now.block.name (Some entry.now.name)) }
-    ensures fault { IfErr result (λ e. is_of_job e ≡ true) }
-{
-    let mut name = name_of_set(alloc, set)?;
-    let Ok(member) = safe_name(alloc, &entry.name) else {
-        return Err(NO_MEMORY);
-    };
-    push(&mut name, "(")?;
-    push(&mut name, member.as_str())?;
-    push(&mut name, ")")?;
-    Ok(name)
-}
-
-// Appends a text.
-fn push(to: &mut String, text: &str) -> Result<(), UnloadFault>
-    ensures text { OnOk result (string_bytes to.new ≡ string_bytes to.old ++ text.now) }
-    ensures fault { IfErr result (λ e. is_of_job e ≡ true) }
-{
-    match to.push_str(text) {
-        Ok(()) => Ok(()),
-        Err(_) => Err(NO_MEMORY),
-    }
-}
-
 // Unloads the members of a partitioned data set.
 fn unload_members<F: ImageFiles, V: SlotReader, W: Write>(
     files: &mut F,
@@ -375,19 +399,6 @@ fn unload_members<F: ImageFiles, V: SlotReader, W: Write>(
         }
     }
     Ok(())
-}
-
-// The path of a file in a folder.
-fn path_in(alloc: Global, folder: &str, name: &str) -> Result<String, UnloadFault>
-    ensures path { IfOk result (λ path. string_bytes path ≡ path_in folder.now name.now) }
-    ensures fault { IfErr result (λ e. is_of_job e ≡ true) }
-{
-    let Ok(mut path) = folder.to_string(alloc) else {
-        return Err(NO_MEMORY);
-    };
-    push(&mut path, "/")?;
-    push(&mut path, name)?;
-    Ok(path)
 }
 
 // Unloads one, to a new file. A file that is there stays, and is a finding.

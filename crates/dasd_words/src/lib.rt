@@ -30,7 +30,7 @@ pub use crate::refused::{
 pub use crate::requests::{
     Asked, AskedTrace, ComparedVolumes, DeckRun, DeletedSet, DetailedVolume, DumpedPart,
     ExtractedSet, ExtractedTracks, ExtractedVolume, FileForm, HashedVolume, ListedLibrary,
-    ListedPart, LoadedFile, LoadedFolder, NewImage, Noted, Numbers, PrintedVolume,
+    ListedPart, LoadedFile, LoadedFolder, LoadedMember, NewImage, Noted, Numbers, PrintedVolume,
     RelabelledVolume, RenamedSet, Request, SetName, StrictCheck, TraceTarget, WordFault,
 };
 pub use crate::volumes::{Volume, VolumeSource};

@@ -5,7 +5,7 @@ use crate::commands::wrong;
 use crate::listings::read_paths;
 use crate::options::{ArgKind, ArgRow, CommandRow, FILE, Value, WITH_LENGTHS, WORDS};
 use crate::record_words::{read_attributes, read_form, read_key_length};
-use crate::requests::{FileForm, LoadedFile, LoadedFolder, Request, WordFault};
+use crate::requests::{FileForm, LoadedFile, LoadedFolder, LoadedMember, Request, WordFault};
 use clap::ArgMatches;
 use std::alloc::Global;
 
@@ -22,6 +22,11 @@ error: --all goes with --text, --with-lengths and --replace alone
 What a data set is stands in the file data_sets.txt of the folder.
 ";
 
+const MEMBER_ALONE: &str = "\
+error: --member goes with --from, --text, --with-lengths and --replace alone
+How the blocks of a member are formed stands in the label of its library.
+";
+
 const KEYS_APART: &str = "error: --key-length goes with --with-lengths\n";
 
 /// The command, with its words.
@@ -29,7 +34,7 @@ pub(crate) const COMMAND: CommandRow = CommandRow {
     name: "load",
     about: "Puts a file onto a volume as a new data set, or the files of a folder",
     usage: Some(
-        "dasd load [OPTIONS] --from FILE --record-format FORMAT --block-length BYTES PATH.. NAME\n       dasd load [OPTIONS] --all DIR PATH..",
+        "dasd load [OPTIONS] --from FILE --record-format FORMAT --block-length BYTES PATH.. NAME\n       dasd load [OPTIONS] --member MEMBER --from FILE PATH.. LIBRARY\n       dasd load [OPTIONS] --all DIR PATH..",
     ),
     after_help: "Example: dasd load pack.ckd TEST.CARDS --from cards.bin --record-format FB --record-length 80 --block-length 3120",
     args: &[
@@ -48,6 +53,15 @@ pub(crate) const COMMAND: CommandRow = CommandRow {
             help: "puts all data sets of this folder onto the volume, of which its file data_sets.txt tells, as extract --all writes them",
             kind: ArgKind::Valued(Value {
                 name: "DIR",
+                ..FILE
+            }),
+        },
+        ArgRow {
+            id: "member",
+            help: "puts the file into this library as a new member of this name, and writes the library anew",
+            kind: ArgKind::Valued(Value {
+                name: "MEMBER",
+                conflicts: &["all"],
                 ..FILE
             }),
         },
@@ -106,6 +120,9 @@ pub(crate) fn read<'a>(alloc: Global, options: &ArgMatches<'a>) -> Result<Reques
     let Some(source) = options.get_str("from") else {
         return Err(wrong(alloc, NO_SOURCE));
     };
+    if let Some(member) = options.get_str("member") {
+        return read_member(alloc, options, paths, (name, member, source));
+    }
     let form = read_form(options);
     let key_length = read_key_length(alloc, options)?;
     if key_length != 0 && form != FileForm::WithLengths {
@@ -122,6 +139,35 @@ pub(crate) fn read<'a>(alloc: Global, options: &ArgMatches<'a>) -> Result<Reques
     }))
 }
 
+// Whether words give a record format, or a length of records, blocks or keys.
+fn gives_label(options: &ArgMatches) -> bool {
+    options.get_str("record-format").is_some()
+        || options.get_str("record-length").is_some()
+        || options.get_str("block-length").is_some()
+        || options.get_str("key-length").is_some()
+}
+
+// A member of a library.
+fn read_member<'a>(
+    alloc: Global,
+    options: &ArgMatches<'a>,
+    paths: &[&'a str],
+    words: (&'a str, &'a str, &'a str),
+) -> Result<Request<'a>, WordFault> {
+    if gives_label(options) {
+        return Err(wrong(alloc, MEMBER_ALONE));
+    }
+    let (library, member, source) = words;
+    Ok(Request::LoadMember(LoadedMember {
+        paths: read_paths(alloc, paths)?,
+        replaces: options.get_flag("replace"),
+        library,
+        member,
+        source,
+        form: read_form(options),
+    }))
+}
+
 // A folder.
 fn read_folder<'a>(
     alloc: Global,
@@ -129,14 +175,7 @@ fn read_folder<'a>(
     words: &[&'a str],
     folder: &'a str,
 ) -> Result<Request<'a>, WordFault> {
-    let others = [
-        "from",
-        "record-format",
-        "record-length",
-        "block-length",
-        "key-length",
-    ];
-    if others.iter().any(|id| options.get_str(id).is_some()) {
+    if gives_label(options) || options.get_str("from").is_some() {
         return Err(wrong(alloc, ALL_ALONE));
     }
     Ok(Request::LoadAll(LoadedFolder {

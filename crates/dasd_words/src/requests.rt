@@ -105,6 +105,8 @@ pub enum Request<'a> {
     Relabel(RelabelledVolume<'a>),
     /// Put a data set onto a volume.
     Load(LoadedFile<'a>),
+    /// A file is put into a library of a volume as a new member.
+    LoadMember(LoadedMember<'a>),
     /// Files of a folder are put onto a volume as data sets and libraries.
     LoadAll(LoadedFolder<'a>),
     /// Say in words what a number means.
@@ -307,6 +309,23 @@ pub struct LoadedFolder<'a> {
     /// The folder.
     pub folder: &'a str,
     /// What its files have.
+    pub form: FileForm,
+}
+
+/// A file that is put into a library of a volume as a new member.
+#[derive(Drop)]
+pub struct LoadedMember<'a> {
+    /// The files of the image.
+    pub paths: Vec<&'a str>,
+    /// Whether a new file takes the place of each that changed; if not, each keeps its place.
+    pub replaces: bool,
+    /// The name of the library.
+    pub library: &'a str,
+    /// The name of the member.
+    pub member: &'a str,
+    /// The path of the file.
+    pub source: &'a str,
+    /// What the file has.
     pub form: FileForm,
 }
 

@@ -15,9 +15,11 @@ use Rattle.data_set_blocks.specs.declared.blocks.Cut.{Cut}
 use Rattle.data_set_blocks.specs.declared.blocks.Cut.TheVariants.{Length, Described, WithLengths}
 use Rattle.data_set_blocks.specs.declared.faults.BlockFault.{BlockFault}
 use Rattle.data_set_blocks.specs.declared.faults.DescribedFault.{DescribedFault}
-use Rattle.data_set_blocks.specs.declared.faults.DescribedFault.TheVariants.{NoLength, NoMark, PastEnd, NoData, OtherKey, TooLong, NoRoom, BadRecords}
+use Rattle.data_set_blocks.specs.declared.faults.DescribedFault.TheVariants.{NoLength, NoMark, PastEnd, NoData, OtherKey}
+use Rattle.data_set_blocks.specs.declared.faults.DescribedFault.TheVariants.{TooLong, NoRoom, BadRecords}
 use Rattle.data_set_blocks.specs.Blocks.{cut_by, size_of, first_areas, rests_of, IsBlock, AreBlocks}
-use Rattle.data_set_blocks.specs.Faults.{has_records, described_fault, areas_fault, lengths_fault, fault_of_first, first_fault, cut_fault, IsCutFor}
+use Rattle.data_set_blocks.specs.Faults.{has_records, described_fault, areas_fault, lengths_fault, fault_of_first}
+use Rattle.data_set_blocks.specs.Faults.{first_fault, cut_fault, IsCutFor}
 use Rattle.data_set_blocks.proofs.Rests.{has_some, some_left, none_wrong}
 
 -- a test that is not met, and what comes behind it

@@ -1,6 +1,6 @@
 //! Why a directory can't have entries.
 
-ghost use Rattle.std.specs.Prelude.{◌≡◌, IfNone, All, Option, Some, None};
+ghost use Rattle.std.specs.Prelude.{◌≡◌, ◌<◌, length, IfSome, IfNone, All, Option, Some, None};
 ghost use Rattle.library_blocks.specs.Entries.{contents_of, all_contents, IsEntry};
 ghost use Rattle.library_blocks.specs.Faults.{own_fault, fault_behind, entry_fault, refused_entry, AreEntries};
 
@@ -86,6 +86,7 @@ fn entry_fault(before: Option<[u8; 8]>, entry: NewEntry) -> Option<EntryFault>
 pub fn refused_entry(entries: &[NewEntry]) -> Option<RefusedEntry>
     ensures fault { result ≡ refused_entry (all_contents entries.now) }
     ensures fits { IfNone result (AreEntries (all_contents entries.now)) }
+    ensures within { IfSome result (λ r. r.number < length entries.now) }
 {
     let mut before = None;
     for (number, entry) in entries.iter().enumerate() {

@@ -1,5 +1,5 @@
 -- How many blocks the entries of a directory take.
-use Rattle.std.proofs.Common.{◌≡◌, ◌∙◌, ap, sym, refl, ℕ, zero, suc, ◌≤◌, ◌<◌, List, [], ◌∷◌, length, arith, All, length-drop}
+use Rattle.std.proofs.Common.{◌≡◌, ◌+◌, ◌∙◌, ap, sym, refl, ℕ, zero, suc, ◌≤◌, ◌<◌, List, [], ◌∷◌, length, arith, All, length-drop}
 use Rattle.std.proofs.Common.{true, false, cond, nat_lt, Option, Some, None}
 use Rattle.std.specs.Option.{option_or, option_map}
 use Rattle.std.proofs.lemmas.Bool.Decides.{nat_tests}
@@ -47,7 +47,8 @@ module _ (blocks : ℕ) (entries : List EntryContents) (n : ℕ) (are : AreEntri
   taken = taken_is n (length (all_entries entries)) (all_entries entries) (entries_short entries are.each) takes (omega arith)
 
   only_room : directory_fault blocks entries ≡ room_fault blocks entries
-  only_room = ap (λ (r : Option RefusedEntry). option_or (option_map (λ r. fault.Entry r.number r.fault) r) (room_fault blocks entries))
+  only_room = ap
+      (λ (r : Option RefusedEntry). option_or (option_map (λ r. fault.Entry (r.number + 1) r.fault) r) (room_fault blocks entries))
       are.not_refused
 
   pub few_taken : blocks < n → Some (fault.FewBlocks n) ≡ directory_fault blocks entries

@@ -1,5 +1,5 @@
 -- Why a library has no directory.
-use Rattle.std.specs.Prelude.{◌≡◌, ℕ, zero, suc, ◌-◌, Bool, nat_lt, nat_le, if◌then◌else◌, List, [], ◌∷◌, length, Option, Some, None}
+use Rattle.std.specs.Prelude.{◌≡◌, ℕ, zero, suc, ◌+◌, ◌-◌, Bool, nat_lt, nat_le, if◌then◌else◌, List, [], ◌∷◌, length, Option, Some, None}
 use Rattle.std.specs.List.{position, list_any}
 use Rattle.std.specs.Option.{option_or, option_map}
 use Rattle.ckd_track.specs.declared.model.DriveModel.{DriveModel}
@@ -22,11 +22,11 @@ lacks_member l e = nat_le (length l.members.now) e.member
 abbrev pub lacks_block : NewLibrary → MemberEntry → Bool
 lacks_block l e = list_any (λ n. nat_le (length (blocks_of_member l.members.now e.member)) n.block) e.notes.now
 
--- the first entry without a member, and if each has one the first with a note that leads to no block
+-- the first entry without a member, and if each has one the first with a note that leads to no block; told by its number from 1 on
 abbrev pub leading_fault : NewLibrary → Option LibraryFault
 leading_fault l =
-    option_or (option_map fault.NoMember (position (lacks_member l) l.entries.now))
-    (option_map fault.NoBlock (position (lacks_block l) l.entries.now))
+    option_or (option_map (λ n. fault.NoMember (n + 1)) (position (lacks_member l) l.entries.now))
+    (option_map (λ n. fault.NoBlock (n + 1)) (position (lacks_block l) l.entries.now))
 
 -- the last record, an end of file, stands on a track that an address can't say
 abbrev pub length_fault : DriveModel → NewLibrary → Option LibraryFault
@@ -35,7 +35,7 @@ length_fault model l =
 
 -- the first entry that a directory can't have
 abbrev pub entries_fault : List EntryContents → Option LibraryFault
-entries_fault entries = option_map (λ r. fault.Entry r.number r.fault) (refused_entry entries)
+entries_fault entries = option_map (λ r. fault.Entry (r.number + 1) r.fault) (refused_entry entries)
 
 -- How many blocks the entries take that are left. Each has one at least, so that `most` is as many as there may be.
 unfoldable pub blocks_from : (most : ℕ) → (entries : List (List ℕ)) → ℕ

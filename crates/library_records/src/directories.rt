@@ -84,7 +84,7 @@ fn directory_fault(entries: &[NewEntry], blocks: usize) -> Option<LibraryFault>
     ensures room { IfNone result (left_behind (all_entries (all_contents entries.now)) blocks ≡ []) }
 {
     if let Some(refused) = refused_entry(entries) {
-        return Some(LibraryFault::Entry(refused.number, refused.fault));
+        return Some(LibraryFault::Entry(refused.number + 1, refused.fault));
     }
     let needed = blocks_needed(entries);
     if blocks < needed {

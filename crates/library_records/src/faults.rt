@@ -14,16 +14,16 @@ use thiserror::Error;
 /// Why a library has no directory.
 #[derive(Clone, Copy, Debug, PartialEq, Eq, Error)]
 pub enum LibraryFault {
-    /// The entry of this number, from 0 on, is for a member that the library has not.
+    /// The entry of this number, from 1 on, is for a member that the library has not.
     #[error("entry {0} has no member")]
     NoMember(usize),
-    /// An address in the user data of the entry of this number, from 0 on, leads to no block of its member.
+    /// An address in the user data of the entry of this number, from 1 on, leads to no block of its member.
     #[error("entry {0} has an address of no block")]
     NoBlock(usize),
     /// The library takes more than the 65,536 tracks that addresses can say.
     #[error("the library takes more than 65,536 tracks")]
     TooManyTracks,
-    /// A directory can't have the entry of this number, from 0 on.
+    /// A directory can't have the entry of this number, from 1 on.
     #[error("entry {0}: {1}")]
     Entry(usize, EntryFault),
     /// The entries take this many blocks, and the directory has fewer.
@@ -86,10 +86,10 @@ pub(crate) fn leading_fault(library: &NewLibrary) -> Option<LibraryFault>
     ensures lead { IfNone result (All (Leads library.now) library.now.entries.now) }
 {
     if let Some(number) = without_member(library) {
-        return Some(LibraryFault::NoMember(number));
+        return Some(LibraryFault::NoMember(number + 1));
     }
     if let Some(number) = without_block(library) {
-        return Some(LibraryFault::NoBlock(number));
+        return Some(LibraryFault::NoBlock(number + 1));
     }
     None
 }

@@ -1,29 +1,28 @@
 -- A volume that gets a data set, or does not.
-use Rattle.std.proofs.Common.{◌≡◌, ◌∙◌, ap, sym, refl, ℕ, List, [], Result, Ok, Err, IfOk, IfErr, inl, inr, None, Option}
+use Rattle.std.proofs.Common.{◌≡◌, ◌∙◌, ap, sym, refl, ℕ, List, [], Result, Ok, Err, IfOk, IfErr, inl, inr, None}
 use Rattle.ckd_track.specs.declared.geometries.Geometry.{Geometry}
 use Rattle.std.specs.List.{position}
 use Rattle.volume_contents.specs.declared.blocks.Block.{Block}
-use Rattle.volume_contents.specs.declared.findings.Finding.{Finding}
 use Rattle.volume_contents.specs.declared.reading.Contents.{Contents}
 use Rattle.volume_contents.specs.Sets.{has_name}
 use Rattle.volume_contents.specs.Contents.{Said, contents_of, SaysOf as IsSaid}
 use Rattle.volume_changes.specs.Volumes.{said_in}
 use Rattle.placed_sets.specs.declared.fault.PlaceFault.{PlaceFault}
 use Rattle.placed_sets.specs.declared.fault.PlaceFault.TheVariants as place
-use Rattle.placed_sets.specs.declared.fault.PlaceRefusal.{PlaceRefusal}
 use Rattle.placed_sets.specs.Volumes.{Labelled, SaysOf, IsUnfit, all_findings, unfit_of, unfit_on_label, unfit_on_table, unfit_by}
 use Rattle.loaded_sets.specs.declared.fault.LoadFault.{LoadFault}
 use Rattle.loaded_sets.specs.declared.fault.LoadFault.TheVariants as fault
 use Rattle.loaded_sets.specs.declared.contents.LoadedSet.{LoadedSet}
 use Rattle.loaded_sets.specs.Contents.{blocks_on, blocks_unless_unfit, blocks_unless_taken}
 use Rattle.loaded_sets.specs.Loaded.{Loaded, IsNotLoaded}
-use Rattle.loaded_sets.specs.Parts.{blocks_for, placing_fault, IsPut, IsNotPut}
+use Rattle.loaded_sets.specs.Faults.{placing_fault}
+use Rattle.loaded_sets.specs.Parts.{blocks_for, IsPut, IsNotPut}
 
 pub same_said : (s : Said) (c : Contents) → IsSaid s c → said_in c ≡ s
 same_said s c is = rw (is.label, is.table, is.blocks, is.findings) refl
 
 module _ (g : Geometry) (s : Said) (v : Labelled) (says : SaysOf g s v) (nothing : all_findings g s ≡ []) where
-  fit : unfit_of g s ≡ None
+  pub fit : unfit_of g s ≡ None
   fit = ap (unfit_on_label g s) says.label ∙ ap (unfit_on_table g s) says.table ∙ ap unfit_by nothing
 
   pub fits : (set : LoadedSet) → blocks_on g set s ≡ blocks_for v set

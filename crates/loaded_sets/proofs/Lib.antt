@@ -1,4 +1,4 @@
-mod Fits
+pub mod Fits
 mod Placed
 mod Read
 mod TextLines

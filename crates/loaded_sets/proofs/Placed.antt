@@ -1,5 +1,5 @@
 -- Records that were put onto a volume are the blocks of a file.
-use Rattle.std.proofs.Common.{◌≡◌, ◌∙◌, ap, sym, refl, subst, ℕ, ◌+◌, ◌-◌, List, [], ◌∷◌, length, arith, Result, Ok, Err, Some, None, All}
+use Rattle.std.proofs.Common.{◌≡◌, ◌∙◌, ap, sym, refl, subst, ℕ, ◌+◌, ◌-◌, List, [], ◌∷◌, length, arith, Result, Ok, Err, None, All}
 use Rattle.std.proofs.Common.{IfOk, IfErr, inl, inr, length-append}
 use Rattle.ckd_track.specs.declared.model.DriveModel.{DriveModel}
 use Rattle.record_tracks.specs.Records.{Areas, all_areas, end_of_file, RecordGoesOn}
@@ -8,7 +8,6 @@ use Rattle.record_tracks.specs.ReadBack.{IsLoaded}
 use Rattle.record_tracks.specs.declared.records.NewRecord.{NewRecord}
 use Rattle.record_tracks.proofs.Listed.{length-all}
 use Rattle.data_set_blocks.specs.declared.blocks.Cut.{Cut}
-use Rattle.data_set_blocks.specs.declared.faults.BlockFault.{BlockFault}
 use Rattle.data_set_blocks.specs.Blocks.{areas_of, block_areas, cut_by}
 use Rattle.data_set_blocks.specs.Extracted.{IsReadBack}
 use Rattle.data_set_blocks.specs.Faults.{block_fault_of}
@@ -34,8 +33,9 @@ use Rattle.loaded_sets.specs.declared.contents.SourceForm.{SourceForm}
 use Rattle.loaded_sets.specs.declared.contents.SourceForm.TheVariants as source
 use Rattle.loaded_sets.specs.Contents.{FileBlocks, label_of, blocks_by, blocks_fitting, blocks_in, blocks_with}
 use Rattle.loaded_sets.specs.Contents.{blocks_unless_taken, layout_of_set, unless_faulty, told_of_set, cut_so, IsNoText}
-use Rattle.loaded_sets.specs.Loaded.{IsSetOf, GetsBlocks}
-use Rattle.loaded_sets.specs.Parts.{blocks_for, placing_fault, unmade_fault, IsPut, IsNotPut, IsSet, IsNotSet}
+use Rattle.loaded_sets.specs.Loaded.{IsSetOf}
+use Rattle.loaded_sets.specs.Faults.{placing_fault}
+use Rattle.loaded_sets.specs.Parts.{blocks_for, unmade_fault, IsPut, IsNotPut, IsSet, IsNotSet}
 use Rattle.loaded_sets.proofs.TextLines.{lines_read}
 
 -- records that are the blocks and an end of file are one more than the blocks
@@ -68,11 +68,13 @@ module _ (v : Labelled) (set : LoadedSet) (b : FileBlocks) (p : PlacedSet) (is :
     fitting : blocks_fitting v.geometry.model set.form.key_length b ≡ Ok b
     fitting = ap (unless_faulty b) fits
 
-    module _ (tracks : ℕ) (now : List (List ℕ)) (read : IsReadBack v.geometry.model b.cut b.bytes) (gets : GetsSet v p slots tracks now) where
+    module _ (tracks : ℕ) (now : List (List ℕ)) (read : IsReadBack v.geometry.model b.cut b.bytes)
+        (gets : GetsSet v p slots tracks now) where
       takes : Takes v.geometry.model (areas_of b.cut b.bytes) tracks
       takes = subst (λ (a : List Areas). Takes v.geometry.model a tracks) is.records gets.gets.takes
 
-      loaded : IsLoaded v.geometry (extents_behind (contents_of v.geometry now).blocks (block_in (contents_of v.geometry now).blocks gets.place))
+      loaded : IsLoaded v.geometry
+          (extents_behind (contents_of v.geometry now).blocks (block_in (contents_of v.geometry now).blocks gets.place))
           now (areas_of b.cut b.bytes) tracks
       loaded = subst (λ (a : List Areas). IsLoaded v.geometry
           (extents_behind (contents_of v.geometry now).blocks (block_in (contents_of v.geometry now).blocks gets.place)) now a tracks)

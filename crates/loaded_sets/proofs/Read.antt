@@ -1,5 +1,5 @@
 -- A volume in files that gets no data set.
-use Rattle.std.proofs.Common.{◌≡◌, List, ℕ, Result, Ok, Err, inr, subst, sym}
+use Rattle.std.proofs.Common.{◌≡◌, List, ℕ, Result, Err, inr, subst, sym}
 use Rattle.ckd_image.specs.Image.{ImageState, HoldsImage}
 use Rattle.dasd_jobs.specs.Sources.{SourceFile, ReadsWhole}
 use Rattle.dasd_jobs.specs.Back.{WritesBack}

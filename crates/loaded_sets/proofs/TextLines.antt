@@ -1,5 +1,6 @@
 -- A text that was put onto a volume is read as its lines.
-use Rattle.std.proofs.Common.{◌≡◌, ◌∙◌, ap, sym, refl, subst, ℕ, zero, suc, ◌+◌, ◌-◌, ◌*◌, ◌/◌, ◌%◌, ◌≤◌, ◌<◌, ◌==◌, Bool, true, false, cond, not, nat_lt}
+use Rattle.std.proofs.Common.{◌≡◌, ◌∙◌, ap, sym, refl, subst, ℕ, zero, suc, ◌-◌, ◌*◌, ◌/◌, ◌%◌, ◌≤◌, ◌==◌}
+use Rattle.std.proofs.Common.{Bool, true, false, cond, not, nat_lt}
 use Rattle.std.proofs.Common.{List, length, arith, Option, Some, None}
 use Rattle.std.proofs.lemmas.Bool.Decides.{nat_tests}
 use Rattle.std.proofs.lemmas.Nat.{div-add-mod'}
@@ -75,8 +76,9 @@ some_many zero size some = absurd (omega (arith, some))
 some_many (suc n) size some = omega arith
 
 module _ (g : Geometry) (b : FileBlocks) (key_length : ℕ) (fits : block_fault_of g.model b.layout key_length b.cut b.bytes ≡ None) where
-  module _ (size : ℕ) (text : List ℕ) (has : HasLines b size text) (tracks : ℕ) (takes : Takes g.model (areas_of b.cut b.bytes) tracks) where
-    module _ (extents : List Extent) (slots : List (List ℕ)) (loaded : IsLoaded g extents slots (areas_of b.cut b.bytes) tracks) where
+  module _ (size : ℕ) (text : List ℕ) (has : HasLines b size text) (tracks : ℕ) where
+    module _ (takes : Takes g.model (areas_of b.cut b.bytes) tracks) (extents : List Extent) (slots : List (List ℕ))
+        (loaded : IsLoaded g extents slots (areas_of b.cut b.bytes) tracks) where
       it : Fit g.model b.layout.longest size
       it = fit g.model b.layout key_length b.layout.longest b.bytes size has.some has.fixed
           (ap (λ (c : Cut). block_fault_of g.model b.layout key_length c b.bytes) (sym has.cut) ∙ fits)
@@ -96,7 +98,8 @@ module _ (g : Geometry) (b : FileBlocks) (key_length : ℕ) (fits : block_fault_
       pub lines_read : (most : ℕ) → tracks ≤ most
           → source_written (wanted (Text b.layout) extents first_block most) g slots ≡ ended_by_file (printed text) (tracks - 1)
       lines_read most enough =
-          subst (λ (l : Layout). source_written (wanted (Text l) extents first_block most) g slots ≡ ended_by_file (printed text) (tracks - 1))
+          subst
+          (λ (l : Layout). source_written (wanted (Text l) extents first_block most) g slots ≡ ended_by_file (printed text) (tracks - 1))
           layout_is
           (is_printed g extents slots size count text tracks most
           (record {

@@ -1,5 +1,5 @@
 -- What a file has for a data set, or why it has none.
-use Rattle.std.specs.Prelude.{◌≡◌, ℕ, zero, suc, ◌==◌, if◌then◌else◌, List, Option, Some, None, Result, Ok, Err}
+use Rattle.std.specs.Prelude.{◌≡◌, ℕ, zero, suc, List, Option, Some, None, Result, Ok, Err}
 use Rattle.std.specs.List.{position}
 use Rattle.ckd_track.specs.declared.model.DriveModel.{DriveModel}
 use Rattle.ckd_track.specs.declared.geometries.Geometry.{Geometry}

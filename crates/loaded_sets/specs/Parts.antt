@@ -6,9 +6,6 @@ use Rattle.dasd_jobs.specs.declared.faults.JobFault.TheVariants as job
 use Rattle.dasd_jobs.specs.declared.files.FileFault.{FileFault}
 use Rattle.dasd_jobs.specs.declared.files.FileFault.TheVariants as file
 use Rattle.volume_contents.specs.Sets.{has_name}
-use Rattle.changed_volumes.specs.Changes.{IsHindered}
-use Rattle.placed_sets.specs.declared.fault.PlaceFault.{PlaceFault}
-use Rattle.placed_sets.specs.declared.fault.PlaceFault.TheVariants as place
 use Rattle.placed_sets.specs.declared.plans.PlacedSet.{PlacedSet}
 use Rattle.placed_sets.specs.Volumes.{Labelled}
 use Rattle.loaded_sets.specs.declared.contents.LoadedSet.{LoadedSet}
@@ -18,8 +15,8 @@ use Rattle.loaded_sets.specs.declared.fault.LoadRefusal.{LoadRefusal}
 use Rattle.loaded_sets.specs.declared.fault.LoadRefusal.TheVariants as refusal
 use Rattle.loaded_sets.specs.declared.fault.Unmade.{Unmade}
 use Rattle.loaded_sets.specs.declared.fault.Unmade.TheVariants as unmade
-use Rattle.loaded_sets.specs.declared.fault.ContentFault.{ContentFault}
 use Rattle.loaded_sets.specs.declared.images.FileBlocks as declared
+use Rattle.loaded_sets.specs.Faults.{IsHinderedBy}
 use Rattle.loaded_sets.specs.Contents.{FileBlocks, blocks_fitting, blocks_unless_taken}
 use Rattle.placed_sets.specs.Placed.{HasNoPlace}
 use Rattle.loaded_sets.specs.Loaded.{IsSetOf, GetsBlocks, HasNone}
@@ -27,11 +24,6 @@ use Rattle.loaded_sets.specs.Loaded.{IsSetOf, GetsBlocks, HasNone}
 -- the blocks that the code has
 abbrev pub file_blocks : declared.FileBlocks → FileBlocks
 file_blocks f = record { layout = f.layout; cut = f.blocks.cut; bytes = f.blocks.bytes.now }
-
--- something hinders it
-abbrev pub IsHinderedBy : LoadFault → Type 0
-IsHinderedBy (fault.Job f) = IsHindered f
-IsHinderedBy f = ⊥
 
 -- the blocks of a data set on a volume that can get one
 abbrev pub blocks_for : Labelled → LoadedSet → Result FileBlocks LoadRefusal
@@ -59,11 +51,6 @@ IsNotSet (fault.Refused (refusal.Content f)) v set b slots = blocks_fitting v.ge
 IsNotSet (fault.Refused (refusal.Placed r)) v set b slots =
     (p : PlacedSet) × (blocks_fitting v.geometry.model set.form.key_length b ≡ Ok b) × IsSetOf set b p × HasNoPlace r v p slots
 IsNotSet f v set b slots = IsHinderedBy f
-
--- what the fault of a volume that gets no records is
-abbrev pub placing_fault : PlaceFault → LoadFault
-placing_fault (place.Refused r) = fault.Refused (refusal.Placed r)
-placing_fault (place.Job f) = fault.Job f
 
 -- what a file that is not made into blocks is for its data set
 abbrev pub unmade_fault : Unmade → LoadFault

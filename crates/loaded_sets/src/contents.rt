@@ -59,7 +59,11 @@ pub struct LoadedSet<'a> {
 }
 
 /// How the records of a data set lie in its blocks, by the format and the lengths that are given.
-pub(crate) fn layout_of_set(form: &SetForm) -> Result<Layout, AttributeFault>
+///
+/// # Errors
+///
+/// The first fault of the format and the lengths, as `layout_given` of `record_formats` tells it.
+pub fn layout_of_set(form: &SetForm) -> Result<Layout, AttributeFault>
     ensures { result ≡ layout_of_set form.now }
 {
     layout_given(SILENT, form.attributes)
@@ -77,7 +81,7 @@ fn length_said(layout: Layout, given: u16) -> u16
 }
 
 /// What the label of a data set of this layout says.
-pub(crate) fn label_of(form: &SetForm, layout: Layout) -> SetLabel
+pub fn label_of(form: &SetForm, layout: Layout) -> SetLabel
     ensures { result ≡ label_of form.now layout }
 {
     SetLabel {
@@ -106,7 +110,7 @@ fn text_size(layout: Layout) -> Option<u16>
 /// # Errors
 ///
 /// The layout is not of records of one length, or a line is no record; or there is no memory.
-pub(crate) fn text_bytes(alloc: Global, layout: Layout, text: &[u8]) -> Result<Vec<u8>, Unmade>
+pub fn text_bytes(alloc: Global, layout: Layout, text: &[u8]) -> Result<Vec<u8>, Unmade>
     ensures bytes { IfOk result (λ made. text_bytes layout text.now ≡ Ok made.items) }
     ensures fault { IfErr result (λ e. IsNoText e layout text.now) }
 {

@@ -1,7 +1,8 @@
 //! Why a data set was not put onto a volume.
 
 ghost use Rattle.std.specs.Prelude.{◌≡◌};
-ghost use Rattle.loaded_sets.specs.Parts.{file_fault, written_line, placing_fault, unmade_fault, IsHinderedBy};
+ghost use Rattle.loaded_sets.specs.Faults.{placing_fault, IsHinderedBy};
+ghost use Rattle.loaded_sets.specs.Parts.{file_fault, written_line, unmade_fault};
 ghost use Rattle.changed_volumes.specs.Changes.{IsHinderedBy as IsChangeHindered};
 
 use changed_volumes::ChangeFault;
@@ -33,7 +34,7 @@ pub enum ContentFault {
 
 /// Why a file is not made into blocks.
 #[derive(Clone, Copy)]
-pub(crate) enum Unmade {
+pub enum Unmade {
     /// It has none.
     Content(ContentFault),
     /// Memory was refused.
@@ -78,17 +79,17 @@ pub enum LoadFault {
 }
 
 /// No memory.
-pub(crate) const NO_MEMORY: LoadFault = LoadFault::Job(JobFault::OutOfMemory);
+pub const NO_MEMORY: LoadFault = LoadFault::Job(JobFault::OutOfMemory);
 
 /// A refusal.
-pub(crate) fn refused(refusal: LoadRefusal) -> LoadFault
+pub fn refused(refusal: LoadRefusal) -> LoadFault
     ensures { result ≡ LoadFault.Refused refusal }
 {
     LoadFault::Refused(refusal)
 }
 
 /// What a fault of a volume that is read of memory is.
-pub(crate) fn of_reading(fault: ChangeFault) -> LoadFault
+pub fn of_reading(fault: ChangeFault) -> LoadFault
     requires { IsChangeHindered fault }
     ensures { IsHinderedBy result }
 {
@@ -99,7 +100,7 @@ pub(crate) fn of_reading(fault: ChangeFault) -> LoadFault
 }
 
 /// What the fault of a volume that gets no records is.
-pub(crate) fn of_placing(fault: PlaceFault) -> LoadFault
+pub fn of_placing(fault: PlaceFault) -> LoadFault
     ensures { result ≡ placing_fault fault }
 {
     match fault {

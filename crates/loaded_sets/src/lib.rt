@@ -8,7 +8,9 @@ mod images;
 mod lines;
 mod saves;
 
-pub use crate::contents::{LoadedSet, SetForm, SourceForm};
-pub use crate::fault::{ContentFault, LoadFault, LoadRefusal};
+pub use crate::contents::{LoadedSet, SetForm, SourceForm, label_of, layout_of_set, text_bytes};
+pub use crate::fault::{
+    ContentFault, LoadFault, LoadRefusal, NO_MEMORY, Unmade, of_placing, of_reading, refused,
+};
 pub use crate::images::load_image;
 pub use crate::saves::{NewSet, load_set};

@@ -1,11 +1,9 @@
 -- A volume that says something of itself by which a reader does not find a data set.
 use Rattle.std.proofs.Common.{◌≡◌, ◌∙◌, ap, ℕ, None}
-use Rattle.volume_labels.specs.declared.blocks.ContentsBlock.{ContentsBlock}
-use Rattle.volume_labels.specs.declared.labels.VolumeLabel.{VolumeLabel}
 use Rattle.volume_labels.specs.declared.fields.RecordAddress.{RecordAddress}
 use Rattle.space_allocation.specs.declared.blocks.NewDataSet.{NewDataSet}
 use Rattle.volume_contents.specs.Contents.{Said}
-use Rattle.placed_sets.specs.Volumes.{Labelled, all_findings, unfit_of, unfit_on_label, unfit_on_table, unfit_by}
+use Rattle.placed_sets.specs.Volumes.{Labelled, unfit_of, unfit_on_label, unfit_on_table, unfit_by}
 use Rattle.placed_sets.specs.Placed.{HasSet}
 
 -- a volume that has a data set is one that can get others

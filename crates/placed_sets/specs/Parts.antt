@@ -1,5 +1,5 @@
 -- How the code holds what the contracts speak of; no public contract names these.
-use Rattle.std.specs.Prelude.{◌≡◌, ◌⊎◌, ℕ, ◌+◌, ◌-◌, ◌≤◌, ◌++◌, List, length, Option, Some}
+use Rattle.std.specs.Prelude.{◌≡◌, ℕ, ◌+◌, ◌-◌, ◌≤◌, List, length, Option, Some}
 use Rattle.std.specs.List.{position}
 use Rattle.ckd_track.specs.declared.geometries.Geometry.{Geometry}
 use Rattle.ckd_track.specs.Geometry.{tracks_of}
@@ -12,7 +12,7 @@ use Rattle.space_allocation.specs.Blocks.{data_set_data, data_set_read}
 use Rattle.space_allocation.specs.Extents.{HasRun}
 use Rattle.volume_changes.specs.declared.blocks.BlockChange.{BlockChange}
 use Rattle.volume_contents.specs.declared.blocks.Block.{Block}
-use Rattle.volume_contents.specs.Contents.{Said, contents_of, block_in}
+use Rattle.volume_contents.specs.Contents.{Said, block_in}
 use Rattle.volume_contents.specs.Sets.{has_name}
 use Rattle.changed_volumes.specs.Changes.{IsHindered}
 use Rattle.placed_sets.specs.declared.fault.PlaceFault.{PlaceFault}

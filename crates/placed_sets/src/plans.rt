@@ -89,11 +89,7 @@ pub(crate) fn place_set(
 }
 
 // The first free tracks that have room for records.
-fn run_for(
-    alloc: Global,
-    volume: &LabelledVolume,
-    records: &[NewRecord],
-) -> Result<Run, PlaceFault>
+fn run_for(alloc: Global, volume: &LabelledVolume, records: &[NewRecord]) -> Result<Run, PlaceFault>
     requires each { All (RecordGoesOn volume.now.geometry.model) records.now }
     requires some { 1 ≤ length records.now }
     ensures tracks { IfOk result (λ run. GetsTracks (labelled volume.now) (all_areas records.now) run.first run.tracks) }

@@ -15,7 +15,7 @@ ghost use Rattle.placed_sets.specs.Tables.{StaysOutside, IsFirstFree, WritesBloc
 ghost use Rattle.placed_sets.specs.Volumes.{labelled};
 ghost use Rattle.placed_sets.specs.Parts.{Fills, IsLeftOut, IsUnlisted, IsUnfound};
 
-use crate::fault::{PlaceFault, PlaceRefusal, NO_SLOT, refused};
+use crate::fault::{NO_SLOT, PlaceFault, PlaceRefusal, refused};
 use crate::plans::Run;
 use crate::volumes::LabelledVolume;
 use changed_volumes::write_change;

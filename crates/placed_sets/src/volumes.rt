@@ -64,7 +64,10 @@ pub fn judge<'a>(
 }
 
 /// The extents of the table of contents and of all data sets.
-pub(crate) fn taken_extents(alloc: Global, volume: &LabelledVolume) -> Result<Vec<Extent>, PlaceFault>
+pub(crate) fn taken_extents(
+    alloc: Global,
+    volume: &LabelledVolume,
+) -> Result<Vec<Extent>, PlaceFault>
     ensures extents { IfOk result (λ extents. extents.items ≡ taken_extents (labelled volume.now)) }
     ensures fault { IfErr result IsHinderedBy }
 {

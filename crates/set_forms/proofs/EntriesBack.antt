@@ -20,7 +20,7 @@ use Rattle.set_forms.specs.declared.forms.Note.{Note}
 use Rattle.set_forms.specs.declared.forms.Note.TheVariants.{Block, Address}
 use Rattle.set_forms.specs.declared.forms.FormLine.TheVariants.{Entry}
 use Rattle.set_forms.specs.Numbers.{byte_of}
-use Rattle.set_forms.specs.Forms.{spaced, note_text, user_words, user_data_text, named_entry_line}
+use Rattle.set_forms.specs.Forms.{spaced, note_text, user_words, user_data_text, named_entry_line, form_line}
 use Rattle.set_forms.specs.Parsing.{is_note, note_of, note_at, added, entry_behind, entry_of}
 use Rattle.set_forms.specs.Parsing.{an_entry}
 use Rattle.set_forms.specs.Laws.{AreBytes, IsNote, IsEntryForm}
@@ -209,7 +209,7 @@ module _ (e : EntryForm) (is : IsEntryForm e) where
   this member are = read_behind member ∙ ap (λ o. Ok (entry e.name o e.notes.items e.user.items)) (sym are)
 
   by_member : (member : Option (List ℕ)) → e.member ≡ member → IfSome member (AreBytes 8) → IsLine (Entry e)
-  unfolding behind
+  unfolding behind form_line
   by_member None are m =
       record {
         first = codes "member";

@@ -70,7 +70,7 @@ module _ (s : SetForm) (is : IsSetForm s) where
       ) refl
 
   pub set_is_line : IsLine (Set s)
-  unfolding rest
+  unfolding rest form_line
   set_is_line = record {
     first = codes "data";
     words = rest;

@@ -77,7 +77,7 @@ named_entry_line name member e = names_text name member ++ user_data_text e.note
 abbrev pub entry_line : EntryForm → List ℕ
 entry_line e = named_entry_line (safe_name_of e.name) (option_map safe_name_of e.member) e
 
-abbrev pub form_line : FormLine → List ℕ
+unfoldable pub form_line : FormLine → List ℕ
 form_line (Set s) = set_line s
 form_line (Entry e) = entry_line e
 

@@ -15,6 +15,7 @@ use std::alloc::{AllocError, Global};
 /// # Errors
 ///
 /// There is no memory for it; what then stands at the end of the text is not said.
+#[tactic(auto, unfolding(crate::specs::Forms::form_line))]
 pub fn write_form(alloc: Global, text: &mut Vec<u8>, form: &FormLine) -> Result<(), AllocError>
     ensures { OnOk result (text.new.items ≡ text.old.items ++ form_line form.now) }
 {

@@ -54,17 +54,23 @@ spelled_out s b is =
 pub data_set_is_read : (s : NewDataSet) → length s.serial ≡ 6 → data_set_block_of s.name (data_set_data s) ≡ data_set_read s
 data_set_is_read s six = spelled_out s (λ i. slice_index_or s.serial i 0) (six_are s.serial six)
 
+-- what the parts of its block are
+pub record AreParts (s : NewDataSet) (numbers form lengths last extent : List ℕ) : Type 0 where
+  pub numbers_are : numbers ≡ numbers_bytes s.created s.expires
+  pub form_is : form ≡ form_bytes s.organisation s.format
+  pub lengths_are : lengths ≡ length_bytes s.block_length s.record_length s.key_length
+  pub last_is : last ≡ last_bytes s.last s.balance
+  pub extent_is : extent ≡ extent_bytes s.extent
+
 -- the same of what was written for a data set
 pub data_set_written : (s : NewDataSet) (now numbers form lengths last extent : List ℕ) → length s.serial ≡ 6
     → now ≡ overwritten (overwritten (overwritten (overwritten (overwritten (overwritten (overwritten (overwritten (overwritten
     (replicate 96 0)
     61 extent) 54 last) 49 (0x80 ∷ 0x80 ∷ [])) 42 lengths) 38 form) 18 (replicate 13 0x40)) 7 numbers) 1 s.serial)
     0 (0xF1 ∷ [])
-    → numbers ≡ numbers_bytes s.created s.expires → form ≡ form_bytes s.organisation s.format
-    → lengths ≡ length_bytes s.block_length s.record_length s.key_length → last ≡ last_bytes s.last s.balance
-    → extent ≡ extent_bytes s.extent → now ≡ data_set_data s
-data_set_written s now numbers form lengths last extent six written is_numbers is_form is_lengths is_last is_extent =
-    rw (written, is_numbers, is_form, is_lengths, is_last, is_extent)
+    → AreParts s numbers form lengths last extent → now ≡ data_set_data s
+data_set_written s now numbers form lengths last extent six written are =
+    rw (written, are.numbers_are, are.form_is, are.lengths_are, are.last_is, are.extent_is)
     (data_set_fields s.serial (numbers_bytes s.created s.expires) (form_bytes s.organisation s.format)
     (length_bytes s.block_length s.record_length s.key_length) (last_bytes s.last s.balance) (extent_bytes s.extent)
     six refl refl refl refl refl)

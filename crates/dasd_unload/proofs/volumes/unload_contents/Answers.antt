@@ -21,6 +21,6 @@ returns-clause-does g c =
     let t = c.args.target in
     contents_done (g.V.SlotReader.volume c.args.volume.now) (plan t.folder.now t.block_form (option_copied t.json)) c.in-Ok.contents
     c.in-Ok.ensures.contents _ _ _ _ _
-    c.unload_sets.result _ _ (rw c.as_slice-findings.ensures.value at c.in_default.ensures.text)
+    c.unload_table.result _ _ (rw c.as_slice-findings.ensures.value at c.in_default.ensures.text)
     (rw c.as_slice-findings.ensures.value at c.in_default.ensures.counted)
-    (rw (c.in-Ok.ensures.volume.0, c.as_slice-blocks.ensures.value) at c.unload_sets.ensures.does)
+    (rw (c.in-Ok.ensures.volume.0, c.as_slice-blocks.ensures.value) at c.unload_table.ensures.does)

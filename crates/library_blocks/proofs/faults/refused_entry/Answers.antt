@@ -34,4 +34,5 @@ returns c =
         not_refused = none;
         each = subst (All IsEntry) (take_all c.loop-number.number entries past) c.loop-number.invariant.each;
       };
+      within = tt;
     }

@@ -1,10 +1,7 @@
-use Rattle.std.proofs.Common.{◌≡◌, ◌∙◌, ap, sym, refl, subst, ℕ, ◌+◌, ◌-◌, arith, All, List, length}
+use Rattle.std.proofs.Common.{◌∙◌, ap, sym, refl, subst, ℕ, ◌-◌, All}
 use Rattle.record_tracks.specs.Records.{all_areas, RecordGoesOn}
-use Rattle.record_tracks.specs.declared.records.NewRecord.{NewRecord}
-use Rattle.placed_sets.specs.declared.plans.PlacedSet.{PlacedSet}
 use Rattle.placed_sets.specs.Volumes.{labelled}
 use Rattle.loaded_sets.specs.declared.fault.LoadFault.{LoadFault}
-use Rattle.loaded_sets.specs.Loaded.{IsSetOf}
 use Rattle.loaded_sets.specs.Parts.{file_blocks, IsNotSet}
 use Rattle.loaded_sets.proofs.Placed.{can_be, set_is, not_set, set_of}
 use Rattle.loaded_sets.proofs.images.put_records.Goals as goal
@@ -22,7 +19,8 @@ returns-in-Ok-place_records-clause-set c =
     (set_of c.args.set.now (file_blocks c.args.file) _ refl c.label_of.ensures
     (ap all_areas c.as_slice.ensures.value ∙ c.in-Ok.ensures.records) (ap (λ (n : ℕ). n - 1) (c.len.ensures ∙ sym c.as_slice.ensures.len)))
     c.args.image.now.slots c.requires.fits c.in-Ok-place_records.tracks
-    c.place_records.new.image.slots (c.in-Ok.ensures.read c.args.volume.now.geometry.model c.requires.blocks) c.in-Ok-place_records.ensures.placed
+    c.place_records.new.image.slots (c.in-Ok.ensures.read c.args.volume.now.geometry.model c.requires.blocks)
+    c.in-Ok-place_records.ensures.placed
 
 pub returns-clause-fault : goal.returns-clause-fault
 returns-clause-fault c =

@@ -20,5 +20,11 @@ returns c =
     ∙ ap (λ (b : List ℕ). overwritten b 42 c.length_bytes.result) (c.overwrite-3.ensures
     ∙ ap (λ (b : List ℕ). overwritten b 49 (0x80 ∷ 0x80 ∷ [])) (c.overwrite-2.ensures
     ∙ ap (λ (b : List ℕ). overwritten b 54 c.last_bytes.result) c.overwrite.ensures))))))))
-    c.numbers_bytes.ensures c.form_bytes.ensures c.length_bytes.ensures c.last_bytes.ensures c.extent_bytes.ensures in
+    (record {
+      numbers_are = c.numbers_bytes.ensures;
+      form_is = c.form_bytes.ensures;
+      lengths_are = c.length_bytes.ensures;
+      last_is = c.last_bytes.ensures;
+      extent_is = c.extent_bytes.ensures;
+    }) in
     record { bytes = is; read = ap (data_set_block_of s.name) is ∙ data_set_is_read s six }

@@ -1,0 +1,4 @@
+mod Adds
+mod Found
+mod Keyed
+mod Read

@@ -1,0 +1,5 @@
+pub mod Noted
+pub mod Numbers
+pub mod Placed
+pub mod Read
+pub mod Starts

@@ -1,0 +1,15 @@
+//! A library, read into memory: the entries of its directory with their user data, and each of its members once.
+#![tactic(auto)]
+
+mod blocks;
+mod contents;
+mod directories;
+mod entries;
+mod laws;
+mod libraries;
+mod members;
+mod notes;
+
+pub use crate::contents::{LibraryContents, LibraryReadFault, ReadEntry, ReadNote};
+pub use crate::laws::{entries_are_those_of_the_directory, number_is_where_they_begin};
+pub use crate::libraries::read_library;

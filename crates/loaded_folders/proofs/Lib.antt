@@ -1,0 +1,4 @@
+mod Chains
+mod Saved
+mod Told
+mod Unread

@@ -1,0 +1,5 @@
+pub mod Sets
+pub mod Entries
+pub mod Reading
+pub mod Loads
+pub mod Parts

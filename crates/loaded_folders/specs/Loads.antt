@@ -1,0 +1,163 @@
+-- What of a folder is put onto a volume in files, and what that leaves and prints.
+use Rattle.std.specs.Prelude.{◌≡◌, ◌⊎◌, ℕ, List, [], ◌∷◌, ◌++◌, map, slice_index_or, Option, Some, None, Result, Ok, Err}
+use Rattle.std.specs.String.{string_bytes}
+use Rattle.counted_io.specs.Streams.{Takes, TakesFront, NoneFailed, OneFailed}
+use Rattle.ckd_image.specs.Image.{ImageState}
+use Rattle.ckd_track.specs.declared.geometries.Geometry.{Geometry}
+use Rattle.dasd_jobs.specs.Back.{WritesBack}
+use Rattle.dasd_jobs.specs.Sources.{SourceFile}
+use Rattle.dasd_jobs.specs.Written.{Replaced}
+use Rattle.dasd_jobs.specs.declared.faults.JobFault.{JobFault}
+use Rattle.dasd_jobs.specs.declared.faults.JobFault.TheVariants as job
+use Rattle.dasd_unload.specs.Unloads.{file_name}
+use Rattle.set_forms.specs.declared.forms.SetForm as line
+use Rattle.changed_volumes.specs.Changes.{IsSameImage, IsHindered}
+use Rattle.changed_volumes.specs.Files.{Around, ReadsImage, Hinders}
+use Rattle.loaded_sets.specs.declared.contents.LoadedSet.{LoadedSet}
+use Rattle.loaded_sets.specs.declared.contents.SetForm.{SetForm}
+use Rattle.loaded_sets.specs.declared.contents.SourceForm.{SourceForm}
+use Rattle.loaded_sets.specs.declared.fault.LoadRefusal.{LoadRefusal}
+use Rattle.loaded_sets.specs.Loaded as set
+use Rattle.loaded_sets.specs.Loads.{loaded_line}
+use Rattle.loaded_libraries.specs.declared.libraries.LoadedLibrary.{LoadedLibrary}
+use Rattle.loaded_libraries.specs.Loaded as library
+use Rattle.loaded_folders.specs.declared.fault.FolderFault.{FolderFault}
+use Rattle.loaded_folders.specs.declared.fault.FolderFault.TheVariants as fault
+use Rattle.loaded_folders.specs.declared.saves.NewFolder.{NewFolder}
+use Rattle.loaded_folders.specs.Sets.{FolderSet}
+use Rattle.loaded_folders.specs.Entries.{EntryRefused, entries_of, member_parts}
+use Rattle.loaded_folders.specs.Reading.{ReadsFolder, IsUnread}
+
+-- what the label of a data set is to say, by its line
+abbrev pub form_of : line.SetForm → SetForm
+form_of s = record {
+  organisation = s.organisation;
+  attributes = record { format = s.format; record_length = s.record_length; block_length = s.block_length };
+  key_length = s.key_length;
+  created = s.created;
+  expires = s.expires;
+}
+
+-- a data set of a folder as one that is loaded: it has the bytes of its file
+pub record IsSequential (source : SourceForm) (s : FolderSet) (l : LoadedSet) : Type 0 where
+  pub name : l.name ≡ s.lines.form.name
+  pub form : l.form ≡ form_of s.lines.form
+  pub source_is : l.source ≡ source
+  pub bytes : l.bytes.now ≡ slice_index_or s.files 0 []
+
+-- the same of one with a directory of so many blocks: it has the entries of its lines, and the bytes of the files of its members
+pub record IsPartitioned (source : SourceForm) (s : FolderSet) (blocks : ℕ) (l : LoadedLibrary) : Type 0 where
+  pub name : l.name ≡ s.lines.form.name
+  pub form : l.form ≡ form_of s.lines.form
+  pub source_is : l.source ≡ source
+  pub directory : l.directory_blocks ≡ blocks
+  pub entries : entries_of s.lines.entries ≡ Ok (map member_parts l.entries.now)
+  pub members : map (λ m. m.now) l.members.now ≡ s.files
+
+-- a volume gets a data set of a folder: a library, where its line says how many blocks its directory has
+abbrev pub GetsBy : (directory : Option ℕ) → SourceForm → FolderSet → Geometry → (before : List (List ℕ)) → (tracks : ℕ) → (now : List (List ℕ))
+    → Type 0
+GetsBy None source s g before tracks now = (l : LoadedSet) × IsSequential source s l × set.Loaded l g before tracks now
+GetsBy (Some blocks) source s g before tracks now =
+    (l : LoadedLibrary) × IsPartitioned source s blocks l × library.Loaded l g before tracks now
+
+abbrev pub GetsOne : SourceForm → FolderSet → Geometry → (before : List (List ℕ)) → (tracks : ℕ) → (now : List (List ℕ)) → Type 0
+GetsOne source s g before tracks now = GetsBy s.lines.form.directory source s g before tracks now
+
+-- what is printed of a data set with so many tracks: its name is that of its file
+abbrev pub line_of : FolderSet → (tracks : ℕ) → List ℕ
+line_of s tracks = loaded_line (file_name s.lines.form.name None) tracks
+
+-- A volume gets data sets one behind another, each as the one before left it; and these are the lines of them.
+abbrev pub GetsAll : SourceForm → List FolderSet → Geometry → (before now : List (List ℕ)) → (lines : List ℕ) → Type 0
+GetsAll source [] g before now lines = (now ≡ before) × (lines ≡ [])
+GetsAll source (s ∷ sets) g before now lines =
+    (tracks : ℕ) × (between : List (List ℕ)) × (more : List ℕ) × GetsOne source s g before tracks between
+    × GetsAll source sets g between now more × (lines ≡ line_of s tracks ++ more)
+
+-- the volume does not get a data set, for this reason
+abbrev pub RefusesBy : (directory : Option ℕ) → LoadRefusal → SourceForm → FolderSet → Geometry → (slots : List (List ℕ)) → Type 0
+RefusesBy None r source s g slots = (l : LoadedSet) × IsSequential source s l × set.Refuses r l g slots
+RefusesBy (Some blocks) r source s g slots = (l : LoadedLibrary) × IsPartitioned source s blocks l × library.Refuses r l g slots
+
+-- an entry of this name of a data set that has a directory is the first that leads nowhere, for this reason
+abbrev pub EndsAt : (directory : Option ℕ) → FolderSet → EntryRefused → Type 0
+EndsAt None s e = ⊥
+EndsAt (Some blocks) s e = entries_of s.lines.entries ≡ Err e
+
+-- a data set is not loaded, for this reason, and is told by the name of its file, or of that of the entry
+abbrev pub IsRefused : FolderFault → SourceForm → FolderSet → Geometry → (slots : List (List ℕ)) → Type 0
+IsRefused (fault.Refused name r) source s g slots =
+    (string_bytes name ≡ file_name s.lines.form.name None) × RefusesBy s.lines.form.directory r source s g slots
+IsRefused (fault.Entry name f) source s g slots =
+    (e : List ℕ) × (string_bytes name ≡ file_name s.lines.form.name (Some e))
+    × EndsAt s.lines.form.directory s (record { name = e; fault = f })
+IsRefused f source s g slots = ⊥
+
+-- One of the data sets is not loaded, behind those before it.
+pub record StopsAt (f : FolderFault) (source : SourceForm) (sets : List FolderSet) (g : Geometry) (slots : List (List ℕ)) : Type 0 where
+  pub done : List FolderSet
+  pub next : FolderSet
+  pub others : List FolderSet
+  pub all : sets ≡ done ++ next ∷ others
+  pub between : List (List ℕ)
+  pub lines : List ℕ
+  pub loaded : GetsAll source done g slots between lines
+  pub refused : IsRefused f source next g between
+
+-- why the data sets of a folder are not put onto a volume in memory: one is not loaded; or something hinders it
+abbrev pub IsStopped : FolderFault → SourceForm → List FolderSet → Geometry → (slots : List (List ℕ)) → Type 0
+IsStopped (fault.Job f) source sets g slots = IsHindered f
+IsStopped f source sets g slots = StopsAt f source sets g slots
+
+-- The volume in the files at these paths was read whole, got the data sets, and the files of it that changed were written; or those before one
+-- of them, at which it stopped. These are the lines of the data sets.
+pub record SavesLoaded {A : Type 0} (result : Result A JobFault) (source : SourceForm) (sets : List FolderSet) (lines : List ℕ)
+    (paths : List (List ℕ)) (opened_before opened : List SourceFile) (before now : List Replaced) : Type 0 where
+  pub image : ImageState
+  pub changed : ImageState
+  pub reads : ReadsImage paths image opened_before opened
+  pub same : IsSameImage image changed
+  pub loaded : GetsAll source sets image.geometry image.slots changed.slots lines
+  pub saves : WritesBack result paths changed before now
+
+-- the volume in the files does not get the data sets, for this reason
+pub record RefusesSets (f : FolderFault) (source : SourceForm) (sets : List FolderSet) (paths : List (List ℕ)) (before now : List SourceFile)
+    : Type 0 where
+  pub image : ImageState
+  pub reads : ReadsImage paths image before now
+  pub refused : StopsAt f source sets image.geometry image.slots
+
+-- Data sets are put onto the volume in files, which are saved, or in part; or no file is written.
+abbrev pub LoadsFiles : Result (List ℕ) FolderFault → SourceForm → List FolderSet → (paths : List (List ℕ)) → (opened_before opened : List SourceFile)
+    → (before now : List Replaced) → Type 0
+LoadsFiles (Ok lines) source sets paths opened_before opened before now =
+    SavesLoaded {A = Unit {0}} (Ok tt) source sets lines paths opened_before opened before now
+LoadsFiles (Err (fault.Save f)) source sets paths opened_before opened before now =
+    (lines : List ℕ) × SavesLoaded {A = Unit {0}} (Err f) source sets lines paths opened_before opened before now
+LoadsFiles (Err (fault.Job f)) source sets paths opened_before opened before now = Hinders f paths opened_before opened × (now ≡ before)
+LoadsFiles (Err f) source sets paths opened_before opened before now = RefusesSets f source sets paths opened_before opened × (now ≡ before)
+
+-- The same, and the lines are printed; with a write fault it may be only their beginning, and a write or a flush has failed. With every other
+-- fault nothing is printed.
+abbrev pub TellsLoads : {A : Type 0} → Result A FolderFault → SourceForm → List FolderSet → (paths : List (List ℕ)) → (before now : Around) → Type 0
+TellsLoads (Ok _) source sets paths before now =
+    (lines : List ℕ) × LoadsFiles (Ok lines) source sets paths before.opened now.opened before.written now.written
+    × Takes before.printed now.printed lines × NoneFailed before.printed now.printed
+TellsLoads (Err f) source sets paths before now =
+    (LoadsFiles (Err f) source sets paths before.opened now.opened before.written now.written × (now.printed ≡ before.printed))
+    ⊎ ((f ≡ fault.Job job.Write) × (lines : List ℕ)
+    × LoadsFiles (Ok lines) source sets paths before.opened now.opened before.written now.written
+    × TakesFront before.printed now.printed lines × OneFailed before.printed now.printed)
+
+-- files were opened, none was written, and nothing was printed
+abbrev pub with_opened : Around → List SourceFile → Around
+with_opened a opened = record a { opened = opened }
+
+-- The data sets of a folder are put onto the volume in files; or the folder is not read, and no other file is opened, none written and nothing
+-- printed.
+abbrev pub LoadsFolder : {A : Type 0} → Result A FolderFault → NewFolder → (paths : List (List ℕ)) → (before now : Around) → Type 0
+LoadsFolder result asked paths before now =
+    ((f : FolderFault) × (result ≡ Err f) × IsUnread f asked.folder.now before.opened now.opened × (now ≡ with_opened before now.opened))
+    ⊎ ((sets : List FolderSet) × (between : List SourceFile) × ReadsFolder asked.folder.now sets before.opened between
+    × TellsLoads result asked.source sets paths (with_opened before between) now)

@@ -1,0 +1,46 @@
+//! Why the data sets of a folder were not put onto a volume.
+
+use dasd_jobs::JobFault;
+use loaded_sets::LoadRefusal;
+use set_forms::LineFault;
+use thiserror::Error;
+
+/// Why an entry of a directory leads nowhere.
+#[derive(Clone, Copy, Debug, PartialEq, Eq, Error)]
+pub enum EntryFault {
+    /// It is another name of a member that its data set has not.
+    #[error("no such member")]
+    NoMember,
+    /// A note of it leads to no block by its number.
+    #[error("a note leads to no block")]
+    NoBlock,
+}
+
+/// Why the data sets of a folder were not put onto a volume in files, or not told to be.
+#[derive(Debug, Drop, Error)]
+pub enum FolderFault {
+    /// The text of the folder has more bytes than it may.
+    #[error("data_sets.txt: more than 16 MiB")]
+    TooLong,
+    /// The line of this number of the text, from 1 on, is wrong.
+    #[error("data_sets.txt: line {0}: {1}")]
+    Line(usize, LineFault),
+    /// The file of this name can't be read from the folder.
+    #[error("{0}: read fault")]
+    NoFile(String),
+    /// An entry of a directory, by the name of its file, leads nowhere.
+    #[error("{0}: {1}")]
+    Entry(String, EntryFault),
+    /// The volume does not get a data set, by the name of its file.
+    #[error("{0}: {1}")]
+    Refused(String, LoadRefusal),
+    /// The files of the volume are not read, there is no memory, or the lines can't be written.
+    #[error(transparent)]
+    Job(JobFault),
+    /// A file that was changed can't be saved: it holds what it held, and so do those behind it.
+    #[error(transparent)]
+    Save(JobFault),
+}
+
+/// No memory.
+pub(crate) const NO_MEMORY: FolderFault = FolderFault::Job(JobFault::OutOfMemory);

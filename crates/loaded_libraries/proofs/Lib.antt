@@ -1,0 +1,4 @@
+mod Fits
+mod Made
+mod Placed
+mod Read
