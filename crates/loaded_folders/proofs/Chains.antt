@@ -37,7 +37,8 @@ module _ {X Y : Type 0} (f : X → Y) (xs : List X) (i : ℕ) (done : List Y) (s
 
 -- files were read, and one more
 pub reads_more : (folder : List ℕ) (names bytes : List (List ℕ)) (n b : List ℕ) (a m z : List SourceFile)
-    → ReadsFiles folder names bytes a m → ReadsFront (path_in folder n) 9560245800 b m z → ReadsFiles folder (names ++ n ∷ []) (bytes ++ b ∷ []) a z
+    → ReadsFiles folder names bytes a m → ReadsFront (path_in folder n) 9560245800 b m z
+    → ReadsFiles folder (names ++ n ∷ []) (bytes ++ b ∷ []) a z
 reads_more folder [] [] n b a m z is read =
     (z, subst (λ (s : List SourceFile). ReadsFront (path_in folder n) 9560245800 b s z) is read, refl)
 reads_more folder [] (x ∷ bytes) n b a m z is read = elim is [ ]
