@@ -66,6 +66,9 @@ _dasd() {
         _dasd_files -d
         return
         ;;
+    load:--member)
+        return
+        ;;
     load:--record-format)
         return
         ;;
@@ -143,7 +146,7 @@ _dasd() {
         _dasd_files
         ;;
     load)
-        if [[ $word == -* ]]; then _dasd_words --from --all --text --with-lengths --record-format --record-length --block-length --key-length --replace --verbose -h --help; return; fi
+        if [[ $word == -* ]]; then _dasd_words --from --all --member --text --with-lengths --record-format --record-length --block-length --key-length --replace --verbose -h --help; return; fi
         _dasd_files
         ;;
     rename)

@@ -87,6 +87,7 @@ complete -c dasd -n '__fish_seen_subcommand_from extract' -s h -l help -d 'Print
 complete -c dasd -n '__fish_seen_subcommand_from extract' -F
 complete -c dasd -n '__fish_seen_subcommand_from load' -l from -r -F -d 'the file whose bytes are the data set\'s blocks, one behind another'
 complete -c dasd -n '__fish_seen_subcommand_from load' -l all -x -a '(__fish_complete_directories)' -d 'puts all data sets of this folder onto the volume, of which its file data_sets.txt tells, as extract --all writes them'
+complete -c dasd -n '__fish_seen_subcommand_from load' -l member -x -d 'puts the file into this library as a new member of this name, and writes the library anew'
 complete -c dasd -n '__fish_seen_subcommand_from load' -l text -d 'a file has lines of text, each of which is a record of F or FB, in EBCDIC with blanks behind it'
 complete -c dasd -n '__fish_seen_subcommand_from load' -l with-lengths -d 'each block stands in the file behind its lengths and its key: a byte 1, the length of the key in a byte, that of the data in two'
 complete -c dasd -n '__fish_seen_subcommand_from load' -l record-format -x -d 'the record format: F, FB, FS, FBS, V, VB, VS, VBS or U'

@@ -134,6 +134,7 @@ COMMANDS = [
     Command("delete", ["delete", "pack.ckd", "PAY.CARDS"]),
     Command("load", ["load", "pack.ckd", "NEW.CARDS", *CARDS]),
     Command("load --replace", ["load", "--replace", "pack.ckd", "NEW.CARDS", *CARDS]),
+    Command("load --member", ["load", "pack.ckd", "SYS1.MACLIB", "--member", "NEW", "--from", "cards"]),
     Command("load --all", ["load", "--all", "in", "--text", "pack.ckd"]),
     Command("relabel", ["relabel", "pack.ckd", "--label", "ABC123", "--owner", "SIXAMBRA"]),
     Command("explain", ["explain", "csw", "00000428", "0E000320"]),

@@ -7,7 +7,8 @@ checks, dumps and comparisons in tools/gate/real_archives.py, findings in tools/
 tools/gate/real_hashes.py, links and files that are written in place in tools/gate/real_in_place.py, new volumes with a label in
 tools/gate/real_labels.py, volumes that are changed in tools/gate/real_changes.py and tools/gate/real_deletes.py, odd lengths in
 tools/gate/real_lengths.py, lists in tools/gate/real_lists.py, data sets that are put onto a volume in tools/gate/real_loads.py, texts and blocks with
-lengths and keys among them in tools/gate/real_load_forms.py, options of checks, dumps and runs in tools/gate/real_options.py, data sets that share
+lengths and keys among them in tools/gate/real_load_forms.py, members in tools/gate/real_members.py, folders in tools/gate/real_folders.py and
+tools/gate/real_folder_loads.py, options of checks, dumps and runs in tools/gate/real_options.py, data sets that share
 cylinders, tracks that have alternates and parts of data sets in tools/gate/real_packs.py, and what is told beside a fault's line in
 tools/gate/real_reasons.py. A row that needs root, a small file system of its own or a device, where these can't be had, is skipped, with a word.
 

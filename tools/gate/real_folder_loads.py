@@ -168,14 +168,15 @@ def files_of_a_folder_that_are_wrong_leave_the_pack(s: Scratch) -> None:
     stays(s, held, BY_HAND, files | {"TEST.CARDS": b"ONE\n" + b"A" * 81}, "TEST.CARDS: line 2 is longer than a record")
     stays(s, held, BY_HAND, files | {"TEST.LIB(OTHER)": b"A\tB\n"}, "TEST.LIB: member 2: line 1 has a character that is no text of EBCDIC")
     stays(s, held, BY_HAND.replace("LATER ALPHA", "LATER BETA"), files, "TEST.LIB(LATER): no such member")
-    stays(s, held, BY_HAND.replace("2/01", "3/01"), files, "TEST.LIB: entry 2 has an address of no block")
-    notes = "at most three notes stand before the user data: a number of a block and a byte, as 5/00, or an address and a byte, as @000102/00"
-    stays(s, held, BY_HAND.replace("2/01", "0/01"), files, f"{TEXT}: line 8: {notes}")
+    stays(s, held, BY_HAND.replace("2/01", "3/01"), files, "TEST.LIB: entry 3 has an address of no block")
+    note = "at most three notes stand before the user data: a number of a block and a byte, as 5/00, or an address and a byte, as @000102/00"
+    stays(s, held, BY_HAND.replace("2/01", "0/01"), files, f"{TEXT}: line 8: {note}")
     stays(s, held, BY_HAND.replace("2/01", "@000102/01"), files, "TEST.LIB(OTHER): a note leads to no block")
-    stays(s, held, BY_HAND.replace("LATER", "A"), files, "TEST.LIB: entry 1: names are not in ascending order")
-    stays(s, held, BY_HAND.replace("LATER", "ALPHA"), files, "TEST.LIB: entry 1: two entries have one name")
+    stays(s, held, BY_HAND.replace("LATER", "A"), files, "TEST.LIB: entry 2: names are not in ascending order")
+    stays(s, held, BY_HAND.replace("LATER", "ALPHA"), files, "TEST.LIB: entry 2: two entries have one name")
     stays(s, held, BY_HAND.replace("directory 2", "directory 0"), files, "TEST.LIB: the directory takes 1 blocks")
-    stays(s, held, BY_HAND.replace("TEST.LIB PO FB 80 80", "TEST.LIB PO VB 80 88"), files, "TEST.LIB: member 1: lines of text are records of one length, F or FB")
+    variable = BY_HAND.replace("TEST.LIB PO FB 80 80", "TEST.LIB PO VB 80 88")
+    stays(s, held, variable, files, "TEST.LIB: member 1: lines of text are records of one length, F or FB")
     stays(s, held, BY_HAND.replace("FB 80 80", "FB 80 100"), files, "TEST.LIB: record length and block length contradict each other")
 
 

@@ -104,6 +104,7 @@ JOBS = {
     "a file that is loaded": Job([*LOAD, "--record-format", "FB", "--record-length", "80", "--block-length", "160"], CARDS),
     "a text that is loaded": Job([*LOAD, "--text", "--record-format", "F", "--block-length", "80"], LINES),
     "blocks with keys that are loaded": Job([*LOAD, "--with-lengths", "--key-length", "3", "--record-format", "U", "--block-length", "5"], KEYED),
+    "a member that is loaded": Job(["load", "old.ckd", "SYS1.MACLIB", "--member", "NEW", "--from", "/dev/stdin", "--text"], LINES),
     "a folder that is loaded": Job(["load", "--all", "in", "--text", "old.ckd"], "", growths_of(FOLDER["data_sets.txt"]), FOLDER),
     "a data set that is renamed": Job(["rename", "old.ckd", "PAY.CARDS", "PAY.OLD"]),
     "a data set that is deleted": Job(["delete", "old.ckd", "PAY.CARDS"]),
