@@ -58,7 +58,8 @@ module _ (l : Library) (bytes : List ℕ) where
 
     pub one_more_entry : (d : PlacedEntry) (e : ReadEntry) → k < length placed
         → entry_read l bytes (k + 1) (get_or placed k d) ≡ Ok (said_by e)
-        → entries_read l bytes 1 placed ≡ after_these (map said_by (entries ++ e ∷ [])) (entries_read l bytes ((k + 1) + 1) (drop (k + 1) placed))
+        → entries_read l bytes 1 placed ≡ after_these (map said_by (entries ++ e ∷ []))
+        (entries_read l bytes ((k + 1) + 1) (drop (k + 1) placed))
     one_more_entry d e inside is =
         let rest = entries_read l bytes ((k + 1) + 1) (drop (k + 1) placed) in
         this_entry d inside ∙ ap (λ r. after_these (map said_by entries) (and_entries r rest)) is
