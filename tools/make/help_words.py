@@ -21,6 +21,7 @@ KINDS = {
     "DIR": FOLDERS,
     "VOLUME": VOLUMES,
     "M": NOTHING,
+    "MEMBER": NOTHING,
     "N": NOTHING,
     "A-B": NOTHING,
     "NUMBER": NOTHING,

@@ -3,7 +3,6 @@ use Rattle.std.proofs.Common.{◌≡◌, ℕ, List, Ok}
 use Rattle.ckd_track.specs.declared.geometries.Geometry.{Geometry}
 use Rattle.changed_volumes.specs.declared.images.VolumeChange.TheVariants.{Delete}
 use Rattle.changed_volumes.specs.Changes.{changed_by}
-use Rattle.loaded_libraries.specs.declared.libraries.LoadedLibrary.{LoadedLibrary}
 use Rattle.added_members.specs.declared.added.AddedMember.{AddedMember}
 use Rattle.added_members.specs.declared.added.OldLibrary.{OldLibrary}
 use Rattle.added_members.specs.declared.fault.AddFault.{AddFault}

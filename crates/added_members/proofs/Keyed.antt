@@ -4,7 +4,7 @@ use Rattle.std.specs.List.{flat_map}
 use Rattle.std.proofs.Math.Seq.{take-append_seam}
 use Rattle.std.proofs.lemmas.List.{take-map}
 use Rattle.std.proofs.lemmas.List.Folds.{flat_map-map}
-use Rattle.record_tracks.specs.Records.{Areas, areas_of, all_areas, end_of_file}
+use Rattle.record_tracks.specs.Records.{areas_of, all_areas, end_of_file}
 use Rattle.record_tracks.specs.ReadBack.{keyed_text}
 use Rattle.record_tracks.specs.declared.records.NewRecord.{NewRecord}
 use Rattle.record_tracks.proofs.Listed.{length-all}

@@ -1,12 +1,10 @@
 -- A library with a member that was put into it.
-use Rattle.std.specs.Prelude.{◌≡◌, ℕ, Bool, true, false, List, [], ◌∷◌, ◌++◌, map, length, Result, Ok, Err}
+use Rattle.std.specs.Prelude.{◌≡◌, ℕ, Bool, true, false, List, [], ◌∷◌, ◌++◌, map, length, Ok, Err}
 use Rattle.std.specs.Global.{Vec}
 use Rattle.ckd_track.specs.declared.geometries.Geometry.{Geometry}
-use Rattle.volume_changes.specs.declared.refusal.Refusal.{Refusal}
 use Rattle.changed_volumes.specs.declared.images.VolumeChange.TheVariants.{Delete}
 use Rattle.changed_volumes.specs.Changes.{IsHindered, changed_by}
 use Rattle.loaded_sets.specs.declared.contents.SourceForm.TheVariants.{WithLengths}
-use Rattle.loaded_sets.specs.declared.fault.LoadRefusal.{LoadRefusal}
 use Rattle.loaded_libraries.specs.declared.libraries.LoadedLibrary.{LoadedLibrary}
 use Rattle.loaded_libraries.specs.Loaded.{Loaded, Refuses as RefusesLibrary}
 use Rattle.added_members.specs.declared.added.AddedMember.{AddedMember}

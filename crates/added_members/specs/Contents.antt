@@ -1,7 +1,6 @@
 -- What the file of a member has for a library.
-use Rattle.std.specs.Prelude.{◌≡◌, ℕ, List, flat_map, Result, Ok, Err}
+use Rattle.std.specs.Prelude.{ℕ, List, flat_map, Result, Ok, Err}
 use Rattle.ckd_track.specs.declared.model.DriveModel.{DriveModel}
-use Rattle.data_set_blocks.specs.declared.blocks.Cut.{Cut}
 use Rattle.data_set_blocks.specs.Blocks.{block_areas}
 use Rattle.record_tracks.specs.Records.{Areas}
 use Rattle.record_tracks.specs.ReadBack.{keyed_text}

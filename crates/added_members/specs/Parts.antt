@@ -7,10 +7,8 @@ use Rattle.dasd_volumes.specs.Reading.{KnownVolume}
 use Rattle.volume_contents.specs.declared.blocks.Block.{Block}
 use Rattle.volume_contents.specs.declared.sets.DataSet.{DataSet}
 use Rattle.volume_contents.specs.Sets.{DataSetOf, has_name}
-use Rattle.changed_volumes.specs.Changes.{IsHindered}
 use Rattle.added_members.specs.declared.fault.AddFault.{AddFault}
 use Rattle.added_members.specs.declared.fault.AddFault.TheVariants as fault
-use Rattle.added_members.specs.declared.fault.AddRefusal.{AddRefusal}
 use Rattle.added_members.specs.declared.fault.AddRefusal.TheVariants as refusal
 use Rattle.added_members.specs.Faults.{IsHinderedBy}
 use Rattle.added_members.specs.Libraries.{library_block, directory_blocks, IsNotWhole}

@@ -41,45 +41,46 @@ module _ (l : Library) (bytes : List ℕ) where
   no_entries number = refl
 
   pub none_read : (placed : List PlacedEntry) (entries : List ReadEntry) → entries ≡ []
-      → entries_read l bytes 0 placed ≡ after_these (map said_by entries) (entries_read l bytes 0 (drop 0 placed))
+      → entries_read l bytes 1 placed ≡ after_these (map said_by entries) (entries_read l bytes (0 + 1) (drop 0 placed))
   none_read placed entries are =
-      none_before (entries_read l bytes 0 placed)
-      ∙ ap (λ (es : List ReadEntry). after_these (map said_by es) (entries_read l bytes 0 placed)) (sym are)
+      none_before (entries_read l bytes 1 placed)
+      ∙ ap (λ (es : List ReadEntry). after_these (map said_by es) (entries_read l bytes 1 placed)) (sym are)
 
   module _ (placed : List PlacedEntry) (k : ℕ) (entries : List ReadEntry)
-      (so_far : entries_read l bytes 0 placed ≡ after_these (map said_by entries) (entries_read l bytes k (drop k placed))) where
-    this_entry : (d : PlacedEntry) → k < length placed → entries_read l bytes 0 placed
-        ≡ after_these (map said_by entries) (and_entries (entry_read l bytes k (get_or placed k d))
-        (entries_read l bytes (k + 1) (drop (k + 1) placed)))
+      (so_far : entries_read l bytes 1 placed ≡ after_these (map said_by entries) (entries_read l bytes (k + 1) (drop k placed))) where
+    this_entry : (d : PlacedEntry) → k < length placed → entries_read l bytes 1 placed
+        ≡ after_these (map said_by entries) (and_entries (entry_read l bytes (k + 1) (get_or placed k d))
+        (entries_read l bytes ((k + 1) + 1) (drop (k + 1) placed)))
     this_entry d inside =
         so_far
-        ∙ ap (λ (ps : List PlacedEntry). after_these (map said_by entries) (entries_read l bytes k ps)) (drop_more placed k d inside)
-        ∙ ap (after_these (map said_by entries)) (more_entries k (get_or placed k d) (drop (k + 1) placed))
+        ∙ ap (λ (ps : List PlacedEntry). after_these (map said_by entries) (entries_read l bytes (k + 1) ps)) (drop_more placed k d inside)
+        ∙ ap (after_these (map said_by entries)) (more_entries (k + 1) (get_or placed k d) (drop (k + 1) placed))
 
     pub one_more_entry : (d : PlacedEntry) (e : ReadEntry) → k < length placed
-        → entry_read l bytes k (get_or placed k d) ≡ Ok (said_by e)
-        → entries_read l bytes 0 placed ≡ after_these (map said_by (entries ++ e ∷ [])) (entries_read l bytes (k + 1) (drop (k + 1) placed))
+        → entry_read l bytes (k + 1) (get_or placed k d) ≡ Ok (said_by e)
+        → entries_read l bytes 1 placed ≡ after_these (map said_by (entries ++ e ∷ []))
+        (entries_read l bytes ((k + 1) + 1) (drop (k + 1) placed))
     one_more_entry d e inside is =
-        let rest = entries_read l bytes (k + 1) (drop (k + 1) placed) in
+        let rest = entries_read l bytes ((k + 1) + 1) (drop (k + 1) placed) in
         this_entry d inside ∙ ap (λ r. after_these (map said_by entries) (and_entries r rest)) is
         ∙ one_before (map said_by entries) (said_by e) rest
         ∙ ap (λ (es : List EntryRead). after_these es rest) (sym (map-append said_by entries (e ∷ [])))
 
     one_fault : (d : PlacedEntry) (f : LibraryReadFault) → k < length placed
-        → entry_read l bytes k (get_or placed k d) ≡ Err f
-        → entries_read l bytes 0 placed ≡ Err f
+        → entry_read l bytes (k + 1) (get_or placed k d) ≡ Err f
+        → entries_read l bytes 1 placed ≡ Err f
     one_fault d f inside is =
         this_entry d inside
-        ∙ ap (λ r. after_these (map said_by entries) (and_entries r (entries_read l bytes (k + 1) (drop (k + 1) placed)))) is
+        ∙ ap (λ r. after_these (map said_by entries) (and_entries r (entries_read l bytes ((k + 1) + 1) (drop (k + 1) placed)))) is
 
-    pub all_entries : length placed ≤ k → entries_read l bytes 0 placed ≡ Ok (map said_by entries)
+    pub all_entries : length placed ≤ k → entries_read l bytes 1 placed ≡ Ok (map said_by entries)
     all_entries passed =
         so_far
-        ∙ ap (λ (ps : List PlacedEntry). after_these (map said_by entries) (entries_read l bytes k ps)) (drop_all k placed passed)
-        ∙ ap (after_these (map said_by entries)) (no_entries k) ∙ ap Ok (append-nil (map said_by entries))
+        ∙ ap (λ (ps : List PlacedEntry). after_these (map said_by entries) (entries_read l bytes (k + 1) ps)) (drop_all k placed passed)
+        ∙ ap (after_these (map said_by entries)) (no_entries (k + 1)) ∙ ap Ok (append-nil (map said_by entries))
 
     pub that_fault : (f : LibraryReadFault) (d : PlacedEntry) → k < length placed
-        → GivesEntry (entry_read l bytes k (get_or placed k d)) (Err f) → IsFault l bytes placed f
+        → GivesEntry (entry_read l bytes (k + 1) (get_or placed k d)) (Err f) → IsFault l bytes placed f
     that_fault (Volume fault) d inside is = tt
     that_fault Directory d inside is = is
     that_fault (Member number) d inside is = one_fault d (Member number) inside is

@@ -30,7 +30,7 @@ numbers_in entries = map (λ (e : ReadEntry). Some e.member) entries
 -- What is read of a library whose directory has these bytes and these entries: each entry in order, the number of its member, and each
 -- member once, up to its end of file.
 pub record IsContents (l : Library) (bytes : List ℕ) (placed : List PlacedEntry) (c : LibraryContents) : Type 0 where
-  pub entries : entries_read l bytes 0 placed ≡ Ok (map said_by c.entries.items)
+  pub entries : entries_read l bytes 1 placed ≡ Ok (map said_by c.entries.items)
   pub numbers : numbers_in c.entries.items ≡ map (member_of placed) placed
   pub members : buffers c.members.items ≡ map (blocks_at l) (starts_of placed)
 
@@ -38,9 +38,9 @@ pub record IsContents (l : Library) (bytes : List ℕ) (placed : List PlacedEntr
 abbrev pub IsFault : Library → (bytes : List ℕ) → List PlacedEntry → LibraryReadFault → Type 0
 IsFault l bytes placed (Volume fault) = Unit {0}
 IsFault l bytes placed Directory = ⊥
-IsFault l bytes placed (Member number) = entries_read l bytes 0 placed ≡ Err (Member number)
-IsFault l bytes placed (ShortUserData number) = entries_read l bytes 0 placed ≡ Err (ShortUserData number)
-IsFault l bytes placed (NoBlock number) = entries_read l bytes 0 placed ≡ Err (NoBlock number)
+IsFault l bytes placed (Member number) = entries_read l bytes 1 placed ≡ Err (Member number)
+IsFault l bytes placed (ShortUserData number) = entries_read l bytes 1 placed ≡ Err (ShortUserData number)
+IsFault l bytes placed (NoBlock number) = entries_read l bytes 1 placed ≡ Err (NoBlock number)
 
 -- its contents, or that fault
 abbrev pub GivesContents : Library → (bytes : List ℕ) → List PlacedEntry → Result LibraryContents LibraryReadFault → Type 0

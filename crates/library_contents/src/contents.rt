@@ -36,7 +36,7 @@ pub struct ReadNote {
     pub count: u8,
 }
 
-/// Why a library is not read. Entries have their numbers in the directory, from 0 on.
+/// Why a library is not read. Entries have their numbers in the directory, from 1 on.
 #[derive(Clone, Copy, Debug, PartialEq, Eq, Error)]
 pub enum LibraryReadFault {
     /// The volume can't be read, or memory was refused.

@@ -81,7 +81,7 @@ fn read_entries<V: SlotReader>(
     for number in 0..placed.len() {
         let numbered = Numbered {
             placed: placed[number],
-            number,
+            number: number + 1,
         };
         let entry = match read_entry(alloc, volume, &mut members, directory, numbered) {
             Ok(entry) => entry,

@@ -55,8 +55,8 @@ pub record IsPartitioned (source : SourceForm) (s : FolderSet) (blocks : ℕ) (l
   pub members : map (λ m. m.now) l.members.now ≡ s.files
 
 -- a volume gets a data set of a folder: a library, where its line says how many blocks its directory has
-abbrev pub GetsBy : (directory : Option ℕ) → SourceForm → FolderSet → Geometry → (before : List (List ℕ)) → (tracks : ℕ) → (now : List (List ℕ))
-    → Type 0
+abbrev pub GetsBy : (directory : Option ℕ) → SourceForm → FolderSet → Geometry → (before : List (List ℕ)) → (tracks : ℕ)
+    → (now : List (List ℕ)) → Type 0
 GetsBy None source s g before tracks now = (l : LoadedSet) × IsSequential source s l × set.Loaded l g before tracks now
 GetsBy (Some blocks) source s g before tracks now =
     (l : LoadedLibrary) × IsPartitioned source s blocks l × library.Loaded l g before tracks now
@@ -110,8 +110,8 @@ abbrev pub IsStopped : FolderFault → SourceForm → List FolderSet → Geometr
 IsStopped (fault.Job f) source sets g slots = IsHindered f
 IsStopped f source sets g slots = StopsAt f source sets g slots
 
--- The volume in the files at these paths was read whole, got the data sets, and the files of it that changed were written; or those before one
--- of them, at which it stopped. These are the lines of the data sets.
+-- The volume in the files at these paths was read whole, got the data sets, and the files of it that changed were written; or those
+-- before one of them, at which it stopped. These are the lines of the data sets.
 pub record SavesLoaded {A : Type 0} (result : Result A JobFault) (source : SourceForm) (sets : List FolderSet) (lines : List ℕ)
     (paths : List (List ℕ)) (opened_before opened : List SourceFile) (before now : List Replaced) : Type 0 where
   pub image : ImageState
@@ -122,15 +122,15 @@ pub record SavesLoaded {A : Type 0} (result : Result A JobFault) (source : Sourc
   pub saves : WritesBack result paths changed before now
 
 -- the volume in the files does not get the data sets, for this reason
-pub record RefusesSets (f : FolderFault) (source : SourceForm) (sets : List FolderSet) (paths : List (List ℕ)) (before now : List SourceFile)
-    : Type 0 where
+pub record RefusesSets (f : FolderFault) (source : SourceForm) (sets : List FolderSet) (paths : List (List ℕ))
+    (before now : List SourceFile) : Type 0 where
   pub image : ImageState
   pub reads : ReadsImage paths image before now
   pub refused : StopsAt f source sets image.geometry image.slots
 
 -- Data sets are put onto the volume in files, which are saved, or in part; or no file is written.
-abbrev pub LoadsFiles : Result (List ℕ) FolderFault → SourceForm → List FolderSet → (paths : List (List ℕ)) → (opened_before opened : List SourceFile)
-    → (before now : List Replaced) → Type 0
+abbrev pub LoadsFiles : Result (List ℕ) FolderFault → SourceForm → List FolderSet → (paths : List (List ℕ))
+    → (opened_before opened : List SourceFile) → (before now : List Replaced) → Type 0
 LoadsFiles (Ok lines) source sets paths opened_before opened before now =
     SavesLoaded {A = Unit {0}} (Ok tt) source sets lines paths opened_before opened before now
 LoadsFiles (Err (fault.Save f)) source sets paths opened_before opened before now =
@@ -138,9 +138,10 @@ LoadsFiles (Err (fault.Save f)) source sets paths opened_before opened before no
 LoadsFiles (Err (fault.Job f)) source sets paths opened_before opened before now = Hinders f paths opened_before opened × (now ≡ before)
 LoadsFiles (Err f) source sets paths opened_before opened before now = RefusesSets f source sets paths opened_before opened × (now ≡ before)
 
--- The same, and the lines are printed; with a write fault it may be only their beginning, and a write or a flush has failed. With every other
--- fault nothing is printed.
-abbrev pub TellsLoads : {A : Type 0} → Result A FolderFault → SourceForm → List FolderSet → (paths : List (List ℕ)) → (before now : Around) → Type 0
+-- The same, and the lines are printed; with a write fault it may be only their beginning, and a write or a flush has failed. With every
+-- other fault nothing is printed.
+abbrev pub TellsLoads : {A : Type 0} → Result A FolderFault → SourceForm → List FolderSet → (paths : List (List ℕ))
+    → (before now : Around) → Type 0
 TellsLoads (Ok _) source sets paths before now =
     (lines : List ℕ) × LoadsFiles (Ok lines) source sets paths before.opened now.opened before.written now.written
     × Takes before.printed now.printed lines × NoneFailed before.printed now.printed
@@ -154,8 +155,8 @@ TellsLoads (Err f) source sets paths before now =
 abbrev pub with_opened : Around → List SourceFile → Around
 with_opened a opened = record a { opened = opened }
 
--- The data sets of a folder are put onto the volume in files; or the folder is not read, and no other file is opened, none written and nothing
--- printed.
+-- The data sets of a folder are put onto the volume in files; or the folder is not read, and no other file is opened, none written and
+-- nothing printed.
 abbrev pub LoadsFolder : {A : Type 0} → Result A FolderFault → NewFolder → (paths : List (List ℕ)) → (before now : Around) → Type 0
 LoadsFolder result asked paths before now =
     ((f : FolderFault) × (result ≡ Err f) × IsUnread f asked.folder.now before.opened now.opened × (now ≡ with_opened before now.opened))

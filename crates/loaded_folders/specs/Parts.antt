@@ -96,7 +96,8 @@ pub record ReadsFirst (folder : List ℕ) (names others : List (List ℕ)) (befo
 abbrev pub StopsReading : FolderFault → (folder : List ℕ) → (names : List (List ℕ)) → (before now : List SourceFile) → Type 0
 StopsReading (fault.NoFile told) folder names before now =
     (others : List (List ℕ)) × ReadsFirst folder names (string_bytes told ∷ others) before now
-StopsReading (fault.Job f) folder names before now = (f ≡ OutOfMemory) × (others : List (List ℕ)) × ReadsFirst folder names others before now
+StopsReading (fault.Job f) folder names before now =
+    (f ≡ OutOfMemory) × (others : List (List ℕ)) × ReadsFirst folder names others before now
 StopsReading f folder names before now = ⊥
 
 -- the fault of a data set is told by the name of its file, or there is no memory for that
@@ -129,6 +130,7 @@ bytes_in (Ok lines) = Ok (string_bytes lines)
 bytes_in (Err f) = Err f
 
 -- there was no memory, and nothing was done; or the data sets of a folder are put onto the volume in files
-abbrev pub TellsRead : {A : Type 0} → Result A FolderFault → SourceForm → List FolderSet → (paths : List (List ℕ)) → (before now : Around) → Type 0
+abbrev pub TellsRead : {A : Type 0} → Result A FolderFault → SourceForm → List FolderSet → (paths : List (List ℕ))
+    → (before now : Around) → Type 0
 TellsRead result source sets paths before now =
     ((result ≡ Err (fault.Job OutOfMemory)) × (now ≡ before)) ⊎ TellsLoads result source sets paths before now

@@ -30,7 +30,8 @@ pub record SaysSets (text : List ℕ) (sets : List SetLines) : Type 0 where
   pub parsed : parsed text ≡ Ok forms
   pub are : sets_of forms ≡ sets
 
--- Files of these names were read from a folder, one behind another: the first bytes of each, which are all where a volume has room for them.
+-- Files of these names were read from a folder, one behind another: the first bytes of each, which are all where a volume has room for
+-- them.
 abbrev pub ReadsFiles : (folder : List ℕ) → (names bytes : List (List ℕ)) → (before now : List SourceFile) → Type 0
 ReadsFiles folder [] [] before now = now ≡ before
 ReadsFiles folder [] (b ∷ bytes) before now = ⊥
@@ -59,8 +60,8 @@ ReadsSome folder before now =
     (now ≡ before) ⊎ (((text : List ℕ) × ReadsText folder text before now)
     ⊎ ((sets : List SetLines) × (others : List (List ℕ)) × (bytes : List (List ℕ)) × ReadsBefore folder sets others bytes before now))
 
--- Why a folder is not read, and what was read of it until then: its text is too long, or a line of it is wrong; the text can't be read, or the
--- next of its files; or there is no memory.
+-- Why a folder is not read, and what was read of it until then: its text is too long, or a line of it is wrong; the text can't be read, or
+-- the next of its files; or there is no memory.
 abbrev pub IsUnread : FolderFault → (folder : List ℕ) → (before now : List SourceFile) → Type 0
 IsUnread fault.TooLong folder before now = (text : List ℕ) × ReadsText folder text before now × (16777216 < length text)
 IsUnread (fault.Line number f) folder before now =

@@ -1,6 +1,5 @@
-use Rattle.std.proofs.Common.{◌≡◌, subst, ℕ, List, IfOk, IfErr}
+use Rattle.std.proofs.Common.{subst, ℕ, List, IfOk, IfErr}
 use Rattle.ckd_track.specs.declared.geometries.Geometry.{Geometry}
-use Rattle.added_members.specs.declared.fault.AddFault.{AddFault}
 use Rattle.added_members.specs.Added.{Added, IsNotAdded}
 use Rattle.added_members.specs.Parts.{MakesBlocks, IsNotMade, PutsLibrary, IsNotPut}
 use Rattle.added_members.proofs.Found.{if_ok, if_err}

@@ -1,4 +1,4 @@
-use Rattle.std.proofs.Common.{◌≡◌, sym, subst, IfErr}
+use Rattle.std.proofs.Common.{subst, IfErr}
 use Rattle.ckd_image.specs.Image.{ImageState}
 use Rattle.added_members.specs.Parts.{IsNotReadIn}
 use Rattle.added_members.proofs.old.read_copy.Goals as goal

@@ -1,4 +1,4 @@
-use Rattle.std.proofs.Common.{◌∙◌, ap, map, get_or, [], false, Err, rules, tests}
+use Rattle.std.proofs.Common.{◌∙◌, ◌+◌, ap, map, get_or, [], false, Err, rules, tests}
 use Rattle.std.proofs.lemmas.List.{take_all}
 use Rattle.data_sets.specs.declared.directories.DirectoryEntry.{DirectoryEntry}
 use Rattle.library_contents.specs.Members.{library_on, blocks_at}
@@ -12,7 +12,7 @@ returns-in-Err-clause-library g c = λ slots known.
     record { name = []; address = record { track = 0; number = 0 }; is_alias = false; notes = 0; user_bytes = 0 } in
     let placed = get_or c.args.placed.now c.loop-number.number (record { entry = nobody; end = 0 }) in
     let entry = of_same_volume c.args.directory.extents.now (g.V.SlotReader.volume c.args.volume.now)
-    (g.V.SlotReader.volume c.loop-number.volume) c.args.directory.bytes.now (record { placed = placed; number = c.loop-number.number })
+    (g.V.SlotReader.volume c.loop-number.volume) c.args.directory.bytes.now (record { placed = placed; number = c.loop-number.number + 1 })
     (Err c.in-Err.fault) c.loop-number.invariant.volume c.in-Err.ensures.entry in
     that_fault _ _ _ _ _ (c.loop-number.invariant.entries slots known) c.in-Err.fault _ c.loop-number-test.true (entry slots known)
 

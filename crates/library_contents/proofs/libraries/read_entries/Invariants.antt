@@ -1,4 +1,4 @@
-use Rattle.std.proofs.Common.{◌≡◌, List, ℕ, Some, map, take, drop}
+use Rattle.std.proofs.Common.{◌≡◌, ◌+◌, List, ℕ, Some, map, take, drop}
 use Rattle.library_contents.specs.Members.{library_on, starts_from, starts_of, AreRead}
 use Rattle.library_contents.specs.Entries.{said_by, entries_read}
 use Rattle.library_contents.specs.Libraries.{numbers_in, member_of}
@@ -12,9 +12,9 @@ invariant-loop-number g l =
     let extents = l.directory.extents.now in
     let bytes = l.directory.bytes.now in record {
       entries : (slots : List (List ℕ)) → before.slots ≡ Some slots
-          → entries_read (library_on extents before.geometry slots) bytes 0 l.placed
+          → entries_read (library_on extents before.geometry slots) bytes 1 l.placed
           ≡ after_these (map said_by l.entries.items)
-          (entries_read (library_on extents before.geometry slots) bytes l.number (drop l.number l.placed));
+          (entries_read (library_on extents before.geometry slots) bytes (l.number + 1) (drop l.number l.placed));
       starts : starts_from l.members.starts.items (drop l.number l.placed) ≡ starts_of l.placed;
       numbers : numbers_in l.entries.items ≡ map (member_of l.placed) (take l.number l.placed);
       members : AreRead extents before l.members;
