@@ -73,6 +73,15 @@ def other_members_keep_their_hashes(s: Scratch) -> None:
 
 
 @row
+def names_of_members_stand_in_the_order_of_ebcdic(s: Scratch) -> None:
+    put_library(s)
+    for name in ("Z", "A9", "AB", "@X"):
+        same(add(s, name, "--text"), (0, f"loaded LIB({name}) 1 track\n", ""))
+    listed = [line.split()[-1] for line in s.dasd("extract", "new.ckd", "LIB", "--list")[1].splitlines()[1:]]
+    same(listed, ["@X", "AB", "ALPHA", "A9", "GAMMA", "OTHER", "Z"])
+
+
+@row
 def member_that_is_refused_leaves_the_pack(s: Scratch) -> None:
     held = put_library(s)
     for name, library, text in [
@@ -90,6 +99,7 @@ def member_that_is_refused_leaves_the_pack(s: Scratch) -> None:
         same(add(s, name, "--text", library=library), fault(text), f"{library}({name})")
         is_held(s.path("new.ckd"), held)
     same(add(s, "BETA"), fault("the file ends within a record"))
+    same(add(s, "BETA", "--with-lengths"), fault("block 1 does not begin with a byte 1"))
     s.put("new", b"A\n" + b"B" * 81)
     same(add(s, "BETA", "--text"), fault("line 2 is longer than a record"))
     s.put("new", with_lengths([(b"", bytes(240))]))
