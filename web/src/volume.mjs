@@ -81,6 +81,8 @@ import { tarOf } from './tar.mjs';
  * @type {Record<number, number>}
  */
 const CAPACITY = { 2311: 3625, 2314: 7294 };
+/** The file that `extract --all` writes beside those of data sets and members: what labels and directories say of them. */
+const FORMS = 'data_sets.txt';
 /** So many lines are found at most. */
 const MOST_HITS = 500;
 
@@ -288,7 +290,9 @@ export class Volumes {
   search(files, wanted) {
     /** @type {Hit[]} */
     const hits = [], capital = wanted.toUpperCase();
-    for (const [name, bytes] of this.#unload(files, true).taken) {
+    const { taken } = this.#unload(files, true);
+    taken.delete(FORMS);
+    for (const [name, bytes] of taken) {
       const lines = textOf(bytes).split('\n');
       for (let line = 0; line < lines.length && hits.length < MOST_HITS; line++) {
         if (lines[line].toUpperCase().includes(capital)) hits.push({ name, line: line + 1, text: lines[line] });

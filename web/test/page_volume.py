@@ -199,6 +199,10 @@ def check_contents(browser: Browser, native: Native, checks: Checks) -> None:
         found and "PAYROLL.MASTER, line " in browser.text("#contents .hit button"),
         browser.texts("#contents .hit")[:3],
     )
+    browser.find("#find").clear()
+    browser.find("#find").send_keys("data set PAYROLL.MASTER")
+    none = browser.until("document.querySelector('#contents p')?.textContent.startsWith('No line has')")
+    checks.that("and not in what is said of them", none, browser.texts("#contents .hit")[:3])
     browser.click("#find-text")
     browser.find("#find").clear()
     browser.ask("(page.view.contents.field.value = '', page.view.contents.draw())")
