@@ -200,7 +200,7 @@ def check_contents(browser: Browser, native: Native, checks: Checks) -> None:
         browser.texts("#contents .hit")[:3],
     )
     browser.find("#find").clear()
-    browser.find("#find").send_keys("data set PAYROLL.MASTER")
+    browser.find("#find").send_keys("data set PAYROLL.MASTER\n")  # a text is looked for where it is sent
     none = browser.until("document.querySelector('#contents p')?.textContent.startsWith('No line has')")
     checks.that("and not in what is said of them", none, browser.texts("#contents .hit")[:3])
     browser.click("#find-text")
