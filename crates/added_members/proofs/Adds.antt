@@ -5,16 +5,16 @@ use Rattle.changed_volumes.specs.declared.images.VolumeChange.TheVariants.{Delet
 use Rattle.changed_volumes.specs.Changes.{changed_by}
 use Rattle.added_members.specs.declared.added.AddedMember.{AddedMember}
 use Rattle.added_members.specs.declared.added.OldLibrary.{OldLibrary}
-use Rattle.added_members.specs.declared.fault.AddFault.{AddFault}
-use Rattle.added_members.specs.declared.fault.AddFault.TheVariants as fault
-use Rattle.added_members.specs.declared.fault.AddRefusal.TheVariants as refusal
+use Rattle.added_members.specs.declared.fault.NewMemberFault.{NewMemberFault}
+use Rattle.added_members.specs.declared.fault.NewMemberFault.TheVariants as fault
+use Rattle.added_members.specs.declared.fault.NewMemberRefusal.TheVariants as refusal
 use Rattle.added_members.specs.Libraries.{IsOld, IsNotRead}
 use Rattle.added_members.specs.Added.{HasNew, Added, IsNotAdded}
 use Rattle.added_members.specs.Parts.{MakesBlocks, IsNotMade, IsNotDeleted, PutsLibrary, IsNotPut}
 
 module _ (added : AddedMember) (g : Geometry) (slots : List (List ℕ)) where
   -- its library is not there, or not whole
-  pub not_read : (f : AddFault) → IsNotRead f added.library g slots → IsNotAdded f added g slots
+  pub not_read : (f : NewMemberFault) → IsNotRead f added.library g slots → IsNotAdded f added g slots
   not_read (fault.Refused refusal.NoDataSet) why = why
   not_read (fault.Refused refusal.NotPartitioned) why = why
   not_read (fault.Refused refusal.NoName) why = why
@@ -30,7 +30,7 @@ module _ (added : AddedMember) (g : Geometry) (slots : List (List ℕ)) where
 
   module _ (old : OldLibrary) (is : IsOld added.library g slots old) where
     -- the file has no blocks for it
-    pub not_made : (f : AddFault) → IsNotMade f added g.model old → IsNotAdded f added g slots
+    pub not_made : (f : NewMemberFault) → IsNotMade f added g.model old → IsNotAdded f added g slots
     not_made (fault.Refused refusal.NameTaken) why = (old, is, why)
     not_made (fault.Refused (refusal.Content r)) why = (old, is, why.0, why.1)
     not_made (fault.Refused refusal.NoDataSet) why = elim why [ ]
@@ -49,7 +49,7 @@ module _ (added : AddedMember) (g : Geometry) (slots : List (List ℕ)) where
       new = record { library = is; free = made.0; made = made.1 }
 
       -- its data set is not deleted
-      pub not_deleted : (f : AddFault) → IsNotDeleted f added.library g slots → IsNotAdded f added g slots
+      pub not_deleted : (f : NewMemberFault) → IsNotDeleted f added.library g slots → IsNotAdded f added g slots
       not_deleted (fault.Refused (refusal.Deletion r)) why = (old, blocks, new, why)
       not_deleted (fault.Refused refusal.NameTaken) why = elim why [ ]
       not_deleted (fault.Refused (refusal.Content r)) why = elim why [ ]
@@ -74,7 +74,7 @@ module _ (added : AddedMember) (g : Geometry) (slots : List (List ℕ)) where
         }
 
         -- it is not put onto the volume
-        pub not_put : (f : AddFault) → IsNotPut f added old blocks g between → IsNotAdded f added g slots
+        pub not_put : (f : NewMemberFault) → IsNotPut f added old blocks g between → IsNotAdded f added g slots
         not_put (fault.Refused (refusal.Load r)) (l, of, why) =
             (between, l, record { library = old; blocks = blocks; new = new; deleted = deleted; is = of }, why)
         not_put (fault.Refused (refusal.Deletion r)) why = elim why [ ]

@@ -13,9 +13,9 @@ use Rattle.placed_sets.specs.declared.fault.PlaceFault.TheVariants as place
 use Rattle.placed_sets.specs.Volumes.{Labelled, SaysOf, IsUnfit, all_findings}
 use Rattle.loaded_sets.proofs.Fits.{fit}
 use Rattle.added_members.specs.declared.added.OldLibrary.{OldLibrary}
-use Rattle.added_members.specs.declared.fault.AddFault.{AddFault}
-use Rattle.added_members.specs.declared.fault.AddFault.TheVariants as fault
-use Rattle.added_members.specs.declared.fault.AddRefusal.TheVariants as refusal
+use Rattle.added_members.specs.declared.fault.NewMemberFault.{NewMemberFault}
+use Rattle.added_members.specs.declared.fault.NewMemberFault.TheVariants as fault
+use Rattle.added_members.specs.declared.fault.NewMemberRefusal.TheVariants as refusal
 use Rattle.added_members.specs.Faults.{placing_fault}
 use Rattle.added_members.specs.Libraries.{found_library, library_block, library_unless_unfit, label_in, IsReadOf, IsOld, IsNotRead}
 use Rattle.added_members.specs.Parts.{IsNoLibrary, IsLibrarySet, IsNotReadIn}
@@ -42,7 +42,7 @@ module _ (g : Geometry) (slots : List (List ℕ)) (v : Labelled) (says : SaysOf 
         ap (library_unless_unfit name (contents_of g slots).blocks) (fit g (contents_of g slots) v says nothing)
         ∙ ap (λ (b : List Block). library_block b (position (has_name name) b)) says.blocks
 
-    pub no_library : (f : AddFault) → IsNoLibrary f v.blocks name → IsNotRead f name g slots
+    pub no_library : (f : NewMemberFault) → IsNoLibrary f v.blocks name → IsNotRead f name g slots
     no_library (fault.Refused refusal.NoDataSet) why = found ∙ why
     no_library (fault.Refused refusal.NotPartitioned) why = found ∙ why
     no_library (fault.Refused refusal.NoName) why = elim why [ ]
@@ -69,7 +69,7 @@ module _ (g : Geometry) (slots : List (List ℕ)) (v : Labelled) (says : SaysOf 
             (subst (λ (d : DataSetBlock). IsReadOf d set.extents.items g slots old) of.block read);
       }
 
-      unread : (f : AddFault) → IsNotReadIn f set.extents.items g slots → IsNotRead f name g slots
+      unread : (f : NewMemberFault) → IsNotReadIn f set.extents.items g slots → IsNotRead f name g slots
       unread (fault.Refused (refusal.Read f)) why = record {
         block = b;
         found = found ∙ is;
@@ -91,6 +91,6 @@ module _ (g : Geometry) (slots : List (List ℕ)) (v : Labelled) (says : SaysOf 
         → IsReadOf set.block set.extents.items g slots old → IsOld name g slots old
     old_read set (b, is, of) old read = read_so set b is of old read
 
-    pub old_unread : (set : DataSet) → IsLibrarySet v.blocks name set → (f : AddFault)
+    pub old_unread : (set : DataSet) → IsLibrarySet v.blocks name set → (f : NewMemberFault)
         → IsNotReadIn f set.extents.items g slots → IsNotRead f name g slots
     old_unread set (b, is, of) f why = unread set b is of f why

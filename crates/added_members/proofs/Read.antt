@@ -9,8 +9,8 @@ use Rattle.dasd_jobs.specs.Written.{Replaced}
 use Rattle.dasd_jobs.specs.declared.faults.JobFault.{JobFault}
 use Rattle.changed_volumes.specs.Changes.{IsSameImage}
 use Rattle.changed_volumes.specs.Files.{Around, ReadsImage}
-use Rattle.added_members.specs.declared.fault.AddFault.{AddFault}
-use Rattle.added_members.specs.declared.fault.AddFault.TheVariants as fault
+use Rattle.added_members.specs.declared.fault.NewMemberFault.{NewMemberFault}
+use Rattle.added_members.specs.declared.fault.NewMemberFault.TheVariants as fault
 use Rattle.added_members.specs.declared.added.AddedMember.{AddedMember}
 use Rattle.added_members.specs.Faults.{written_line}
 use Rattle.added_members.specs.Added.{Added, IsNotAdded}
@@ -40,7 +40,7 @@ module _ (added : AddedMember) (tracks : ℕ) (paths : List (List ℕ)) (i chang
   }
 
 -- an image was read, and no file is written
-pub not_added : (f : AddFault) (added : AddedMember) (paths : List (List ℕ)) (i : ImageState) (opened_before opened : List SourceFile)
+pub not_added : (f : NewMemberFault) (added : AddedMember) (paths : List (List ℕ)) (i : ImageState) (opened_before opened : List SourceFile)
     (before now : List Replaced) → IsNotAdded f added i.geometry i.slots → ReadsImage paths i opened_before opened → now ≡ before
     → AddsFiles (Err f) added paths opened_before opened before now
 not_added (fault.Refused r) added paths i ob o b n why reads same = (record { image = i; reads = reads; refused = why }, same)

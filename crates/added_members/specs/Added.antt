@@ -9,10 +9,10 @@ use Rattle.loaded_libraries.specs.declared.libraries.LoadedLibrary.{LoadedLibrar
 use Rattle.loaded_libraries.specs.Loaded.{Loaded, Refuses as RefusesLibrary}
 use Rattle.added_members.specs.declared.added.AddedMember.{AddedMember}
 use Rattle.added_members.specs.declared.added.OldLibrary.{OldLibrary}
-use Rattle.added_members.specs.declared.fault.AddFault.{AddFault}
-use Rattle.added_members.specs.declared.fault.AddFault.TheVariants as fault
-use Rattle.added_members.specs.declared.fault.AddRefusal.{AddRefusal}
-use Rattle.added_members.specs.declared.fault.AddRefusal.TheVariants as refusal
+use Rattle.added_members.specs.declared.fault.NewMemberFault.{NewMemberFault}
+use Rattle.added_members.specs.declared.fault.NewMemberFault.TheVariants as fault
+use Rattle.added_members.specs.declared.fault.NewMemberRefusal.{NewMemberRefusal}
+use Rattle.added_members.specs.declared.fault.NewMemberRefusal.TheVariants as refusal
 use Rattle.added_members.specs.Libraries.{IsOld, RefusesOld}
 use Rattle.added_members.specs.Entries.{said_by, new_entry, with_entry, names_member}
 use Rattle.added_members.specs.Contents.{member_blocks}
@@ -55,7 +55,7 @@ pub record Added (added : AddedMember) (g : Geometry) (before : List (List ℕ))
 
 -- Why a library does not get a member: it is not there or not whole; a member of it has the name; the file has no blocks for it; its data
 -- set is not deleted; or the library with the member is not put onto the volume.
-abbrev pub Refuses : AddRefusal → AddedMember → Geometry → (slots : List (List ℕ)) → Type 0
+abbrev pub Refuses : NewMemberRefusal → AddedMember → Geometry → (slots : List (List ℕ)) → Type 0
 Refuses refusal.NameTaken added g slots = (old : OldLibrary) × IsOld added.library g slots old × (is_taken added old ≡ true)
 Refuses (refusal.Content f) added g slots =
     (old : OldLibrary) × IsOld added.library g slots old × (is_taken added old ≡ false) × (member_blocks g.model old.form added ≡ Err f)
@@ -66,7 +66,7 @@ Refuses (refusal.Load r) added g slots =
 Refuses r added g slots = RefusesOld r added.library g slots
 
 -- it is refused so, or something hinders it
-abbrev pub IsNotAdded : AddFault → AddedMember → Geometry → (slots : List (List ℕ)) → Type 0
+abbrev pub IsNotAdded : NewMemberFault → AddedMember → Geometry → (slots : List (List ℕ)) → Type 0
 IsNotAdded (fault.Refused r) added g slots = Refuses r added g slots
 IsNotAdded (fault.Job f) added g slots = IsHindered f
 IsNotAdded (fault.Save f) added g slots = ⊥

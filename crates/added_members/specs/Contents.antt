@@ -5,7 +5,7 @@ use Rattle.data_set_blocks.specs.Blocks.{block_areas}
 use Rattle.record_tracks.specs.Records.{Areas}
 use Rattle.record_tracks.specs.ReadBack.{keyed_text}
 use Rattle.loaded_sets.specs.declared.contents.LoadedSet.{LoadedSet}
-use Rattle.loaded_sets.specs.declared.contents.SetForm.{SetForm}
+use Rattle.loaded_sets.specs.declared.contents.NewSetForm.{NewSetForm}
 use Rattle.loaded_sets.specs.declared.fault.ContentFault.{ContentFault}
 use Rattle.loaded_sets.specs.Contents.{FileBlocks, blocks_in, layout_of_set}
 use Rattle.added_members.specs.declared.added.AddedMember.{AddedMember}
@@ -24,9 +24,9 @@ keyed_or_fault (Ok b) = Ok (keyed_blocks b)
 keyed_or_fault (Err f) = Err f
 
 -- The file of a member, as that of a data set whose label says the same as the library's.
-abbrev pub as_set : SetForm → AddedMember → LoadedSet
+abbrev pub as_set : NewSetForm → AddedMember → LoadedSet
 as_set form added = record { name = added.library; form = form; source = added.source; bytes = added.bytes }
 
 -- the blocks of a member's file in a library of this form, or why it has none
-abbrev pub member_blocks : DriveModel → SetForm → AddedMember → Result (List ℕ) ContentFault
+abbrev pub member_blocks : DriveModel → NewSetForm → AddedMember → Result (List ℕ) ContentFault
 member_blocks model form added = keyed_or_fault (blocks_in model (as_set form added) (layout_of_set form))

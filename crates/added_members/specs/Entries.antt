@@ -8,14 +8,14 @@ use Rattle.std.specs.declared.cmp.Ordering.TheVariants.{Less, Equal, Greater}
 use Rattle.library_contents.specs.declared.contents.ReadEntry.{ReadEntry}
 use Rattle.library_contents.specs.declared.contents.ReadNote.{ReadNote}
 use Rattle.library_records.specs.declared.libraries.MemberEntry.{MemberEntry}
-use Rattle.library_records.specs.declared.libraries.Note.{Note}
+use Rattle.library_records.specs.declared.libraries.MemberNote.{MemberNote}
 
 -- what an entry is to say: its name, the number of its member, whether it is another name of one, its notes, and its other user data
 pub record EntrySaid : Type 0 where
   pub name : List ℕ
   pub member : ℕ
   pub is_alias : Bool
-  pub notes : List Note
+  pub notes : List MemberNote
   pub user_data : List ℕ
 
 -- an entry that is given for a new library
@@ -23,7 +23,7 @@ abbrev pub said_by : MemberEntry → EntrySaid
 said_by e = record { name = e.name; member = e.member; is_alias = e.is_alias; notes = e.notes.now; user_data = e.user_data.now }
 
 -- an address by its block, as it was read
-abbrev pub note_anew : ReadNote → Note
+abbrev pub note_anew : ReadNote → MemberNote
 note_anew n = record { block = n.block; count = n.count }
 
 -- an entry as it was read, but for the address that its member had

@@ -19,15 +19,15 @@ use Rattle.library_contents.specs.Libraries.{GivesLibrary, directory_bytes}
 use Rattle.changed_volumes.specs.Changes.{IsHindered}
 use Rattle.placed_sets.specs.declared.fault.PlaceRefusal.{PlaceRefusal}
 use Rattle.placed_sets.specs.Volumes.{unfit_of}
-use Rattle.loaded_sets.specs.declared.contents.SetForm.{SetForm}
+use Rattle.loaded_sets.specs.declared.contents.NewSetForm.{NewSetForm}
 use Rattle.added_members.specs.declared.added.OldLibrary.{OldLibrary}
-use Rattle.added_members.specs.declared.fault.AddFault.{AddFault}
-use Rattle.added_members.specs.declared.fault.AddFault.TheVariants as fault
-use Rattle.added_members.specs.declared.fault.AddRefusal.{AddRefusal}
-use Rattle.added_members.specs.declared.fault.AddRefusal.TheVariants as refusal
+use Rattle.added_members.specs.declared.fault.NewMemberFault.{NewMemberFault}
+use Rattle.added_members.specs.declared.fault.NewMemberFault.TheVariants as fault
+use Rattle.added_members.specs.declared.fault.NewMemberRefusal.{NewMemberRefusal}
+use Rattle.added_members.specs.declared.fault.NewMemberRefusal.TheVariants as refusal
 
 -- what a label says that is written again
-abbrev pub form_in : DataSetBlock → SetForm
+abbrev pub form_in : DataSetBlock → NewSetForm
 form_in d = record {
   organisation = d.organisation;
   attributes = record { format = d.format; record_length = d.record_length; block_length = d.block_length };
@@ -41,22 +41,22 @@ abbrev pub label_in : Block → DataSetBlock
 label_in b = data_set_block_of b.key b.bytes
 
 -- the control block of a library
-abbrev pub if_partitioned : Block → Bool → Result Block AddRefusal
+abbrev pub if_partitioned : Block → Bool → Result Block NewMemberRefusal
 if_partitioned b is = if is then Ok b else Err refusal.NotPartitioned
 
 -- the control block at a place, if it is that of a library
-abbrev pub library_block : List Block → Option ℕ → Result Block AddRefusal
+abbrev pub library_block : List Block → Option ℕ → Result Block NewMemberRefusal
 library_block blocks (Some i) = if_partitioned (block_in blocks i) (is_partitioned (label_in (block_in blocks i)).organisation)
 library_block blocks None = Err refusal.NoDataSet
 
 -- The control block of the library of a name on a volume with these blocks; or why there is none: nothing is put onto the volume at all, it
 -- has no such data set, or that has no directory. The first of these is told.
-abbrev pub library_unless_unfit : (name : List ℕ) → List Block → Option PlaceRefusal → Result Block AddRefusal
+abbrev pub library_unless_unfit : (name : List ℕ) → List Block → Option PlaceRefusal → Result Block NewMemberRefusal
 library_unless_unfit name blocks None = library_block blocks (position (has_name name) blocks)
 library_unless_unfit name blocks (Some r) = Err (refusal.Volume r)
 
 -- the same on a volume that says this
-abbrev pub found_library : Geometry → (name : List ℕ) → Said → Result Block AddRefusal
+abbrev pub found_library : Geometry → (name : List ℕ) → Said → Result Block NewMemberRefusal
 found_library g name s = library_unless_unfit name s.blocks (unfit_of g s)
 
 -- how many blocks the directory has, of 256 bytes each
@@ -94,7 +94,7 @@ pub record IsBroken (f : LibraryReadFault) (name : List ℕ) (g : Geometry) (slo
   pub broken : IsNotWhole f (extents_behind (contents_of g slots).blocks block) g slots
 
 -- why no library of this name is read
-abbrev pub RefusesOld : AddRefusal → (name : List ℕ) → Geometry → (slots : List (List ℕ)) → Type 0
+abbrev pub RefusesOld : NewMemberRefusal → (name : List ℕ) → Geometry → (slots : List (List ℕ)) → Type 0
 RefusesOld (refusal.Read f) name g slots = IsBroken f name g slots
 RefusesOld (refusal.Volume r) name g slots = found_library g name (contents_of g slots) ≡ Err (refusal.Volume r)
 RefusesOld refusal.NoDataSet name g slots = found_library g name (contents_of g slots) ≡ Err refusal.NoDataSet
@@ -102,7 +102,7 @@ RefusesOld refusal.NotPartitioned name g slots = found_library g name (contents_
 RefusesOld r name g slots = ⊥
 
 -- it is refused so, or something hinders it
-abbrev pub IsNotRead : AddFault → (name : List ℕ) → Geometry → (slots : List (List ℕ)) → Type 0
+abbrev pub IsNotRead : NewMemberFault → (name : List ℕ) → Geometry → (slots : List (List ℕ)) → Type 0
 IsNotRead (fault.Refused r) name g slots = RefusesOld r name g slots
 IsNotRead (fault.Job f) name g slots = IsHindered f
 IsNotRead (fault.Save f) name g slots = ⊥

@@ -14,10 +14,10 @@ use Rattle.volume_changes.specs.Names.{is_set_name}
 use Rattle.changed_volumes.specs.Changes.{IsSameImage}
 use Rattle.changed_volumes.specs.Files.{Around, ReadsImage, Hinders}
 use Rattle.added_members.specs.declared.added.AddedMember.{AddedMember}
-use Rattle.added_members.specs.declared.fault.AddFault.{AddFault}
-use Rattle.added_members.specs.declared.fault.AddFault.TheVariants as fault
-use Rattle.added_members.specs.declared.fault.AddRefusal.{AddRefusal}
-use Rattle.added_members.specs.declared.fault.AddRefusal.TheVariants as refusal
+use Rattle.added_members.specs.declared.fault.NewMemberFault.{NewMemberFault}
+use Rattle.added_members.specs.declared.fault.NewMemberFault.TheVariants as fault
+use Rattle.added_members.specs.declared.fault.NewMemberRefusal.{NewMemberRefusal}
+use Rattle.added_members.specs.declared.fault.NewMemberRefusal.TheVariants as refusal
 use Rattle.added_members.specs.declared.saves.NewMemberFile.{NewMemberFile}
 use Rattle.added_members.specs.Added.{Added, Refuses}
 use Rattle.added_members.specs.Names.{is_member_name}
@@ -40,13 +40,13 @@ pub record SavesAdded {A : Type 0} (result : Result A JobFault) (added : AddedMe
   pub saves : WritesBack result paths changed before now
 
 -- no library of the volume in the files gets the member, for this reason
-pub record RefusesMember (refusal : AddRefusal) (added : AddedMember) (paths : List (List ℕ)) (before now : List SourceFile) : Type 0 where
+pub record RefusesMember (refusal : NewMemberRefusal) (added : AddedMember) (paths : List (List ℕ)) (before now : List SourceFile) : Type 0 where
   pub image : ImageState
   pub reads : ReadsImage paths image before now
   pub refused : Refuses refusal added image.geometry image.slots
 
 -- A member is put into a library of the volume in files, which are saved, or in part; or no file is written.
-abbrev pub AddsFiles : Result ℕ AddFault → AddedMember → (paths : List (List ℕ)) → (opened_before opened : List SourceFile)
+abbrev pub AddsFiles : Result ℕ NewMemberFault → AddedMember → (paths : List (List ℕ)) → (opened_before opened : List SourceFile)
     → (before now : List Replaced) → Type 0
 AddsFiles (Ok tracks) added paths opened_before opened before now =
     SavesAdded {A = Unit {0}} (Ok tt) added tracks paths opened_before opened before now
@@ -58,7 +58,7 @@ AddsFiles (Err (fault.Job f)) added paths opened_before opened before now = Hind
 
 -- The same, and this line is printed; with a write fault it may be only its beginning, and a write or a flush has failed. With every other
 -- fault nothing is printed.
-abbrev pub TellsMember : {A : Type 0} → Result A AddFault → AddedMember → (line : ℕ → List ℕ) → (paths : List (List ℕ))
+abbrev pub TellsMember : {A : Type 0} → Result A NewMemberFault → AddedMember → (line : ℕ → List ℕ) → (paths : List (List ℕ))
     → (before now : Around) → Type 0
 TellsMember (Ok _) added line paths before now =
     (tracks : ℕ) × AddsFiles (Ok tracks) added paths before.opened now.opened before.written now.written
@@ -74,7 +74,7 @@ pub record AreNames (asked : NewMemberFile) : Type 0 where
   pub member : is_member_name asked.member.now ≡ true
 
 -- why no volume is opened: the name of the library is none, or else that of the member, or else the file with the blocks is not read
-abbrev pub IsUnread : AddFault → NewMemberFile → Type 0
+abbrev pub IsUnread : NewMemberFault → NewMemberFile → Type 0
 IsUnread (fault.Refused refusal.NoName) asked = is_set_name asked.library.now ≡ false
 IsUnread (fault.Refused refusal.NoMemberName) asked =
     (is_set_name asked.library.now ≡ true) × (is_member_name asked.member.now ≡ false)
@@ -95,8 +95,8 @@ pub record IsAsked (asked : NewMemberFile) (added : AddedMember) (before now : A
 
 -- A member is put into a library of the volume in files; or a name is none or the file is not read, and no other file is opened, none
 -- written and nothing printed.
-abbrev pub LoadsMember : {A : Type 0} → Result A AddFault → NewMemberFile → (paths : List (List ℕ)) → (before now : Around) → Type 0
+abbrev pub LoadsMember : {A : Type 0} → Result A NewMemberFault → NewMemberFile → (paths : List (List ℕ)) → (before now : Around) → Type 0
 LoadsMember result asked paths before now =
-    ((f : AddFault) × (result ≡ Err f) × IsUnread f asked × (now ≡ before))
+    ((f : NewMemberFault) × (result ≡ Err f) × IsUnread f asked × (now ≡ before))
     ⊎ ((added : AddedMember) × (between : Around) × IsAsked asked added before between
     × TellsMember result added (added_line asked.library.now asked.member.now) paths between now)

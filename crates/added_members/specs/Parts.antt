@@ -7,9 +7,9 @@ use Rattle.dasd_volumes.specs.Reading.{KnownVolume}
 use Rattle.volume_contents.specs.declared.blocks.Block.{Block}
 use Rattle.volume_contents.specs.declared.sets.DataSet.{DataSet}
 use Rattle.volume_contents.specs.Sets.{DataSetOf, has_name}
-use Rattle.added_members.specs.declared.fault.AddFault.{AddFault}
-use Rattle.added_members.specs.declared.fault.AddFault.TheVariants as fault
-use Rattle.added_members.specs.declared.fault.AddRefusal.TheVariants as refusal
+use Rattle.added_members.specs.declared.fault.NewMemberFault.{NewMemberFault}
+use Rattle.added_members.specs.declared.fault.NewMemberFault.TheVariants as fault
+use Rattle.added_members.specs.declared.fault.NewMemberRefusal.TheVariants as refusal
 use Rattle.added_members.specs.Faults.{IsHinderedBy}
 use Rattle.added_members.specs.Libraries.{library_block, directory_blocks, IsNotWhole}
 use Rattle.added_members.specs.declared.added.OldLibrary.{OldLibrary}
@@ -25,7 +25,7 @@ use Rattle.added_members.specs.declared.added.AddedMember.{AddedMember}
 use Rattle.ckd_track.specs.declared.model.DriveModel.{DriveModel}
 use Rattle.record_formats.specs.declared.layouts.Layout.{Layout}
 use Rattle.data_set_blocks.specs.declared.blocks.Cut.{Cut}
-use Rattle.loaded_sets.specs.declared.contents.SetForm.{SetForm}
+use Rattle.loaded_sets.specs.declared.contents.NewSetForm.{NewSetForm}
 use Rattle.loaded_sets.specs.declared.fault.ContentFault.{ContentFault}
 use Rattle.loaded_sets.specs.declared.fault.Unmade.{Unmade}
 use Rattle.loaded_sets.specs.declared.fault.Unmade.TheVariants as unmade
@@ -36,7 +36,7 @@ abbrev pub IsLibrarySet : List Block → (name : List ℕ) → DataSet → Type 
 IsLibrarySet blocks name set = (b : Block) × (library_block blocks (position (has_name name) blocks) ≡ Ok b) × DataSetOf blocks b set
 
 -- there is none for this reason, or something hinders it
-abbrev pub IsNoLibrary : AddFault → List Block → (name : List ℕ) → Type 0
+abbrev pub IsNoLibrary : NewMemberFault → List Block → (name : List ℕ) → Type 0
 IsNoLibrary (fault.Refused refusal.NoDataSet) blocks name = library_block blocks (position (has_name name) blocks) ≡ Err refusal.NoDataSet
 IsNoLibrary (fault.Refused refusal.NotPartitioned) blocks name =
     library_block blocks (position (has_name name) blocks) ≡ Err refusal.NotPartitioned
@@ -47,12 +47,12 @@ abbrev pub CountsBlocks : List Extent → KnownVolume → (count : ℕ) → Type
 CountsBlocks extents v count = (slots : List (List ℕ)) → v.slots ≡ Some slots → count ≡ directory_blocks extents v.geometry slots
 
 -- the library in these extents is not whole, or something hinders its being read
-abbrev pub IsNotReadIn : AddFault → List Extent → Geometry → (slots : List (List ℕ)) → Type 0
+abbrev pub IsNotReadIn : NewMemberFault → List Extent → Geometry → (slots : List (List ℕ)) → Type 0
 IsNotReadIn (fault.Refused (refusal.Read f)) extents g slots = IsNotWhole f extents g slots
 IsNotReadIn f extents g slots = IsHinderedBy f
 
 -- the file of a member has no blocks for this reason, or there is no memory
-abbrev pub IsNoMember : Unmade → DriveModel → SetForm → AddedMember → Type 0
+abbrev pub IsNoMember : Unmade → DriveModel → NewSetForm → AddedMember → Type 0
 IsNoMember (unmade.Content f) model form added = member_blocks model form added ≡ Err f
 IsNoMember unmade.OutOfMemory model form added = Unit {0}
 
@@ -75,14 +75,14 @@ abbrev pub MakesBlocks : AddedMember → DriveModel → OldLibrary → (blocks :
 MakesBlocks added model old blocks = (is_taken added old ≡ false) × (member_blocks model old.form added ≡ Ok blocks)
 
 -- one has, or the file has none, or there is no memory
-abbrev pub IsNotMade : AddFault → AddedMember → DriveModel → OldLibrary → Type 0
+abbrev pub IsNotMade : NewMemberFault → AddedMember → DriveModel → OldLibrary → Type 0
 IsNotMade (fault.Refused refusal.NameTaken) added model old = is_taken added old ≡ true
 IsNotMade (fault.Refused (refusal.Content f)) added model old =
     (is_taken added old ≡ false) × (member_blocks model old.form added ≡ Err f)
 IsNotMade f added model old = IsHinderedBy f
 
 -- the data set is not deleted for this reason, or something hinders it
-abbrev pub IsNotDeleted : AddFault → (library : List ℕ) → Geometry → (slots : List (List ℕ)) → Type 0
+abbrev pub IsNotDeleted : NewMemberFault → (library : List ℕ) → Geometry → (slots : List (List ℕ)) → Type 0
 IsNotDeleted (fault.Refused (refusal.Deletion r)) library g slots = changed_by (Delete library) g slots ≡ Err r
 IsNotDeleted f library g slots = IsHinderedBy f
 
@@ -93,7 +93,7 @@ PutsLibrary added old blocks g before tracks now =
     (l : LoadedLibrary) × IsNewLibrary added old blocks l × Loaded l g before tracks now
 
 -- it is not, for this reason, or something hinders it
-abbrev pub IsNotPut : AddFault → AddedMember → OldLibrary → (blocks : List ℕ) → Geometry → (slots : List (List ℕ)) → Type 0
+abbrev pub IsNotPut : NewMemberFault → AddedMember → OldLibrary → (blocks : List ℕ) → Geometry → (slots : List (List ℕ)) → Type 0
 IsNotPut (fault.Refused (refusal.Load r)) added old blocks g slots =
     (l : LoadedLibrary) × IsNewLibrary added old blocks l × RefusesLibrary r l g slots
 IsNotPut f added old blocks g slots = IsHinderedBy f

@@ -1,7 +1,7 @@
 //! What is put into a library, and what the library was before.
 
 use library_contents::LibraryContents;
-use loaded_sets::{SetForm, SourceForm};
+use loaded_sets::{NewSetForm, SourceForm};
 
 /// A member that is put into a library.
 #[derive(Clone, Copy)]
@@ -20,7 +20,7 @@ pub struct AddedMember<'a> {
 #[derive(Drop)]
 pub struct OldLibrary {
     /// What its label said.
-    pub form: SetForm,
+    pub form: NewSetForm,
     /// How many blocks its directory had.
     pub directory_blocks: usize,
     /// The entries of its directory, and its members.

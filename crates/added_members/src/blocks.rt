@@ -12,7 +12,7 @@ ghost use Rattle.added_members.specs.Parts.{IsNoMember, spelled, IsUnspelled};
 use crate::added::AddedMember;
 use ckd_track::DriveModel;
 use data_set_blocks::{Blocks, Cut, block_fault, block_records, cut_of};
-use loaded_sets::{ContentFault, SetForm, SourceForm, Unmade, layout_of_set, text_bytes};
+use loaded_sets::{ContentFault, NewSetForm, SourceForm, Unmade, layout_of_set, text_bytes};
 use record_formats::Layout;
 use record_tracks::NewRecord;
 use std::alloc::{AllocError, Global};
@@ -36,7 +36,7 @@ pub(crate) struct Measure {
 pub(crate) fn member_blocks(
     alloc: Global,
     model: DriveModel,
-    form: &SetForm,
+    form: &NewSetForm,
     added: &AddedMember,
 ) -> Result<Vec<u8>, Unmade>
     ensures blocks { IfOk result (λ made. member_blocks model form.now added.now ≡ Ok made.items) }

@@ -6,7 +6,7 @@ ghost use Rattle.added_members.specs.Entries.{note_anew, kept_entry, said_by, ha
 ghost use Rattle.added_members.specs.Parts.{kept};
 
 use library_contents::{ReadEntry, ReadNote};
-use library_records::{MemberEntry, Note};
+use library_records::{MemberEntry, MemberNote};
 use std::alloc::{AllocError, Global};
 use std::cmp::Ordering;
 
@@ -16,7 +16,7 @@ pub(crate) struct KeptEntry<'a> {
     pub(crate) name: [u8; 8],
     pub(crate) member: usize,
     pub(crate) is_alias: bool,
-    pub(crate) notes: Vec<Note>,
+    pub(crate) notes: Vec<MemberNote>,
     pub(crate) user_data: &'a [u8],
 }
 
@@ -72,19 +72,19 @@ fn place_for(entries: &[ReadEntry], name: &[u8; 8]) -> usize
 }
 
 // Addresses as those of a library that is made.
-fn new_notes(alloc: Global, notes: &[ReadNote]) -> Result<Vec<Note>, AllocError>
+fn new_notes(alloc: Global, notes: &[ReadNote]) -> Result<Vec<MemberNote>, AllocError>
     ensures { IfOk result (λ all. all.items ≡ map note_anew notes.now) }
 {
     let mut all = Vec::new(alloc);
     for note in notes {
         let ReadNote { block, count } = *note;
-        push_note(&mut all, Note { block, count })?;
+        push_note(&mut all, MemberNote { block, count })?;
     }
     Ok(all)
 }
 
 // One note more.
-fn push_note(notes: &mut Vec<Note>, note: Note) -> Result<(), AllocError>
+fn push_note(notes: &mut Vec<MemberNote>, note: MemberNote) -> Result<(), AllocError>
     ensures { IfOk result (λ _. notes.new.items ≡ notes.old.items ++ note ∷ []) }
 {
     match notes.push(note) {

@@ -9,7 +9,9 @@ ghost use Rattle.added_members.specs.Parts.{MakesBlocks, IsNotMade, IsNotDeleted
 use crate::added::{AddedMember, OldLibrary};
 use crate::blocks::member_blocks;
 use crate::entries::{member_entries, names_member, with_entry, with_member};
-use crate::fault::{AddFault, AddRefusal, NO_MEMORY, of_deletion, of_loading, of_unmade, refused};
+use crate::fault::{
+    NO_MEMORY, NewMemberFault, NewMemberRefusal, of_deletion, of_loading, of_unmade, refused,
+};
 use crate::old::read_old;
 use changed_volumes::{VolumeChange, change_image};
 use ckd_image::Image;
@@ -32,7 +34,7 @@ pub fn add_member(
     alloc: Global,
     image: &mut Image<VolumeFile>,
     added: &AddedMember,
-) -> Result<u32, AddFault>
+) -> Result<u32, NewMemberFault>
     ensures same { IsSameImage image.old image.new }
     ensures added { IfOk result (λ tracks. Added added.now image.old.geometry image.old.slots tracks image.new.slots) }
     ensures fault { IfErr result (λ e. IsNotAdded e added.now image.old.geometry image.old.slots) }
@@ -58,12 +60,12 @@ fn new_blocks(
     model: DriveModel,
     old: &OldLibrary,
     added: &AddedMember,
-) -> Result<Vec<u8>, AddFault>
+) -> Result<Vec<u8>, NewMemberFault>
     ensures blocks { IfOk result (λ blocks. MakesBlocks added.now model old.now blocks.items) }
     ensures fault { IfErr result (λ e. IsNotMade e added.now model old.now) }
 {
     if names_member(old.contents.entries.as_slice(), &added.name) {
-        return Err(refused(AddRefusal::NameTaken));
+        return Err(refused(NewMemberRefusal::NameTaken));
     }
     match member_blocks(alloc, model, &old.form, added) {
         Ok(blocks) => Ok(blocks),
@@ -76,7 +78,7 @@ fn delete_old(
     alloc: Global,
     image: &mut Image<VolumeFile>,
     library: [u8; 44],
-) -> Result<(), AddFault>
+) -> Result<(), NewMemberFault>
     ensures same { IsSameImage image.old image.new }
     ensures slots { OnOk result (changed_by (Delete library) image.old.geometry image.old.slots ≡ Ok image.new.slots) }
     ensures fault { IfErr result (λ e. IsNotDeleted e library image.old.geometry image.old.slots) }
@@ -94,7 +96,7 @@ fn put_new(
     old: &OldLibrary,
     added: &AddedMember,
     blocks: &[u8],
-) -> Result<u32, AddFault>
+) -> Result<u32, NewMemberFault>
     ensures same { IsSameImage image.old image.new }
     ensures puts { IfOk result (λ tracks. PutsLibrary added.now old.now blocks.now image.old.geometry image.old.slots tracks image.new.slots) }
     ensures fault { IfErr result (λ e. IsNotPut e added.now old.now blocks.now image.old.geometry image.old.slots) }

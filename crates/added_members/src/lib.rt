@@ -14,7 +14,7 @@ mod old;
 mod saves;
 
 pub use crate::added::{AddedMember, OldLibrary};
-pub use crate::fault::{AddFault, AddRefusal};
+pub use crate::fault::{NewMemberFault, NewMemberRefusal};
 pub use crate::images::add_member;
 pub use crate::names::new_member_name;
 pub use crate::saves::{NewMemberFile, load_member};

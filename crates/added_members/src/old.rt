@@ -10,7 +10,8 @@ ghost use Rattle.added_members.specs.Parts.{IsLibrarySet, IsNoLibrary, CountsBlo
 
 use crate::added::OldLibrary;
 use crate::fault::{
-    AddFault, AddRefusal, NO_MEMORY, of_placing, of_reading, of_said, of_volume, refused,
+    NO_MEMORY, NewMemberFault, NewMemberRefusal, of_placing, of_reading, of_said, of_volume,
+    refused,
 };
 use changed_volumes::read_said;
 use ckd_image::Image;
@@ -20,8 +21,8 @@ use dasd_files::VolumeFile;
 use dasd_volumes::{SlotReader, VolumeFault};
 use data_sets::DIRECTORY_BLOCK;
 use library_contents::read_library;
-use loaded_sets::SetForm;
-use placed_sets::{LabelledVolume, judge, position_of};
+use loaded_sets::NewSetForm;
+use placed_sets::{SoundVolume, judge, position_of};
 use record_formats::RecordAttributes;
 use set_forms::is_partitioned;
 use std::alloc::Global;
@@ -29,10 +30,10 @@ use volume_contents::{DataSet, data_set_of};
 use volume_labels::{DataSetBlock, Extent};
 
 // What a label says that is written again.
-fn form_in(block: &DataSetBlock) -> SetForm
+fn form_in(block: &DataSetBlock) -> NewSetForm
     ensures { result ≡ form_in block.now }
 {
-    SetForm {
+    NewSetForm {
         organisation: block.organisation,
         attributes: RecordAttributes {
             format: block.format,
@@ -55,7 +56,7 @@ pub(crate) fn read_old(
     alloc: Global,
     image: &Image<VolumeFile>,
     name: &[u8; 44],
-) -> Result<OldLibrary, AddFault>
+) -> Result<OldLibrary, NewMemberFault>
     ensures old { IfOk result (IsOld name.now image.now.geometry image.now.slots) }
     ensures fault { IfErr result (λ e. IsNotRead e name.now image.now.geometry image.now.slots) }
 {
@@ -76,18 +77,22 @@ pub(crate) fn read_old(
 }
 
 // The library of a name on such a volume.
-fn library_set(alloc: Global, volume: &LabelledVolume, name: &[u8; 44]) -> Result<DataSet, AddFault>
+fn library_set(
+    alloc: Global,
+    volume: &SoundVolume,
+    name: &[u8; 44],
+) -> Result<DataSet, NewMemberFault>
     ensures set { IfOk result (IsLibrarySet volume.now.blocks.now name.now) }
     ensures fault { IfErr result (λ e. IsNoLibrary e volume.now.blocks.now name.now) }
 {
     let Some(place) = position_of(volume.blocks, name) else {
-        return Err(refused(AddRefusal::NoDataSet));
+        return Err(refused(NewMemberRefusal::NoDataSet));
     };
     let Ok(set) = data_set_of(alloc, volume.blocks, &volume.blocks[place]) else {
         return Err(NO_MEMORY);
     };
     if !is_partitioned(set.block.organisation) {
-        return Err(refused(AddRefusal::NotPartitioned));
+        return Err(refused(NewMemberRefusal::NotPartitioned));
     }
     Ok(set)
 }
@@ -97,7 +102,7 @@ fn read_copy(
     alloc: Global,
     image: &Image<VolumeFile>,
     set: &DataSet,
-) -> Result<OldLibrary, AddFault>
+) -> Result<OldLibrary, NewMemberFault>
     ensures old { IfOk result (IsReadOf set.now.block set.now.extents.items image.now.geometry image.now.slots) }
     ensures fault { IfErr result (λ e. IsNotReadIn e set.now.extents.items image.now.geometry image.now.slots) }
 {
@@ -112,7 +117,7 @@ fn read_set(
     alloc: Global,
     copy: &mut Image<VolumeFile>,
     set: &DataSet,
-) -> Result<OldLibrary, AddFault>
+) -> Result<OldLibrary, NewMemberFault>
     ensures old { IfOk result (IsReadOf set.now.block set.now.extents.items copy.old.geometry copy.old.slots) }
     ensures fault { IfErr result (λ e. IsNotReadIn e set.now.extents.items copy.old.geometry copy.old.slots) }
 {

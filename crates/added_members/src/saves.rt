@@ -5,7 +5,7 @@ ghost use Rattle.counted_io.specs.Streams.{seen_by, IsFlushed};
 ghost use Rattle.added_members.specs.Loads.{LoadsMember, AddsFiles, TellsMember, added_line};
 
 use crate::added::AddedMember;
-use crate::fault::{AddFault, AddRefusal, of_file, of_line, refused};
+use crate::fault::{NewMemberFault, NewMemberRefusal, of_file, of_line, refused};
 use crate::images::add_member;
 use crate::lines::write_added;
 use crate::names::new_member_name;
@@ -47,7 +47,7 @@ pub fn load_member<F: ImageFiles, W: Write>(
     writer: &mut Counted<W>,
     volume: &ChangedVolume,
     asked: &NewMemberFile,
-) -> Result<(), AddFault>
+) -> Result<(), NewMemberFault>
     ensures loads { LoadsMember result asked.now (map (λ path. path.now) volume.now.paths.now)
         (record {
           opened = F.opened files.old;
@@ -62,10 +62,10 @@ pub fn load_member<F: ImageFiles, W: Write>(
     ensures flushed { OnOk result (IsFlushed (seen_by W.contents writer.new)) }
 {
     let Some(library) = new_set_name(asked.library) else {
-        return Err(refused(AddRefusal::NoName));
+        return Err(refused(NewMemberRefusal::NoName));
     };
     let Some(name) = new_member_name(asked.member) else {
-        return Err(refused(AddRefusal::NoMemberName));
+        return Err(refused(NewMemberRefusal::NoMemberName));
     };
     let bytes = match files.read(alloc, asked.path, MOST_BYTES) {
         Ok(bytes) => bytes,
@@ -87,7 +87,7 @@ fn add_and_tell<F: ImageFiles, W: Write>(
     writer: &mut Counted<W>,
     volume: &ChangedVolume,
     asked: (&AddedMember, &NewMemberFile),
-) -> Result<(), AddFault>
+) -> Result<(), NewMemberFault>
     requires library { length asked.1.now.library.now ≤ 44 }
     requires member { length asked.1.now.member.now ≤ 8 }
     ensures tells { TellsMember result asked.entry.0.now (added_line asked.entry.1.now.library.now asked.entry.1.now.member.now)
@@ -117,14 +117,14 @@ fn add_in_files<F: ImageFiles>(
     files: &mut F,
     volume: &ChangedVolume,
     added: &AddedMember,
-) -> Result<u32, AddFault>
+) -> Result<u32, NewMemberFault>
     ensures { AddsFiles result added.now (map (λ path. path.now) volume.now.paths.now)
         (F.opened files.old) (F.opened files.new) (F.written files.old) (F.written files.new) }
 {
     files.plan_saving(save_plan(volume));
     let mut image = match read_image(alloc, files, volume.paths) {
         Ok(image) => image,
-        Err(fault) => return Err(AddFault::Job(fault)),
+        Err(fault) => return Err(NewMemberFault::Job(fault)),
     };
     let tracks = match add_member(alloc, &mut image, added) {
         Ok(tracks) => tracks,
@@ -132,6 +132,6 @@ fn add_in_files<F: ImageFiles>(
     };
     match write_back(alloc, files, volume.paths, image) {
         Ok(()) => Ok(tracks),
-        Err(fault) => Err(AddFault::Save(fault)),
+        Err(fault) => Err(NewMemberFault::Save(fault)),
     }
 }

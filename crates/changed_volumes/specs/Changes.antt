@@ -7,7 +7,7 @@ use Rattle.dasd_jobs.specs.declared.faults.JobFault.{JobFault}
 use Rattle.dasd_jobs.specs.declared.faults.JobFault.TheVariants as job
 use Rattle.dasd_volumes.specs.declared.fault.VolumeFault.{VolumeFault}
 use Rattle.dasd_volumes.specs.declared.fault.VolumeFault.TheVariants as volume
-use Rattle.volume_changes.specs.declared.refusal.Refusal.{Refusal}
+use Rattle.volume_changes.specs.declared.refusal.ChangeRefusal.{ChangeRefusal}
 use Rattle.volume_changes.specs.Volumes.{renamed, relabelled}
 use Rattle.deleted_sets.specs.Volumes.{deleted}
 use Rattle.changed_volumes.specs.declared.fault.ChangeFault.{ChangeFault}
@@ -17,7 +17,7 @@ use Rattle.changed_volumes.specs.declared.images.VolumeChange.TheVariants.{Renam
 
 -- what becomes of the slots of a volume, or why not
 abbrev pub Changing : Type 0
-Changing = Geometry → (slots : List (List ℕ)) → Result (List (List ℕ)) Refusal
+Changing = Geometry → (slots : List (List ℕ)) → Result (List (List ℕ)) ChangeRefusal
 
 abbrev pub changed_by : VolumeChange → Changing
 changed_by (Rename old new) = renamed old new
@@ -40,7 +40,7 @@ IsHinderedBy (fault.Job f) = IsHindered f
 IsHinderedBy f = ⊥
 
 -- Why a volume in memory is not changed, or a change not planned: it is refused so, or something hinders it.
-abbrev pub IsRefused : {A : Type 0} → ChangeFault → (changed : Result A Refusal) → Type 0
+abbrev pub IsRefused : {A : Type 0} → ChangeFault → (changed : Result A ChangeRefusal) → Type 0
 IsRefused (fault.Refused refusal) changed = changed ≡ Err refusal
 IsRefused (fault.Job f) changed = IsHindered f
 IsRefused (fault.Save f) changed = ⊥

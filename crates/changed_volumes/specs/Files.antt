@@ -15,8 +15,8 @@ use Rattle.dasd_jobs.specs.declared.faults.JobFault.{JobFault}
 use Rattle.dasd_jobs.specs.declared.faults.JobFault.TheVariants.{Write}
 use Rattle.dasd_jobs.specs.declared.files.SavePlan.{SavePlan}
 use Rattle.dasd_jobs.specs.declared.files.SavePlan.TheVariants.{Replaced as by_new, InPlace}
-use Rattle.volume_changes.specs.declared.refusal.Refusal.{Refusal}
-use Rattle.volume_changes.specs.declared.refusal.Refusal.TheVariants.{NoName, NoDataSet}
+use Rattle.volume_changes.specs.declared.refusal.ChangeRefusal.{ChangeRefusal}
+use Rattle.volume_changes.specs.declared.refusal.ChangeRefusal.TheVariants.{NoName, NoDataSet}
 use Rattle.volume_changes.specs.Names.{is_set_name}
 use Rattle.volume_changes.specs.Volumes.{renamed}
 use Rattle.deleted_sets.specs.Volumes.{deleted}
@@ -52,7 +52,7 @@ pub record SavesChanged {A : Type 0} (result : Result A JobFault) (change : Chan
   pub saves : WritesBack result paths changed before now
 
 -- the volume in the files is not changed, for this reason
-pub record Refuses (refusal : Refusal) (change : Changing) (paths : List (List ℕ)) (before now : List SourceFile) : Type 0 where
+pub record Refuses (refusal : ChangeRefusal) (change : Changing) (paths : List (List ℕ)) (before now : List SourceFile) : Type 0 where
   pub image : ImageState
   pub reads : ReadsImage paths image before now
   pub refused : change image.geometry image.slots ≡ Err refusal
@@ -99,7 +99,7 @@ pub record AreNames (old new old_name new_name : List ℕ) : Type 0 where
   pub of_new : Names new new_name
 
 -- why names are refused before a file is opened
-abbrev pub NoNames : Refusal → (old new : List ℕ) → Type 0
+abbrev pub NoNames : ChangeRefusal → (old new : List ℕ) → Type 0
 NoNames NoName old new = is_set_name new ≡ false
 NoNames NoDataSet old new = (is_set_name new ≡ true) × (is_name 44 old ≡ false)
 NoNames refusal old new = ⊥
@@ -107,7 +107,7 @@ NoNames refusal old new = ⊥
 -- A data set of the volume in files gets another name; or the names are refused, and no file is opened or written and nothing printed.
 abbrev pub RenamesSet : {A : Type 0} → Result A ChangeFault → (paths : List (List ℕ)) → (old new : List ℕ) → (before now : Around) → Type 0
 RenamesSet result paths old new before now =
-    ((refusal : Refusal) × (result ≡ Err (fault.Refused refusal)) × NoNames refusal old new × (now ≡ before))
+    ((refusal : ChangeRefusal) × (result ≡ Err (fault.Refused refusal)) × NoNames refusal old new × (now ≡ before))
     ⊎ ((old_name new_name : List ℕ) × AreNames old new old_name new_name
     × TellsChange result (renamed old_name new_name) paths (λ g. renamed_line old new) before now)
 

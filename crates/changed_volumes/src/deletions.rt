@@ -14,7 +14,7 @@ use dasd_files::VolumeFile;
 use dasd_jobs::JobFault;
 use deleted_sets::{DeletionPlan, PlanFault, is_confirmed, plan_deletion};
 use std::alloc::Global;
-use volume_changes::{BlockChange, Refusal};
+use volume_changes::{BlockChange, ChangeRefusal};
 use volume_contents::{Block, Contents};
 
 /// Deletes a data set of the volume of an image that says this, by a slot of its size.
@@ -93,7 +93,7 @@ fn confirm(
     let mut after = read_said(alloc, image)?;
     match is_confirmed(alloc, image.geometry(), before, plan, &mut after) {
         Ok(true) => Ok(()),
-        Ok(false) => Err(ChangeFault::Refused(Refusal::Unconfirmed)),
+        Ok(false) => Err(ChangeFault::Refused(ChangeRefusal::Unconfirmed)),
         Err(_) => Err(NO_MEMORY),
     }
 }

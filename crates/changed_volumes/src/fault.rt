@@ -7,14 +7,14 @@ use counted_io::WriteFault;
 use dasd_jobs::JobFault;
 use dasd_volumes::VolumeFault;
 use thiserror::Error;
-use volume_changes::Refusal;
+use volume_changes::ChangeRefusal;
 
 /// Why a volume in files was not changed, or not told to be.
 #[derive(Clone, Copy, Debug, Error)]
 pub enum ChangeFault {
     /// The volume is not changed so.
     #[error(transparent)]
-    Refused(Refusal),
+    Refused(ChangeRefusal),
     /// Its files are not read, there is no memory, or the line can't be written.
     #[error(transparent)]
     Job(JobFault),

@@ -15,7 +15,7 @@ use dasd_files::VolumeFile;
 use dasd_jobs::JobFault;
 use std::alloc::Global;
 use volume_changes::{
-    BlockChange, LabelFields, Refusal, plan_rename, serial_change, write_block, write_label,
+    BlockChange, ChangeRefusal, LabelFields, plan_rename, serial_change, write_block, write_label,
 };
 use volume_contents::{Block, Contents, read_contents};
 
@@ -163,7 +163,7 @@ fn relabel(
         (relabelled_with fields.now image.old.geometry image.old.slots contents.now.found.blocks.items contents.now.label)) }
 {
     let Some(label) = contents.label else {
-        return Err(ChangeFault::Refused(Refusal::NoLabel));
+        return Err(ChangeFault::Refused(ChangeRefusal::NoLabel));
     };
     write_fields(alloc, image, slot, fields)?;
     let (old, new) = (label.serial, fields.serial);

@@ -15,7 +15,7 @@ use dasd_extract::data_set_name;
 use dasd_jobs::{ImageFiles, SavePlan, read_image, write_back};
 use std::alloc::Global;
 use std::io::Write;
-use volume_changes::{LabelFields, Refusal, new_set_name};
+use volume_changes::{ChangeRefusal, LabelFields, new_set_name};
 
 /// A volume in files, and how they are saved.
 #[derive(Clone, Copy)]
@@ -64,10 +64,10 @@ pub fn rename_data_set<F: ImageFiles, W: Write>(
     ensures flushed { OnOk result (IsFlushed (seen_by W.contents writer.new)) }
 {
     let Some(new) = new_set_name(names.new) else {
-        return Err(ChangeFault::Refused(Refusal::NoName));
+        return Err(ChangeFault::Refused(ChangeRefusal::NoName));
     };
     let Some(old) = data_set_name(names.old) else {
-        return Err(ChangeFault::Refused(Refusal::NoDataSet));
+        return Err(ChangeFault::Refused(ChangeRefusal::NoDataSet));
     };
     match change_files(alloc, files, volume, &VolumeChange::Rename(old, new)) {
         Ok(_) => of_line(write_renamed(writer, names)),
@@ -139,7 +139,7 @@ pub fn delete_data_set<F: ImageFiles, W: Write>(
     ensures flushed { OnOk result (IsFlushed (seen_by W.contents writer.new)) }
 {
     let Some(of_set) = data_set_name(name) else {
-        return Err(ChangeFault::Refused(Refusal::NoDataSet));
+        return Err(ChangeFault::Refused(ChangeRefusal::NoDataSet));
     };
     match change_files(alloc, files, volume, &VolumeChange::Delete(of_set)) {
         Ok(_) => of_line(write_deleted(writer, name)),

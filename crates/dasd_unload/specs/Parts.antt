@@ -8,8 +8,8 @@ use Rattle.dasd_extract.specs.declared.stops.Cause.{Cause}
 use Rattle.dasd_extract.specs.declared.stops.Cause.TheVariants.{EndOfFile, PastExtents, EndOfExtents}
 use Rattle.dasd_extract.specs.declared.stops.Stop.{Stop}
 use Rattle.dasd_extract.specs.Stops.{stop_text}
-use Rattle.dasd_unload.specs.declared.parts.Part.{Part}
-use Rattle.dasd_unload.specs.declared.parts.Part.TheVariants.{Whole, Last, Followed, Unmarked}
+use Rattle.dasd_unload.specs.declared.parts.SetPart.{SetPart}
+use Rattle.dasd_unload.specs.declared.parts.SetPart.TheVariants.{Whole, Last, Followed, Unmarked}
 use Rattle.dasd_unload.specs.declared.parts.End.{End}
 
 -- a data set has members
@@ -27,7 +27,7 @@ is_past_extents other = false
 -- Which part a volume has. A data set with members is on one volume. Of another, a number above 1 says that it is on several, and the
 -- indicators whether it goes on. The first volume has no sign of its own: where no end of file stands in the extents, it is told if the
 -- indicators do not mark it as the last.
-abbrev pub part_of : DataSetBlock → Cause → Part
+abbrev pub part_of : DataSetBlock → Cause → SetPart
 part_of d cause =
     if is_partitioned d then Whole
     else (if nat_lt 1 d.volume then (if is_last_volume d then Last d.volume else Followed d.volume)
@@ -38,7 +38,7 @@ part_of d cause =
 abbrev pub end_of : DataSetBlock → Stop → End
 end_of d stop = record { stop = stop; part = part_of d stop.cause }
 
-abbrev pub is_whole_part : Part → Bool
+abbrev pub is_whole_part : SetPart → Bool
 is_whole_part Whole = true
 is_whole_part other = false
 
@@ -60,7 +60,7 @@ are_all_tracks e = is_end_of_extents e.stop.cause && is_whole_part e.part
 
 -- In words.
 
-abbrev pub part_text : Part → List ℕ
+abbrev pub part_text : SetPart → List ℕ
 part_text Whole = []
 part_text (Last number) = concat (codes "; part " ∷ decimal number ∷ codes " of a data set on several volumes, the last" ∷ [])
 part_text (Followed number) = concat (codes "; part " ∷ decimal number ∷ codes " of a data set on several volumes, which goes on on another" ∷ [])

@@ -14,7 +14,7 @@ mod tracks;
 mod volumes;
 
 pub use crate::fault::UnloadFault;
-pub use crate::parts::{End, Part};
+pub use crate::parts::{End, SetPart};
 pub use crate::sets::{BlockForm, WantedSet, unload_set};
 pub use crate::tracks::{WantedTracks, unload_tracks};
 pub use crate::volumes::{WantedVolume, unload_volume};

@@ -17,7 +17,7 @@ const LAST_VOLUME: u8 = 0x80;
 
 /// Which part of its data set a volume has, as its label says.
 #[derive(Clone, Copy, Debug, PartialEq, Eq)]
-pub enum Part {
+pub enum SetPart {
     /// All of it, since nothing says otherwise.
     Whole,
     /// The last part, which has this number, above 1.
@@ -34,7 +34,7 @@ pub struct End {
     /// Where they end, and why.
     pub stop: Stop,
     /// Which part they are.
-    pub part: Part,
+    pub part: SetPart,
 }
 
 /// Whether a data set has members.
@@ -59,24 +59,24 @@ fn is_past_extents(cause: Cause) -> bool
 }
 
 // Which part of a data set a volume has, whose blocks end there for this cause.
-fn part_of(block: &DataSetBlock, cause: Cause) -> Part
+fn part_of(block: &DataSetBlock, cause: Cause) -> SetPart
     ensures { result ≡ part_of block.now cause }
 {
     if is_partitioned(block) {
-        return Part::Whole;
+        return SetPart::Whole;
     }
     let is_last = is_last_volume(block);
     if block.volume > 1 {
         return if is_last {
-            Part::Last(block.volume)
+            SetPart::Last(block.volume)
         } else {
-            Part::Followed(block.volume)
+            SetPart::Followed(block.volume)
         };
     }
     if is_past_extents(cause) && !is_last {
-        return Part::Unmarked;
+        return SetPart::Unmarked;
     }
-    Part::Whole
+    SetPart::Whole
 }
 
 /// The end of the blocks or the tracks of a data set, by its label.
@@ -90,10 +90,10 @@ pub(crate) fn end_of(block: &DataSetBlock, stop: Stop) -> End
 }
 
 // Whether nothing says that a volume has a part alone.
-fn is_whole_part(part: Part) -> bool
+fn is_whole_part(part: SetPart) -> bool
     ensures { result ≡ is_whole_part part }
 {
-    matches!(part, Part::Whole)
+    matches!(part, SetPart::Whole)
 }
 
 /// Whether blocks end as they must.
@@ -127,23 +127,23 @@ impl fmt::Display for End {
     }
 }
 
-impl fmt::Display for Part {
+impl fmt::Display for SetPart {
     ghost output = { λ p. Some (part_text p) };
 
     fn fmt<W: fmt::Write>(&self, f: &mut fmt::Formatter<W>) -> fmt::Result {
         match self {
-            Part::Whole => Ok(()),
-            Part::Last(number) => {
+            SetPart::Whole => Ok(()),
+            SetPart::Last(number) => {
                 write!(
                     f,
                     "; part {number} of a data set on several volumes, the last"
                 )
             }
-            Part::Followed(number) => write!(
+            SetPart::Followed(number) => write!(
                 f,
                 "; part {number} of a data set on several volumes, which goes on on another"
             ),
-            Part::Unmarked => f.write_str("; its label does not mark this volume as its last"),
+            SetPart::Unmarked => f.write_str("; its label does not mark this volume as its last"),
         }
     }
 }

@@ -18,8 +18,8 @@ use Rattle.volume_contents.specs.Contents.{Said, block_in}
 use Rattle.volume_contents.specs.Checks.{findings_of}
 use Rattle.volume_contents.specs.Sets.{is_data_set, is_free_space, has_name, behind_block, extents_behind, free_chain, pieces_behind}
 use Rattle.volume_changes.specs.declared.blocks.BlockChange.{BlockChange}
-use Rattle.volume_changes.specs.declared.refusal.Refusal.{Refusal}
-use Rattle.volume_changes.specs.declared.refusal.Refusal.TheVariants as refusal
+use Rattle.volume_changes.specs.declared.refusal.ChangeRefusal.{ChangeRefusal}
+use Rattle.volume_changes.specs.declared.refusal.ChangeRefusal.TheVariants as refusal
 use Rattle.deleted_sets.specs.declared.plans.DeletionPlan.{DeletionPlan}
 use Rattle.deleted_sets.specs.declared.plans.PlanFault.{PlanFault}
 use Rattle.deleted_sets.specs.declared.plans.PlanFault.TheVariants as fault
@@ -85,7 +85,7 @@ changes_of anew runs holding = of_each (λ i. rewritten anew runs holding i ∷ 
 
 -- what goes with the data set of this block, where so many of the blocks that are written anew say free tracks
 abbrev pub deletion_with : ContentsBlock → (table : Block) → (blocks : List Block) → Block → (anew : List Block) → (marks : List ℕ)
-    → List FreeTracks → (holding : ℕ) → Result Deletion Refusal
+    → List FreeTracks → (holding : ℕ) → Result Deletion ChangeRefusal
 deletion_with t table blocks b anew marks runs holding =
     if nat_lt (length anew) holding then Err refusal.NoRoom
     else Ok (record {
@@ -94,7 +94,7 @@ deletion_with t table blocks b anew marks runs holding =
       marks = marks;
     })
 
-abbrev pub deletion_by : Geometry → ContentsBlock → (table : Block) → (blocks : List Block) → Block → (kept : Bool) → Result Deletion Refusal
+abbrev pub deletion_by : Geometry → ContentsBlock → (table : Block) → (blocks : List Block) → Block → (kept : Bool) → Result Deletion ChangeRefusal
 deletion_by g t table blocks b kept =
     let marks = marks_behind g kept blocks b in
     let runs = runs_behind g kept marks in
@@ -102,11 +102,11 @@ deletion_by g t table blocks b kept =
     else deletion_with t table blocks b (anew kept blocks b) marks runs (holding kept (length runs))
 
 -- the format 4 block stands among the blocks
-abbrev pub deletion_in : Geometry → ContentsBlock → (blocks : List Block) → Block → Option ℕ → Result Deletion Refusal
+abbrev pub deletion_in : Geometry → ContentsBlock → (blocks : List Block) → Block → Option ℕ → Result Deletion ChangeRefusal
 deletion_in g t blocks b None = Err refusal.NoContents
 deletion_in g t blocks b (Some i) = deletion_by g t (block_in blocks i) blocks b (keeps_free (block_in blocks i) blocks)
 
-abbrev pub deletion_at : Geometry → VolumeLabel → ContentsBlock → (blocks : List Block) → Option ℕ → Result Deletion Refusal
+abbrev pub deletion_at : Geometry → VolumeLabel → ContentsBlock → (blocks : List Block) → Option ℕ → Result Deletion ChangeRefusal
 deletion_at g l t blocks None = Err refusal.NoDataSet
 deletion_at g l t blocks (Some i) = deletion_in g t blocks (block_in blocks i) (position (has_address l.contents) blocks)
 
@@ -117,18 +117,18 @@ all_findings g s = s.findings ++ findings_of g s.table s.blocks
 abbrev pub nothing_wrong : Geometry → Said → Bool
 nothing_wrong g s = length (all_findings g s) == 0
 
-abbrev pub deletion_if : Geometry → Said → (name : List ℕ) → Option VolumeLabel → Option ContentsBlock → Result Deletion Refusal
+abbrev pub deletion_if : Geometry → Said → (name : List ℕ) → Option VolumeLabel → Option ContentsBlock → Result Deletion ChangeRefusal
 deletion_if g s name None table = Err refusal.NoLabel
 deletion_if g s name (Some l) None = Err refusal.NoContents
 deletion_if g s name (Some l) (Some t) =
     if nothing_wrong g s then deletion_at g l t s.blocks (position (has_name name) s.blocks) else Err refusal.Findings
 
 -- what is deleted with a data set of a volume that says this: with the first of the name in the order of the table of contents
-abbrev pub deletion_of : Geometry → Said → (name : List ℕ) → Result Deletion Refusal
+abbrev pub deletion_of : Geometry → Said → (name : List ℕ) → Result Deletion ChangeRefusal
 deletion_of g s name = deletion_if g s name s.label s.table
 
 -- this is planned, unless there is no memory
-abbrev pub IsPlanned : Result DeletionPlan PlanFault → Result Deletion Refusal → Type 0
+abbrev pub IsPlanned : Result DeletionPlan PlanFault → Result Deletion ChangeRefusal → Type 0
 IsPlanned (Ok p) planned = planned ≡ Ok (record { changes = p.changes.items; marks = p.marks.items })
 IsPlanned (Err (fault.Refused refusal)) planned = planned ≡ Err refusal
 IsPlanned (Err fault.OutOfMemory) planned = Unit {0}

@@ -8,8 +8,8 @@ use Rattle.volume_contents.specs.Blocks.{BlockOf, those, is_address}
 use Rattle.volume_contents.specs.Contents.{Said, contents_of, no_block}
 use Rattle.volume_contents.specs.Sets.{pieces_behind}
 use Rattle.volume_changes.specs.declared.blocks.BlockChange.{BlockChange}
-use Rattle.volume_changes.specs.declared.refusal.Refusal.{Refusal}
-use Rattle.volume_changes.specs.declared.refusal.Refusal.TheVariants as refusal
+use Rattle.volume_changes.specs.declared.refusal.ChangeRefusal.{ChangeRefusal}
+use Rattle.volume_changes.specs.declared.refusal.ChangeRefusal.TheVariants as refusal
 use Rattle.volume_changes.specs.Blocks.{changed}
 use Rattle.deleted_sets.specs.Runs.{marks_of}
 use Rattle.deleted_sets.specs.Plans.{Deletion, deletion_of, nothing_wrong}
@@ -46,16 +46,16 @@ is_confirmed g blocks d after =
     nothing_wrong g after
     && (are_same after.blocks (blocks_behind d.changes blocks) && bytes_eq (marks_of g (pieces_behind after.blocks) []) d.marks)
 
-abbrev pub confirmed : Geometry → (blocks : List Block) → Deletion → (slots : List (List ℕ)) → Result (List (List ℕ)) Refusal
+abbrev pub confirmed : Geometry → (blocks : List Block) → Deletion → (slots : List (List ℕ)) → Result (List (List ℕ)) ChangeRefusal
 confirmed g blocks d slots = if is_confirmed g blocks d (contents_of g slots) then Ok slots else Err refusal.Unconfirmed
 
 -- the slots behind changes, one after another
 abbrev pub all_changed : Geometry → List BlockChange → (slots : List (List ℕ)) → List (List ℕ)
 all_changed g changes slots = fold (λ some c. changed g c some) slots changes
 
-abbrev pub deleted_by : Geometry → (blocks : List Block) → (slots : List (List ℕ)) → Result Deletion Refusal → Result (List (List ℕ)) Refusal
+abbrev pub deleted_by : Geometry → (blocks : List Block) → (slots : List (List ℕ)) → Result Deletion ChangeRefusal → Result (List (List ℕ)) ChangeRefusal
 deleted_by g blocks slots (Err refusal) = Err refusal
 deleted_by g blocks slots (Ok d) = confirmed g blocks d (all_changed g d.changes slots)
 
-abbrev pub deleted : (name : List ℕ) → Geometry → (slots : List (List ℕ)) → Result (List (List ℕ)) Refusal
+abbrev pub deleted : (name : List ℕ) → Geometry → (slots : List (List ℕ)) → Result (List (List ℕ)) ChangeRefusal
 deleted name g slots = deleted_by g (contents_of g slots).blocks slots (deletion_of g (contents_of g slots) name)

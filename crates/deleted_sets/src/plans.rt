@@ -15,7 +15,7 @@ use crate::runs::{marks_of, runs_of};
 use ckd_track::Geometry;
 use space_allocation::contents_data;
 use std::alloc::{AllocError, Global};
-use volume_changes::{BlockChange, Refusal, find_set};
+use volume_changes::{BlockChange, ChangeRefusal, find_set};
 use volume_contents::{
     Block, Chain, Contents, DataSet, LONGEST_CHAIN, check_contents, data_set_of, find_block,
     follow_chain, free_tracks, is_data_set,
@@ -40,7 +40,7 @@ pub struct DeletionPlan {
 #[derive(Clone, Copy)]
 pub enum PlanFault {
     /// The data set is not deleted.
-    Refused(Refusal),
+    Refused(ChangeRefusal),
     /// There is no memory.
     OutOfMemory,
 }
@@ -312,7 +312,7 @@ fn plan_of(
     let Parts { anew, marks, runs } = parts;
     let holding = holding(kept, runs.len());
     if holding > anew.len() {
-        return Err(PlanFault::Refused(Refusal::NoRoom));
+        return Err(PlanFault::Refused(ChangeRefusal::NoRoom));
     }
     match changes_with(alloc, doomed, anew.as_slice(), runs.as_slice(), holding) {
         Ok(changes) => Ok(DeletionPlan { changes, marks }),
@@ -326,7 +326,7 @@ fn plan(alloc: Global, doomed: &Doomed, kept: bool) -> Result<DeletionPlan, Plan
         (deletion_by doomed.now.geometry doomed.now.contents doomed.now.table doomed.now.blocks.now doomed.now.block kept) }
 {
     if kept && doomed.geometry.tracks() > NEAR_TRACKS {
-        return Err(PlanFault::Refused(Refusal::NoRoom));
+        return Err(PlanFault::Refused(ChangeRefusal::NoRoom));
     }
     match parts_of(alloc, doomed, kept) {
         Ok(parts) => plan_of(alloc, doomed, parts, kept),
@@ -346,10 +346,10 @@ fn plan_named(
 {
     let (label, contents) = said;
     let Some(i) = find_set(blocks, name) else {
-        return Err(PlanFault::Refused(Refusal::NoDataSet));
+        return Err(PlanFault::Refused(ChangeRefusal::NoDataSet));
     };
     let Some(k) = find_block(blocks, label.contents) else {
-        return Err(PlanFault::Refused(Refusal::NoContents));
+        return Err(PlanFault::Refused(ChangeRefusal::NoContents));
     };
     let table = blocks[k];
     let doomed = Doomed {
@@ -383,16 +383,16 @@ pub fn plan_deletion(
     ensures blocks { contents.new.found.blocks ≡ contents.old.found.blocks }
 {
     let Some(label) = contents.label else {
-        return Err(PlanFault::Refused(Refusal::NoLabel));
+        return Err(PlanFault::Refused(ChangeRefusal::NoLabel));
     };
     let Some(table) = contents.table else {
-        return Err(PlanFault::Refused(Refusal::NoContents));
+        return Err(PlanFault::Refused(ChangeRefusal::NoContents));
     };
     if check_contents(alloc, geometry, contents).is_err() {
         return Err(PlanFault::OutOfMemory);
     }
     if !contents.found.findings.is_empty() {
-        return Err(PlanFault::Refused(Refusal::Findings));
+        return Err(PlanFault::Refused(ChangeRefusal::Findings));
     }
     let blocks = contents.found.blocks.as_slice();
     plan_named(alloc, geometry, (label, table), blocks, name)

@@ -9,7 +9,7 @@ use crate::locks::{
 };
 use crate::reading::{HostFile, read_some};
 use crate::remarks::Remarks;
-use crate::traces::{TraceFile, TraceOutput};
+use crate::traces::{TraceFile, TraceSink};
 use dasd_jobs::{FileFault, ImageFiles, SavePlan, Sources, Traces, Written};
 use file_journals::{Notes, SaveFault, clear_folder, folder_of, whole_file};
 use std::alloc::Global;
@@ -281,23 +281,23 @@ impl<'a> ImageFiles for HostFiles<'a> {
 }
 
 impl<'a> Traces for HostFiles<'a> {
-    type Sink = BufWriter<TraceOutput<'a>>;
+    type Sink = BufWriter<TraceSink<'a>>;
 
     fn open_trace(
         &mut self,
         alloc: Global,
         path: Option<&str>,
         beside: &[&str],
-    ) -> Result<BufWriter<TraceOutput<'a>>, FileFault> {
+    ) -> Result<BufWriter<TraceSink<'a>>, FileFault> {
         let output = match path {
-            None => TraceOutput::StandardError(self.host),
+            None => TraceSink::StandardError(self.host),
             Some(path) => {
                 match open_trace_file(self.host, &mut self.locked, path, beside) {
                     Ok((file, is_regular)) => {
                         let Ok(path) = path.to_string(alloc) else {
                             return Err(FileFault::OutOfMemory);
                         };
-                        TraceOutput::File(TraceFile::new(file, path, self.remarks, is_regular))
+                        TraceSink::File(TraceFile::new(file, path, self.remarks, is_regular))
                     }
                     Err(fault) => return Err(self.remarks.refuse(path, &fault)),
                 }

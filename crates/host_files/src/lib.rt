@@ -12,4 +12,4 @@ pub use crate::drafts::HostDraft;
 pub use crate::files::HostFiles;
 pub use crate::reading::HostFile;
 pub use crate::remarks::{ERASE_BEHIND, Remarks, Shown};
-pub use crate::traces::{TraceFile, TraceOutput};
+pub use crate::traces::{TraceFile, TraceSink};

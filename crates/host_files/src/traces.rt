@@ -8,7 +8,7 @@ use std::io::{ErrorKind, Write};
 
 /// Standard error, or a file.
 #[derive(Drop)]
-pub enum TraceOutput<'a> {
+pub enum TraceSink<'a> {
     /// Standard error of this host.
     StandardError(&'a HostRuntime),
     /// A file that was opened for the trace.
@@ -65,11 +65,11 @@ impl<'a> TraceFile<'a> {
     }
 }
 
-impl Write for TraceOutput<'_> {
+impl Write for TraceSink<'_> {
     fn write(&mut self, bytes: &[u8]) -> io::Result<usize> {
         match self {
-            TraceOutput::StandardError(host) => host.stderr().write(bytes),
-            TraceOutput::File(it) => {
+            TraceSink::StandardError(host) => host.stderr().write(bytes),
+            TraceSink::File(it) => {
                 it.begin()?;
                 let written = it.file.write(bytes);
                 it.note(written.as_ref().err());
@@ -80,8 +80,8 @@ impl Write for TraceOutput<'_> {
 
     fn flush(&mut self) -> io::Result<()> {
         match self {
-            TraceOutput::StandardError(_) => Ok(()),
-            TraceOutput::File(it) => it.begin(),
+            TraceSink::StandardError(_) => Ok(()),
+            TraceSink::File(it) => it.begin(),
         }
     }
 }

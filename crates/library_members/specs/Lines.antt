@@ -11,7 +11,7 @@ use Rattle.dasd_extract.specs.declared.stops.Cause.{Cause}
 use Rattle.dasd_extract.specs.declared.stops.Cause.TheVariants.{EndOfFile}
 use Rattle.dasd_extract.specs.declared.stops.Stop.{Stop}
 use Rattle.dasd_extract.specs.Stops.{stop_text}
-use Rattle.library_members.specs.declared.lines.Form.{Form}
+use Rattle.library_members.specs.declared.lines.MembersForm.{MembersForm}
 use Rattle.library_members.specs.declared.lines.Listed.{Listed}
 use Rattle.library_members.specs.declared.lines.Wrong.{Wrong}
 use Rattle.library_members.specs.declared.lines.Wrong.TheVariants.{Directory, Ends}
@@ -23,7 +23,7 @@ pub record Shown : Type 0 where
   pub margin : List ℕ
   pub name : List ℕ
 
-abbrev pub shown : Form → Shown
+abbrev pub shown : MembersForm → Shown
 shown f = record { json = option_copied f.json; margin = f.margin.now; name = f.name.now }
 
 -- a member that is listed: its entry, its name, its user data, and how many bytes its blocks have

@@ -6,6 +6,6 @@ mod lines;
 mod members;
 mod report;
 
-pub use crate::lines::Form;
+pub use crate::lines::MembersForm;
 pub use crate::members::{Library, list_members};
 pub use crate::report::Report;

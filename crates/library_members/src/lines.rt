@@ -17,7 +17,7 @@ use std::{fmt, io};
 /// How the members of a library are listed: its name, as that of a file, and what each line begins with; or, where lines are objects of
 /// JSON, the paths of the volume, as a string of it.
 #[derive(Clone, Copy)]
-pub struct Form<'a> {
+pub struct MembersForm<'a> {
     /// The paths of the volume, as a string of JSON with its quotes; none for lines of text.
     pub json: Option<&'a str>,
     /// What each line of text begins with.
@@ -45,7 +45,7 @@ pub(crate) enum Wrong {
 }
 
 /// The line above the members, where they are listed in lines of text.
-pub(crate) fn add_heading(report: &mut Report, form: Form) -> Result<(), VolumeFault>
+pub(crate) fn add_heading(report: &mut Report, form: MembersForm) -> Result<(), VolumeFault>
     ensures lines { OnOk result (Adds report.old report.new (heading_lines (shown form.entry))) }
     ensures fault { IfErr result (λ e. e ≡ VolumeFault.OutOfMemory) }
 {
@@ -66,7 +66,11 @@ fn write_heading<W: Write>(writer: &mut W, margin: &str) -> io::Result<()>
 }
 
 /// The line of a member.
-pub(crate) fn add_member(report: &mut Report, form: Form, listed: Listed) -> Result<(), VolumeFault>
+pub(crate) fn add_member(
+    report: &mut Report,
+    form: MembersForm,
+    listed: Listed,
+) -> Result<(), VolumeFault>
     ensures lines { OnOk result (Adds report.old report.new (plain (member_text (shown form.entry) (listed_by listed.entry)) ∷ [])) }
     ensures fault { IfErr result (λ e. e ≡ VolumeFault.OutOfMemory) }
 {
@@ -77,7 +81,7 @@ pub(crate) fn add_member(report: &mut Report, form: Form, listed: Listed) -> Res
 }
 
 // A member, as a line of text or as an object.
-fn write_member<W: Write>(writer: &mut W, form: Form, listed: Listed) -> io::Result<()>
+fn write_member<W: Write>(writer: &mut W, form: MembersForm, listed: Listed) -> io::Result<()>
     ensures { OnOk result (Appends (W.contents writer.old) (W.contents writer.new) (member_text (shown form.entry) (listed_by listed.entry))) }
 {
     match form.json {
@@ -164,7 +168,7 @@ fn true_or_false(is_so: bool) -> &'static str
 /// The line of blocks that end before their end of file: those of a member, or of the directory.
 pub(crate) fn add_end(
     report: &mut Report,
-    form: Form,
+    form: MembersForm,
     member: Option<&str>,
     stop: Stop,
 ) -> Result<(), VolumeFault>
@@ -187,7 +191,7 @@ fn is_end(cause: Cause) -> bool
 /// The line of something that is wrong with the library or with a member of it.
 pub(crate) fn add_wrong(
     report: &mut Report,
-    form: Form,
+    form: MembersForm,
     member: Option<&str>,
     found: Wrong,
 ) -> Result<(), VolumeFault>
@@ -205,7 +209,7 @@ pub(crate) fn add_wrong(
 // What is wrong, as a line of text or as an object.
 fn write_wrong<W: Write>(
     writer: &mut W,
-    form: Form,
+    form: MembersForm,
     member: Option<&str>,
     found: Wrong,
 ) -> io::Result<()>

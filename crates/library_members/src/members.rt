@@ -7,7 +7,7 @@ ghost use Rattle.library_members.specs.Lines.{shown};
 ghost use Rattle.library_members.specs.Members.{user_data, member_lines, entries_lines, library_lines};
 
 use crate::blocks::read_blocks;
-use crate::lines::{Form, Listed, Wrong, add_end, add_heading, add_member, add_wrong};
+use crate::lines::{Listed, MembersForm, Wrong, add_end, add_heading, add_member, add_wrong};
 use crate::report::Report;
 use dasd_extract::{self as source, directory_of, member_of};
 use dasd_volumes::{SlotReader, VolumeFault};
@@ -19,7 +19,7 @@ use volume_labels::Extent;
 #[derive(Clone, Copy)]
 pub struct Library<'a> {
     /// How they are listed.
-    pub form: Form<'a>,
+    pub form: MembersForm<'a>,
     /// Its extents, in order.
     pub extents: &'a [Extent],
 }

@@ -6,7 +6,7 @@ use Rattle.std.proofs.lemmas.Grind.{common_steps}
 use Rattle.std.proofs.lemmas.List.Sums.{fails_before_first}
 use Rattle.std.proofs.lemmas.List.Folds.{list_any_at}
 use Rattle.library_records.specs.declared.libraries.NewLibrary.{NewLibrary}
-use Rattle.library_records.specs.declared.libraries.Note.{Note}
+use Rattle.library_records.specs.declared.libraries.MemberNote.{MemberNote}
 use Rattle.library_records.specs.Library.{blocks_of_member}
 use Rattle.library_records.specs.Faults.{lacks_member, lacks_block}
 use Rattle.library_records.specs.Placed.{Leads}
@@ -34,6 +34,6 @@ all_lead l members blocks k d there =
       member = below (length l.members.now) e.member (none_passes (lacks_member l) l.entries.now members k d there);
       notes = λ j n here.
           below (length (blocks_of_member l.members.now e.member)) (get_or e.notes.now j n).block
-          (not_any (λ (x : Note). nat_le (length (blocks_of_member l.members.now e.member)) x.block) e.notes.now
+          (not_any (λ (x : MemberNote). nat_le (length (blocks_of_member l.members.now e.member)) x.block) e.notes.now
           (none_passes (lacks_block l) l.entries.now blocks k d there) j n here);
     }

@@ -27,7 +27,7 @@ use Rattle.library_blocks.proofs.Pieces.{IsShort, entries_short}
 use Rattle.library_blocks.proofs.Reading.{no_blocks, more_blocks, length-block, read_back}
 use Rattle.library_records.specs.declared.libraries.MemberEntry.{MemberEntry}
 use Rattle.library_records.specs.declared.libraries.NewLibrary.{NewLibrary}
-use Rattle.library_records.specs.declared.libraries.Note.{Note}
+use Rattle.library_records.specs.declared.libraries.MemberNote.{MemberNote}
 use Rattle.library_records.specs.Library.{directory_area, directory_areas, blocks_of_member, first_record, MemberGoesOn}
 use Rattle.library_records.specs.Addresses.{address_of}
 use Rattle.library_records.specs.Entries.{blank_directory, blank_areas, block_address, note_bytes, entry_notes, entry_user_data}
@@ -147,8 +147,8 @@ module _ (model : DriveModel) (l : NewLibrary) (goes : All (MemberGoesOn model) 
       ∙ ap (λ (a : RelativeAddress). ended_by_file (flat_map text (drop k blocks)) a.track) end
 
 -- An address in the user data of an entry is that of its block.
-module _ (model : DriveModel) (l : NewLibrary) (e : MemberEntry) (j : ℕ) (d : Note) (there : j < length e.notes.now) where
-  abbrev bytes_of_note : Note → List ℕ
+module _ (model : DriveModel) (l : NewLibrary) (e : MemberEntry) (j : ℕ) (d : MemberNote) (there : j < length e.notes.now) where
+  abbrev bytes_of_note : MemberNote → List ℕ
   bytes_of_note n = note_bytes (block_address model l e.member n.block) n.count
 
   byte_at : (i : ℕ) → i < 4 → slice_index (entry_user_data model l e) (4 * j + i) ≡ get_or (bytes_of_note (get_or e.notes.now j d)) i 0

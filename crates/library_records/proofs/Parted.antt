@@ -6,7 +6,7 @@ use Rattle.std.proofs.lemmas.List.{drop_more, take_more, take_at, drop_at, map-a
 use Rattle.ckd_track.specs.declared.model.DriveModel.{DriveModel}
 use Rattle.library_records.specs.declared.libraries.MemberEntry.{MemberEntry}
 use Rattle.library_records.specs.declared.libraries.NewLibrary.{NewLibrary}
-use Rattle.library_records.specs.declared.libraries.Note.{Note}
+use Rattle.library_records.specs.declared.libraries.MemberNote.{MemberNote}
 use Rattle.library_blocks.specs.Entries.{EntryContents}
 use Rattle.library_records.specs.Entries.{block_address, note_bytes, entry_notes, entry_user_data, entry_contents}
 
@@ -22,12 +22,12 @@ no_entry = record {
 
 module _ (model : DriveModel) (l : NewLibrary) where
   -- each note has four bytes
-  pub length-notes : (member : ℕ) (notes : List Note)
+  pub length-notes : (member : ℕ) (notes : List MemberNote)
       → length (flat_map (λ n. note_bytes (block_address model l member n.block) n.count) notes) ≡ 4 * length notes
   length-notes member [] = refl
   length-notes member (n ∷ others) =
       let first = note_bytes (block_address model l member n.block) n.count in
-      let rest = flat_map (λ (x : Note). note_bytes (block_address model l member x.block) x.count) others in
+      let rest = flat_map (λ (x : MemberNote). note_bytes (block_address model l member x.block) x.count) others in
       omega (arith, length-append first rest, length-notes member others)
 
   pub length-user_data : (e : MemberEntry) → length (entry_user_data model l e) ≡ 4 * length e.notes.now + length e.user_data.now

@@ -13,7 +13,7 @@ use Rattle.dasd_extract.specs.Walk.{wanted, source_written}
 use Rattle.dasd_extract.specs.Members.{directory}
 use Rattle.library_records.specs.declared.libraries.NewMember.{NewMember}
 use Rattle.library_records.specs.declared.libraries.NewLibrary.{NewLibrary}
-use Rattle.library_records.specs.declared.libraries.Note.{Note}
+use Rattle.library_records.specs.declared.libraries.MemberNote.{MemberNote}
 use Rattle.library_blocks.specs.Entries.{entry_read}
 use Rattle.library_blocks.specs.ReadBack.{these_entries}
 use Rattle.record_tracks.specs.Records.{Areas}
@@ -85,6 +85,6 @@ pub record IsLibraryRead (model : DriveModel) (l : NewLibrary) : Type 0 where
   pub directory : (g : Geometry) (extents : List Extent) (slots : List (List ℕ)) → HasRecords model (own_areas model l) g extents slots
       → own_directory_end model l < 512 → HasEntries model l (source_written (directory extents) g slots)
   pub members : All (λ e. IsReadFrom model l (entry_read (entry_contents model l e)).address e.member 0) l.entries.now
-  pub notes : All (λ e. (j : ℕ) (d : Note) → j < length e.notes.now
+  pub notes : All (λ e. (j : ℕ) (d : MemberNote) → j < length e.notes.now
       → IsReadFrom model l (relative_address_at (entry_user_data model l e) (4 * j)) e.member (slice_index_or e.notes.now j d).block)
       l.entries.now

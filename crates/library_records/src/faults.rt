@@ -6,7 +6,7 @@ ghost use Rattle.library_records.specs.Faults.{lacks_member, lacks_block, leadin
 ghost use Rattle.library_records.specs.Placed.{Leads};
 
 use crate::addresses::block_count;
-use crate::libraries::{MemberEntry, NewLibrary, Note};
+use crate::libraries::{MemberEntry, MemberNote, NewLibrary};
 use library_blocks::EntryFault;
 use std::alloc::AllocError;
 use thiserror::Error;
@@ -63,7 +63,7 @@ fn lacks_block(library: &NewLibrary, entry: &MemberEntry) -> bool
 {
     let blocks = block_count(library.members, entry.member);
     entry.notes.iter().any(
-        |note: &Note| -> bool
+        |note: &MemberNote| -> bool
             ensures { result ≡ nat_le blocks note.now.block }
         { note.block >= blocks },
     )

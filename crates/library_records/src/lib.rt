@@ -10,5 +10,5 @@ mod user_data;
 
 pub use crate::directories::library_directory;
 pub use crate::faults::LibraryFault;
-pub use crate::libraries::{MemberEntry, NewLibrary, NewMember, Note};
+pub use crate::libraries::{MemberEntry, MemberNote, NewLibrary, NewMember};
 pub use crate::records::library_records;

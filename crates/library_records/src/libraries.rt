@@ -11,7 +11,7 @@ pub struct NewMember<'a> {
 
 /// An address within a member, with which the user data of an entry begins.
 #[derive(Clone, Copy)]
-pub struct Note {
+pub struct MemberNote {
     /// The block that it leads to, by its number in the member, from 0 on.
     pub block: usize,
     /// The byte behind it: how many addresses that block has itself, where it is a list of them.
@@ -28,7 +28,7 @@ pub struct MemberEntry<'a> {
     /// Whether it is another name of a member that has an entry of its own.
     pub is_alias: bool,
     /// The addresses with which its user data begins: at most three, of four bytes each.
-    pub notes: &'a [Note],
+    pub notes: &'a [MemberNote],
     /// What else the directory keeps of the member, behind these: a whole number of halfwords. Both together are at most 62 bytes.
     pub user_data: &'a [u8],
 }

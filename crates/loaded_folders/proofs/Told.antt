@@ -12,7 +12,7 @@ use Rattle.loaded_sets.specs.Loaded as set
 use Rattle.loaded_libraries.specs.declared.libraries.LoadedLibrary.{LoadedLibrary}
 use Rattle.loaded_libraries.specs.Loaded as library
 use Rattle.loaded_folders.specs.declared.entries.Unled.{Unled}
-use Rattle.loaded_folders.specs.declared.fault.EntryFault.{EntryFault}
+use Rattle.loaded_folders.specs.declared.fault.FolderEntryFault.{FolderEntryFault}
 use Rattle.loaded_folders.specs.declared.fault.FolderFault.{FolderFault}
 use Rattle.loaded_folders.specs.declared.fault.FolderFault.TheVariants as fault
 use Rattle.loaded_folders.specs.Sets.{FolderSet}
@@ -23,7 +23,7 @@ use Rattle.loaded_folders.specs.Parts.{IsUnled, TellsUnled, TellsEntry, IsNoFile
 use Rattle.loaded_folders.proofs.Chains.{reads_more}
 
 -- the first entry that leads nowhere
-pub entry_told : (r : FolderFault) (data_set name : List ℕ) (why : Unled) (made : Result EntryParts EntryFault)
+pub entry_told : (r : FolderFault) (data_set name : List ℕ) (why : Unled) (made : Result EntryParts FolderEntryFault)
     (next : EntryParts → Result (List EntryParts) EntryRefused) → IsUnled why made → TellsUnled r data_set name why
     → TellsEntry r data_set (on_entry name made next)
 entry_told (fault.Entry n f) data_set name why made next unled (spelled, is) =

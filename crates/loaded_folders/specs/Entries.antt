@@ -4,12 +4,12 @@ use Rattle.std.specs.Prelude.{Option, Some, None, option_and_then, Result, Ok, E
 use Rattle.std.specs.List.{position}
 use Rattle.std.specs.Option.{unwrap_or}
 use Rattle.library_records.specs.declared.libraries.MemberEntry.{MemberEntry}
-use Rattle.library_records.specs.declared.libraries.Note.{Note}
+use Rattle.library_records.specs.declared.libraries.MemberNote.{MemberNote}
 use Rattle.set_forms.specs.declared.forms.EntryForm.{EntryForm}
-use Rattle.set_forms.specs.declared.forms.Note as form
+use Rattle.set_forms.specs.declared.forms.Note.{Note}
 use Rattle.set_forms.specs.declared.forms.Note.TheVariants.{Block, Address}
-use Rattle.loaded_folders.specs.declared.fault.EntryFault.{EntryFault}
-use Rattle.loaded_folders.specs.declared.fault.EntryFault.TheVariants.{NoMember, NoBlock}
+use Rattle.loaded_folders.specs.declared.fault.FolderEntryFault.{FolderEntryFault}
+use Rattle.loaded_folders.specs.declared.fault.FolderEntryFault.TheVariants.{NoMember, NoBlock}
 use Rattle.loaded_folders.specs.Sets.{members_of}
 
 -- an entry as a library is to have it: its member is the one of this number, from 0 on
@@ -17,7 +17,7 @@ pub record EntryParts : Type 0 where
   pub name : List ℕ
   pub member : ℕ
   pub is_alias : Bool
-  pub notes : List Note
+  pub notes : List MemberNote
   pub user : List ℕ
 
 -- what a library is to have for an entry
@@ -29,36 +29,36 @@ abbrev pub member_name : EntryForm → List ℕ
 member_name e = unwrap_or e.member e.name
 
 -- a note to a block by its number, from 1 on in a text and from 0 on in a library
-abbrev pub note_to : form.Note → Option Note
+abbrev pub note_to : Note → Option MemberNote
 note_to (Block number byte) = if number == 0 then None else Some (record { block = number - 1; count = byte })
 note_to (Address address byte) = None
 
 -- these notes, and those of the others, if each leads to a block
-abbrev pub notes_behind : List Note → List form.Note → Option (List Note)
+abbrev pub notes_behind : List MemberNote → List Note → Option (List MemberNote)
 notes_behind done [] = Some done
 notes_behind done (n ∷ notes) = option_and_then (λ d. notes_behind (done ++ d ∷ []) notes) (note_to n)
 
-abbrev pub notes_to : List form.Note → Option (List Note)
+abbrev pub notes_to : List Note → Option (List MemberNote)
 notes_to notes = notes_behind [] notes
 
 -- an entry with its member and its notes, if it has both
-abbrev pub entry_with : EntryForm → Option ℕ → Option (List Note) → Result EntryParts EntryFault
+abbrev pub entry_with : EntryForm → Option ℕ → Option (List MemberNote) → Result EntryParts FolderEntryFault
 entry_with e None notes = Err NoMember
 entry_with e (Some member) None = Err NoBlock
 entry_with e (Some member) (Some notes) =
     Ok (record { name = e.name; member = member; is_alias = is_some e.member; notes = notes; user = e.user.items })
 
 -- an entry of a library with members of these names
-abbrev pub entry_parts : (members : List (List ℕ)) → EntryForm → Result EntryParts EntryFault
+abbrev pub entry_parts : (members : List (List ℕ)) → EntryForm → Result EntryParts FolderEntryFault
 entry_parts members e = entry_with e (position (λ m. bytes_eq m (member_name e)) members) (notes_to e.notes.items)
 
 -- the name of an entry, and why it leads nowhere
 pub record EntryRefused : Type 0 where
   pub name : List ℕ
-  pub fault : EntryFault
+  pub fault : FolderEntryFault
 
 -- the first entry that leads nowhere ends it
-abbrev pub on_entry : (name : List ℕ) → Result EntryParts EntryFault → (EntryParts → Result (List EntryParts) EntryRefused)
+abbrev pub on_entry : (name : List ℕ) → Result EntryParts FolderEntryFault → (EntryParts → Result (List EntryParts) EntryRefused)
     → Result (List EntryParts) EntryRefused
 on_entry name (Ok e) next = next e
 on_entry name (Err f) next = Err (record { name = name; fault = f })

@@ -10,11 +10,11 @@ use Rattle.dasd_jobs.specs.Written.{Replaced}
 use Rattle.dasd_jobs.specs.declared.faults.JobFault.{JobFault}
 use Rattle.dasd_jobs.specs.declared.faults.JobFault.TheVariants as job
 use Rattle.dasd_unload.specs.Unloads.{file_name}
-use Rattle.set_forms.specs.declared.forms.SetForm as line
+use Rattle.set_forms.specs.declared.forms.SetForm.{SetForm}
 use Rattle.changed_volumes.specs.Changes.{IsSameImage, IsHindered}
 use Rattle.changed_volumes.specs.Files.{Around, ReadsImage, Hinders}
 use Rattle.loaded_sets.specs.declared.contents.LoadedSet.{LoadedSet}
-use Rattle.loaded_sets.specs.declared.contents.SetForm.{SetForm}
+use Rattle.loaded_sets.specs.declared.contents.NewSetForm.{NewSetForm}
 use Rattle.loaded_sets.specs.declared.contents.SourceForm.{SourceForm}
 use Rattle.loaded_sets.specs.declared.fault.LoadRefusal.{LoadRefusal}
 use Rattle.loaded_sets.specs.Loaded as set
@@ -29,7 +29,7 @@ use Rattle.loaded_folders.specs.Entries.{EntryRefused, entries_of, member_parts}
 use Rattle.loaded_folders.specs.Reading.{ReadsFolder, IsUnread}
 
 -- what the label of a data set is to say, by its line
-abbrev pub form_of : line.SetForm → SetForm
+abbrev pub form_of : SetForm → NewSetForm
 form_of s = record {
   organisation = s.organisation;
   attributes = record { format = s.format; record_length = s.record_length; block_length = s.block_length };

@@ -7,7 +7,7 @@ use Rattle.counted_io.specs.declared.writing.WriteFault.{WriteFault}
 use Rattle.ckd_track.specs.declared.geometries.Geometry.{Geometry}
 use Rattle.dasd_jobs.specs.Sources.{SourceFile}
 use Rattle.dasd_unload.specs.Unloads.{file_name}
-use Rattle.library_records.specs.declared.libraries.Note.{Note}
+use Rattle.library_records.specs.declared.libraries.MemberNote.{MemberNote}
 use Rattle.set_forms.specs.declared.fault.TextFault.TheVariants as wrong
 use Rattle.set_forms.specs.Parsing.{parsed}
 use Rattle.changed_volumes.specs.Changes.{IsHindered}
@@ -20,8 +20,8 @@ use Rattle.loaded_folders.specs.declared.entries.Unled.{Unled}
 use Rattle.loaded_folders.specs.declared.entries.Unled.TheVariants as unled
 use Rattle.loaded_folders.specs.declared.fault.FolderFault.{FolderFault}
 use Rattle.loaded_folders.specs.declared.fault.FolderFault.TheVariants as fault
-use Rattle.loaded_folders.specs.declared.fault.EntryFault.{EntryFault}
-use Rattle.loaded_folders.specs.declared.fault.EntryFault.TheVariants.{NoBlock}
+use Rattle.loaded_folders.specs.declared.fault.FolderEntryFault.{FolderEntryFault}
+use Rattle.loaded_folders.specs.declared.fault.FolderEntryFault.TheVariants.{NoBlock}
 use Rattle.loaded_folders.specs.declared.sets.SetLines as declared_lines
 use Rattle.loaded_folders.specs.declared.sets.FolderSet as declared
 use Rattle.loaded_folders.specs.Sets.{SetLines, FolderSet}
@@ -42,12 +42,12 @@ abbrev pub folder_entry : FolderEntry → EntryParts
 folder_entry e = record { name = e.name; member = e.member; is_alias = e.is_alias; notes = e.notes.items; user = e.user.now }
 
 -- this is why an entry leads nowhere, or there is no memory
-abbrev pub IsUnled : Unled → Result EntryParts EntryFault → Type 0
+abbrev pub IsUnled : Unled → Result EntryParts FolderEntryFault → Type 0
 IsUnled (unled.Fault f) made = made ≡ Err f
 IsUnled unled.OutOfMemory made = Unit {0}
 
 -- this is why the notes of an entry are not made, or there is no memory
-abbrev pub IsNoted : Unled → Option (List Note) → Type 0
+abbrev pub IsNoted : Unled → Option (List MemberNote) → Type 0
 IsNoted (unled.Fault f) made = (f ≡ NoBlock) × (made ≡ None)
 IsNoted unled.OutOfMemory made = Unit {0}
 

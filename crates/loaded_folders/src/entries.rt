@@ -6,10 +6,10 @@ ghost use Rattle.loaded_folders.specs.Sets.{members_of};
 ghost use Rattle.loaded_folders.specs.Entries.{member_name, note_to, notes_to, entry_parts, entries_of, member_parts};
 ghost use Rattle.loaded_folders.specs.Parts.{folder_entry, IsUnled, IsNoted, IsNoMemory, TellsUnled, TellsEntry};
 
-use crate::fault::{EntryFault, FolderFault, NO_MEMORY};
+use crate::fault::{FolderEntryFault, FolderFault, NO_MEMORY};
 use crate::names::name_of_entry;
-use library_records::{MemberEntry, Note};
-use set_forms::{EntryForm, Note as FormNote};
+use library_records::{MemberEntry, MemberNote};
+use set_forms::{EntryForm, Note};
 use std::alloc::{AllocError, Global};
 
 /// An entry of a library's directory, with the number of its member.
@@ -18,7 +18,7 @@ pub(crate) struct FolderEntry<'a> {
     pub(crate) name: [u8; 8],
     pub(crate) member: usize,
     pub(crate) is_alias: bool,
-    pub(crate) notes: Vec<Note>,
+    pub(crate) notes: Vec<MemberNote>,
     pub(crate) user: &'a [u8],
 }
 
@@ -26,18 +26,18 @@ pub(crate) struct FolderEntry<'a> {
 #[derive(Clone, Copy)]
 pub(crate) enum Unled {
     /// It leads nowhere.
-    Fault(EntryFault),
+    Fault(FolderEntryFault),
     /// Memory was refused.
     OutOfMemory,
 }
 
 // The note of a library for one of a text, if it leads to a block.
-fn note_to(note: FormNote) -> Option<Note>
+fn note_to(note: Note) -> Option<MemberNote>
     ensures { result ≡ note_to note }
 {
     match note {
-        FormNote::Block(0, _) | FormNote::Address(_, _) => None,
-        FormNote::Block(number, byte) => Some(Note {
+        Note::Block(0, _) | Note::Address(_, _) => None,
+        Note::Block(number, byte) => Some(MemberNote {
             block: number as usize - 1,
             count: byte,
         }),
@@ -45,14 +45,14 @@ fn note_to(note: FormNote) -> Option<Note>
 }
 
 // The notes of a library for those of a text.
-fn notes_to(alloc: Global, notes: &[FormNote]) -> Result<Vec<Note>, Unled>
+fn notes_to(alloc: Global, notes: &[Note]) -> Result<Vec<MemberNote>, Unled>
     ensures made { IfOk result (λ made. notes_to notes.now ≡ Some made.items) }
     ensures fault { IfErr result (λ e. IsNoted e (notes_to notes.now)) }
 {
     let mut made = Vec::new(alloc);
     for note in notes {
         let Some(note) = note_to(*note) else {
-            return Err(Unled::Fault(EntryFault::NoBlock));
+            return Err(Unled::Fault(FolderEntryFault::NoBlock));
         };
         if made.push(note).is_err() {
             return Err(Unled::OutOfMemory);
@@ -102,7 +102,7 @@ fn entry_of<'a>(
     ensures fault { IfErr result (λ e. IsUnled e (entry_parts members.now entry.entry.now)) }
 {
     let Some(member) = number_of(members, member_name(entry)) else {
-        return Err(Unled::Fault(EntryFault::NoMember));
+        return Err(Unled::Fault(FolderEntryFault::NoMember));
     };
     let notes = match notes_to(alloc, entry.notes.as_slice()) {
         Ok(notes) => notes,

@@ -7,7 +7,7 @@ use thiserror::Error;
 
 /// Why an entry of a directory leads nowhere.
 #[derive(Clone, Copy, Debug, PartialEq, Eq, Error)]
-pub enum EntryFault {
+pub enum FolderEntryFault {
     /// It is another name of a member that its data set has not.
     #[error("no such member")]
     NoMember,
@@ -30,7 +30,7 @@ pub enum FolderFault {
     NoFile(String),
     /// An entry of a directory, by the name of its file, leads nowhere.
     #[error("{0}: {1}")]
-    Entry(String, EntryFault),
+    Entry(String, FolderEntryFault),
     /// The volume does not get a data set, by the name of its file.
     #[error("{0}: {1}")]
     Refused(String, LoadRefusal),

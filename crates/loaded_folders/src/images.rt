@@ -15,16 +15,16 @@ use ckd_image::Image;
 use dasd_files::VolumeFile;
 use data_sets::safe_name;
 use loaded_libraries::{LoadedLibrary, load_library};
-use loaded_sets::{LoadFault, LoadedSet, SetForm, SourceForm, load_image};
+use loaded_sets::{LoadFault, LoadedSet, NewSetForm, SourceForm, load_image};
 use record_formats::RecordAttributes;
-use set_forms::SetForm as LineForm;
+use set_forms::SetForm;
 use std::alloc::{AllocError, Global};
 
 // What the label of a data set is to say, by its line.
-fn form_of(line: &LineForm) -> SetForm
+fn form_of(line: &SetForm) -> NewSetForm
     ensures { result ≡ form_of line.now }
 {
-    SetForm {
+    NewSetForm {
         organisation: line.organisation,
         attributes: RecordAttributes {
             format: line.format,

@@ -10,5 +10,5 @@ mod names;
 mod saves;
 mod sets;
 
-pub use crate::fault::{EntryFault, FolderFault};
+pub use crate::fault::{FolderEntryFault, FolderFault};
 pub use crate::saves::{NewFolder, load_folder};

@@ -20,7 +20,7 @@ use loaded_sets::{
     ContentFault, LoadFault, LoadRefusal, NO_MEMORY, SourceForm, label_of, layout_of_set,
     of_placing, of_reading, refused,
 };
-use placed_sets::{LabelledVolume, judge, position_of};
+use placed_sets::{SoundVolume, judge, position_of};
 use std::alloc::Global;
 
 /// Puts a library onto the volume of an image in memory, and answers how many tracks it has. Its tracks are the first ones free that have
@@ -57,7 +57,7 @@ pub fn load_library(
 fn put_library(
     alloc: Global,
     image: &mut Image<VolumeFile>,
-    volume: &LabelledVolume,
+    volume: &SoundVolume,
     library: &LoadedLibrary,
 ) -> Result<u32, LoadFault>
     requires geometry { volume.now.geometry ≡ image.old.geometry }
@@ -75,7 +75,7 @@ fn put_library(
 fn put_new(
     alloc: Global,
     image: &mut Image<VolumeFile>,
-    volume: &LabelledVolume,
+    volume: &SoundVolume,
     library: &LoadedLibrary,
 ) -> Result<u32, LoadFault>
     requires geometry { volume.now.geometry ≡ image.old.geometry }
@@ -117,7 +117,7 @@ fn put_new(
 fn put_blocks(
     alloc: Global,
     image: &mut Image<VolumeFile>,
-    volume: &LabelledVolume,
+    volume: &SoundVolume,
     library: &LoadedLibrary,
     blocks: MemberBlocks,
 ) -> Result<u32, LoadFault>

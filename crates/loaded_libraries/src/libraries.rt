@@ -6,7 +6,7 @@ ghost use Rattle.loaded_libraries.specs.Members.{cut_in};
 
 use data_set_blocks::{Cut, cut_of};
 use library_records::{MemberEntry, NewLibrary};
-use loaded_sets::{SetForm, SourceForm};
+use loaded_sets::{NewSetForm, SourceForm};
 use placed_sets::SetLabel;
 use record_formats::Layout;
 
@@ -16,7 +16,7 @@ pub struct LoadedLibrary<'a> {
     /// Its name, in EBCDIC, with blanks behind it.
     pub name: [u8; 44],
     /// What its label is to say.
-    pub form: SetForm,
+    pub form: NewSetForm,
     /// What the bytes of its members' files are.
     pub source: SourceForm,
     /// How many blocks its directory has.

@@ -12,7 +12,7 @@ use ckd_image::Image;
 use dasd_files::VolumeFile;
 use library_records::{library_directory, library_records};
 use loaded_sets::{LoadFault, NO_MEMORY, of_placing};
-use placed_sets::{LabelledVolume, PlacedSet, place_records};
+use placed_sets::{PlacedSet, SoundVolume, place_records};
 use std::alloc::Global;
 
 /// Puts a library with its records onto such a volume, and answers how many tracks it has.
@@ -23,7 +23,7 @@ use std::alloc::Global;
 pub(crate) fn put_named(
     alloc: Global,
     image: &mut Image<VolumeFile>,
-    volume: &LabelledVolume,
+    volume: &SoundVolume,
     named: &NamedLibrary,
 ) -> Result<u32, LoadFault>
     requires geometry { volume.now.geometry ≡ image.old.geometry }

@@ -14,8 +14,8 @@ use Rattle.record_formats.specs.declared.layouts.AttributeFault.{AttributeFault}
 use Rattle.record_formats.specs.declared.layouts.Layout.{Layout}
 use Rattle.record_formats.specs.declared.layouts.RecordAttributes.{RecordAttributes}
 use Rattle.record_formats.specs.Layouts.{layout_given}
-use Rattle.text_records.specs.declared.faults.TextFault.{TextFault}
-use Rattle.text_records.specs.declared.faults.TextFault.TheVariants as text
+use Rattle.text_records.specs.declared.faults.TextRecordsFault.{TextRecordsFault}
+use Rattle.text_records.specs.declared.faults.TextRecordsFault.TheVariants as text
 use Rattle.text_records.specs.Records.{records_of}
 use Rattle.volume_contents.specs.declared.blocks.Block.{Block}
 use Rattle.volume_contents.specs.Contents.{Said}
@@ -26,7 +26,7 @@ use Rattle.placed_sets.specs.declared.fault.PlaceRefusal.{PlaceRefusal}
 use Rattle.placed_sets.specs.declared.plans.SetLabel.{SetLabel}
 use Rattle.placed_sets.specs.Volumes.{unfit_of}
 use Rattle.loaded_sets.specs.declared.contents.LoadedSet.{LoadedSet}
-use Rattle.loaded_sets.specs.declared.contents.SetForm.{SetForm}
+use Rattle.loaded_sets.specs.declared.contents.NewSetForm.{NewSetForm}
 use Rattle.loaded_sets.specs.declared.contents.SourceForm.{SourceForm}
 use Rattle.loaded_sets.specs.declared.contents.SourceForm.TheVariants as source
 use Rattle.loaded_sets.specs.declared.fault.ContentFault.{ContentFault}
@@ -39,7 +39,7 @@ abbrev pub silent : RecordAttributes
 silent = record { format = 0; record_length = 0; block_length = 0 }
 
 -- how the records of a data set lie in its blocks, by what is given of it
-abbrev pub layout_of_set : SetForm → Result Layout AttributeFault
+abbrev pub layout_of_set : NewSetForm → Result Layout AttributeFault
 layout_of_set f = layout_given silent f.attributes
 
 -- The length of records that a label says: of fixed ones their own; of variable ones what is given, or 0; of undefined ones 0.
@@ -50,7 +50,7 @@ length_said form.Spanned given = given
 length_said form.Undefined given = 0
 
 -- what the label of a data set of this layout says
-abbrev pub label_of : SetForm → Layout → SetLabel
+abbrev pub label_of : NewSetForm → Layout → SetLabel
 label_of f l = record {
   organisation = f.organisation;
   format = f.attributes.format;
@@ -79,11 +79,11 @@ abbrev pub text_size : Layout → Option ℕ
 text_size l = size_in l.form
 
 -- the records of a text, or why there are none
-abbrev pub text_fault : TextFault → ContentFault
+abbrev pub text_fault : TextRecordsFault → ContentFault
 text_fault (text.Line number why) = content.Line number why
 text_fault text.OutOfMemory = content.NotText
 
-abbrev pub records_or_fault : Result (List ℕ) TextFault → Result (List ℕ) ContentFault
+abbrev pub records_or_fault : Result (List ℕ) TextRecordsFault → Result (List ℕ) ContentFault
 records_or_fault (Ok bytes) = Ok bytes
 records_or_fault (Err f) = Err (text_fault f)
 

@@ -9,7 +9,7 @@ use data_sets::RecordForm;
 use placed_sets::SetLabel;
 use record_formats::{AttributeFault, Layout, RecordAttributes, layout_given};
 use std::alloc::Global;
-use text_records::{TextFault, text_records};
+use text_records::{TextRecordsFault, text_records};
 use volume_labels::Date;
 
 /// A label that says nothing of its records.
@@ -32,7 +32,7 @@ pub enum SourceForm {
 
 /// What is asked of a new data set, beside its name and its file.
 #[derive(Clone, Copy)]
-pub struct SetForm {
+pub struct NewSetForm {
     /// Its organisation, as bits.
     pub organisation: u16,
     /// The format of its records, and the lengths of these and of blocks.
@@ -51,7 +51,7 @@ pub struct LoadedSet<'a> {
     /// Its name, in EBCDIC, with blanks behind it.
     pub name: [u8; 44],
     /// What its label is to say.
-    pub form: SetForm,
+    pub form: NewSetForm,
     /// What its bytes are.
     pub source: SourceForm,
     /// The bytes of its file.
@@ -63,7 +63,7 @@ pub struct LoadedSet<'a> {
 /// # Errors
 ///
 /// The first fault of the format and the lengths, as `layout_given` of `record_formats` tells it.
-pub fn layout_of_set(form: &SetForm) -> Result<Layout, AttributeFault>
+pub fn layout_of_set(form: &NewSetForm) -> Result<Layout, AttributeFault>
     ensures { result ≡ layout_of_set form.now }
 {
     layout_given(SILENT, form.attributes)
@@ -81,7 +81,7 @@ fn length_said(layout: Layout, given: u16) -> u16
 }
 
 /// What the label of a data set of this layout says.
-pub fn label_of(form: &SetForm, layout: Layout) -> SetLabel
+pub fn label_of(form: &NewSetForm, layout: Layout) -> SetLabel
     ensures { result ≡ label_of form.now layout }
 {
     SetLabel {
@@ -119,9 +119,9 @@ pub fn text_bytes(alloc: Global, layout: Layout, text: &[u8]) -> Result<Vec<u8>,
     };
     match text_records(alloc, text, size) {
         Ok(made) => Ok(made),
-        Err(TextFault::Line(number, fault)) => Err(Unmade::Content(ContentFault::Line(
+        Err(TextRecordsFault::Line(number, fault)) => Err(Unmade::Content(ContentFault::Line(
             number, fault,
         ))),
-        Err(TextFault::OutOfMemory) => Err(Unmade::OutOfMemory),
+        Err(TextRecordsFault::OutOfMemory) => Err(Unmade::OutOfMemory),
     }
 }

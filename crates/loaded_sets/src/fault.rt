@@ -12,7 +12,7 @@ use data_set_blocks::BlockFault;
 use library_records::LibraryFault;
 use placed_sets::{PlaceFault, PlaceRefusal};
 use record_formats::AttributeFault;
-use text_records::LineFault;
+use text_records::TextLineFault;
 use thiserror::Error;
 
 /// Why a file has no blocks for a data set or a member.
@@ -26,7 +26,7 @@ pub enum ContentFault {
     NotText,
     /// A line of the file is no record; its number, from 1 on, and why.
     #[error("line {0} {1}")]
-    Line(usize, LineFault),
+    Line(usize, TextLineFault),
     /// The bytes of the file are no blocks of such a data set.
     #[error(transparent)]
     Blocks(BlockFault),

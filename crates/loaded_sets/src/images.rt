@@ -18,7 +18,7 @@ use changed_volumes::read_said;
 use ckd_image::Image;
 use dasd_files::VolumeFile;
 use data_set_blocks::{Blocks, Cut, block_fault, block_records, cut_of};
-use placed_sets::{LabelledVolume, PlacedSet, judge, place_records, position_of};
+use placed_sets::{PlacedSet, SoundVolume, judge, place_records, position_of};
 use record_formats::Layout;
 use std::alloc::Global;
 
@@ -63,7 +63,7 @@ pub fn load_image(
 fn put_set(
     alloc: Global,
     image: &mut Image<VolumeFile>,
-    volume: &LabelledVolume,
+    volume: &SoundVolume,
     set: &LoadedSet,
 ) -> Result<u32, LoadFault>
     requires geometry { volume.now.geometry ≡ image.old.geometry }
@@ -81,7 +81,7 @@ fn put_set(
 fn put_new(
     alloc: Global,
     image: &mut Image<VolumeFile>,
-    volume: &LabelledVolume,
+    volume: &SoundVolume,
     set: &LoadedSet,
 ) -> Result<u32, LoadFault>
     requires geometry { volume.now.geometry ≡ image.old.geometry }
@@ -144,7 +144,7 @@ fn of_bytes<'a>(layout: Layout, bytes: &'a [u8], cut: Cut) -> FileBlocks<'a>
 fn put_blocks(
     alloc: Global,
     image: &mut Image<VolumeFile>,
-    volume: &LabelledVolume,
+    volume: &SoundVolume,
     set: &LoadedSet,
     file: FileBlocks,
 ) -> Result<u32, LoadFault>
@@ -165,7 +165,7 @@ fn put_blocks(
 fn put_records(
     alloc: Global,
     image: &mut Image<VolumeFile>,
-    volume: &LabelledVolume,
+    volume: &SoundVolume,
     set: &LoadedSet,
     file: FileBlocks,
 ) -> Result<u32, LoadFault>

@@ -8,7 +8,7 @@ mod images;
 mod lines;
 mod saves;
 
-pub use crate::contents::{LoadedSet, SetForm, SourceForm, label_of, layout_of_set, text_bytes};
+pub use crate::contents::{LoadedSet, NewSetForm, SourceForm, label_of, layout_of_set, text_bytes};
 pub use crate::fault::{
     ContentFault, LoadFault, LoadRefusal, NO_MEMORY, Unmade, of_placing, of_reading, refused,
 };

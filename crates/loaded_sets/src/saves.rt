@@ -5,7 +5,7 @@ ghost use Rattle.counted_io.specs.Streams.{seen_by, IsFlushed};
 ghost use Rattle.dasd_jobs.specs.Sources.{ReadsFront};
 ghost use Rattle.loaded_sets.specs.Loads.{LoadsSet, LoadsFiles, TellsLoad};
 
-use crate::contents::{LoadedSet, SetForm, SourceForm};
+use crate::contents::{LoadedSet, NewSetForm, SourceForm};
 use crate::fault::{LoadFault, LoadRefusal, of_file, of_line, refused};
 use crate::images::load_image;
 use crate::lines::write_loaded;
@@ -29,7 +29,7 @@ pub struct NewSet<'a> {
     /// What that file has.
     pub source: SourceForm,
     /// What its label is to say.
-    pub form: SetForm,
+    pub form: NewSetForm,
 }
 
 /// Puts a data set onto the volume in files, saves the files that changed, and prints what was loaded. The files of the volume are locked

@@ -9,12 +9,12 @@ use Rattle.volume_contents.specs.declared.findings.Finding.{Finding}
 use Rattle.volume_contents.specs.Contents.{Said}
 use Rattle.volume_contents.specs.Checks.{findings_of, extents_of}
 use Rattle.changed_volumes.specs.Changes.{IsHindered}
-use Rattle.volume_changes.specs.declared.refusal.Refusal.TheVariants.{NoLabel, NoContents}
+use Rattle.volume_changes.specs.declared.refusal.ChangeRefusal.TheVariants.{NoLabel, NoContents}
 use Rattle.placed_sets.specs.declared.fault.PlaceFault.{PlaceFault}
 use Rattle.placed_sets.specs.declared.fault.PlaceFault.TheVariants as fault
 use Rattle.placed_sets.specs.declared.fault.PlaceRefusal.{PlaceRefusal}
 use Rattle.placed_sets.specs.declared.fault.PlaceRefusal.TheVariants.{Volume, Findings}
-use Rattle.placed_sets.specs.declared.volumes.LabelledVolume.{LabelledVolume}
+use Rattle.placed_sets.specs.declared.volumes.SoundVolume.{SoundVolume}
 
 -- a volume that has a label and a table of contents, whose format 4 block and control blocks in use are these
 pub record Labelled : Type 0 where
@@ -23,7 +23,7 @@ pub record Labelled : Type 0 where
   pub table : ContentsBlock
   pub blocks : List Block
 
-abbrev pub labelled : LabelledVolume → Labelled
+abbrev pub labelled : SoundVolume → Labelled
 labelled v = record { geometry = v.geometry; label = v.label; table = v.table; blocks = v.blocks.now }
 
 -- the volume that says this of itself

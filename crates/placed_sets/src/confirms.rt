@@ -9,7 +9,7 @@ ghost use Rattle.placed_sets.specs.Parts.{IsFound, IsListed, IsUnseen};
 
 use crate::fault::{PlaceFault, PlaceRefusal, of_reading, refused};
 use crate::tables::last_of;
-use crate::volumes::{LabelledVolume, judge, position_of};
+use crate::volumes::{SoundVolume, judge, position_of};
 use changed_volumes::read_said;
 use ckd_image::Image;
 use dasd_files::VolumeFile;
@@ -26,7 +26,7 @@ use volume_labels::RecordAddress;
 pub(crate) fn confirm(
     alloc: Global,
     image: &Image<VolumeFile>,
-    volume: &LabelledVolume,
+    volume: &SoundVolume,
     block: &NewDataSet,
     address: RecordAddress,
 ) -> Result<(), PlaceFault>
@@ -52,8 +52,8 @@ pub(crate) fn confirm(
 
 // Whether the volume lists the data set, beside those that it had.
 fn is_listed(
-    volume: &LabelledVolume,
-    now: &LabelledVolume,
+    volume: &SoundVolume,
+    now: &SoundVolume,
     block: &NewDataSet,
     address: RecordAddress,
 ) -> bool

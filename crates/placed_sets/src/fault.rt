@@ -7,14 +7,14 @@ ghost use Rattle.placed_sets.specs.Parts.{IsHinderedBy};
 use changed_volumes::ChangeFault;
 use dasd_jobs::JobFault;
 use thiserror::Error;
-use volume_changes::Refusal;
+use volume_changes::ChangeRefusal;
 
 /// Why a volume does not get a data set. It stays as it was.
 #[derive(Clone, Copy, Debug, Error)]
 pub enum PlaceRefusal {
     /// The volume has no label or no table of contents.
     #[error(transparent)]
-    Volume(Refusal),
+    Volume(ChangeRefusal),
     /// Something is wrong with the volume.
     #[error("the volume has findings")]
     Findings,

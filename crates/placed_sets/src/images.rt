@@ -14,7 +14,7 @@ use crate::confirms::confirm;
 use crate::fault::{NO_MEMORY, NO_SLOT, PlaceFault};
 use crate::plans::{Placed, PlacedSet, Run, place_set};
 use crate::tables::write_table;
-use crate::volumes::LabelledVolume;
+use crate::volumes::SoundVolume;
 use ckd_image::{Image, StoreFault};
 use dasd_files::VolumeFile;
 use dasd_jobs::JobFault;
@@ -33,7 +33,7 @@ use volume_labels::RecordAddress;
 pub fn place_records(
     alloc: Global,
     image: &mut Image<VolumeFile>,
-    volume: &LabelledVolume,
+    volume: &SoundVolume,
     set: &PlacedSet,
 ) -> Result<u32, PlaceFault>
     requires geometry { volume.now.geometry ≡ image.old.geometry }
@@ -53,7 +53,7 @@ fn place_with(
     alloc: Global,
     image: &mut Image<VolumeFile>,
     slot: &mut [u8],
-    volume: &LabelledVolume,
+    volume: &SoundVolume,
     set: &PlacedSet,
 ) -> Result<u32, PlaceFault>
     requires geometry { volume.now.geometry ≡ image.old.geometry }
@@ -75,7 +75,7 @@ fn place_with(
 fn write_set(
     image: &mut Image<VolumeFile>,
     slot: &mut [u8],
-    volume: &LabelledVolume,
+    volume: &SoundVolume,
     set: &PlacedSet,
     placed: &Placed,
 ) -> Result<RecordAddress, PlaceFault>

@@ -12,4 +12,4 @@ mod volumes;
 pub use crate::fault::{PlaceFault, PlaceRefusal};
 pub use crate::images::place_records;
 pub use crate::plans::{PlacedSet, SetLabel};
-pub use crate::volumes::{LabelledVolume, judge, position_of};
+pub use crate::volumes::{SoundVolume, judge, position_of};

@@ -10,7 +10,7 @@ ghost use Rattle.space_allocation.specs.Extents.{HasRun};
 ghost use Rattle.placed_sets.specs.Parts.{IsPlaced, IsUnplaced};
 
 use crate::fault::{PlaceFault, PlaceRefusal, refused};
-use crate::volumes::{LabelledVolume, taken_extents};
+use crate::volumes::{SoundVolume, taken_extents};
 use record_tracks::{LastPlace, NewRecord, last_place, tracks_needed};
 use space_allocation::{NewDataSet, extent_of_run, free_run};
 use std::alloc::Global;
@@ -76,7 +76,7 @@ pub(crate) struct Placed {
 /// The volume has no room for it, or there is no memory.
 pub(crate) fn place_set(
     alloc: Global,
-    volume: &LabelledVolume,
+    volume: &SoundVolume,
     set: &PlacedSet,
 ) -> Result<Placed, PlaceFault>
     requires { CanBePlaced volume.now.geometry.model set.now }
@@ -89,7 +89,7 @@ pub(crate) fn place_set(
 }
 
 // The first free tracks that have room for records.
-fn run_for(alloc: Global, volume: &LabelledVolume, records: &[NewRecord]) -> Result<Run, PlaceFault>
+fn run_for(alloc: Global, volume: &SoundVolume, records: &[NewRecord]) -> Result<Run, PlaceFault>
     requires each { All (RecordGoesOn volume.now.geometry.model) records.now }
     requires some { 1 ≤ length records.now }
     ensures tracks { IfOk result (λ run. GetsTracks (labelled volume.now) (all_areas records.now) run.first run.tracks) }
@@ -111,7 +111,7 @@ fn run_for(alloc: Global, volume: &LabelledVolume, records: &[NewRecord]) -> Res
 }
 
 // What the format 1 block of a data set says whose records are on these tracks.
-fn new_set(volume: &LabelledVolume, set: &PlacedSet, run: Run) -> NewDataSet
+fn new_set(volume: &SoundVolume, set: &PlacedSet, run: Run) -> NewDataSet
     requires set { CanBePlaced volume.now.geometry.model set.now }
     requires takes { Takes volume.now.geometry.model (areas set.now) run.tracks }
     requires few { run.tracks ≤ 65536 }

@@ -17,7 +17,7 @@ ghost use Rattle.placed_sets.specs.Parts.{Fills, IsLeftOut, IsUnlisted, IsUnfoun
 
 use crate::fault::{NO_SLOT, PlaceFault, PlaceRefusal, refused};
 use crate::plans::Run;
-use crate::volumes::LabelledVolume;
+use crate::volumes::SoundVolume;
 use changed_volumes::write_change;
 use ckd_image::{Image, StoreFault};
 use ckd_track::{Geometry, read_slot};
@@ -39,7 +39,7 @@ const NEAR_TRACKS: u32 = 65_536;
 pub(crate) fn write_table(
     image: &mut Image<VolumeFile>,
     slot: &mut [u8],
-    volume: &LabelledVolume,
+    volume: &SoundVolume,
     run: Run,
     block: (&[u8; 44], &[u8; 96]),
 ) -> Result<RecordAddress, PlaceFault>
@@ -179,7 +179,7 @@ fn is_behind(address: RecordAddress, other: RecordAddress) -> bool
 }
 
 // What becomes of the block of format 4 where a block of format 1 stands at this address.
-fn count_change(volume: &LabelledVolume, address: RecordAddress) -> Option<BlockChange>
+fn count_change(volume: &SoundVolume, address: RecordAddress) -> Option<BlockChange>
     ensures { result ≡ count_change (labelled volume.now) address }
 {
     let i = find_block(volume.blocks, volume.label.contents)?;
@@ -192,7 +192,7 @@ fn count_change(volume: &LabelledVolume, address: RecordAddress) -> Option<Block
 }
 
 // What becomes of the first block of format 5 with a run of free tracks that begins with these.
-fn take_change(volume: &LabelledVolume, run: Run) -> Option<BlockChange>
+fn take_change(volume: &SoundVolume, run: Run) -> Option<BlockChange>
     ensures { result ≡ take_change (labelled volume.now) run.first run.tracks }
 {
     let i = position_of_free(volume.geometry, volume.blocks, run)?;

@@ -12,13 +12,13 @@ use crate::fault::{NO_MEMORY, PlaceFault, PlaceRefusal, refused};
 use ckd_track::Geometry;
 use data_sets::without_blanks;
 use std::alloc::Global;
-use volume_changes::Refusal;
+use volume_changes::ChangeRefusal;
 use volume_contents::{Block, Contents, check_contents, data_set_of, is_data_set};
 use volume_labels::{ContentsBlock, Extent, VolumeLabel};
 
 /// A volume with nothing wrong that has a label and a table of contents.
 #[derive(Clone, Copy)]
-pub struct LabelledVolume<'a> {
+pub struct SoundVolume<'a> {
     /// Its geometry.
     pub geometry: Geometry,
     /// Its label.
@@ -38,16 +38,16 @@ pub fn judge<'a>(
     alloc: Global,
     geometry: Geometry,
     contents: &'a mut Contents,
-) -> Result<LabelledVolume<'a>, PlaceFault>
+) -> Result<SoundVolume<'a>, PlaceFault>
     ensures says { IfOk result (λ volume. SaysOf geometry (said_in contents.old) (labelled volume)) }
     ensures nothing { OnOk result (all_findings geometry (said_in contents.old) ≡ []) }
     ensures fault { IfErr result (λ e. IsUnfit e geometry (said_in contents.old)) }
 {
     let Some(label) = contents.label else {
-        return Err(refused(PlaceRefusal::Volume(Refusal::NoLabel)));
+        return Err(refused(PlaceRefusal::Volume(ChangeRefusal::NoLabel)));
     };
     let Some(table) = contents.table else {
-        return Err(refused(PlaceRefusal::Volume(Refusal::NoContents)));
+        return Err(refused(PlaceRefusal::Volume(ChangeRefusal::NoContents)));
     };
     if check_contents(alloc, geometry, contents).is_err() {
         return Err(NO_MEMORY);
@@ -55,7 +55,7 @@ pub fn judge<'a>(
     if !contents.found.findings.is_empty() {
         return Err(refused(PlaceRefusal::Findings));
     }
-    Ok(LabelledVolume {
+    Ok(SoundVolume {
         geometry,
         label,
         table,
@@ -64,10 +64,7 @@ pub fn judge<'a>(
 }
 
 /// The extents of the table of contents and of all data sets.
-pub(crate) fn taken_extents(
-    alloc: Global,
-    volume: &LabelledVolume,
-) -> Result<Vec<Extent>, PlaceFault>
+pub(crate) fn taken_extents(alloc: Global, volume: &SoundVolume) -> Result<Vec<Extent>, PlaceFault>
     ensures extents { IfOk result (λ extents. extents.items ≡ taken_extents (labelled volume.now)) }
     ensures fault { IfErr result IsHinderedBy }
 {

@@ -13,7 +13,7 @@ use volume_hash::write_path;
 
 /// How the hashes of a volume are printed, and of what.
 #[derive(Clone, Copy)]
-pub struct Form<'a> {
+pub struct HashesForm<'a> {
     /// The path of the volume: as it was typed; of objects as a string of JSON, with its quotes.
     pub path: &'a str,
     /// Whether each line is an object of JSON.
@@ -72,7 +72,7 @@ fn member_word(is_whole: bool) -> &'static str
 /// Writes the line or the object of a data set.
 pub(crate) fn write_set<W: Write>(
     writer: &mut W,
-    form: Form,
+    form: HashesForm,
     name: &str,
     hashed: Hashed,
 ) -> io::Result<()>
@@ -123,7 +123,7 @@ fn write_set_line<W: Write>(
 /// Writes the line or the object of a member.
 pub(crate) fn write_member<W: Write>(
     writer: &mut W,
-    form: Form,
+    form: HashesForm,
     name: &str,
     member: &str,
     hashed: Hashed,
@@ -177,7 +177,7 @@ fn write_member_line<W: Write>(
 }
 
 /// Writes that something is wrong with the label or the table of contents of a volume.
-pub(crate) fn write_findings<W: Write>(writer: &mut W, form: Form) -> io::Result<()>
+pub(crate) fn write_findings<W: Write>(writer: &mut W, form: HashesForm) -> io::Result<()>
     ensures { OnOk result (Appends (W.contents writer.old) (W.contents writer.new)
         (findings_text (shown form.entry.path.now form.entry.json form.entry.sets form.entry.members))) }
 {

@@ -9,6 +9,6 @@ mod printing;
 mod sets;
 
 pub use crate::blocks::BlocksHash;
-pub use crate::items::Form;
+pub use crate::items::HashesForm;
 pub use crate::laws::message_is_what_blocks_say;
 pub use crate::printing::print_hashes;

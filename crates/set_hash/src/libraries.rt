@@ -11,7 +11,7 @@ ghost use Rattle.set_hash.specs.Prints.{Adds, AddsMembers, AddsMember, IsHashOfL
 ghost use Rattle.set_hash.specs.Sets.{where_asked, library_lines};
 
 use crate::blocks::{BlocksHash, begun, ended, hash_blocks, is_end_of_file};
-use crate::items::{Form, Hashed, Report, write_member, write_set};
+use crate::items::{Hashed, HashesForm, Report, write_member, write_set};
 use dasd_extract::{Members, read_members};
 use dasd_volumes::{SlotReader, VolumeFault};
 use data_sets::{DirectoryEntry, safe_name};
@@ -22,7 +22,7 @@ use volume_labels::Extent;
 /// A data set that is hashed, and how its lines are written.
 #[derive(Clone, Copy)]
 pub(crate) struct Named<'a> {
-    pub(crate) form: Form<'a>,
+    pub(crate) form: HashesForm<'a>,
     /// Its name, as it is printed.
     pub(crate) name: &'a str,
     pub(crate) extents: &'a [Extent],

@@ -10,7 +10,7 @@ ghost use Rattle.set_hash.specs.Lines.{shown};
 ghost use Rattle.set_hash.specs.Prints.{IsReportOf, TellsWhole};
 ghost use Rattle.set_hash.specs.Sets.{asks_sets, hashes_text};
 
-use crate::items::{Form, Report};
+use crate::items::{HashesForm, Report};
 use crate::sets::add_contents;
 use counted_io::{Counted, WriteFault, write_flushed};
 use dasd_volumes::{SlotReader, VolumeFault};
@@ -31,7 +31,7 @@ pub fn print_hashes<V: SlotReader, W: Write>(
     alloc: Global,
     volume: &mut V,
     writer: &mut Counted<W>,
-    form: Form,
+    form: HashesForm,
 ) -> Result<bool, VolumeFault>
     ensures whole { let f = shown form.entry.path.now form.entry.json form.entry.sets form.entry.members in
         IfOk result (TellsWhole f (V.volume volume.old)) }
@@ -57,7 +57,7 @@ pub fn print_hashes<V: SlotReader, W: Write>(
 fn report_of<V: SlotReader>(
     alloc: Global,
     volume: &mut V,
-    form: Form,
+    form: HashesForm,
 ) -> Result<Report, VolumeFault>
     ensures report { let f = shown form.entry.path.now form.entry.json form.entry.sets form.entry.members in
         IfOk result (IsReportOf f (V.volume volume.old)) }
@@ -82,19 +82,19 @@ fn report_of<V: SlotReader>(
 }
 
 // Whether data sets have lines.
-fn asks_sets(form: Form) -> bool
+fn asks_sets(form: HashesForm) -> bool
     ensures { result ≡ asks_sets (shown form.entry.path.now form.entry.json form.entry.sets form.entry.members) }
 {
     form.sets || form.members
 }
 
 // The line of a volume's hash, and whether all of its tracks can be read.
-fn volume_report(alloc: Global, form: Form, hash: VolumeHash) -> Result<Report, VolumeFault>
+fn volume_report(alloc: Global, form: HashesForm, hash: VolumeHash) -> Result<Report, VolumeFault>
     ensures lines { IfOk result (λ r. r.lines.items ≡ line_or_object form.entry.path.now form.entry.json (encode_lower hash.digest) hash.unreadable) }
     ensures whole { IfOk result (λ r. r.is_whole ≡ (hash.unreadable == 0)) }
     ensures fault { IfErr result (λ e. e ≡ VolumeFault.OutOfMemory) }
 {
-    let line = volume_hash::Form {
+    let line = volume_hash::HashForm {
         path: form.path,
         json: form.json,
     };

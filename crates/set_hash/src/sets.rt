@@ -9,7 +9,7 @@ ghost use Rattle.set_hash.specs.Sets.{none_found, findings_lines, blocks_line, s
 ghost use Rattle.set_hash.specs.Sets.{blocks_are_whole, contents_lines, contents_are_whole};
 
 use crate::blocks::hash_blocks;
-use crate::items::{Form, Report, write_findings};
+use crate::items::{HashesForm, Report, write_findings};
 use crate::libraries::{Named, add_library, add_set};
 use dasd_volumes::{SlotReader, VolumeFault};
 use data_sets::safe_name;
@@ -30,7 +30,7 @@ const FIRST: RelativeAddress = RelativeAddress {
 /// The control blocks of a volume, and how the lines of its data sets are written.
 #[derive(Clone, Copy)]
 struct Table<'a> {
-    form: Form<'a>,
+    form: HashesForm<'a>,
     blocks: &'a [Block],
 }
 
@@ -44,7 +44,7 @@ pub(crate) fn add_contents<V: SlotReader>(
     alloc: Global,
     volume: &mut V,
     report: &mut Report,
-    form: Form,
+    form: HashesForm,
 ) -> Result<(), VolumeFault>
     ensures lines { let f = shown form.entry.path.now form.entry.json form.entry.sets form.entry.members in
         OnOk result (Adds (contents_lines f) contents_are_whole (V.volume volume.old) report.old report.new) }
@@ -67,7 +67,11 @@ pub(crate) fn add_contents<V: SlotReader>(
 }
 
 // That something is wrong goes to the report, if it is.
-fn add_findings(report: &mut Report, form: Form, findings: &[Finding]) -> Result<(), AllocError>
+fn add_findings(
+    report: &mut Report,
+    form: HashesForm,
+    findings: &[Finding],
+) -> Result<(), AllocError>
     ensures lines { let f = shown form.entry.path.now form.entry.json form.entry.sets form.entry.members in
         OnOk result (report.new.lines.items ≡ report.old.lines.items ++ findings_lines f findings.now) }
     ensures whole { report.new.is_whole ≡ (report.old.is_whole && none_found findings.now) }
@@ -139,7 +143,7 @@ fn add_data_set<V: SlotReader>(
     alloc: Global,
     volume: &mut V,
     report: &mut Report,
-    form: Form,
+    form: HashesForm,
     set: &DataSet,
 ) -> Result<(), VolumeFault>
     ensures lines { let f = shown form.entry.path.now form.entry.json form.entry.sets form.entry.members in

@@ -9,8 +9,8 @@ use Rattle.std.proofs.lemmas.List.Quantifiers.{position-Some}
 use Rattle.std.proofs.lemmas.Str.{encodes-chars, IsUtf8-from_is_utf8}
 use Rattle.volume_labels.specs.Ebcdic.{code_page_037, character_of}
 use Rattle.dasd_extract.specs.Blocks.{is_control, text_character, text_of, line_of}
-use Rattle.text_records.specs.declared.faults.LineFault.{LineFault}
-use Rattle.text_records.specs.declared.faults.LineFault.TheVariants.{TooLong, NoCharacter}
+use Rattle.text_records.specs.declared.faults.TextLineFault.{TextLineFault}
+use Rattle.text_records.specs.declared.faults.TextLineFault.TheVariants.{TooLong, NoCharacter}
 use Rattle.text_records.specs.Codes.{code_of, codes_of, line_codes, before}
 use Rattle.text_records.specs.Records.{padded, record_with, record_of}
 use Rattle.text_records.specs.Read as read
@@ -72,7 +72,7 @@ pub record IsRecord (size : ℕ) (line bytes : List ℕ) : Type 0 where
 pub is_record : (size : ℕ) (line bytes : List ℕ) → record_of size line ≡ Ok bytes → IsRecord size line bytes
 is_record size line bytes is = with_codes (line_codes line) refl is
   where
-    no_bytes : (f : LineFault) → Err f ≡ Ok bytes → ⊥
+    no_bytes : (f : TextLineFault) → Err f ≡ Ok bytes → ⊥
     no_bytes f e = absurd cc
 
     there : (codes : List ℕ) → line_codes line ≡ Some codes → length codes ≤ size → padded size codes ≡ bytes → IsRecord size line bytes

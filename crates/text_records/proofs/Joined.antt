@@ -6,17 +6,17 @@ use Rattle.std.specs.Str.{is_utf8, chars, IsUtf8}
 use Rattle.std.proofs.lemmas.List.{take_all}
 use Rattle.std.proofs.lemmas.Bool.{lt-ltb, le-ltb}
 use Rattle.std.proofs.lemmas.Str.{is_utf8-from_IsUtf8, IsUtf8-from_is_utf8}
-use Rattle.text_records.specs.declared.faults.LineFault.{LineFault}
-use Rattle.text_records.specs.declared.faults.LineFault.TheVariants.{TooLong, NoCharacter}
-use Rattle.text_records.specs.declared.faults.TextFault.{TextFault}
-use Rattle.text_records.specs.declared.faults.TextFault.TheVariants.{Line}
+use Rattle.text_records.specs.declared.faults.TextLineFault.{TextLineFault}
+use Rattle.text_records.specs.declared.faults.TextLineFault.TheVariants.{TooLong, NoCharacter}
+use Rattle.text_records.specs.declared.faults.TextRecordsFault.{TextRecordsFault}
+use Rattle.text_records.specs.declared.faults.TextRecordsFault.TheVariants.{Line}
 use Rattle.text_records.specs.Codes.{codes_of, line_codes}
 use Rattle.text_records.specs.Lines.{lines_of}
 use Rattle.text_records.specs.Records.{padded, record_with, record_of, and_records, records_from, records_of}
 use Rattle.text_records.specs.Putting.{PutsCodes, PutsRecord}
 
 -- these records before others, if there are such
-abbrev pub joined : List ℕ → Result (List ℕ) TextFault → Result (List ℕ) TextFault
+abbrev pub joined : List ℕ → Result (List ℕ) TextRecordsFault → Result (List ℕ) TextRecordsFault
 joined bytes (Ok others) = Ok (bytes ++ others)
 joined bytes (Err fault) = Err fault
 
@@ -24,7 +24,7 @@ joined bytes (Err fault) = Err fault
 abbrev pub JoinedTo : (size : ℕ) → (text : List ℕ) → (number : ℕ) → (rest bytes : List ℕ) → Type 0
 JoinedTo size text number rest bytes = records_of size text ≡ joined bytes (records_from size (number + 1) (lines_of rest))
 
-same : (r : Result (List ℕ) TextFault) → r ≡ joined [] r
+same : (r : Result (List ℕ) TextRecordsFault) → r ≡ joined [] r
 same (Ok l) = refl
 same (Err f) = refl
 
@@ -40,7 +40,7 @@ none_left : (size number : ℕ) → records_from size number (lines_of []) ≡ O
 unfolding records_from lines_of
 none_left size number = refl
 
-shifted : (number : ℕ) (bytes record_bytes : List ℕ) (r : Result (List ℕ) TextFault)
+shifted : (number : ℕ) (bytes record_bytes : List ℕ) (r : Result (List ℕ) TextRecordsFault)
     → joined bytes (and_records number (Ok record_bytes) r) ≡ joined (bytes ++ record_bytes) r
 shifted number bytes record_bytes (Ok l) = ap Ok (sym (append_assoc bytes record_bytes l))
 shifted number bytes record_bytes (Err f) = refl
@@ -59,7 +59,7 @@ module _ (size : ℕ) (text : List ℕ) (number : ℕ) (rest line after bytes : 
       ∙ ap (λ l. joined l (records_from size (number + 1 + 1) (lines_of after))) (sym put.2)
 
   -- a line that is no record
-  pub not_joined : (fault : LineFault) → record_of size line ≡ Err fault → records_of size text ≡ Err (Line (number + 1) fault)
+  pub not_joined : (fault : TextLineFault) → record_of size line ≡ Err fault → records_of size text ≡ Err (Line (number + 1) fault)
   not_joined fault is = next ∙ ap (λ r. joined bytes (and_records (number + 1) r (records_from size (number + 1 + 1) (lines_of after)))) is
 
 -- all lines are records

@@ -10,8 +10,8 @@ use Rattle.data_sets.specs.declared.records.Segment.TheVariants.{Whole}
 use Rattle.data_sets.specs.Records.{fixed_record}
 use Rattle.dasd_extract.specs.Written.{Written, these_bytes, behind, nothing}
 use Rattle.dasd_extract.specs.Blocks.{lines_from, on_piece, line_of}
-use Rattle.text_records.specs.declared.faults.TextFault.{TextFault}
-use Rattle.text_records.specs.declared.faults.LineFault.{LineFault}
+use Rattle.text_records.specs.declared.faults.TextRecordsFault.{TextRecordsFault}
+use Rattle.text_records.specs.declared.faults.TextLineFault.{TextLineFault}
 use Rattle.text_records.specs.Lines.{lines_of, in_front}
 use Rattle.text_records.specs.Records.{record_of, and_records, records_from, records_of}
 use Rattle.text_records.specs.Read.{ended, without_blanks, AreLinesOf, IsReadAsLines, IsReadAsText}
@@ -46,7 +46,7 @@ no_records : (size number : ℕ) (bytes : List ℕ) → records_from size number
 unfolding records_from
 no_records size number bytes e = cc
 
-both : (number : ℕ) (r : Result (List ℕ) LineFault) (more : Result (List ℕ) TextFault) (bytes : List ℕ)
+both : (number : ℕ) (r : Result (List ℕ) TextLineFault) (more : Result (List ℕ) TextRecordsFault) (bytes : List ℕ)
     → and_records number r more ≡ Ok bytes
     → (a : List ℕ) × (b : List ℕ) × (r ≡ Ok a) × (more ≡ Ok b) × (bytes ≡ a ++ b)
 both number (Ok a) (Ok b) bytes e = (a, b, refl, refl, cc)

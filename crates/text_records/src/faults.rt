@@ -4,7 +4,7 @@ use thiserror::Error;
 
 /// Why a line is no record.
 #[derive(Clone, Copy, Debug, PartialEq, Eq, Error)]
-pub enum LineFault {
+pub enum TextLineFault {
     /// It has more characters than a record has bytes.
     #[error("is longer than a record")]
     TooLong,
@@ -15,10 +15,10 @@ pub enum LineFault {
 
 /// Why a text is not records of a length.
 #[derive(Clone, Copy, Debug, PartialEq, Eq, Error)]
-pub enum TextFault {
+pub enum TextRecordsFault {
     /// The line of this number, from 1 on, is no record.
     #[error("line {0} {1}")]
-    Line(usize, LineFault),
+    Line(usize, TextLineFault),
     /// Memory was refused.
     #[error("out of memory")]
     OutOfMemory,

@@ -7,6 +7,6 @@ mod laws;
 mod lines;
 mod records;
 
-pub use crate::faults::{LineFault, TextFault};
+pub use crate::faults::{TextLineFault, TextRecordsFault};
 pub use crate::laws::text_is_printed;
 pub use crate::records::text_records;

@@ -8,7 +8,7 @@ ghost use Rattle.text_records.specs.Putting.{PutsCodes, PutsRecord};
 ghost use Rattle.text_records.specs.Read.{IsReadAsText};
 
 use crate::codes::{code, table};
-use crate::faults::{LineFault, TextFault};
+use crate::faults::{TextLineFault, TextRecordsFault};
 use crate::lines::split_line;
 use std::alloc::{AllocError, Global};
 
@@ -23,7 +23,7 @@ const BLANK: u8 = 0x40;
 ///
 /// The first line that is no record, with its number from 1 on: it has more characters than a record has bytes; or it is not UTF-8, or has a
 /// character that code page 037 lacks, or one that controls a terminal or a file. Or there is no memory.
-pub fn text_records(alloc: Global, text: &[u8], size: u16) -> Result<Vec<u8>, TextFault>
+pub fn text_records(alloc: Global, text: &[u8], size: u16) -> Result<Vec<u8>, TextRecordsFault>
     requires size { 1 ≤ size }
     ensures records { IfOk result (λ records. records_of size text.now ≡ Ok records.items) }
     ensures fault { IfErr result (IsFault size text.now) }
@@ -38,8 +38,8 @@ pub fn text_records(alloc: Global, text: &[u8], size: u16) -> Result<Vec<u8>, Te
         number += 1;
         match put_record(&table, &mut records, line, size) {
             Ok(None) => rest = behind,
-            Ok(Some(fault)) => return Err(TextFault::Line(number, fault)),
-            Err(_) => return Err(TextFault::OutOfMemory),
+            Ok(Some(fault)) => return Err(TextRecordsFault::Line(number, fault)),
+            Err(_) => return Err(TextRecordsFault::OutOfMemory),
         }
     }
     Ok(records)
@@ -51,20 +51,20 @@ fn put_record(
     records: &mut Vec<u8>,
     line: &[u8],
     size: u16,
-) -> Result<Option<LineFault>, AllocError>
+) -> Result<Option<TextLineFault>, AllocError>
     requires { IsTable table.now }
     ensures { IfOk result (PutsRecord (record_of size line.now) records.old.items records.new.items) }
 {
     let Ok(text) = str::from_utf8(line) else {
-        return Ok(Some(LineFault::NoCharacter));
+        return Ok(Some(TextLineFault::NoCharacter));
     };
     let start = records.len();
     let size = usize::from(size);
     if !put_characters(table, records, text)? {
-        return Ok(Some(LineFault::NoCharacter));
+        return Ok(Some(TextLineFault::NoCharacter));
     }
     if records.len() - start > size {
-        return Ok(Some(LineFault::TooLong));
+        return Ok(Some(TextLineFault::TooLong));
     }
     records.resize(start + size, BLANK)?;
     Ok(None)

@@ -11,5 +11,5 @@ mod renames;
 pub use crate::blocks::{BlockChange, write_block};
 pub use crate::labels::{LabelFields, serial_change, write_label};
 pub use crate::names::new_set_name;
-pub use crate::refusal::Refusal;
+pub use crate::refusal::ChangeRefusal;
 pub use crate::renames::{find_set, plan_rename};

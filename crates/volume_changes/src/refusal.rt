@@ -4,7 +4,7 @@ use thiserror::Error;
 
 /// Why a volume is not changed as it was asked. It stays as it was.
 #[derive(Clone, Copy, Debug, PartialEq, Eq, Error)]
-pub enum Refusal {
+pub enum ChangeRefusal {
     /// The text is no name that a data set may be given.
     #[error("not a name of a data set")]
     NoName,

@@ -6,7 +6,7 @@ ghost use Rattle.volume_contents.specs.Sets.{has_name};
 ghost use Rattle.volume_changes.specs.Volumes.{said_in, rename_of, rename_at};
 
 use crate::blocks::BlockChange;
-use crate::refusal::Refusal;
+use crate::refusal::ChangeRefusal;
 use data_sets::without_blanks;
 use volume_contents::{Block, Contents, is_data_set};
 
@@ -40,14 +40,14 @@ fn is_taken(blocks: &[Block], name: &[u8]) -> bool
 }
 
 // The change of the first format 1 block with a name, which gets another one.
-fn rename_block(blocks: &[Block], old: &[u8], new: [u8; 44]) -> Result<BlockChange, Refusal>
+fn rename_block(blocks: &[Block], old: &[u8], new: [u8; 44]) -> Result<BlockChange, ChangeRefusal>
     ensures { result ≡ rename_at blocks.now new (position (has_name old.now) blocks.now) }
 {
     let Some(i) = find_set(blocks, old) else {
-        return Err(Refusal::NoDataSet);
+        return Err(ChangeRefusal::NoDataSet);
     };
     if is_taken(blocks, &new) {
-        return Err(Refusal::NameTaken);
+        return Err(ChangeRefusal::NameTaken);
     }
     let block = blocks[i];
     let bytes = block.bytes;
@@ -64,14 +64,18 @@ fn rename_block(blocks: &[Block], old: &[u8], new: [u8; 44]) -> Result<BlockChan
 /// # Errors
 ///
 /// The volume has no label, no table of contents or no data set of the old name; or one of the new name.
-pub fn plan_rename(contents: &Contents, old: &[u8], new: [u8; 44]) -> Result<BlockChange, Refusal>
+pub fn plan_rename(
+    contents: &Contents,
+    old: &[u8],
+    new: [u8; 44],
+) -> Result<BlockChange, ChangeRefusal>
     ensures { result ≡ rename_of (said_in contents.now) old.now new }
 {
     if contents.label.is_none() {
-        return Err(Refusal::NoLabel);
+        return Err(ChangeRefusal::NoLabel);
     }
     if contents.table.is_none() {
-        return Err(Refusal::NoContents);
+        return Err(ChangeRefusal::NoContents);
     }
     rename_block(contents.found.blocks.as_slice(), old, new)
 }

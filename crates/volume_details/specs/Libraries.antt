@@ -14,12 +14,12 @@ use Rattle.dasd_unload.specs.Causes.{HasSet}
 use Rattle.library_members.specs.Report.{printed}
 use Rattle.library_members.specs.Lines.{Shown}
 use Rattle.library_members.specs.Members.{library_lines}
-use Rattle.volume_details.specs.declared.fault.LibraryFault.{LibraryFault}
-use Rattle.volume_details.specs.declared.fault.LibraryFault.TheVariants as fault
+use Rattle.volume_details.specs.declared.fault.MemberListFault.{MemberListFault}
+use Rattle.volume_details.specs.declared.fault.MemberListFault.TheVariants as fault
 use Rattle.volume_details.specs.Sections.{TellsWrong}
 
 -- what a fault of a volume is
-abbrev pub library_fault : VolumeFault → LibraryFault
+abbrev pub library_fault : VolumeFault → MemberListFault
 library_fault volume.OutOfMemory = fault.OutOfMemory
 library_fault volume.Store = fault.Read
 library_fault volume.Write = fault.Write
@@ -36,28 +36,28 @@ PrintsMembers r json d v before after =
     × IfErr r (λ e. e ≢ volume.Write → after ≡ before) × OnOk r (IsFlushed after)
 
 -- the fault of a volume, as it is told
-abbrev pub as_told : Result Bool VolumeFault → Result Bool LibraryFault
+abbrev pub as_told : Result Bool VolumeFault → Result Bool MemberListFault
 as_told (Ok is_wrong) = Ok is_wrong
 as_told (Err f) = Err (library_fault f)
 
 -- the data set of a name is partitioned, and its members were printed so
-abbrev pub OfLibrary : Result Bool LibraryFault → (name : List ℕ) → (json : Option (List ℕ)) → KnownVolume → (before after : Stream) → Type 0
+abbrev pub OfLibrary : Result Bool MemberListFault → (name : List ℕ) → (json : Option (List ℕ)) → KnownVolume → (before after : Stream) → Type 0
 OfLibrary result name json v before after =
     HasSet name v (λ d. (is_partitioned d.block ≡ true) × (r : Result Bool VolumeFault) × (result ≡ as_told r) × PrintsMembers r json d v before after)
 
 -- Why nothing is printed: the volume has no data set of the name; or it has one, which is not partitioned; or there is no memory, or a read
 -- fails, before its members are looked at.
-abbrev pub WhyNothing : LibraryFault → (name : List ℕ) → KnownVolume → Type 0
+abbrev pub WhyNothing : MemberListFault → (name : List ℕ) → KnownVolume → Type 0
 WhyNothing fault.NoDataSet name v = SetOf name v None
 WhyNothing fault.NotPartitioned name v = HasSet name v (λ d. is_partitioned d.block ≡ false)
 WhyNothing fault.OutOfMemory name v = Unit {0}
 WhyNothing fault.Read name v = Unit {0}
 WhyNothing fault.Write name v = ⊥
 
-abbrev pub PrintsNothing : Result Bool LibraryFault → (name : List ℕ) → KnownVolume → (before after : Stream) → Type 0
+abbrev pub PrintsNothing : Result Bool MemberListFault → (name : List ℕ) → KnownVolume → (before after : Stream) → Type 0
 PrintsNothing (Ok is_wrong) name v before after = ⊥
 PrintsNothing (Err f) name v before after = WhyNothing f name v × (after ≡ before)
 
 -- The members of a library that is named were printed; or nothing is, and why.
-abbrev pub ListsLibrary : Result Bool LibraryFault → (name : List ℕ) → (json : Option (List ℕ)) → KnownVolume → (before after : Stream) → Type 0
+abbrev pub ListsLibrary : Result Bool MemberListFault → (name : List ℕ) → (json : Option (List ℕ)) → KnownVolume → (before after : Stream) → Type 0
 ListsLibrary result name json v before after = PrintsNothing result name v before after ⊎ OfLibrary result name json v before after

@@ -13,7 +13,7 @@ use Rattle.dasd_unload.specs.Parts.{is_partitioned}
 use Rattle.library_members.specs.Report.{Line, plain, some_wrong}
 use Rattle.library_members.specs.Lines.{Shown}
 use Rattle.library_members.specs.Members.{library_lines}
-use Rattle.volume_details.specs.declared.sections.View.{View}
+use Rattle.volume_details.specs.declared.sections.DetailForm.{DetailForm}
 use Rattle.volume_details.specs.Long.{Said, long_text}
 use Rattle.volume_details.specs.Indicators.{is_last_volume, protection_of}
 
@@ -23,7 +23,7 @@ pub record Views : Type 0 where
   pub members : Bool
   pub is_long : Bool
 
-abbrev pub shown_by : View → Views
+abbrev pub shown_by : DetailForm → Views
 shown_by v = record { json = option_copied v.json; members = v.members; is_long = v.is_long }
 
 -- the name of a data set as a line, which objects have not

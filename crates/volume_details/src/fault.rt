@@ -8,7 +8,7 @@ use thiserror::Error;
 
 /// Why the members of a library are not listed.
 #[derive(Clone, Copy, Debug, PartialEq, Eq, Error)]
-pub enum LibraryFault {
+pub enum MemberListFault {
     /// The volume has no data set of this name.
     #[error("no such data set")]
     NoDataSet,
@@ -27,12 +27,12 @@ pub enum LibraryFault {
 }
 
 /// What a fault of a volume is.
-pub(crate) fn of_volume(fault: VolumeFault) -> LibraryFault
+pub(crate) fn of_volume(fault: VolumeFault) -> MemberListFault
     ensures { result ≡ library_fault fault }
 {
     match fault {
-        VolumeFault::OutOfMemory => LibraryFault::OutOfMemory,
-        VolumeFault::Store => LibraryFault::Read,
-        VolumeFault::Write => LibraryFault::Write,
+        VolumeFault::OutOfMemory => MemberListFault::OutOfMemory,
+        VolumeFault::Store => MemberListFault::Read,
+        VolumeFault::Write => MemberListFault::Write,
     }
 }

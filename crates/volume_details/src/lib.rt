@@ -8,6 +8,6 @@ mod long;
 mod printing;
 mod sections;
 
-pub use crate::fault::LibraryFault;
+pub use crate::fault::MemberListFault;
 pub use crate::libraries::print_library;
-pub use crate::sections::{View, print_sections};
+pub use crate::sections::{DetailForm, print_sections};

@@ -11,14 +11,14 @@ ghost use Rattle.library_members.specs.Report.{printed};
 ghost use Rattle.volume_details.specs.Libraries.{ListsLibrary};
 ghost use Rattle.volume_details.specs.Sections.{TellsWrong};
 
-use crate::fault::{LibraryFault, of_volume};
+use crate::fault::{MemberListFault, of_volume};
 use crate::printing::print_report;
 use crate::sections::is_partitioned;
 use counted_io::Counted;
 use dasd_extract::data_set_name;
 use dasd_volumes::{SlotReader, VolumeFault};
 use data_sets::safe_name;
-use library_members::{Form, Library, Report, list_members};
+use library_members::{Library, MembersForm, Report, list_members};
 use std::alloc::Global;
 use std::io::Write;
 use volume_contents::{DataSet, find, read_contents};
@@ -37,22 +37,22 @@ pub fn print_library<V: SlotReader, W: Write>(
     writer: &mut Counted<W>,
     name: &str,
     json: Option<&str>,
-) -> Result<bool, LibraryFault>
+) -> Result<bool, MemberListFault>
     ensures lists { ListsLibrary result name.now (option_copied json.entry) (V.volume volume.old)
         (seen_by W.contents writer.old) (seen_by W.contents writer.new) }
 {
     let set = match find_set(alloc, volume, name) {
         Ok(Some(set)) => set,
-        Ok(None) => return Err(LibraryFault::NoDataSet),
+        Ok(None) => return Err(MemberListFault::NoDataSet),
         Err(fault) => return Err(of_volume(fault)),
     };
     if !is_partitioned(&set.block) {
-        return Err(LibraryFault::NotPartitioned);
+        return Err(MemberListFault::NotPartitioned);
     }
     let Ok(safe) = safe_name(alloc, &set.block.name) else {
-        return Err(LibraryFault::OutOfMemory);
+        return Err(MemberListFault::OutOfMemory);
     };
-    let form = Form {
+    let form = MembersForm {
         json,
         margin: "",
         name: safe.as_str(),

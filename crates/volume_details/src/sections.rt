@@ -17,7 +17,7 @@ use crate::printing::print_report;
 use counted_io::Counted;
 use dasd_volumes::{SlotReader, VolumeFault};
 use data_sets::safe_name;
-use library_members::{Form, Library, Report, list_members};
+use library_members::{Library, MembersForm, Report, list_members};
 use std::alloc::Global;
 use std::io;
 use std::io::Write;
@@ -33,7 +33,7 @@ const MARGIN: &str = "  ";
 
 /// What is shown of data sets.
 #[derive(Clone, Copy)]
-pub struct View<'a> {
+pub struct DetailForm<'a> {
     /// The paths of the volume, as a string of JSON with its quotes, where lines are objects of it.
     pub json: Option<&'a str>,
     /// Whether members of partitioned data sets are listed.
@@ -59,7 +59,7 @@ pub fn print_sections<V: SlotReader, W: Write>(
     alloc: Global,
     volume: &mut V,
     writer: &mut Counted<W>,
-    view: View,
+    view: DetailForm,
     contents: &Contents,
 ) -> Result<bool, VolumeFault>
     ensures lines { PrintsText result (λ g slots. printed (sections (shown_by view.entry) contents.now.found.blocks.items g slots)) (V.volume volume.old)
@@ -86,7 +86,7 @@ fn add_sections<V: SlotReader>(
     alloc: Global,
     volume: &mut V,
     report: &mut Report,
-    view: View,
+    view: DetailForm,
     blocks: &[Block],
 ) -> Result<(), VolumeFault>
     ensures lines { OnOk result (AddsOf (V.volume volume.old) report.old report.new (sections (shown_by view.entry) blocks.now)) }
@@ -109,7 +109,7 @@ fn add_sections<V: SlotReader>(
 // A control block among those of its volume, and what is shown of it.
 #[derive(Clone, Copy)]
 struct Row<'a> {
-    view: View<'a>,
+    view: DetailForm<'a>,
     blocks: &'a [Block],
     block: &'a Block,
 }
@@ -155,7 +155,7 @@ fn add_set<V: SlotReader>(
     alloc: Global,
     volume: &mut V,
     report: &mut Report,
-    view: View,
+    view: DetailForm,
     described: Described,
 ) -> Result<(), VolumeFault>
     ensures lines { OnOk result (AddsOf (V.volume volume.old) report.old report.new
@@ -173,7 +173,7 @@ fn add_set<V: SlotReader>(
     if !has_members {
         return Ok(());
     }
-    let form = Form {
+    let form = MembersForm {
         json: view.json,
         margin: MARGIN,
         name: described.name,
@@ -183,21 +183,21 @@ fn add_set<V: SlotReader>(
 }
 
 // Whether the members of a data set are listed.
-fn lists_members(view: View, block: &DataSetBlock) -> bool
+fn lists_members(view: DetailForm, block: &DataSetBlock) -> bool
     ensures { result ≡ (view.entry.members && is_partitioned block.now) }
 {
     view.members && is_partitioned(block)
 }
 
 // Whether there is something to show of a data set.
-fn is_shown(view: View, has_members: bool) -> bool
+fn is_shown(view: DetailForm, has_members: bool) -> bool
     ensures { result ≡ (view.entry.is_long || has_members) }
 {
     view.is_long || has_members
 }
 
 // What stands above the members of a data set: its name, and what the table leaves out.
-fn add_front(report: &mut Report, view: View, described: Described) -> Result<(), VolumeFault>
+fn add_front(report: &mut Report, view: DetailForm, described: Described) -> Result<(), VolumeFault>
     ensures lines { OnOk result (Adds report.old report.new (front_lines (shown_by view.entry) (described_by described.entry))) }
     ensures fault { IfErr result (λ e. e ≡ VolumeFault.OutOfMemory) }
 {

@@ -8,6 +8,6 @@ mod tracks;
 mod volumes;
 
 pub use crate::laws::message_is_what_they_say;
-pub use crate::lines::{Form, line_of, write_path};
+pub use crate::lines::{HashForm, line_of, write_path};
 pub use crate::message::Message;
 pub use crate::volumes::{VolumeHash, hash_volume};

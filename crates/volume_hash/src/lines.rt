@@ -14,7 +14,7 @@ use std::{fmt, io};
 
 /// How the hash of a volume is printed.
 #[derive(Clone, Copy)]
-pub struct Form<'a> {
+pub struct HashForm<'a> {
     /// The path of the volume: as it was typed; of an object as a string of JSON, with its quotes.
     pub path: &'a str,
     /// Whether the line is an object of JSON.
@@ -26,7 +26,7 @@ pub struct Form<'a> {
 /// # Errors
 ///
 /// There is no memory for it.
-pub fn line_of(alloc: Global, form: Form, hash: VolumeHash) -> Result<Vec<u8>, AllocError>
+pub fn line_of(alloc: Global, form: HashForm, hash: VolumeHash) -> Result<Vec<u8>, AllocError>
     ensures { IfOk result (λ line. line.items ≡ line_or_object form.entry.path.now form.entry.json (encode_lower hash.digest) hash.unreadable) }
 {
     let digits = hex::encode(alloc, hash.digest)?;
@@ -38,7 +38,12 @@ pub fn line_of(alloc: Global, form: Form, hash: VolumeHash) -> Result<Vec<u8>, A
 }
 
 // The line or the object of a hash.
-fn write_hash<W: Write>(writer: &mut W, form: Form, digits: &str, unreadable: u32) -> io::Result<()>
+fn write_hash<W: Write>(
+    writer: &mut W,
+    form: HashForm,
+    digits: &str,
+    unreadable: u32,
+) -> io::Result<()>
     ensures { OnOk result (Appends (W.contents writer.old) (W.contents writer.new) (line_or_object form.entry.path.now form.entry.json digits.now unreadable)) }
 {
     if form.json {

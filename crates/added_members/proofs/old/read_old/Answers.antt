@@ -4,7 +4,7 @@ use Rattle.volume_contents.specs.Contents.{Said, contents_of}
 use Rattle.volume_changes.specs.Volumes.{said_in}
 use Rattle.placed_sets.specs.Volumes.{labelled, SaysOf, IsUnfit, all_findings}
 use Rattle.loaded_sets.proofs.Fits.{same_said}
-use Rattle.added_members.specs.declared.fault.AddFault.{AddFault}
+use Rattle.added_members.specs.declared.fault.NewMemberFault.{NewMemberFault}
 use Rattle.added_members.specs.Libraries.{IsReadOf, IsOld, IsNotRead}
 use Rattle.added_members.specs.Parts.{IsNotReadIn}
 use Rattle.added_members.proofs.Found.{if_ok, if_err, unfit, no_library, old_read, old_unread}
@@ -17,7 +17,7 @@ returns-in-Err-judge-clause-fault c =
     let e = c.in-Err-judge.fault in
     let read = c.in-Ok.contents in
     let same = same_said (contents_of g slots) read c.in-Ok.ensures.says in
-    subst (λ (f : AddFault). IsNotRead f c.args.name.now g slots) (sym c.of_placing.ensures)
+    subst (λ (f : NewMemberFault). IsNotRead f c.args.name.now g slots) (sym c.of_placing.ensures)
     (unfit g slots c.args.name.now e (subst (λ (s : Said). IsUnfit e g s) same
     (subst (λ (h : Geometry). IsUnfit e h (said_in read)) c.geometry-geometry.ensures.geometry c.in-Err-judge.ensures.fault)))
 
