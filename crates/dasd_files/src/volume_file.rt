@@ -1,6 +1,6 @@
 //! A volume's file in memory.
 
-ghost use Rattle.std.specs.Prelude.{◌≡◌, ◌≢◌, ◌+◌, ◌++◌, ◌^◌, ◌<◌, ◌≤◌, Some, true, false, nat_lt, length, option_map, replicate, slice_range, is_ok, IsOk, IfOk};
+ghost use Rattle.std.specs.Prelude.{◌≡◌, ◌≢◌, ◌+◌, ◌++◌, ◌^◌, ◌<◌, ◌≤◌, Some, true, false, nat_lt, length, option_map, replicate, slice_range, is_ok, IsOk, IfOk, OnOk, OnErr};
 ghost use Rattle.ckd_image.specs.Store.{overwritten};
 ghost use Rattle.dasd_files.specs.Parts.{parts_of};
 ghost use Rattle.dasd_files.specs.Files.{AreAsThen, IsFile, Writes, file_of, has_room_in, last_number, may_differ_in, may_have_changed, next_number, parts_behind, past_behind};
@@ -84,31 +84,39 @@ impl VolumeFile {
         self
     }
 
-    /// The same file, which from now on keeps when each of its parts was written last: parts of so many bytes, the first one of as many
-    /// fewer as `lead` says. It takes the memory for that, eight bytes a part, here and at once. The only error is that it was refused.
-    pub fn watched(self, alloc: Global, lead: u32, size: u32) -> Result<VolumeFile, AllocError>
+    /// The same file, which from now on keeps when each of its parts was written last, as with `watch`; where that is refused it is let
+    /// go. The only error is that memory was refused.
+    pub fn watched(mut self, alloc: Global, lead: u32, size: u32) -> Result<VolumeFile, AllocError>
         requires { 0 < size }
         ensures { IfOk result (λ f. f ≡ record self { parts = Some (parts_of lead size (length self.content) self.changes) }) }
     {
+        self.watch(alloc, lead, size)?;
+        Ok(self)
+    }
+
+    /// Keeps from now on when each part of the file was written last: parts of so many bytes, the first one of as many fewer as `lead`
+    /// says. It takes the memory for that, eight bytes a part, here and at once. The only error is that it was refused, and the file
+    /// is as it was.
+    pub fn watch(&mut self, alloc: Global, lead: u32, size: u32) -> Result<(), AllocError>
+        requires { 0 < size }
+        ensures watched { OnOk result (self.new ≡ record self.old { parts = Some (parts_of lead size (length self.old.content) self.old.changes) }) }
+        ensures stays { OnErr result (self.new ≡ self.old) }
+    {
         let parts = Parts::new(alloc, lead, size, self.held.len(), self.changes)?;
-        let VolumeFile {
-            held,
-            origin,
-            refused,
-            changes,
-            counted,
-            past,
-            parts: _,
-        } = self;
-        Ok(VolumeFile {
-            held,
-            origin,
-            refused,
-            changes,
-            counted,
-            past,
-            parts: Some(parts),
-        })
+        self.parts = Some(parts);
+        Ok(())
+    }
+
+    /// Begins anew: the file is as one that was made of the bytes that it holds now, without a change, a failure or a part that is
+    /// watched. Which writes move its number on stays, and it takes no memory.
+    pub fn begin_anew(&mut self)
+        ensures { self.new ≡ file_of self.old.content }
+    {
+        self.origin = Trace::of(self.held.as_slice());
+        self.past = self.origin.again();
+        self.refused = Count::new();
+        self.changes = 0;
+        self.parts = None;
     }
 
     /// A file of a copy of these bytes. The only error is that memory was refused.
