@@ -97,7 +97,7 @@ def what_contradicts_a_label_or_is_missing_is_refused_by_name(s: Scratch) -> Non
     ]
     for name, words, text in refused:
         same(taken(s, name, f"--record-format {words} --to new"), fault(text), f"{name} {words}")
-    for words in ("FB", "FB --record-length 80", "FB --block-length 160"):
+    for words in ("FB", "FB --record-length 80", "FB --block-length 160", "FBA", "FTBM"):  # T, A and M say nothing of how records lie
         same(taken(s, "OS.CARDS", f"--record-format {words}"), (0, lines(CARDS), ""), words)
     same(s.names(), ["pack.ckd"])
 
@@ -121,16 +121,17 @@ def half_of_what_is_needed_may_stand_in_the_label(s: Scratch) -> None:
 @row
 def words_of_a_record_format_that_are_wrong(s: Scratch) -> None:
     dos(s.path("pack.ckd"))
-    formats = "F, FB, FS, FBS, V, VB, VS, VBS or U"
+    formats = "F, V or U with letters of BSTAM behind it, as FB, VBS or FBA"
     lengths = "a number of bytes from 1 to 65535"
     both = "error: --record-length and --block-length go with --record-format\n"
     lie = (
         "error: --record-length and --block-length contradict each other\nA block of F or FS is one record; one of FB or FBS has whole records; "
         "one of V or VB has 4 bytes before its records.\n"
     )
+    for word in ("fb", "FBX", "B", "BF", "FB ", "", "X'90'"):
+        wanted = f"error: --record-format takes {formats}, and not {word}\n"
+        same(s.dasd("extract", "pack.ckd", "DOS.FILE.ONE", "--text", f"--record-format={word}"), (2, "", wanted), word)
     for words, text in [
-        ("--record-format fb", f"error: --record-format takes {formats}, and not fb\n"),
-        ("--record-format FBA", f"error: --record-format takes {formats}, and not FBA\n"),
         ("--record-format F --record-length 0", f"error: --record-length takes {lengths}, and not 0\n"),
         ("--record-format F --block-length 65536", f"error: --block-length takes {lengths}, and not 65536\n"),
         ("--record-format F --block-length +80", f"error: --block-length takes {lengths}, and not +80\n"),

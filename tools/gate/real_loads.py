@@ -112,6 +112,23 @@ def blocks_of_variable_records_are_cut_by_their_descriptor_words(s: Scratch) -> 
 
 
 @row
+def letters_of_a_record_format_stand_in_the_label(s: Scratch) -> None:
+    fixed = {"F": 0x80, "FS": 0x88, "FA": 0x84, "FB": 0x90, "FBS": 0x98, "FBA": 0x94, "FBSM": 0x9A, "FTB": 0xB0}
+    variable = {"V": 0x40, "VB": 0x50, "VS": 0x48, "VBS": 0x58, "VBA": 0x54, "VM": 0x42}
+    for word, bits in {**fixed, **variable, "U": 0xC0, "UA": 0xC4}.items():
+        empty(s)
+        s.put("blocks", VARIABLE_BLOCKS)
+        record, block = (["--record-length", "80"], "800" if "B" in word else "80") if word in fixed else ([], "800")
+        source = "blocks" if word in variable else "cards"
+        words = ["--from", source, "--record-format", word, *record, "--block-length", block]
+        same(s.dasd("load", "pack.ckd", "TEST.SET", *words)[0], 0, word)
+        same(Image(s.path("pack.ckd")).records(1)[3].data[40], bits, word)
+        same(s.dasd("extract", "pack.ckd", "TEST.SET", "--to", "out"), (0, "", ""), word)
+        is_held(s.path("out"), s.path(source).read_bytes())
+        s.path("out").unlink()
+
+
+@row
 def loads_that_are_refused_leave_the_pack(s: Scratch) -> None:
     empty(s)
     same(s.dasd("load", "pack.ckd", "TEST.CARDS", "--from", "cards", *BLOCKED), LOADED)
@@ -145,6 +162,19 @@ def loads_that_are_refused_leave_the_pack(s: Scratch) -> None:
     same(s.dasd("load", "pack.ckd", "A", *BLOCKED), (2, "", "error: load takes --from or --all\n"))
     same(s.dasd("load", "pack.ckd", "A", "--from", "cards", "--block-length", "80"), (2, "", "error: load takes --record-format\n"))
     same(s.dasd("load", "pack.ckd", "A", "--from", "cards", "--record-format", "U"), (2, "", "error: load takes --block-length\n"))
+    is_held(s.path("pack.ckd"), held)
+
+
+@row
+def member_in_parentheses_is_told_how_it_is_named(s: Scratch) -> None:
+    held = empty(s)
+    named = (
+        "error: load takes the name of a data set, and none of a member in parentheses behind it\n"
+        "A new member has its name by --member: dasd load pack.ckd SYS1.MACLIB --member OPEN --from open.txt --text\n"
+    )
+    for name in ("LIB(A)", "TEST.CARDS(A)", "(A)", "LIB()"):
+        same(s.dasd("load", "pack.ckd", name, "--from", "cards", *BLOCKED), (2, "", named), name)
+    same(s.dasd("load", "pack.ckd", "LIB(A)", "--member", "B", "--from", "cards"), (2, "", named))
     is_held(s.path("pack.ckd"), held)
 
 

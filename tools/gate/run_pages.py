@@ -149,14 +149,14 @@ class Reader:
         self.environment = {**found, **python, "PKG_CONFIG_PATH": str(put_library(room))}
 
     def prepare(self, page: str) -> None:
-        """The files that a help names, since a help can't make them: a pack with a data set, two of which one was changed, a deck, and two cards."""
+        """The files that a help names, since a help can't make them: a pack with a data set, two of which one was changed, a deck, and a text."""
         if page == HELP:
             words = ["dasd", "rename", "pack.ckd", "SAMPLE.JOBS", "PAYROLL"]
             subprocess.run(words, cwd=self.folder, env=self.environment, stdout=subprocess.DEVNULL, check=True)
             for name in ("monday.ckd", "tuesday.ckd"):
                 shutil.copy(self.folder / "pack.ckd", self.folder / name)
             shutil.copy(TOP / "sample/decks/three-records.deck", self.folder / "deck.txt")
-            (self.folder / "cards.bin").write_bytes(b"\x40" * 160)
+            (self.folder / "cards.txt").write_text("FIRST CARD\nSECOND CARD\n", encoding="utf-8")
 
     def typed(self, example: Example) -> tuple[int, list[str]]:
         """Runs a script; its status and the lines that it prints."""

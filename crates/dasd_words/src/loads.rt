@@ -15,6 +15,11 @@ const PATHS_AND_NAME: &str = "WORD";
 const NO_NAME: &str =
     "error: load takes the files of an image, and behind them the name of a data set\n";
 
+const MEMBER_NAMED: &str = "\
+error: load takes the name of a data set, and none of a member in parentheses behind it
+A new member has its name by --member: dasd load pack.ckd SYS1.MACLIB --member OPEN --from open.txt --text
+";
+
 const NO_SOURCE: &str = "error: load takes --from or --all\n";
 
 const ALL_ALONE: &str = "\
@@ -32,11 +37,11 @@ const KEYS_APART: &str = "error: --key-length goes with --with-lengths\n";
 /// The command, with its words.
 pub(crate) const COMMAND: CommandRow = CommandRow {
     name: "load",
-    about: "Puts a file onto a volume as a new data set, or the files of a folder",
+    about: "Puts a file onto a volume as a new data set or member, or the files of a folder",
     usage: Some(
         "dasd load [OPTIONS] --from FILE --record-format FORMAT --block-length BYTES PATH.. NAME\n       dasd load [OPTIONS] --member MEMBER --from FILE PATH.. LIBRARY\n       dasd load [OPTIONS] --all DIR PATH..",
     ),
-    after_help: "Example: dasd load pack.ckd TEST.CARDS --from cards.bin --record-format FB --record-length 80 --block-length 3120",
+    after_help: "Example: dasd load pack.ckd TEST.CARDS --from cards.txt --text --record-format FB --record-length 80 --block-length 3120",
     args: &[
         ArgRow {
             id: PATHS_AND_NAME,
@@ -45,12 +50,12 @@ pub(crate) const COMMAND: CommandRow = CommandRow {
         },
         ArgRow {
             id: "from",
-            help: "the file whose bytes are the data set's blocks, one behind another",
+            help: "the file that is put onto the volume",
             kind: ArgKind::Valued(FILE),
         },
         ArgRow {
             id: "all",
-            help: "puts all data sets of this folder onto the volume, of which its file data_sets.txt tells, as extract --all writes them",
+            help: "puts all data sets of a folder onto the volume, as its file data_sets.txt says; extract --all writes such folders",
             kind: ArgKind::Valued(Value {
                 name: "DIR",
                 ..FILE
@@ -67,13 +72,13 @@ pub(crate) const COMMAND: CommandRow = CommandRow {
         },
         ArgRow {
             id: "text",
-            help: "a file has lines of text, each of which is a record of F or FB, in EBCDIC with blanks behind it",
+            help: "the file, or each of the folder, is text: each line is a record of F or FB, in EBCDIC with blanks behind it",
             kind: ArgKind::FlagWithout(&["with-lengths"]),
         },
         WITH_LENGTHS,
         ArgRow {
             id: "record-format",
-            help: "the record format: F, FB, FS, FBS, V, VB, VS, VBS or U",
+            help: "the record format: F, V or U with letters of BSTAM behind it, as FB, VBS or FBA",
             kind: ArgKind::Valued(Value {
                 name: "FORMAT",
                 ..FILE
@@ -89,7 +94,7 @@ pub(crate) const COMMAND: CommandRow = CommandRow {
         },
         ArgRow {
             id: "block-length",
-            help: "the length of blocks in bytes, of which the last may be shorter; of V, VB, VS and VBS the longest",
+            help: "the length of blocks in bytes, of which the last may be shorter; of V, VB, VS and VBS, and with --with-lengths, that of the longest",
             kind: ArgKind::Valued(Value {
                 name: "BYTES",
                 ..FILE
@@ -117,6 +122,9 @@ pub(crate) fn read<'a>(alloc: Global, options: &ArgMatches<'a>) -> Result<Reques
         [paths @ .., name] if !paths.is_empty() => (paths, *name),
         _ => return Err(wrong(alloc, NO_NAME)),
     };
+    if name.ends_with(')') {
+        return Err(wrong(alloc, MEMBER_NAMED));
+    }
     let Some(source) = options.get_str("from") else {
         return Err(wrong(alloc, NO_SOURCE));
     };

@@ -10,7 +10,7 @@ use std::alloc::Global;
 /// The option for a record format.
 pub(crate) const FORMAT: ArgRow = ArgRow {
     id: "record-format",
-    help: "with --text, the record format of a data set whose label has none: F, FB, FS, FBS, V, VB, VS, VBS or U",
+    help: "with --text, the record format of a data set whose label has none: F, V or U with letters of BSTAM behind it, as FB or VBS",
     kind: ArgKind::Valued(Value {
         name: "FORMAT",
         conflicts: &["all", "raw"],
@@ -40,7 +40,7 @@ pub(crate) const BLOCK_LENGTH: ArgRow = ArgRow {
     }),
 };
 
-const FORMAT_RULE: &str = "F, FB, FS, FBS, V, VB, VS, VBS or U";
+const FORMAT_RULE: &str = "F, V or U with letters of BSTAM behind it, as FB, VBS or FBA";
 
 const LENGTH_RULE: &str = "a number of bytes from 1 to 65535";
 
@@ -145,18 +145,37 @@ pub(crate) fn read_key_length(alloc: Global, options: &ArgMatches) -> Result<u8,
     }
 }
 
-// The bits of a label that a record format is written as (System Control Blocks, DS1RECFM).
+// The bits of a label that a record format is written as (System Control Blocks, DS1RECFM): those of its form, and one for each letter
+// behind it. A text that goes with a folder has the same letters.
 fn format_of(word: &str) -> Option<u8> {
-    match word {
-        "F" => Some(0x80),
-        "FB" => Some(0x90),
-        "FS" => Some(0x88),
-        "FBS" => Some(0x98),
-        "V" => Some(0x40),
-        "VB" => Some(0x50),
-        "VS" => Some(0x48),
-        "VBS" => Some(0x58),
-        "U" => Some(0xC0),
+    let [form, letters @ ..] = word.as_bytes() else {
+        return None;
+    };
+    let mut format = form_of(*form)?;
+    for letter in letters {
+        format |= flag_of(*letter)?;
+    }
+    Some(format)
+}
+
+// Fixed, variable or undefined.
+fn form_of(letter: u8) -> Option<u8> {
+    match letter {
+        b'F' => Some(0x80),
+        b'V' => Some(0x40),
+        b'U' => Some(0xC0),
+        _ => None,
+    }
+}
+
+// Blocked; standard, or spanned; with track overflow; with control characters, as ASA or the machine has them.
+fn flag_of(letter: u8) -> Option<u8> {
+    match letter {
+        b'B' => Some(0x10),
+        b'S' => Some(0x08),
+        b'T' => Some(0x20),
+        b'A' => Some(0x04),
+        b'M' => Some(0x02),
         _ => None,
     }
 }
