@@ -29,7 +29,7 @@ const ALL_NUMBERS: &str = "0-255";
 const LAST_RECORD: u16 = 255;
 
 /// `dasd check`, with the words of a strict one.
-pub(crate) const CHECK: CommandRow = CommandRow {
+pub(crate) static CHECK: CommandRow = CommandRow {
     name: "check",
     about: "Prints the tracks of a volume that can't be read",
     usage: None,
@@ -74,7 +74,7 @@ pub(crate) fn read_check<'a>(
 }
 
 /// `dasd dump`.
-pub(crate) const DUMP: CommandRow = CommandRow {
+pub(crate) static DUMP: CommandRow = CommandRow {
     name: "dump",
     about: "Prints the bytes of tracks in hexadecimal and in EBCDIC",
     usage: Some("dasd dump [OPTIONS] PATH.. CYLINDER HEAD [RECORD]"),
@@ -161,7 +161,7 @@ fn read_hexadecimal(digits: &str) -> Option<u16> {
 }
 
 /// `dasd compare`.
-pub(crate) const COMPARE: CommandRow = CommandRow {
+pub(crate) static COMPARE: CommandRow = CommandRow {
     name: "compare",
     about: "Prints what differs of two volumes, track by track",
     usage: None,

@@ -5,7 +5,7 @@ use crate::requests::Request;
 use clap::ArgMatches;
 
 /// `dasd assemble`.
-pub(crate) const ASSEMBLE: CommandRow = CommandRow {
+pub(crate) static ASSEMBLE: CommandRow = CommandRow {
     name: "assemble",
     about: "Prints the deck of a channel program in words",
     usage: None,
@@ -18,7 +18,7 @@ pub(crate) const ASSEMBLE: CommandRow = CommandRow {
 };
 
 /// `dasd disassemble`.
-pub(crate) const DISASSEMBLE: CommandRow = CommandRow {
+pub(crate) static DISASSEMBLE: CommandRow = CommandRow {
     name: "disassemble",
     about: "Prints a deck in words, which are assembled to the same events",
     usage: None,

@@ -27,7 +27,7 @@ pub(crate) const REPLACE: ArgRow = ArgRow {
 };
 
 /// The command that gives a data set another name.
-pub(crate) const RENAME: CommandRow = CommandRow {
+pub(crate) static RENAME: CommandRow = CommandRow {
     name: "rename",
     about: "Gives a data set of a volume another name",
     usage: Some("dasd rename [OPTIONS] PATH.. OLD NEW"),
@@ -43,7 +43,7 @@ pub(crate) const RENAME: CommandRow = CommandRow {
 };
 
 /// The command that deletes a data set.
-pub(crate) const DELETE: CommandRow = CommandRow {
+pub(crate) static DELETE: CommandRow = CommandRow {
     name: "delete",
     about: "Deletes a data set of a volume: its control blocks and tracks become free, and its data stay on them",
     usage: Some("dasd delete [OPTIONS] PATH.. NAME"),
@@ -59,7 +59,7 @@ pub(crate) const DELETE: CommandRow = CommandRow {
 };
 
 /// The command that changes a volume label.
-pub(crate) const RELABEL: CommandRow = CommandRow {
+pub(crate) static RELABEL: CommandRow = CommandRow {
     name: "relabel",
     about: "Changes the serial number of a volume, or its owner",
     usage: None,

@@ -9,33 +9,32 @@ use std::alloc::{AllocError, Global};
 
 pub(crate) const NO_PATH: &str = "error: no path\n";
 
-/// The commands over volumes, in the order of the help.
-static VOLUME_COMMANDS: [CommandRow; 8] = [
-    format::COMMAND,
-    list::COMMAND,
-    archive::CHECK,
-    archive::DUMP,
-    archive::COMPARE,
-    hash::COMMAND,
-    vtoc::COMMAND,
-    extract::COMMAND,
-];
+/// How many commands there are.
+const COMMANDS: usize = 16;
 
-/// The commands that change a volume, in the order of the help.
-static CHANGE_COMMANDS: [CommandRow; 4] = [
-    loads::COMMAND,
-    changes::RENAME,
-    changes::DELETE,
-    changes::RELABEL,
-];
-
-/// The commands over decks, in the order of the help.
-static DECK_COMMANDS: [CommandRow; 4] = [
-    explain::COMMAND,
-    assembler::ASSEMBLE,
-    assembler::DISASSEMBLE,
-    run::COMMAND,
-];
+// The row of a command by its place in the help: first those over volumes, then those that change one, then those over decks. Each row is a
+// static of its own: the proof of what names a static goes over all that it holds at once.
+fn row_at(place: usize) -> Option<&'static CommandRow> {
+    match place {
+        0 => Some(&format::COMMAND),
+        1 => Some(&list::COMMAND),
+        2 => Some(&archive::CHECK),
+        3 => Some(&archive::DUMP),
+        4 => Some(&archive::COMPARE),
+        5 => Some(&hash::COMMAND),
+        6 => Some(&vtoc::COMMAND),
+        7 => Some(&extract::COMMAND),
+        8 => Some(&loads::COMMAND),
+        9 => Some(&changes::RENAME),
+        10 => Some(&changes::DELETE),
+        11 => Some(&changes::RELABEL),
+        12 => Some(&explain::COMMAND),
+        13 => Some(&assembler::ASSEMBLE),
+        14 => Some(&assembler::DISASSEMBLE),
+        15 => Some(&run::COMMAND),
+        _ => None,
+    }
+}
 
 fn dasd_command<'a>(alloc: Global) -> Result<Command<'a>, AllocError> {
     let dasd = Command::new(alloc, "dasd")
@@ -43,30 +42,16 @@ fn dasd_command<'a>(alloc: Global) -> Result<Command<'a>, AllocError> {
         .version("1.1.0")
         .after_help("Example: dasd run 90=new:2311:1 < deck.txt")
         .subcommand_required(true);
-    let dasd = with_volumes(alloc, dasd)?;
-    let dasd = with_changes(alloc, dasd)?;
-    let dasd = with_commands(alloc, dasd, &DECK_COMMANDS)?;
+    let dasd = with_commands(alloc, dasd)?;
     with_arg(alloc, dasd, &VERBOSE)
 }
 
-// The program with the commands more that only look at volumes, or make one.
-fn with_volumes<'a>(alloc: Global, dasd: Command<'a>) -> Result<Command<'a>, AllocError> {
-    with_commands(alloc, dasd, &VOLUME_COMMANDS)
-}
-
-// The program with the commands more that change a volume.
-fn with_changes<'a>(alloc: Global, dasd: Command<'a>) -> Result<Command<'a>, AllocError> {
-    with_commands(alloc, dasd, &CHANGE_COMMANDS)
-}
-
-// The program with the commands of these rows more.
-fn with_commands<'a>(
-    alloc: Global,
-    mut dasd: Command<'a>,
-    rows: &[CommandRow],
-) -> Result<Command<'a>, AllocError> {
-    for row in rows {
-        dasd = with_command(alloc, dasd, row)?;
+// The program with all commands more.
+fn with_commands<'a>(alloc: Global, mut dasd: Command<'a>) -> Result<Command<'a>, AllocError> {
+    for place in 0..COMMANDS {
+        if let Some(row) = row_at(place) {
+            dasd = with_command(alloc, dasd, row)?;
+        }
     }
     Ok(dasd)
 }

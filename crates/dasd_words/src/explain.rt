@@ -35,7 +35,7 @@ Example: dasd explain csw 00000428 0E000320
 const MOST_BYTES: usize = 8;
 
 /// The command, with its words.
-pub(crate) const COMMAND: CommandRow = CommandRow {
+pub(crate) static COMMAND: CommandRow = CommandRow {
     name: "explain",
     about: "Says in words what status, sense bytes and command words mean",
     usage: None,

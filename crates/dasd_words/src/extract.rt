@@ -29,7 +29,7 @@ const LIST_MEMBER: &str =
     "error: --list prints the members of a data set, and takes the name of none\n";
 
 /// The command, with its words.
-pub(crate) const COMMAND: CommandRow = CommandRow {
+pub(crate) static COMMAND: CommandRow = CommandRow {
     name: "extract",
     about: "Takes data sets and members of partitioned ones out of a volume",
     usage: Some(

@@ -16,7 +16,7 @@ const CYLINDERS: &str = "203";
 const CYLINDERS_RULE: &str = "a number from 1 to 65535";
 
 /// The command, with its options.
-pub(crate) const COMMAND: CommandRow = CommandRow {
+pub(crate) static COMMAND: CommandRow = CommandRow {
     name: "format",
     about: "Writes a new image",
     usage: None,

@@ -7,7 +7,7 @@ use clap::ArgMatches;
 use std::alloc::Global;
 
 /// The command, with its words.
-pub(crate) const COMMAND: CommandRow = CommandRow {
+pub(crate) static COMMAND: CommandRow = CommandRow {
     name: "hash",
     about: "Prints the SHA-256 of what a volume says, without what stands behind end marks",
     usage: None,

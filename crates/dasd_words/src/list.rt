@@ -11,7 +11,7 @@ const CYLINDERS_RULE: &str =
     "a number or a range, as 3, 0-2 or 0x14, decimal or hexadecimal behind 0x, as places are printed";
 
 /// The command, with its words.
-pub(crate) const COMMAND: CommandRow = CommandRow {
+pub(crate) static COMMAND: CommandRow = CommandRow {
     name: "list",
     about: "Prints a volume with its tracks and records",
     usage: None,

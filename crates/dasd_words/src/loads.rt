@@ -35,7 +35,7 @@ How the blocks of a member are formed stands in the label of its library.
 const KEYS_APART: &str = "error: --key-length goes with --with-lengths\n";
 
 /// The command, with its words.
-pub(crate) const COMMAND: CommandRow = CommandRow {
+pub(crate) static COMMAND: CommandRow = CommandRow {
     name: "load",
     about: "Puts a file onto a volume as a new data set or member, or the files of a folder",
     usage: Some(

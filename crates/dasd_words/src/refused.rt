@@ -2,7 +2,8 @@
 
 use crate::commands::{match_words, read_words};
 use crate::requests::{PrintedVolume, Request};
-use crate::volumes::read_volume;
+use crate::run::read_volumes;
+use crate::volumes::{Volume, read_volume};
 use std::alloc::Global;
 
 /// What a word of a volume must be.
@@ -24,11 +25,14 @@ pub fn first_bad_volume<'a>(alloc: Global, words: &'a [&'a str]) -> Option<&'a s
 
 /// The first address that an earlier volume of a run has too.
 pub fn taken_address(alloc: Global, words: &[&str]) -> Option<u8> {
-    let asked = read_words(alloc, words).ok()?;
-    let Request::Run(run) = asked.request else {
-        return None;
-    };
-    let volumes = run.volumes.as_slice();
+    let matches = match_words(alloc, words).ok()?;
+    let (_, options) = matches.subcommand()?;
+    let volumes = read_volumes(alloc, options.get_strs("VOLUME")?).ok()?;
+    taken(volumes.as_slice())
+}
+
+// The first address that an earlier one of these volumes has too.
+fn taken(volumes: &[Volume]) -> Option<u8> {
     for i in 0..volumes.len() {
         let device = volumes[i].device;
         if volumes[..i].iter().any(|before| before.device == device) {

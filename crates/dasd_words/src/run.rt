@@ -23,7 +23,7 @@ const LAST_RULE: &str = "a number of lines from 1 to 100000";
 const MOST_LINES: u32 = 100_000;
 
 /// The command, with its options.
-pub(crate) const COMMAND: CommandRow = CommandRow {
+pub(crate) static COMMAND: CommandRow = CommandRow {
     name: "run",
     about: "Runs a deck of channel instructions, and saves the images that it changed",
     usage: None,
@@ -180,7 +180,11 @@ fn read_trace<'a>(
     }))
 }
 
-fn read_volumes<'a>(alloc: Global, words: &[&'a str]) -> Result<Vec<Volume<'a>>, WordFault> {
+/// The volumes of these words, in their order.
+pub(crate) fn read_volumes<'a>(
+    alloc: Global,
+    words: &[&'a str],
+) -> Result<Vec<Volume<'a>>, WordFault> {
     let mut volumes = Vec::new(alloc);
     for word in words {
         let (device, named) = read_volume(word).ok_or(WordFault::BadVolume)?;

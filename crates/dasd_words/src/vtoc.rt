@@ -7,7 +7,7 @@ use clap::ArgMatches;
 use std::alloc::Global;
 
 /// The command, with its words.
-pub(crate) const COMMAND: CommandRow = CommandRow {
+pub(crate) static COMMAND: CommandRow = CommandRow {
     name: "vtoc",
     about: "Prints the label of a volume, its data sets, and what is wrong with them",
     usage: None,
