@@ -14,7 +14,8 @@
  * every call answers DASD_NOTHING_HELD before anything else, but those that make one; a call whose text names no fault answers no other.
  *
  * WHAT NO CALL DOES. None blocks, starts a thread, opens a file, prints, or calls back. Only dasd_new, dasd_new_lent, dasd_copy,
- * dasd_attach, dasd_attach_new and dasd_check take memory, by malloc, and want of it is an ordinary fault.
+ * dasd_attach, dasd_attach_new, dasd_check, dasd_files_new, dasd_attach_files and dasd_detach_files take memory, by malloc, and want of
+ * it is an ordinary fault.
  *
  * WHAT THE CALLER OWES, and nothing checks:
  *   1. A pointer leads to a value of its type, and a pointer and a length to so many bytes. No two arguments of a call overlap, and
@@ -242,16 +243,17 @@ typedef struct dasd_bytes {
 int32_t dasd_check(const dasd_bytes *files, size_t count);
 
 /* Attaches a drive under an address, with the volume that these files, one to eight in their order, hold. They are copied: the
- * caller's bytes are free afterwards. The arm is at rest at cylinder 0 and head 0, and the sense bytes are zero. Also while a program
- * runs. DASD_NO_CHANNEL, DASD_NO_FILES, DASD_TOO_MANY_FILES, DASD_NO_MEMORY, DASD_NOT_CKD_P370 to DASD_LENGTH, DASD_ADDRESS_TAKEN,
- * DASD_FULL. */
+ * caller's bytes are free afterwards (dasd_attach_files copies none). The arm is at rest at cylinder 0 and head 0, and the sense bytes are zero.
+ * Also while a program runs. DASD_NO_CHANNEL, DASD_NO_FILES, DASD_TOO_MANY_FILES, DASD_NO_MEMORY, DASD_NOT_CKD_P370 to DASD_LENGTH,
+ * DASD_ADDRESS_TAKEN, DASD_FULL. */
 int32_t dasd_attach(dasd *d, uint16_t address, const dasd_bytes *files, size_t count);
 
 /* The same with a new volume in one file: so many cylinders of this model, 2311 or 2314, whose tracks have a home address and record 0.
  * DASD_BAD_MODEL, DASD_NO_CHANNEL, DASD_NO_CYLINDERS, DASD_NO_MEMORY, DASD_ADDRESS_TAKEN, DASD_FULL. */
 int32_t dasd_attach_new(dasd *d, uint16_t address, uint16_t model, uint16_t cylinders);
 
-/* Takes a drive off its channel. Its volume is freed, so save it first. The other drives and the channel stay.
+/* Takes a drive off its channel. Its volume is freed, so save it first, or keep it by dasd_detach_files. The other drives and the channel
+ * stay.
  * DASD_NO_CHANNEL, DASD_NO_DRIVE, DASD_PROGRAM_RUNS, DASD_ENDING_PENDS, DASD_DEVICE_END_OWED. */
 int32_t dasd_detach(dasd *d, uint16_t address);
 
@@ -265,7 +267,8 @@ typedef struct dasd_file {
 
 /* Shows a file of a drive's volume, 0 for its first, where the drive's program does not run: that of another drive may. All that the
  * drive's programs wrote is in it. The bytes stand there, and are the volume's, until the next dasd_step, dasd_run_on, dasd_run_until,
- * dasd_hio or dasd_reset of that channel, dasd_detach or dasd_free. DASD_NO_CHANNEL, DASD_PROGRAM_RUNS, DASD_NO_DRIVE, DASD_NO_FILE. */
+ * dasd_hio or dasd_reset of that channel, dasd_detach, dasd_detach_files or dasd_free. DASD_NO_CHANNEL, DASD_PROGRAM_RUNS, DASD_NO_DRIVE,
+ * DASD_NO_FILE. */
 int32_t dasd_show_file(const dasd *d, uint16_t address, uint8_t file, dasd_file *shown);
 
 /* A track of a file that was written, and where its slot lies there. */
@@ -291,6 +294,54 @@ typedef struct dasd_changed {
  * all tracks. A new volume's file is copied whole before all that: dasd_attach_new wrote it. Where dasd_show_file would be refused:
  * DASD_NO_CHANNEL, DASD_PROGRAM_RUNS, DASD_NO_DRIVE, DASD_NO_FILE. */
 int32_t dasd_next_changed(const dasd *d, uint16_t address, uint8_t file, uint64_t since, dasd_changed *track);
+
+/* Files of a volume that no drive has: a handle too, of 16 bytes, for which all that is said of a `dasd` holds. The library takes the
+ * memory for their bytes, the caller fills them where they lie, and a drive takes them over and gives them back: a volume is never there
+ * twice, as it is for a while where dasd_attach copies it.
+ *
+ *     dasd_files f = DASD_NO_FILES_HELD;
+ *     dasd_space space;
+ *     size_t len = the file's length;
+ *     if (dasd_files_new(&f, &len, 1) < 0 || dasd_files_show(&f, 0, &space) < 0) ...
+ *     if (fread(space.at, 1, space.len, file) != space.len) ...
+ *     if (dasd_attach_files(&d, 0x190, &f) < 0) dasd_files_free(&f); */
+typedef struct dasd_files {
+    uint64_t stamp;
+    void *place;
+} dasd_files;
+
+/* A handle that holds no files. */
+#define DASD_NO_FILES_HELD \
+    { 0, NULL }
+
+/* The bytes of a file that no drive has: `len` bytes at `at`. */
+typedef struct dasd_space {
+    uint8_t *at;
+    size_t len;
+} dasd_space;
+
+/* Takes the memory for files of so many bytes each, one to eight of them, and fills it with zeros. `f` holds them then.
+ * DASD_IN_USE, `f` holds files; DASD_NO_FILES, DASD_TOO_MANY_FILES, DASD_NO_MEMORY. It does not answer DASD_NOTHING_HELD. */
+int32_t dasd_files_new(dasd_files *f, const size_t *lengths, size_t count);
+
+/* Shows where a file lies, 0 for the first. Its bytes are the caller's to read and to write until dasd_attach_files takes them over,
+ * or dasd_files_free. DASD_NO_FILE. */
+int32_t dasd_files_show(const dasd_files *f, uint8_t file, dasd_space *shown);
+
+/* Attaches a drive under an address, as dasd_attach does, with the volume that these files hold as their bytes are now. They are the
+ * drive's from then on, and `f` holds nothing: none is copied, and memory is taken for the drive, and to keep which tracks are written,
+ * alone. `changes` is counted anew, from 0, also where the files were a drive's before: a number that was shown then says nothing now.
+ * DASD_NOTHING_HELD, `d` or `f` does; then as dasd_attach: DASD_NO_CHANNEL, DASD_NO_MEMORY, DASD_NOT_CKD_P370 to DASD_LENGTH,
+ * DASD_ADDRESS_TAKEN, DASD_FULL. Where it is refused `f` holds the files as they were. */
+int32_t dasd_attach_files(dasd *d, uint16_t address, dasd_files *f);
+
+/* Takes a drive off its channel, as dasd_detach does, and gives the files of its volume, with all that was written, to `f`, which held
+ * nothing. They lie where they lay, and none is copied. DASD_IN_USE, `f` holds files; DASD_NO_MEMORY, a little is taken for `f`, before
+ * the drive is looked for; DASD_NO_CHANNEL, DASD_NO_DRIVE, DASD_PROGRAM_RUNS, DASD_ENDING_PENDS, DASD_DEVICE_END_OWED. */
+int32_t dasd_detach_files(dasd *d, uint16_t address, dasd_files *f);
+
+/* Frees the files. The handle holds none then. */
+int32_t dasd_files_free(dasd_files *f);
 
 enum dasd_arm { DASD_AT_REST = 0, DASD_IN_MOTION = 1, DASD_ARRIVED = 2 };
 
@@ -619,8 +670,8 @@ static inline int32_t dasd_lent_run_until(dasd *d, dasd_memory *memory, uint8_t 
 
 /* --- No bytes ---
  *
- * The library's own calls take no null pointer. Those that are given bytes or files are made through these, by the same names: a null pointer
- * counts as no bytes, and leads to one that nobody looks at. They are the header's own, and the library exports none of them. */
+ * The library's own calls take no null pointer. Those that are given bytes, files or lengths are made through these, by the same names: a null
+ * pointer counts as no bytes, and leads to one that nobody looks at. They are the header's own, and the library exports none of them. */
 
 /* The bytes, or where there are none a byte that nobody looks at. */
 static inline const uint8_t *dasd_some(const uint8_t *bytes) {
@@ -649,6 +700,11 @@ static inline int32_t dasd_attach_some(dasd *d, uint16_t address, const dasd_byt
     return dasd_attach(d, address, dasd_some_files(some, files, count), count);
 }
 
+static inline int32_t dasd_files_new_some(dasd_files *f, const size_t *lengths, size_t count) {
+    size_t none = 0;
+    return dasd_files_new(f, lengths ? lengths : &none, lengths ? count : 0);
+}
+
 static inline int32_t dasd_save_some(const dasd *d, uint8_t *into, size_t len, size_t *written) {
     uint8_t none = 0;
     return dasd_save(d, into ? into : &none, into ? len : 0, written);
@@ -667,6 +723,7 @@ static inline int32_t dasd_poke_some(dasd *d, uint32_t at, const uint8_t *bytes,
 
 #define dasd_check dasd_check_some
 #define dasd_attach dasd_attach_some
+#define dasd_files_new dasd_files_new_some
 #define dasd_save dasd_save_some
 #define dasd_restore dasd_restore_some
 #define dasd_peek dasd_peek_some

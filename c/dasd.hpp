@@ -245,6 +245,57 @@ struct File {
     std::uint64_t changes;
 };
 
+/* Files of a volume that no drive has. The library takes the memory for their bytes; the program fills them where they lie, a drive takes
+ * them over and gives them back, and none is copied. They are moved, and not copied. One that was made without words, was moved from or freed,
+ * or whose files a drive took over holds nothing: each call but free then throws DASD_NOTHING_HELD. */
+class HeldFiles {
+  public:
+    /* None. */
+    HeldFiles() noexcept = default;
+
+    /* Files of so many bytes each, one to eight, which are zero. DASD_NO_FILES, DASD_TOO_MANY_FILES, DASD_NO_MEMORY; std::bad_alloc. */
+    explicit HeldFiles(std::initializer_list<std::size_t> lengths) : HeldFiles(Span<const std::size_t>(lengths.begin(), lengths.size())) {}
+    explicit HeldFiles(Span<const std::size_t> lengths) { detail::done(dasd_files_new(made(), lengths.data(), lengths.size())); }
+
+    /* A file, 0 for the first. Its bytes are the caller's to read and to write until a drive takes them over, or they are freed.
+     * DASD_NO_FILE. */
+    Span<std::uint8_t> file(std::uint8_t place = 0) {
+        dasd_space shown{};
+        detail::done(dasd_files_show(held(), place, &shown));
+        return {shown.at, shown.len};
+    }
+
+    /* Frees them. It holds nothing then. */
+    void free() noexcept { handle.reset(); }
+
+    /* Whether it holds files. */
+    explicit operator bool() const noexcept { return handle && handle->stamp != 0; }
+
+  private:
+    friend class Channels;
+
+    struct Freer {
+        void operator()(dasd_files *held) const noexcept {
+            dasd_files_free(held);
+            delete held;
+        }
+    };
+
+    /* A handle that holds nothing yet. */
+    dasd_files *made() {
+        handle.reset(new dasd_files DASD_NO_FILES_HELD);
+        return handle.get();
+    }
+
+    dasd_files *held() const {
+        if (!handle) throw Fault(DASD_NOTHING_HELD);
+        return handle.get();
+    }
+
+    /* Of its own place, so that a move leaves it where it is: dasd.h forbids copies of it. */
+    std::unique_ptr<dasd_files, Freer> handle;
+};
+
 /* --- The subsystem --- */
 
 /* One to seven channels, with their drives and the volumes of these, whoever keeps main storage: what a Subsystem and a LentSubsystem have in
@@ -277,6 +328,14 @@ class Channels {
     void attach(std::uint16_t address, std::initializer_list<Bytes> files) { attach(address, Files(files.begin(), files.size())); }
     void attach(std::uint16_t address, Bytes file) { attach(address, {file}); }
 
+    /* The same with files that are taken over, as their bytes are now: none is copied, and they hold nothing then. Their changes are counted
+     * anew. Where it is refused they stay. */
+    void attach(std::uint16_t address, HeldFiles &files) {
+        dasd *const disks = held();
+        detail::done(dasd_attach_files(disks, address, files.held()));
+    }
+    void attach(std::uint16_t address, HeldFiles &&files) { attach(address, files); }
+
     /* The same with a new volume in one file: so many cylinders of this model, 2311 or 2314, whose tracks have a home address and record 0.
      * DASD_BAD_MODEL, DASD_NO_CHANNEL, DASD_NO_CYLINDERS, DASD_NO_MEMORY, DASD_ADDRESS_TAKEN, DASD_FULL. */
     void attach_new(std::uint16_t address, std::uint16_t model, std::uint16_t cylinders) {
@@ -286,6 +345,14 @@ class Channels {
     /* Takes a drive off its channel. Its volume is freed, so save it first. The other drives and the channel stay.
      * DASD_NO_CHANNEL, DASD_NO_DRIVE, DASD_PROGRAM_RUNS, DASD_ENDING_PENDS, DASD_DEVICE_END_OWED. */
     void detach(std::uint16_t address) { detail::done(dasd_detach(held(), address)); }
+
+    /* The same, and the volume's files, with all that was written, are given back, where they lie: none is copied. DASD_NO_MEMORY, and the
+     * faults of detach; std::bad_alloc. */
+    HeldFiles detach_files(std::uint16_t address) {
+        HeldFiles files;
+        detail::done(dasd_detach_files(held(), address, files.made()));
+        return files;
+    }
 
     /* A file of a drive's volume, 0 for its first, where the drive's program does not run: that of another drive may. Its bytes stand there
      * until the next step, run_on, run_until, hio or reset of that channel, detach or free. DASD_NO_CHANNEL, DASD_PROGRAM_RUNS,

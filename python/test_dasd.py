@@ -101,6 +101,25 @@ class Calls(unittest.TestCase):
             self.assertRaises(ValueError, trace.look, dasd.When.BEHIND_RUN, 0, -1)
         self.refused("NOTHING_HELD", trace.end)
 
+    def test_files_are_taken_over_and_given_back(self) -> None:
+        with self.made() as disks, self.maker(4096, 0) as others:
+            image, _ = disks.file(0x190)
+            files = dasd.HeldFiles(len(image))
+            for at in range(0, len(image), 65536):
+                files.put(at, image[at : at + 65536])
+            self.refused("ADDRESS_TAKEN", disks.attach_files, 0x190, files)
+            others.attach_files(0x001, files)
+            self.refused("NOTHING_HELD", files.get, 0, 1)
+            self.assertEqual(others.file(0x001), (image, 0))
+            self.refused("NO_DRIVE", others.detach_files, 0x002)
+            files = others.detach_files(0x001)
+        self.assertEqual(files.get(0, len(image)), image)
+        self.refused("NO_FILE", files.get, 0, 1, 1)
+        self.refused("NO_FILES", dasd.HeldFiles)
+        self.refused("NO_MEMORY", dasd.HeldFiles, 1 << 70)
+        for at, data in ((len(image), b"x"), (-1, b"x"), (1, image)):
+            self.assertRaises(ValueError, files.put, at, data)
+
     def test_a_volume_goes_from_one_to_another(self) -> None:
         with self.made() as disks, self.maker(4096, 0) as others:
             image, changes = disks.file(0x190)

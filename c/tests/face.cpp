@@ -13,6 +13,7 @@
 using libdasd::Bytes;
 using libdasd::Fault;
 using libdasd::Files;
+using libdasd::HeldFiles;
 using libdasd::LentSubsystem;
 using libdasd::Memory;
 using libdasd::Subsystem;
@@ -144,6 +145,25 @@ void a_volume_goes_from_one_to_another() {
     CHECK(refused([&] { others.detach(0x001); }) == DASD_NO_DRIVE);
     image.pop_back();
     CHECK(refused([&] { libdasd::check(image); }) == DASD_LENGTH && refused([&] { others.attach(0x001, image); }) == DASD_LENGTH);
+}
+
+void files_are_taken_over_and_given_back() {
+    Subsystem disks = made(read_r0), others(4096, DASD_CHANNEL(0));
+    const Octets image = image_of(disks);
+    HeldFiles files({image.size()}), none;
+    std::copy(image.begin(), image.end(), files.file().begin());
+    const auto *const place = files.file().data();
+    CHECK(refused([&] { disks.attach(drive, files); }) == DASD_ADDRESS_TAKEN && files && files.file().data() == place);
+    others.attach(0x001, files);
+    CHECK(!files && refused([&] { (void)files.file(); }) == DASD_NOTHING_HELD && others.file(0x001).bytes.data() == place);
+    CHECK(refused([&] { others.attach(0x002, none); }) == DASD_NOTHING_HELD &&
+          refused([&] { others.attach(0x002, files); }) == DASD_NOTHING_HELD);
+    CHECK(refused([&] { (void)others.detach_files(0x002); }) == DASD_NO_DRIVE);
+    files = others.detach_files(0x001);
+    CHECK(files && files.file().data() == place && std::equal(image.begin(), image.end(), files.file().begin(), files.file().end()));
+    CHECK(refused([&] { (void)files.file(1); }) == DASD_NO_FILE && refused([] { const HeldFiles no({}); }) == DASD_NO_FILES);
+    others.attach(0x001, std::move(files));
+    CHECK(others.file(0x001).changes == 0);
 }
 
 void a_file_is_kept_by_its_changed_tracks() {
@@ -481,6 +501,7 @@ int main(int count, char **words) { // NOLINT(bugprone-exception-escape)
     a_program_is_traced();
     a_program_runs_until();
     a_volume_goes_from_one_to_another();
+    files_are_taken_over_and_given_back();
     a_file_is_kept_by_its_changed_tracks();
     a_volume_in_several_files();
     an_arm_moves();

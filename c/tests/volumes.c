@@ -1,5 +1,6 @@
 /* volumes.c - volumes in as many files as there may be, drives in every place of a channel, and interruptions of all channels: what bounds
- * the loops of the library. Built with -DHEAP and heap.c in place of the library's own way to memory, it also refuses memory. */
+ * the loops of the library; and files that are taken over and given back. Built with -DHEAP and heap.c in place of the library's own way to
+ * memory, it also refuses memory. */
 #include <stdint.h>
 #include <stdio.h>
 #include <stdlib.h>
@@ -327,6 +328,103 @@ static void every_mask(void) {
     CHECK(dasd_free(&d) == DASD_DONE);
 }
 
+/* The image's files, filled where the library holds them. */
+static void fill(dasd_files *f) {
+    size_t lengths[FILES];
+    dasd_space space;
+    for (size_t i = 0; i < FILES; i++) lengths[i] = files[i].len;
+    CHECK(dasd_files_new(f, lengths, FILES) == DASD_DONE);
+    for (uint8_t i = 0; i < (uint8_t)FILES; i++) {
+        CHECK(dasd_files_show(f, i, &space) == DASD_DONE && space.len == files[i].len && !space.at[0] && !space.at[space.len - 1]);
+        memcpy(space.at, files[i].at, space.len);
+    }
+}
+
+/* Whether they hold these bytes. */
+static int hold(const dasd_files *f, const dasd_bytes *want) {
+    dasd_space space;
+    for (uint8_t i = 0; i < (uint8_t)FILES; i++)
+        if (dasd_files_show(f, i, &space) != DASD_DONE || space.len != want[i].len || memcmp(space.at, want[i].at, space.len) != 0) return 0;
+    return dasd_files_show(f, FILES, &space) == DASD_NO_FILE;
+}
+
+/* Files are taken over and given back, and lie where they lay: a drive with them does what one with copies of them does. Attached once more,
+ * their changes begin anew. */
+static void taken_over(void) {
+    const uint8_t record_1[9] = {0, 3, 0, 0, 1, 0, 0, 1, 0xC1};
+    dasd d = DASD_NOTHING, copied = DASD_NOTHING;
+    dasd_files f = DASD_NO_FILES_HELD;
+    dasd_space before;
+    dasd_file shown = {bytes[0], 0, 0}, copy = shown;
+    dasd_bytes all[FILES];
+    dasd_changed it = {0, 0, 0, 0};
+    uint8_t got = 0;
+    fill(&f);
+    CHECK(dasd_files_show(&f, 2, &before) == DASD_DONE && hold(&f, files));
+    CHECK(dasd_new(&d, 4096, DASD_CHANNEL(1)) == DASD_DONE && dasd_new(&copied, 4096, DASD_CHANNEL(1)) == DASD_DONE);
+    CHECK(dasd_attach_files(&d, 0x190, &f) == DASD_DONE && dasd_attach(&copied, 0x190, files, FILES) == DASD_DONE);
+    CHECK(dasd_files_free(&f) == DASD_NOTHING_HELD);
+    dasd *const both[2] = {&d, &copied};
+    for (int i = 0; i < 2; i++) {
+        store(both[i], 0x48, "00000100");
+        CHECK(dasd_poke(both[i], 0x210, record_1, sizeof record_1) == DASD_DONE);
+        at_record(both[i], 3, 0, "1D000210 20000009"); /* Write Count, Key and Data */
+    }
+    CHECK(dasd_show_file(&d, 0x190, 2, &shown) == DASD_DONE && shown.at == before.at && shown.changes == 1);
+    for (uint8_t i = 0; i < (uint8_t)FILES; i++) {
+        CHECK(dasd_show_file(&d, 0x190, i, &shown) == DASD_DONE && dasd_show_file(&copied, 0x190, i, &copy) == DASD_DONE);
+        CHECK(shown.len == copy.len && shown.changes == copy.changes && !memcmp(shown.at, copy.at, copy.len));
+        all[i] = (dasd_bytes){copy.at, copy.len};
+    }
+    CHECK(memcmp(all[2].at, files[2].at, files[2].len) != 0 && dasd_next_changed(&d, 0x190, 2, 0, &it) == 1 && it.track == 0);
+    CHECK(dasd_detach_files(&d, 0x190, &f) == DASD_DONE && dasd_tio(&d, 0x190) == 3 && hold(&f, all));
+    CHECK(dasd_files_show(&f, 2, &before) == DASD_DONE && dasd_attach_files(&d, 0x191, &f) == DASD_DONE);
+    CHECK(dasd_show_file(&d, 0x191, 2, &shown) == DASD_DONE && shown.at == before.at && shown.changes == 0);
+    it.next = 0;
+    CHECK(dasd_next_changed(&d, 0x191, 2, 0, &it) == 0);
+    CHECK(dasd_detach_files(&d, 0x191, &f) == DASD_DONE && dasd_attach_files(&d, 0x190, &f) == DASD_DONE);
+    at_record(&d, 3, 1, "06000300 20000001"); /* Read Data */
+    CHECK(dasd_peek(&d, 0x300, &got, 1) == DASD_DONE && got == 0xC1);
+    CHECK(dasd_free(&d) == DASD_DONE && dasd_free(&copied) == DASD_DONE);
+}
+
+/* A number that no file can have as its length. */
+static const size_t too_long[2] = {1, SIZE_MAX};
+
+/* Each refusal, in its order, leaves both handles as they were; what is held is changed, and then is an image or none. */
+static void kept_where_refused(void) {
+    static const size_t nine[FILES + 1] = {1, 1, 1, 1, 1, 1, 1, 1, 1};
+    dasd d = DASD_NOTHING;
+    dasd_files f = DASD_NO_FILES_HELD, other = DASD_NO_FILES_HELD;
+    dasd_space space = {bytes[0], 1};
+    uint32_t done;
+    CHECK(dasd_files_show(&f, 0, &space) == DASD_NOTHING_HELD && space.at == bytes[0] && space.len == 1);
+    CHECK(dasd_files_new(&f, nine, 0) == DASD_NO_FILES && dasd_files_new(&f, NULL, 1) == DASD_NO_FILES);
+    CHECK(dasd_files_new(&f, nine, FILES + 1) == DASD_TOO_MANY_FILES && dasd_files_new(&f, too_long, 2) == DASD_NO_MEMORY);
+    CHECK(dasd_files_free(&f) == DASD_NOTHING_HELD);
+    CHECK(dasd_attach_files(&d, 0x190, &f) == DASD_NOTHING_HELD && dasd_detach_files(&d, 0x190, &f) == DASD_NOTHING_HELD);
+    fill(&f);
+    CHECK(dasd_files_new(&f, nine, 0) == DASD_IN_USE && hold(&f, files) && dasd_files_show(&f, 255, &space) == DASD_NO_FILE);
+    CHECK(dasd_attach_files(&d, 0x190, &f) == DASD_NOTHING_HELD && dasd_detach_files(&d, 0x190, &f) == DASD_NOTHING_HELD && hold(&f, files));
+    CHECK(dasd_new(&d, 4096, DASD_CHANNEL(1)) == DASD_DONE && dasd_attach_new(&d, 0x191, 2311, 1) == DASD_DONE);
+    CHECK(dasd_attach_files(&d, 0x190, &other) == DASD_NOTHING_HELD && dasd_attach_files(&d, 0x290, &f) == DASD_NO_CHANNEL);
+    CHECK(hold(&f, files) && dasd_attach_files(&d, 0x191, &f) == DASD_ADDRESS_TAKEN && hold(&f, files));
+    CHECK(dasd_files_show(&f, 1, &space) == DASD_DONE);
+    space.at[SEQUENCE] = 3;
+    CHECK(dasd_attach_files(&d, 0x191, &f) == DASD_SPLIT && dasd_files_show(&f, 1, &space) == DASD_DONE && space.at[SEQUENCE] == 3);
+    space.at[SEQUENCE] = 2;
+    for (uint16_t unit = 2; unit < 9; unit++) CHECK(dasd_attach_new(&d, (uint16_t)(0x190 + unit), 2311, 1) == DASD_DONE);
+    CHECK(dasd_attach_files(&d, 0x190, &f) == DASD_FULL && hold(&f, files));
+    CHECK(dasd_detach_files(&d, 0x290, &f) == DASD_IN_USE && hold(&f, files) && dasd_detach_files(&d, 0x290, &other) == DASD_NO_CHANNEL);
+    CHECK(dasd_detach_files(&d, 0x190, &other) == DASD_NO_DRIVE && dasd_files_free(&other) == DASD_NOTHING_HELD);
+    store(&d, 0x48, "00000100");
+    store(&d, 0x100, "03000000 60000001 08000100 00000000"); /* No-Operation for ever */
+    CHECK(dasd_sio(&d, 0x191) == 0 && dasd_step(&d, 1, 5, &done) == DASD_DONE && dasd_detach_files(&d, 0x191, &other) == DASD_PROGRAM_RUNS);
+    CHECK(dasd_files_free(&other) == DASD_NOTHING_HELD && dasd_detach_files(&d, 0x192, &other) == DASD_DONE &&
+          dasd_files_free(&other) == DASD_DONE);
+    CHECK(dasd_free(&d) == DASD_DONE && hold(&f, files) && dasd_files_free(&f) == DASD_DONE && dasd_files_free(&f) == DASD_NOTHING_HELD);
+}
+
 #ifdef HEAP
 /* Each taking of memory of a call is refused in turn: nothing was done, and no more is held than before but for `room` blocks, which a list
  * of drives keeps for the next time. In the end the call goes through. */
@@ -344,11 +442,19 @@ static void every_mask(void) {
 
 static void refused_memory(void) {
     dasd d = DASD_NOTHING;
+    dasd_files f = DASD_NO_FILES_HELD, g = DASD_NO_FILES_HELD;
+    size_t lengths[FILES] = {1, 2, 3, 4, 5, 6, 7, 8};
     int refused = 0;
     REFUSED_IN_TURN(dasd_check(files, FILES), 0);
     REFUSED_IN_TURN(dasd_new(&d, 4096, ALL), 0);
     for (uint16_t channel = 0; channel < 7; channel++) REFUSED_IN_TURN(dasd_attach(&d, (uint16_t)(channel << 8 | 0x90), files, FILES), 1);
     for (uint16_t unit = 0; unit < 7; unit++) REFUSED_IN_TURN(dasd_attach_new(&d, unit, 2314, 1), 1);
+    REFUSED_IN_TURN(dasd_files_new(&f, lengths, FILES), 0);
+    REFUSED_IN_TURN(dasd_detach_files(&d, 0x190, &g), 0);
+    CHECK(hold(&g, files));
+    REFUSED_IN_TURN(dasd_attach_files(&d, 0x190, &g), FILES + 1);
+    CHECK(dasd_detach_files(&d, 0x190, &g) == DASD_DONE && hold(&g, files));
+    CHECK(dasd_files_free(&f) == DASD_DONE && dasd_files_free(&g) == DASD_DONE);
     CHECK(dasd_detach(&d, 0x690) == DASD_DONE && dasd_free(&d) == DASD_DONE && heap_live == 0);
     printf("memory was refused %d times\n", refused);
 }
@@ -366,6 +472,8 @@ int main(void) {
     two_blocks();
     behind_the_end_mark();
     every_mask();
+    taken_over();
+    kept_where_refused();
 #ifdef HEAP
     refused_memory();
 #endif

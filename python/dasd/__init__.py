@@ -22,6 +22,7 @@ No program in plain Python reaches memory that was freed; any thread may call; a
 
 from __future__ import annotations
 
+from ._files import HeldFiles
 from ._library import INTERFACE
 from ._subsystem import ALL_CHANNELS, BytesLike, Channels, LentSubsystem, Subsystem, WritableBytes, channel_set, check, library_version
 from ._trace import Trace, When
@@ -64,6 +65,7 @@ __all__ = [
     "DriveState",
     "Fault",
     "FaultCode",
+    "HeldFiles",
     "LentSubsystem",
     "Phase",
     "Program",

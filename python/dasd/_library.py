@@ -23,6 +23,12 @@ class Handle(ctypes.Structure):
     _fields_ = [("stamp", ctypes.c_uint64), ("place", ctypes.c_void_p)]
 
 
+class Files(ctypes.Structure):
+    """What a caller holds of files that no drive has; all zero it holds none."""
+
+    _fields_ = [("stamp", ctypes.c_uint64), ("place", ctypes.c_void_p)]
+
+
 class Bytes(ctypes.Structure):
     """The bytes of a file, to be read."""
 
@@ -210,6 +216,8 @@ _CALLS: Dict[str, List[Any]] = {
     "attach": [_U16, _to(Bytes), _SIZE],
     "attach_new": [_U16, _U16, _U16],
     "detach": [_U16],
+    "attach_files": [_U16, _to(Files)],
+    "detach_files": [_U16, _to(Files)],
     "show_file": [_U16, _U8, _to(File)],
     "next_changed": [_U16, _U8, _U64, _to(Changed)],
     "show_drive": [_U16, _to(Drive)],
@@ -242,6 +250,13 @@ _CALLS: Dict[str, List[Any]] = {
     "lent_run_until_sized": [_to(Memory), _to(Wanted), _to(Progress), _SIZE],
     "lent_interrupt": [_to(Memory), _U8, ctypes.POINTER(_U16)],
     "lent_trace_look": [_to(Memory), _to(Trace), _to(Moment)],
+}
+
+# The calls that take files, and no handle of a subsystem: their arguments behind these.
+_FILES: Dict[str, List[Any]] = {
+    "files_new": [ctypes.POINTER(_SIZE), _SIZE],
+    "files_show": [_U8, _to(Storage)],
+    "files_free": [],
 }
 
 
@@ -281,6 +296,8 @@ def load() -> ctypes.PyDLL:
         raise ImportError(f"libdasd is not to be had ({why}): DASD_LIBRARY names its file, or the system's loader has to know it") from why
     for name, arguments in _CALLS.items():
         _declare(library, at, name, [_to(Handle), *arguments], ctypes.c_int32)
+    for name, arguments in _FILES.items():
+        _declare(library, at, name, [_to(Files), *arguments], ctypes.c_int32)
     _declare(library, at, "check", [_to(Bytes), _SIZE], ctypes.c_int32)
     _declare(library, at, "version", [], _U32)
     found = _declare(library, at, "interface", [], _U32)()

@@ -9,6 +9,7 @@ from types import TracebackType
 from typing import NoReturn, Optional, Sequence, Tuple, Type, TypeVar, Union
 
 from . import _library
+from ._files import HeldFiles
 from ._handle import Handle, Lent, LentHandle, calls, done
 from ._until import Progress, Sum, Until
 from ._words import (
@@ -181,6 +182,22 @@ class Channels:
         TOO_MANY_FILES, NO_MEMORY, what `check` raises, ADDRESS_TAKEN, FULL.
         """
         self._call("attach", _number("address", address, _U16), *_pairs(files))
+
+    def attach_files(self, address: int, files: HeldFiles) -> None:
+        """Attaches a drive under an address, with the volume that these files hold. They are taken over as they are, and none is copied; their
+        changes are counted anew. Where it is refused they stay. The Faults of `attach`, and NOTHING_HELD.
+        """
+        number = _number("address", address, _U16)
+        files.lend(lambda at: self._call("attach_files", number, at))
+
+    def detach_files(self, address: int) -> HeldFiles:
+        """Takes a drive off its channel, and gives back the files of its volume, with all that was written. None is copied.
+
+        NO_MEMORY, and the Faults of `detach`.
+        """
+        files, number = HeldFiles.none(), _number("address", address, _U16)
+        files.lend(lambda at: self._call("detach_files", number, at))
+        return files
 
     def attach_new(self, address: int, model: int, cylinders: int) -> None:
         """The same with a new volume: so many cylinders, 1 to 65,535, of this model, 2311 or 2314, whose tracks are empty.

@@ -145,7 +145,8 @@ pub extern "C" fn dasd_free(handle: &mut Handle, alloc: Global) -> i32
     }
 }
 
-fn moved<T: Send>(value: T) -> T
+/// The same value, of a type that may go to another thread.
+pub(crate) fn moved<T: Send>(value: T) -> T
     ensures { result ≡ value }
 {
     value

@@ -6,6 +6,8 @@
 mod attaching;
 mod calling;
 mod copying;
+mod files;
+mod files_slot;
 mod handle;
 mod instructions;
 mod parts;

@@ -1,8 +1,7 @@
 -- A storage that channels own fits them still.
 use mathlib.Core.HLevel.{is_prop→PathP}
-use Rattle.std.proofs.Common.{◌≡◌, ◌∙◌, refl, sym, subst, Option, Some, None, Result}
+use Rattle.std.proofs.Common.{◌≡◌, ◌∙◌, refl, sym, subst, Option, Some, None}
 use Rattle.std.proofs.Props.{props}
-use Rattle.std.specs.Prelude.{OnErr}
 use Rattle.s360_words.specs.Storage.{Storage}
 use Rattle.s360_channels.specs.Selectors.{SelectorsState}
 use Rattle.dasd_subsystem.specs.Fitting.{Fits}
@@ -37,7 +36,3 @@ copied_subsystem a cs s f e h = λ i. record {
   storage = h i;
   fits = is_prop→PathP (λ j. Fits (h j) (e j)) (λ j. hlevel props) f a.fits i;
 }
-
--- what is so where it is refused, of the same result
-pub err_at : {A E : Type 0} (P : Type 0) (r r' : Result A E) → r ≡ r' → OnErr r' P → OnErr r P
-err_at {A} {E} P r r' e h = subst (λ r. OnErr r P) (sym e) h

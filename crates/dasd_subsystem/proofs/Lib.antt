@@ -1,5 +1,7 @@
 pub mod Drives
 mod Copies
+mod There
+mod SameFiles
 mod Refusing
 pub mod Fitting
 mod Joined

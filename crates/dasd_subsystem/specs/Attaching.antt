@@ -5,14 +5,15 @@ use Rattle.ckd_track.specs.Geometry.{new_geometry}
 use Rattle.ckd_image.specs.Files.{FailedRead}
 use Rattle.ckd_image.specs.Header.{head_of, mount_of}
 use Rattle.ckd_image.specs.Layout.{image_length}
-use Rattle.ckd_image.specs.Image.{ImageState, Holds, new_image}
+use Rattle.ckd_image.specs.Image.{ImageState, Holds, HoldsImage, new_image}
 use Rattle.ckd_image.specs.declared.fault.MountFault.{MountFault}
 use Rattle.ckd_image.specs.declared.fault.MountFault.TheVariants.{StoreFault}
 use Rattle.s360_channel.specs.Attaches as channel
 use Rattle.s360_channel.specs.Channel.{ChannelState}
 use Rattle.s360_channel.specs.declared.faults.AttachFault.TheVariants as why
 use Rattle.s360_channels.specs.Adding.{AttachesAt, WhyNot}
-use Rattle.s360_channels.specs.Channels.{ChannelsState}
+use Rattle.s360_channels.specs.Channels.{ChannelsState, OnChannel}
+use Rattle.s360_channels.specs.Packs.{TakesOff}
 use Rattle.s360_channels.specs.declared.faults.AttachFault.{AttachFault}
 use Rattle.s360_channels.specs.declared.faults.AttachFault.TheVariants as fault
 use Rattle.dasd_subsystem.specs.declared.refusal.Refusal.{Refusal}
@@ -52,6 +53,12 @@ pub record Attaches (address : ℕ) (files : List (List ℕ)) (old new : Channel
 abbrev pub AttachesNew : (address : ℕ) → DriveModel → (cylinders : ℕ) → (old new : ChannelsState) → Type 0
 AttachesNew address model cylinders old new = AttachesImage address (new_volume model cylinders) old new
 
+-- A drive is taken off the channel of its address, and these files hold its image.
+pub record Detaches (address : ℕ) (files : List (List ℕ)) (old new : ChannelsState) : Type 0 where
+  pub image : ImageState
+  pub of_files : HoldsImage files image
+  pub detaches : OnChannel (address / 256) (TakesOff (address % 256) image) ⊥ old new
+
 -- The header of one of these files was not read. A file in memory does not fail so; that is said by its own contract, and not by that
 -- of a mount, which is of any store.
 pub record HasFailed (files : List (List ℕ)) : Type 0 where
@@ -63,6 +70,13 @@ pub record HasFailed (files : List (List ℕ)) : Type 0 where
 abbrev pub WhyNoImage : MountFault → (files : List (List ℕ)) → Type 0
 WhyNoImage StoreFault files = HasFailed files
 WhyNoImage broken files = mount_of files ≡ Err broken
+
+-- Why memory is not taken for so many files, in this order: there are none; there are more than eight; there is no memory.
+abbrev pub NotTaken : (count : ℕ) → Refusal → Type 0
+NotTaken count NoFiles = count ≡ 0
+NotTaken count TooManyFiles = 8 < count
+NotTaken count OutOfMemory = (0 < count) × (count ≤ 8)
+NotTaken count other = ⊥
 
 -- Why files are not mounted, in this order: there are none; there are more than eight; there is no memory for copies of them; they
 -- are no image.

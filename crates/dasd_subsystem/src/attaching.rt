@@ -3,10 +3,12 @@
 ghost use Rattle.std.specs.Prelude.{◌≡◌, ◌/◌, ◌%◌, true, map, OnOk, OnErr, IfOk, IfErr};
 ghost use Rattle.s360_words.specs.Storage.{Storage as StorageState, is_size};
 ghost use Rattle.s360_channels.specs.Channels.{channel_at};
+ghost use Rattle.s360_channels.specs.Packs.{RefusedDetach};
 ghost use Rattle.s360_channels.specs.Selectors.{across};
-ghost use Rattle.dasd_subsystem.specs.Attaching.{Attaches, AttachesImage, AttachesNew, NotAttached, NotAttachedNew, Refuses};
+ghost use Rattle.dasd_subsystem.specs.Attaching.{Attaches, AttachesImage, AttachesNew, Detaches, NotAttached, NotAttachedNew, Refuses};
 ghost use Rattle.dasd_subsystem.specs.Making.{MadeLent, MadeOwn, NotMade, is_set};
 
+use crate::files::Files;
 use crate::making::{is_set, is_size, made_for};
 use crate::mounting::{formatted, mounted};
 use crate::refusal::{Refusal, of_attach};
@@ -14,6 +16,7 @@ use crate::subsystem::Subsystem;
 use ckd_image::Image;
 use ckd_track::DriveModel;
 use dasd_files::VolumeFile;
+use s360_channels::DetachFault;
 use s360_words::{Storage, StorageFault};
 use std::alloc::Global;
 
@@ -82,8 +85,59 @@ impl Subsystem {
         if !self.channels.has((address / 256) as u8) {
             return Err(Refusal::NoChannel);
         }
+        let copies = Files::copy_of(alloc, files)?;
+        match self.attach_files(alloc, address, copies) {
+            Ok(()) => Ok(()),
+            Err((refusal, _)) => Err(refusal),
+        }
+    }
+
+    /// Attaches a drive under an address, with the image that these files are. They are taken over as they are, and their changes are
+    /// counted anew.
+    ///
+    /// # Errors
+    ///
+    /// Those of `attach`, in its order: why the files are no image, and `OutOfMemory`, where what keeps their changes or the drive
+    /// found none. The files are handed back, and nothing has changed.
+    pub fn attach_files(
+        &mut self,
+        alloc: Global,
+        address: u16,
+        files: Files,
+    ) -> Result<(), (Refusal, Files)>
+        ensures attached { (s : StorageState) → OnOk result (Attaches address files (across self.old.channels s) (across self.new.channels s)) }
+        ensures refused { (s : StorageState) → IfErr result (λ e. NotAttached (channel_at (address / 256) (across self.old.channels s))
+            (address % 256) files e.0) }
+        ensures handed_back { IfErr result (λ e. e.1 ≡ files) }
+        ensures storage { self.new.storage ≡ self.old.storage }
+        ensures stays { OnErr result (self.new ≡ self.old) }
+    {
+        if !self.channels.has((address / 256) as u8) {
+            return Err((Refusal::NoChannel, files));
+        }
         let image = mounted(alloc, files)?;
-        attach_image(self, alloc, address, image)
+        match attach_image(self, alloc, address, image) {
+            Ok(()) => Ok(()),
+            Err((refusal, image)) => Err((refusal, Files::of(image))),
+        }
+    }
+
+    /// Takes the drive at an address off its channel, and gives back the files of its volume, with all that was written.
+    ///
+    /// # Errors
+    ///
+    /// Those of `Selectors::detach`; nothing has changed.
+    pub fn detach_files(&mut self, address: u16) -> Result<Files, DetachFault>
+        ensures detached { (s : StorageState) → IfOk result (λ files. Detaches address files (across self.old.channels s) (across self.new.channels s)) }
+        ensures refused { (s : StorageState) → IfErr result (λ e. RefusedDetach (channel_at (address / 256) (across self.old.channels s)) s
+            (address % 256) e) }
+        ensures storage { self.new.storage ≡ self.old.storage }
+        ensures stays { OnErr result (self.new ≡ self.old) }
+    {
+        match self.channels.detach(address) {
+            Ok(image) => Ok(Files::of(image)),
+            Err(fault) => Err(fault),
+        }
     }
 
     /// Attaches a drive under an address, with a new volume of so many cylinders.
@@ -109,24 +163,28 @@ impl Subsystem {
             return Err(Refusal::NoChannel);
         }
         let image = formatted(alloc, model, cylinders)?;
-        attach_image(self, alloc, address, image)
+        match attach_image(self, alloc, address, image) {
+            Ok(()) => Ok(()),
+            Err((refusal, _)) => Err(refusal),
+        }
     }
 }
 
-// Attaches a drive that holds this image.
+// Attaches a drive that holds this image, or hands it back.
 fn attach_image(
     subsystem: &mut Subsystem,
     alloc: Global,
     address: u16,
     image: Image<VolumeFile>,
-) -> Result<(), Refusal>
+) -> Result<(), (Refusal, Image<VolumeFile>)>
     ensures attached { (s : StorageState) → OnOk result (AttachesImage address image (across subsystem.old.channels s) (across subsystem.new.channels s)) }
     ensures storage { subsystem.new.storage ≡ subsystem.old.storage }
-    ensures refused { (s : StorageState) → IfErr result (λ e. Refuses (channel_at (address / 256) (across subsystem.old.channels s)) (address % 256) e) }
+    ensures refused { (s : StorageState) → IfErr result (λ e. Refuses (channel_at (address / 256) (across subsystem.old.channels s)) (address % 256) e.0) }
+    ensures handed_back { IfErr result (λ e. e.1 ≡ image) }
     ensures stays { OnErr result (subsystem.new ≡ subsystem.old) }
 {
     match subsystem.channels.attach(alloc, address, image) {
         Ok(()) => Ok(()),
-        Err((fault, _)) => Err(of_attach(fault)),
+        Err((fault, image)) => Err((of_attach(fault), image)),
     }
 }

@@ -1,6 +1,6 @@
 //! Which tracks of a volume's file were written.
 
-ghost use Rattle.std.specs.Prelude.{◌≡◌, ◌+◌, ◌*◌, ◌≤◌, length, IfOk};
+ghost use Rattle.std.specs.Prelude.{◌≡◌, ◌+◌, ◌*◌, ◌≤◌, length, OnOk};
 ghost use Rattle.dasd_files.specs.Files.{IsFile};
 ghost use Rattle.dasd_subsystem.specs.Changed.{ShowsNext, by_slots, slot_size, tracks_in};
 
@@ -50,15 +50,15 @@ pub fn next_changed(file: &VolumeFile, size: u32, since: u64, from: usize) -> Op
     None
 }
 
-/// The same file, whose slots, of so many bytes, are watched. The only error is that memory was refused.
-pub(crate) fn watched(alloc: Global, file: VolumeFile, size: u32) -> Result<VolumeFile, AllocError>
-    ensures slots { IfOk result (λ f. f ≡ by_slots size file) }
-    ensures same { IfOk result (λ f. f ≡ record file { parts = f.parts }) }
+/// The slots of a file, of so many bytes, are watched from now on. The only error is that memory was refused.
+pub(crate) fn watch(alloc: Global, file: &mut VolumeFile, size: u32) -> Result<(), AllocError>
+    ensures slots { OnOk result (file.new ≡ by_slots size file.old) }
+    ensures same { file.new ≡ record file.old { parts = file.new.parts } }
 {
     if size <= HEADER_LENGTH {
-        return Ok(file);
+        return Ok(());
     }
-    file.watched(alloc, size - HEADER_LENGTH, size)
+    file.watch(alloc, size - HEADER_LENGTH, size)
 }
 
 /// The size of a slot, as the header says it with which these bytes begin; 0 where they are fewer than it has.

@@ -5,6 +5,7 @@
 mod attaching;
 mod changed;
 mod copying;
+mod files;
 mod glances;
 mod making;
 mod mounting;
@@ -16,6 +17,7 @@ mod until;
 mod watched;
 
 pub use crate::changed::{ShownTrack, next_changed};
+pub use crate::files::Files;
 pub use crate::glances::Glance;
 pub use crate::mounting::check;
 pub use crate::refusal::Refusal;

@@ -1,17 +1,17 @@
 //! Files become an image.
 
-ghost use Rattle.std.specs.Prelude.{◌≡◌, ◌+◌, ◌<◌, ◌≤◌, ◌∷◌, ◌++◌, [], length, map, replicate, IfOk, IfErr, OnOk, All, IsSome};
-ghost use Rattle.arrayvec.specs.ArrayVec.{array_vec_len};
+ghost use Rattle.std.specs.Prelude.{◌≡◌, ◌<◌, [], length, map, replicate, slice_set, IfOk, IfErr, OnOk, All, IsSome};
 ghost use Rattle.ckd_track.specs.Geometry.{new_geometry};
-ghost use Rattle.ckd_image.specs.Files.{each};
+ghost use Rattle.ckd_image.specs.Files.{each, file_at, held};
+ghost use Rattle.ckd_image.specs.Image.{HoldsImage};
 ghost use Rattle.ckd_image.specs.Layout.{image_length};
 ghost use Rattle.dasd_files.specs.Files.{file_of};
 ghost use Rattle.dasd_subsystem.specs.Changed.{by_slots, slot_size};
-ghost use Rattle.dasd_subsystem.specs.Attaching.{AreFew, AreImage, IsImageOf, NotFormatted, NotMounted, new_volume};
+ghost use Rattle.dasd_subsystem.specs.Attaching.{AreFew, AreImage, NotFormatted, NotMounted, new_volume};
 
-use crate::changed::{slot_size, watched};
+use crate::changed::{slot_size, watch};
+use crate::files::{Files, few};
 use crate::refusal::Refusal;
-use arrayvec::ArrayVec;
 use ckd_image::{Image, image_len};
 use ckd_track::{DriveModel, Geometry};
 use dasd_files::VolumeFile;
@@ -26,65 +26,67 @@ pub fn check(alloc: Global, files: &[&[u8]]) -> Result<(), Refusal>
     ensures image { OnOk result (AreImage (map (λ file. file.now) files.now)) }
     ensures refused { IfErr result (λ e. NotMounted (map (λ file. file.now) files.now) e) }
 {
-    match mounted(alloc, files) {
+    let copies = Files::copy_of(alloc, files)?;
+    match mounted(alloc, copies) {
         Ok(_) => Ok(()),
-        Err(refusal) => Err(refusal),
+        Err((refusal, _)) => Err(refusal),
     }
 }
 
-/// The image that copies of these files, in their order, are.
-pub(crate) fn mounted(alloc: Global, files: &[&[u8]]) -> Result<Image<VolumeFile>, Refusal>
-    ensures image { IfOk result (λ i. IsImageOf (map (λ file. file.now) files.now) i) }
-    ensures few { OnOk result (AreFew (map (λ file. file.now) files.now)) }
-    ensures refused { IfErr result (λ e. NotMounted (map (λ file. file.now) files.now) e) }
+/// The image that these files are. Their changes are counted anew, and what is written is kept from now on.
+pub(crate) fn mounted(alloc: Global, files: Files) -> Result<Image<VolumeFile>, (Refusal, Files)>
+    ensures image { IfOk result (λ i. HoldsImage files i) }
+    ensures few { OnOk result (AreFew files) }
+    ensures refused { IfErr result (λ e. NotMounted files e.0) }
+    ensures kept { IfErr result (λ e. e.1 ≡ files) }
 {
-    if files.is_empty() {
-        return Err(Refusal::NoFiles);
+    let Files { mut held } = files;
+    if let Err(refusal) = few(held.len()) {
+        return Err((refusal, Files { held }));
     }
-    if files.len() > 8 {
-        return Err(Refusal::TooManyFiles);
+    if all_anew(alloc, held.as_mut_slice()).is_err() {
+        return Err((Refusal::OutOfMemory, Files { held }));
     }
-    match Image::mount_files(copied(alloc, files)?) {
+    match Image::mount_files(held) {
         Ok(image) => Ok(image),
-        Err((fault, _)) => Err(Refusal::Mount(fault)),
+        Err((fault, held)) => Err((Refusal::Mount(fault), Files { held })),
     }
 }
 
-// Copies of the files, none of which has failed.
-fn copied(alloc: Global, files: &[&[u8]]) -> Result<ArrayVec<Option<VolumeFile>, 8>, Refusal>
-    requires { length files.now ≤ 8 }
-    ensures there { IfOk result (λ copies. All IsSome copies.items) }
-    ensures refused { IfErr result (λ e. e ≡ Refusal.OutOfMemory) }
-    ensures contents { IfOk result (λ copies. each (λ f. f.content) copies.items ≡ map (λ file. file.now) files.now) }
+// Each of these files begins anew.
+fn all_anew(alloc: Global, files: &mut [Option<VolumeFile>]) -> Result<(), AllocError>
+    requires there { All IsSome files.old }
+    ensures there { All IsSome files.new }
+    ensures contents { each (λ f. f.content) files.new ≡ each (λ f. f.content) files.old }
 {
-    let mut copies: ArrayVec<Option<VolumeFile>, 8> = ArrayVec::new();
-    for bytes in files {
-        let Ok(file) = copy_of(alloc, *bytes) else {
-            return Err(Refusal::OutOfMemory);
-        };
-        append(&mut copies, file);
+    for place in 0..files.len() {
+        anew_at(alloc, files, place)?;
     }
-    Ok(copies)
+    Ok(())
 }
 
-// A file of a copy of these bytes, which keeps what is written from now on.
-fn copy_of(alloc: Global, bytes: &[u8]) -> Result<VolumeFile, AllocError>
-    ensures slots { IfOk result (λ f. f ≡ by_slots (slot_size bytes.now) (file_of bytes.now)) }
-    ensures same { IfOk result (λ f. f ≡ record (file_of bytes.now) { parts = f.parts }) }
+// The file at this place does.
+fn anew_at(alloc: Global, files: &mut [Option<VolumeFile>], place: usize) -> Result<(), AllocError>
+    requires exists { place < length files.old }
+    requires there { IsSome (file_at files.old place) }
+    ensures files { files.new ≡ slice_set files.old place (file_at files.new place) }
+    ensures there { IsSome (file_at files.new place) }
+    ensures content { held (λ f. f.content) [] (file_at files.new place) ≡ held (λ f. f.content) [] (file_at files.old place) }
 {
-    let file = VolumeFile::copy_of(alloc, bytes)?;
-    watched(alloc, file.counting_all_writes(), slot_size(bytes))
+    match &mut files[place] {
+        Some(file) => anew(alloc, file),
+        None => unreachable!(),
+    }
 }
 
-// One file more.
-fn append(files: &mut ArrayVec<Option<VolumeFile>, 8>, file: VolumeFile)
-    requires room { array_vec_len files.old < 8 }
-    requires there { All IsSome files.old.items }
-    ensures there { All IsSome files.new.items }
-    ensures count { length files.new.items ≡ length files.old.items + 1 }
-    ensures contents { each (λ f. f.content) files.new.items ≡ each (λ f. f.content) files.old.items ++ file.content ∷ [] }
+// A file begins anew, and keeps what is written from now on.
+fn anew(alloc: Global, file: &mut VolumeFile) -> Result<(), AllocError>
+    ensures slots { OnOk result (file.new ≡ by_slots (slot_size file.old.content) (file_of file.old.content)) }
+    ensures content { file.new.content ≡ file.old.content }
 {
-    files.push(Some(file));
+    file.begin_anew();
+    let size = slot_size(file.bytes());
+    watch(alloc, file, size)
 }
 
 /// The image of a new volume of so many cylinders.
@@ -117,6 +119,7 @@ fn zeros(alloc: Global, model: DriveModel, cylinders: u16) -> Result<VolumeFile,
         IfOk result (λ f. f ≡ record (file_of (replicate (image_length g) 0)) { parts = f.parts }) }
 {
     let file = VolumeFile::zeros(alloc, image_len(model, cylinders))?;
-    let geometry = Geometry::new(model, cylinders);
-    watched(alloc, file.counting_all_writes(), geometry.track_size)
+    let mut file = file.counting_all_writes();
+    watch(alloc, &mut file, Geometry::new(model, cylinders).track_size)?;
+    Ok(file)
 }

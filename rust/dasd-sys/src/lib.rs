@@ -35,6 +35,26 @@ pub struct dasd {
     pub place: *mut c_void,
 }
 
+/// Files of a volume that no drive has: a handle too. All zeros is one that holds none.
+#[repr(C)]
+#[derive(Debug)]
+pub struct dasd_files {
+    /// What marks a handle that holds files.
+    pub stamp: u64,
+    /// What it holds.
+    pub place: *mut c_void,
+}
+
+/// The bytes of a file that no drive has.
+#[repr(C)]
+#[derive(Clone, Copy, Debug)]
+pub struct dasd_space {
+    /// Where they lie.
+    pub at: *mut u8,
+    /// How many there are.
+    pub len: usize,
+}
+
 /// The bytes of a file, to be read.
 #[repr(C)]
 #[derive(Clone, Copy, Debug)]
@@ -335,6 +355,16 @@ extern "C" {
     pub fn dasd_attach_new(d: *mut dasd, address: u16, model: u16, cylinders: u16) -> i32;
     /// Takes a drive off its channel, and frees its volume.
     pub fn dasd_detach(d: *mut dasd, address: u16) -> i32;
+    /// Takes the memory for files of so many zero bytes each, one to eight of them, where the handle holds none.
+    pub fn dasd_files_new(f: *mut dasd_files, lengths: *const usize, count: usize) -> i32;
+    /// Shows where a file lies, 0 for the first. Its bytes are the caller's until [`dasd_attach_files`] takes them over, or [`dasd_files_free`].
+    pub fn dasd_files_show(f: *mut dasd_files, file: u8, shown: *mut dasd_space) -> i32;
+    /// Attaches a drive under an address, with the volume that these files hold. They are taken over, and `f` holds nothing then.
+    pub fn dasd_attach_files(d: *mut dasd, address: u16, f: *mut dasd_files) -> i32;
+    /// Takes a drive off its channel, and gives the files of its volume to `f`, which held nothing.
+    pub fn dasd_detach_files(d: *mut dasd, address: u16, f: *mut dasd_files) -> i32;
+    /// Frees the files.
+    pub fn dasd_files_free(f: *mut dasd_files) -> i32;
     /// Shows a file of a drive's volume, 0 for its first, where the drive's program does not run. Its bytes stand there until the next
     /// [`dasd_step`], [`dasd_run_on`], [`dasd_run_until`], [`dasd_hio`] or [`dasd_reset`] of that channel, [`dasd_detach`] or
     /// [`dasd_free`].

@@ -1,6 +1,6 @@
 //! The calls of a subsystem while its storage is lent.
 
-use crate::{Address, Answer, Changed, ChannelSet, Condition, Csw, DriveModel, DriveView, Event, Fault, File, Progress, RunOn, Status, Subsystem, Until, View};
+use crate::{Address, Answer, Changed, ChannelSet, Condition, Csw, DriveModel, DriveView, Event, Fault, File, HeldFiles, Progress, RunOn, Status, Subsystem, Until, View};
 use std::marker::PhantomData;
 
 /// The calls of a [`Subsystem`] whose main storage is lent beside them ([`Subsystem::lend`]). They stay in the thread of that storage.
@@ -49,6 +49,8 @@ macro_rules! calls {
 
 calls! {
     attach(address: Address, files: &[&[u8]]) -> Result<(), Fault>;
+    attach_files(address: Address, files: HeldFiles) -> Result<(), (Fault, HeldFiles)>;
+    detach_files(address: Address) -> Result<HeldFiles, Fault>;
     attach_new(address: Address, model: DriveModel, cylinders: u16) -> Result<(), Fault>;
     detach(address: Address) -> Result<(), Fault>;
     drive(address: Address) -> Result<DriveView, Fault>;

@@ -24,6 +24,7 @@
 
 mod calls;
 mod events;
+mod files;
 mod lent;
 mod subsystem;
 mod fault;
@@ -36,6 +37,7 @@ pub use crate::calls::Calls;
 pub use crate::subsystem::{check, version, Changed, ChangedTrack, DriveView, File, Lent, LentSubsystem, Owned, RunOn, Subsystem, View};
 pub use crate::events::{Answer, Event};
 pub use crate::fault::Fault;
+pub use crate::files::HeldFiles;
 pub use crate::trace::{Moment, Trace};
 pub use crate::until::{Progress, Until};
 pub use crate::watching::{Area, Credit, Phase, Program, Registers};

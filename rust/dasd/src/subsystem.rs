@@ -1,6 +1,6 @@
 //! Channels with their drives, behind a handle that nothing else reaches.
 
-use crate::{Address, Arm, Calls, ChannelSet, Condition, Csw, DriveModel, Fault, Status, SubchannelView};
+use crate::{Address, Arm, Calls, ChannelSet, Condition, Csw, DriveModel, Fault, HeldFiles, Status, SubchannelView};
 use dasd_sys as sys;
 use std::cell::Cell;
 use std::marker::PhantomData;
@@ -185,6 +185,28 @@ impl<Storage> Subsystem<Storage> {
     pub fn attach(&mut self, address: Address, files: &[&[u8]]) -> Result<(), Fault> {
         let files = pairs(files);
         done(unsafe { sys::dasd_attach(&mut *self.handle, address.0, files.as_ptr(), files.len()) }).map(drop)
+    }
+
+    /// Attaches a drive with the volume that these files hold, as their bytes are now. They are taken over, and none is copied; their changes
+    /// are counted anew.
+    ///
+    /// # Errors
+    ///
+    /// As [`Subsystem::attach`]; the files are handed back.
+    pub fn attach_files(&mut self, address: Address, mut files: HeldFiles) -> Result<(), (Fault, HeldFiles)> {
+        let code = unsafe { sys::dasd_attach_files(&mut *self.handle, address.0, files.at()) };
+        done(code).map(drop).map_err(|fault| (fault, files))
+    }
+
+    /// Takes a drive off its channel, and gives back the files of its volume, with all that was written. None is copied.
+    ///
+    /// # Errors
+    ///
+    /// `NoMemory`, and as [`Subsystem::detach`].
+    pub fn detach_files(&mut self, address: Address) -> Result<HeldFiles, Fault> {
+        let mut files = HeldFiles::none();
+        done(unsafe { sys::dasd_detach_files(&mut *self.handle, address.0, files.at()) })?;
+        Ok(files)
     }
 
     /// Attaches a drive with a new volume of so many cylinders, whose tracks have a home address and record 0.

@@ -1,6 +1,6 @@
 //! Each call once, and what the library refuses.
 
-use dasd::{check, version, Address, Arm, Changed, ChannelSet, Subsystem, Condition, DriveModel, Fault, Phase, Progress, SubchannelView, Until};
+use dasd::{check, version, Address, Arm, Changed, ChannelSet, Subsystem, Condition, DriveModel, Fault, HeldFiles, Phase, Progress, SubchannelView, Until};
 
 const DRIVE: Address = Address(0x190);
 
@@ -112,6 +112,23 @@ fn a_state_is_saved_and_restored() {
     for (bytes, why) in [(&b""[..], Fault::NoSavedState), (&saved[1..], Fault::NoSavedState), (&saved[..537], Fault::SavedLength)] {
         assert_eq!(others.restore(bytes), Err(why));
     }
+}
+
+#[test]
+fn files_are_taken_over_and_given_back() {
+    let (mut disks, other) = (made(), Address(0x191));
+    let image = disks.file(DRIVE, 0).unwrap().bytes.to_vec();
+    let mut files = HeldFiles::new(&[image.len()]).unwrap();
+    assert!(files.file(0).unwrap().iter().all(|byte| *byte == 0));
+    files.file(0).unwrap().copy_from_slice(&image);
+    let place = files.file(0).unwrap().as_ptr();
+    let (fault, files) = disks.attach_files(DRIVE, files).unwrap_err();
+    assert_eq!(fault, Fault::AddressTaken);
+    disks.attach_files(other, files).unwrap();
+    assert_eq!((disks.file(other, 0).unwrap().bytes.as_ptr(), disks.file(other, 0).unwrap().bytes), (place, &image[..]));
+    let mut files = disks.detach_files(other).unwrap();
+    assert_eq!((files.file(0).unwrap().as_ptr(), files.file(1).unwrap_err()), (place, Fault::NoFile));
+    assert_eq!((disks.detach_files(other).unwrap_err(), HeldFiles::new(&[]).unwrap_err()), (Fault::NoDrive, Fault::NoFiles));
 }
 
 #[test]

@@ -1,6 +1,5 @@
-use Rattle.dasd_subsystem.proofs.Fitting.{err_at, same_subsystem, still_fits}
+use Rattle.dasd_subsystem.proofs.Fitting.{same_subsystem, still_fits}
 use Rattle.dasd_subsystem.proofs.attaching.attach_image.Goals as goal
-use Rattle.dasd_subsystem.proofs.attaching.attach_image.Goals.{in-Ok, in-Err}
 
 pub invariant_of-subsystem : goal.invariant_of-subsystem
 invariant_of-subsystem c =
@@ -9,8 +8,5 @@ invariant_of-subsystem c =
           c.args.subsystem.now.fits;
     }
 
-pub returns-clause-stays : goal.returns-clause-stays
-returns-clause-stays c = elim c.match-attach.branch [
-  | in-Ok w ↦ err_at _ _ _ w.result-is tt
-  | in-Err w ↦ err_at _ _ _ w.result-is (same_subsystem c.args.subsystem.now c.attach.new.self _ w.in-Err.ensures.stays)
-]
+pub returns-in-Err-clause-stays : goal.returns-in-Err-clause-stays
+returns-in-Err-clause-stays c = same_subsystem c.args.subsystem.now c.attach.new.self _ c.in-Err.ensures.stays

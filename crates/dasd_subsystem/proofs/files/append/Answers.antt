@@ -1,7 +1,7 @@
 use Rattle.std.proofs.Common.{◌∙◌, ap, [], ◌∷◌, Some}
 use Rattle.ckd_image.specs.Files.{each}
 use Rattle.dasd_subsystem.proofs.Copies.{each_append}
-use Rattle.dasd_subsystem.proofs.mounting.append.Goals as goal
+use Rattle.dasd_subsystem.proofs.files.append.Goals as goal
 
 -- the file stands behind the others
 pub returns-clause-contents : goal.returns-clause-contents

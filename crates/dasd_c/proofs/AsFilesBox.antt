@@ -1,0 +1,32 @@
+-- A full slot for files and its parts own what a box at the same types owns.
+use mir.Syntax.{impl, tnil, dnil}
+use mathlib.Core.List.{[]}
+use denote.Signature.{Slot, plain}
+use Rattle.std_alloc.proofs.BoxSteps.Form.{Bx}
+use Rattle.std_heap.specs.contracts.Global as Heap
+use Rattle.std_heap.specs.contracts.GlobalAllocator.TheImpl.{ghosts, dict}
+use Rattle.std_heap.proofs.Global.TheLaws as heap
+use Rattle.dasd_subsystem.specs.contracts.files.Files as Boxed
+use Rattle.dasd_subsystem.proofs.files.Files.TheLaws as boxed
+use Rattle.dasd_c.specs.contracts.parts.Parts as Parts
+use Rattle.dasd_c.specs.contracts.files_slot.FilesSlot as Held
+
+abbrev pub E : Bx
+E = record {
+  row = Boxed.the_row;
+  laws = boxed.the_row_laws;
+  al = record {
+    row = Heap.the_row;
+    laws = heap.the_row_laws;
+    g = ghosts;
+    d =
+        dict;
+    drops = impl [] tnil dnil;
+  };
+}
+
+abbrev pub FromParts : Slot 0
+FromParts = plain (λ _. Parts.the_row Boxed.the_row Heap.the_row ghosts)
+
+abbrev pub FromSlot : Slot 0
+FromSlot = plain (λ _. Held.the_row)
