@@ -5,3 +5,5 @@ pub mod Printing
 pub mod Reported
 pub mod Columns
 pub mod Sought
+pub mod Counted
+pub mod Walked

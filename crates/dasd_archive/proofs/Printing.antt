@@ -1,5 +1,5 @@
 -- Texts of which the first bytes are printed.
-use Rattle.std.proofs.Common.{◌∙◌, ◌+◌, ℕ, List, [], ◌++◌, Result, Ok, Err, ap, refl}
+use Rattle.std.proofs.Common.{◌≡◌, ◌∙◌, ◌+◌, ℕ, List, [], ◌++◌, Result, Ok, Err, ap, refl, subst}
 use Rattle.counted_io.specs.Streams.{Stream, Takes, TakesFront, NoneFailed, OneFailed, WritesWhole}
 use Rattle.counted_io.proofs.Written.{takes_nothing, takes_more}
 use Rattle.dasd_volumes.specs.declared.fault.VolumeFault.{VolumeFault}
@@ -39,3 +39,9 @@ pub text_behind : {A : Type 0} (r : Result A VolumeFault) (a b c : Stream) (text
 text_behind (Ok done) a b c text more v h p = λ slots known. takes_more a b c (text v.geometry) (more v.geometry slots) h (p slots known)
 text_behind (Err fault) a b c text more v h p = λ slots known. front_behind a b c (text v.geometry) (more v.geometry slots) h
     (p slots known)
+
+-- another text of a volume that is the same
+pub prints_same : {A : Type 0} (r : Result A VolumeFault) (text other : Geometry → List (List ℕ) → List ℕ) (v : KnownVolume) (a b : Stream)
+    → ((slots : List (List ℕ)) → text v.geometry slots ≡ other v.geometry slots) → PrintsText r text v a b → PrintsText r other v a b
+prints_same (Ok done) text other v a b same p = λ slots known. subst (Takes a b) (same slots) (p slots known)
+prints_same (Err fault) text other v a b same p = λ slots known. subst (TakesFront a b) (same slots) (p slots known)

@@ -1,7 +1,8 @@
 -- What was reported in several steps.
-use Rattle.std.proofs.Common.{ℕ, ◌+◌, ◌≡◌, ◌∙◌, List, [], ◌∷◌, ◌++◌, Bool, true, Option, Result, Ok, Err, OnOk, ap, sym, subst}
+use Rattle.std.proofs.Common.{ℕ, ◌+◌, ◌≡◌, ◌∙◌, List, [], ◌∷◌, ◌++◌, Option, Result, Ok, Err, OnOk, ap, sym, subst}
 use Rattle.std.proofs.Common.{append_assoc, append-nil}
-use Rattle.std.proofs.lemmas.List.Concat.{flat_map-append}
+use Rattle.std.specs.List.{flat_map, FoldsTo}
+use Rattle.std.proofs.lemmas.List.Concat.{flat_map-append, flat_map-cons}
 use Rattle.std.proofs.KnownBytes.{Appends-trans, Appends-nil}
 use Rattle.std.specs.Io.KnownBytes.{Appends}
 use Rattle.dasd_volumes.specs.Volumes.{of_each}
@@ -11,7 +12,36 @@ use Rattle.dasd_archive.specs.declared.reports.FindingStyle.{FindingStyle}
 use Rattle.dasd_archive.specs.declared.reports.Tally.{Tally}
 use Rattle.counted_io.specs.Streams.{Stream, Takes}
 use Rattle.dasd_volumes.proofs.Fronts.{no_lines, more_lines}
+use Rattle.ckd_track.specs.declared.geometries.Geometry.{Geometry}
+use Rattle.dasd_archive.specs.declared.walks.Tracks.{Tracks}
+use Rattle.dasd_archive.specs.Strict.{findings_in_track, strict_findings}
+use Rattle.dasd_archive.specs.Walks.{tracks_in, all_tracks, text_in}
+use Rattle.dasd_archive.proofs.Walked.{text_of_all, lines_of_all}
 use Rattle.dasd_archive.specs.Reports.{Reports, CountsUp, shown_line, finding_lines, tally_of}
+
+-- what was found of one after another is counted
+pub all_counted : {P X : Type 0} (tally : P → Tally) (found : X → List Finding) (p q : P) (xs : List X)
+    → FoldsTo (λ p x q. CountsUp (tally p) (tally q) (found x)) p xs q → CountsUp (tally p) (tally q) (flat_map found xs)
+all_counted tally found p q [] same = λ earlier is. ap tally (sym same) ∙ is ∙ ap tally_of (sym (append-nil earlier))
+all_counted tally found p q (x ∷ xs) steps = λ earlier is.
+    all_counted tally found steps.0 q xs steps.2 (earlier ++ found x) (steps.1 earlier is)
+    ∙ ap tally_of (append_assoc earlier (found x) (flat_map found xs) ∙ ap (λ l. earlier ++ l) (sym (flat_map-cons found x xs)))
+
+-- what is found of all tracks of a volume
+pub strict_counts : {P : Type 0} (tally : P → Tally) (p q : P) (tracks : Tracks) (g : Geometry) (slots : List (List ℕ))
+    → tracks ≡ all_tracks g
+    → FoldsTo (λ p t q. CountsUp (tally p) (tally q) (findings_in_track t)) p (tracks_in tracks g slots) q
+    → CountsUp (tally p) (tally q) (strict_findings g slots)
+strict_counts tally p q tracks g slots same steps =
+    all_counted tally findings_in_track p q (tracks_in (all_tracks g) g slots)
+    (subst (λ t. FoldsTo (λ p t q. CountsUp (tally p) (tally q) (findings_in_track t)) p (tracks_in t g slots) q) same steps)
+
+pub strict_lines : (P : List ℕ → Type 0) (style : FindingStyle) (path : List ℕ) (tracks : Tracks) (g : Geometry) (slots : List (List ℕ))
+    → tracks ≡ all_tracks g → P (text_in (λ t. finding_lines style path (findings_in_track t)) tracks g slots)
+    → P (finding_lines style path (strict_findings g slots))
+strict_lines P style path tracks g slots same holds =
+    subst P (lines_of_all (shown_line style path) findings_in_track (tracks_in (all_tracks g) g slots))
+    (text_of_all P (λ t. finding_lines style path (findings_in_track t)) tracks g slots same holds)
 
 module _ (style : FindingStyle) (path : List ℕ) where
   pub nothing : (a : Option (List ℕ)) (t : Tally) → Reports style path a a t t []

@@ -1,12 +1,10 @@
 -- What a comparison of two volumes of one geometry prints.
-use Rattle.std.specs.Prelude.{◌≡◌, ℕ, ◌+◌, min, Bool, true, false, ◌==◌, nat_le, nat_eq, if◌then◌else◌, List, [], ◌∷◌, ◌++◌, length, drop, slice_index_or}
-use Rattle.std.specs.Prelude.{codes, Option, Some, Result, Ok, Err, bytes_eq}
+use Rattle.std.specs.Prelude.{◌≡◌, ℕ, ◌+◌, min, Bool, true, ◌==◌, nat_le, nat_eq, if◌then◌else◌, List, [], ◌∷◌, ◌++◌, length, drop}
+use Rattle.std.specs.Prelude.{codes, Option, None, Some, Result, Ok, Err, bytes_eq}
 use Rattle.std.specs.List.{concat, common_prefix_len, flat_map}
 use Rattle.std.specs.Fmt.{decimal}
 use Rattle.ckd_track.specs.declared.geometries.Geometry.{Geometry}
 use Rattle.ckd_track.specs.declared.fault.SlotFault.{SlotFault}
-use Rattle.ckd_track.specs.Model.{heads_of}
-use Rattle.ckd_track.specs.Geometry.{track_at}
 use Rattle.ckd_track.specs.Track.{Record, Track, track_of, record_in}
 use Rattle.ckd_track.specs.Changes.{end_offset}
 use Rattle.quantities.specs.Quantities.{quantity_text}
@@ -16,6 +14,7 @@ use Rattle.dasd_volumes.specs.declared.fault.VolumeFault.{VolumeFault}
 use Rattle.dasd_volumes.specs.Reading.{KnownVolume}
 use Rattle.dasd_volumes.specs.Volumes.{of_each}
 use Rattle.dasd_archive.specs.Printed.{PrintsBytes}
+use Rattle.dasd_archive.specs.Walks.{ReadTrack, slot_at, tracks_in, all_tracks, text_in}
 use Rattle.dasd_archive.specs.declared.reports.Style.{Style}
 use Rattle.dasd_archive.specs.declared.reports.Style.TheVariants.{Text, Json}
 use Rattle.dasd_archive.specs.declared.differences.Difference.{Difference}
@@ -94,25 +93,22 @@ track_lines style path other lists cylinder head slot other_slot =
 abbrev pub changed : (slot other_slot : List ℕ) → List Bool
 changed slot other_slot = if bytes_eq slot other_slot then [] else true ∷ []
 
-abbrev pub slot_at : Geometry → (slots : List (List ℕ)) → (cylinder head : ℕ) → List ℕ
-slot_at g slots cylinder head = slice_index_or slots (track_at g cylinder head) []
+-- a track, and the slots of the volume that it is compared with
+abbrev pub lines_beside : Style → (path other : List ℕ) → (lists : Bool) → (other_slots : List (List ℕ)) → ReadTrack → List ℕ
+lines_beside style path other lists other_slots t =
+    track_lines style path other lists t.track.cylinder t.track.head t.slot (slot_at t.track.geometry other_slots t.track.cylinder t.track.head)
 
-abbrev pub cylinder_differences : Style → (path other : List ℕ) → (lists : Bool) → (cylinder : ℕ) → Geometry → (slots other_slots : List (List ℕ)) → List ℕ
-cylinder_differences style path other lists cylinder g slots other_slots =
-    of_each (λ head. track_lines style path other lists cylinder head (slot_at g slots cylinder head) (slot_at g other_slots cylinder head)) (heads_of g.model)
-
-abbrev pub changed_on : (cylinder : ℕ) → Geometry → (slots other_slots : List (List ℕ)) → List Bool
-changed_on cylinder g slots other_slots =
-    of_each (λ head. changed (slot_at g slots cylinder head) (slot_at g other_slots cylinder head)) (heads_of g.model)
+abbrev pub changed_beside : (other_slots : List (List ℕ)) → ReadTrack → List Bool
+changed_beside other_slots t = changed t.slot (slot_at t.track.geometry other_slots t.track.cylinder t.track.head)
 
 -- what differs of two volumes, cylinder by cylinder and head by head
 abbrev pub volume_differences : Style → (path other : List ℕ) → (lists : Bool) → Geometry → (slots other_slots : List (List ℕ)) → List ℕ
 volume_differences style path other lists g slots other_slots =
-    of_each (λ cylinder. cylinder_differences style path other lists cylinder g slots other_slots) g.cylinders
+    text_in (lines_beside style path other lists other_slots) (all_tracks g) g slots
 
 -- one for each track that differs
 abbrev pub changed_in : Geometry → (slots other_slots : List (List ℕ)) → List Bool
-changed_in g slots other_slots = of_each (λ cylinder. changed_on cylinder g slots other_slots) g.cylinders
+changed_in g slots other_slots = flat_map (changed_beside other_slots) (tracks_in (all_tracks g) g slots)
 
 -- how many tracks differ
 abbrev pub number_line : Style → (path other : List ℕ) → ℕ → List ℕ
@@ -138,3 +134,8 @@ abbrev pub NumberOfBoth : (Geometry → List (List ℕ) → List (List ℕ) → 
 NumberOfBoth of one other n =
     (slots other_slots : List (List ℕ)) → one.slots ≡ Some slots → other.slots ≡ Some other_slots
     → n ≡ length (of one.geometry slots other_slots)
+
+-- the slots of a volume where they are known
+abbrev pub known_slots : Option (List (List ℕ)) → List (List ℕ)
+known_slots None = []
+known_slots (Some slots) = slots

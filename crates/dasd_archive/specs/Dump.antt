@@ -1,12 +1,11 @@
 -- What a dump prints: home addresses and records, their bytes in hexadecimal and in EBCDIC, sixteen to a line.
-use Rattle.std.specs.Prelude.{◌≡◌, ◌≤◌, ◌<◌, ℕ, ◌+◌, ◌-◌, ◌*◌, ◌/◌, min, Bool, ◌&&◌, nat_le, if◌then◌else◌, List, [], ◌∷◌, ◌++◌, length, slice_range}
-use Rattle.std.specs.Prelude.{slice_index, slice_index_or, codes, encode_utf8, Result, Ok, Err}
+use Rattle.std.specs.Prelude.{◌≤◌, ◌<◌, ℕ, ◌+◌, ◌-◌, ◌*◌, ◌/◌, min, Bool, ◌&&◌, nat_le, if◌then◌else◌, List, [], ◌∷◌, ◌++◌, length, slice_range}
+use Rattle.std.specs.Prelude.{slice_index, codes, encode_utf8, Result, Ok, Err}
 use Rattle.std.specs.List.{concat, flat_map}
 use Rattle.std.specs.Fmt.{decimal}
 use Rattle.ckd_track.specs.declared.geometries.Geometry.{Geometry}
 use Rattle.ckd_track.specs.declared.fault.SlotFault.{SlotFault}
 use Rattle.ckd_track.specs.Model.{heads_of}
-use Rattle.ckd_track.specs.Geometry.{track_at}
 use Rattle.ckd_track.specs.Track.{Record, Track, track_of}
 use Rattle.dasd_volumes.specs.Lines.{hexadecimal, bytes_text, address_text, fault_text, record_line, line_feed}
 use Rattle.dasd_volumes.specs.Volumes.{of_each}
@@ -15,6 +14,8 @@ use Rattle.dasd_archive.specs.declared.reports.Style.{Style}
 use Rattle.dasd_archive.specs.declared.reports.Style.TheVariants.{Text, Json}
 use Rattle.dasd_archive.specs.declared.dumps.Range.{Range}
 use Rattle.dasd_archive.specs.declared.dumps.Part.{Part}
+use Rattle.dasd_archive.specs.declared.walks.Tracks.{Tracks}
+use Rattle.dasd_archive.specs.Walks.{ReadTrack, text_in}
 
 -- Lines of bytes.
 
@@ -87,17 +88,17 @@ track_dump style path cylinder head numbers (Ok t) =
     home_address_line style path cylinder head t.home_address ++ flat_map (record_text style path cylinder head numbers) t.records
 track_dump style path cylinder head numbers (Err fault) = unreadable_line style path cylinder head fault
 
--- what there is of each number of a range
-abbrev pub of_range : Range → (ℕ → List ℕ) → List ℕ
-of_range r of = of_each (λ k. of (r.first + k)) (r.last + 1 - r.first)
+-- the lines of a track, by its slot
+abbrev pub dumped_text : Style → (path : List ℕ) → (numbers : Range) → ReadTrack → List ℕ
+dumped_text style path numbers t = track_dump style path t.track.cylinder t.track.head numbers (track_of t.slot)
 
-abbrev pub cylinder_dump : Style → (path : List ℕ) → Part → (cylinder : ℕ) → Geometry → (slots : List (List ℕ)) → List ℕ
-cylinder_dump style path part cylinder g slots =
-    of_range part.heads (λ head. track_dump style path cylinder head part.numbers (track_of (slice_index_or slots (track_at g cylinder head) [])))
+-- the tracks of a part of a volume
+abbrev pub tracks_of_part : Part → Tracks
+tracks_of_part part = record { cylinders = part.cylinders; heads = part.heads }
 
--- what a dump of a part of a volume prints: the tracks of its heads on each of its cylinders
+-- what a dump of a part of a volume prints: its tracks, cylinder by cylinder and head by head
 abbrev pub dump_text : Style → (path : List ℕ) → Part → Geometry → (slots : List (List ℕ)) → List ℕ
-dump_text style path part g slots = of_range part.cylinders (λ cylinder. cylinder_dump style path part cylinder g slots)
+dump_text style path part g slots = text_in (dumped_text style path part.numbers) (tracks_of_part part) g slots
 
 -- a part is of a volume: its first numbers are not behind its last ones, and the tracks exist
 pub record IsPartOf (part : Part) (g : Geometry) : Type 0 where

@@ -1,3 +1,4 @@
+pub mod Beside
 pub mod Compare
 pub mod Dump
 pub mod Findings
@@ -6,3 +7,4 @@ pub mod Numbered
 pub mod Printed
 pub mod Reports
 pub mod Strict
+pub mod Walks

@@ -6,14 +6,16 @@ use Rattle.ckd_track.specs.declared.model.DriveModel.{DriveModel}
 use Rattle.ckd_track.specs.declared.geometries.Geometry.{Geometry}
 use Rattle.ckd_track.specs.declared.fault.SlotFault.{SlotFault}
 use Rattle.ckd_track.specs.Model.{heads_of}
-use Rattle.ckd_track.specs.Track.{Record, Track, record_in}
+use Rattle.ckd_track.specs.Track.{Record, Track, track_of, record_in}
 use Rattle.ckd_track.specs.Charges.{used_of}
 use Rattle.dasd_volumes.specs.Lines.{bytes_text, model_number_of, line_feed, volume_line, track_lines}
-use Rattle.dasd_volumes.specs.Volumes.{of_each, track_seen}
+use Rattle.dasd_volumes.specs.Volumes.{of_each}
 use Rattle.dasd_archive.specs.declared.reports.Style.{Style}
 use Rattle.dasd_archive.specs.declared.reports.Style.TheVariants.{Text, Json}
 use Rattle.dasd_archive.specs.declared.dumps.Range.{Range}
-use Rattle.dasd_archive.specs.Dump.{place_text, unreadable_line, of_range}
+use Rattle.dasd_archive.specs.Dump.{place_text, unreadable_line}
+use Rattle.dasd_archive.specs.declared.walks.Tracks.{Tracks}
+use Rattle.dasd_archive.specs.Walks.{ReadTrack, all_heads, text_in}
 
 -- the volume as an object
 abbrev pub volume_object : (path : List ℕ) → Geometry → List ℕ
@@ -68,12 +70,16 @@ abbrev pub listed_part : Style → (path : List ℕ) → (used_only : Bool) → 
 listed_part style path used_only model cylinder head seen =
     if not used_only || is_used seen then track_part style path model cylinder head seen else []
 
-abbrev pub cylinder_part : Style → (path : List ℕ) → (used_only : Bool) → (cylinder : ℕ) → Geometry → (slots : List (List ℕ)) → List ℕ
-cylinder_part style path used_only cylinder g slots =
-    of_each (λ head. listed_part style path used_only g.model cylinder head (track_seen g slots cylinder head)) (heads_of g.model)
+abbrev pub listed_text : Style → (path : List ℕ) → (used_only : Bool) → ReadTrack → List ℕ
+listed_text style path used_only t =
+    listed_part style path used_only t.track.geometry.model t.track.cylinder t.track.head (track_of t.slot)
+
+-- all tracks of some cylinders
+abbrev pub tracks_of_cylinders : Range → Geometry → Tracks
+tracks_of_cylinders cylinders g = record { cylinders = cylinders; heads = all_heads g }
 
 abbrev pub cylinders_part : Style → (path : List ℕ) → (used_only : Bool) → Range → Geometry → (slots : List (List ℕ)) → List ℕ
-cylinders_part style path used_only cylinders g slots = of_range cylinders (λ cylinder. cylinder_part style path used_only cylinder g slots)
+cylinders_part style path used_only cylinders g slots = text_in (listed_text style path used_only) (tracks_of_cylinders cylinders g) g slots
 
 -- what a list of some cylinders prints: the volume, and the tracks that are asked for, cylinder by cylinder and head by head
 abbrev pub list_text : Style → (path : List ℕ) → (used_only : Bool) → Range → Geometry → (slots : List (List ℕ)) → List ℕ

@@ -1,12 +1,11 @@
 -- What a strict check finds on a volume.
-use Rattle.std.specs.Prelude.{◌≡◌, ℕ, ◌+◌, ◌-◌, ◌^◌, min, Bool, true, false, not, List, [], ◌∷◌, ◌++◌, length, take, drop, slice_range, slice_index}
-use Rattle.std.specs.Prelude.{slice_index_or, position, codes, Option, None, Some, Result, Ok, Err, bytes_eq, nat_lt, ◌==◌, if◌then◌else◌}
-use Rattle.std.specs.List.{list_any}
+use Rattle.std.specs.Prelude.{◌≡◌, ℕ, ◌+◌, ◌-◌, ◌^◌, min, Bool, false, not, List, [], ◌∷◌, ◌++◌, length, take, drop, slice_index}
+use Rattle.std.specs.Prelude.{position, Option, None, Some, Result, Ok, Err, bytes_eq, nat_lt, ◌==◌, if◌then◌else◌}
+use Rattle.std.specs.List.{list_any, flat_map}
 use Rattle.ckd_track.specs.declared.model.DriveModel.{DriveModel}
 use Rattle.ckd_track.specs.declared.geometries.Geometry.{Geometry}
 use Rattle.ckd_track.specs.declared.fault.SlotFault.{SlotFault}
-use Rattle.ckd_track.specs.Model.{heads_of, capacity_of}
-use Rattle.ckd_track.specs.Geometry.{track_at}
+use Rattle.ckd_track.specs.Model.{capacity_of}
 use Rattle.ckd_track.specs.Track.{Record, Track, track_of, record_in}
 use Rattle.ckd_track.specs.Charges.{used_of}
 use Rattle.ckd_track.specs.Changes.{end_offset}
@@ -17,11 +16,10 @@ use Rattle.dasd_archive.specs.declared.findings.Problem.TheVariants.{SameIdentif
 use Rattle.dasd_archive.specs.declared.findings.Place.{Place}
 use Rattle.dasd_archive.specs.declared.findings.Place.TheVariants as place
 use Rattle.dasd_archive.specs.declared.findings.Finding.{Finding}
-use Rattle.counted_io.specs.Streams.{Stream}
-use Rattle.dasd_volumes.specs.declared.fault.VolumeFault.{VolumeFault}
 use Rattle.dasd_archive.specs.declared.reports.FindingStyle.{FindingStyle}
 use Rattle.dasd_archive.specs.declared.reports.Tally.{Tally}
-use Rattle.dasd_archive.specs.Reports.{finding_lines, tally_line, tally_of, PrintsFindings}
+use Rattle.dasd_archive.specs.Reports.{finding_lines, tally_line, tally_of}
+use Rattle.dasd_archive.specs.Walks.{ReadTrack, tracks_in, all_tracks}
 use Rattle.dasd_volumes.specs.Reading.{KnownVolume}
 use Rattle.dasd_volumes.specs.Volumes.{of_each}
 
@@ -86,25 +84,18 @@ findings_at g cylinder head slot (Err fault) = record { place = place.Track cyli
 abbrev pub findings_in_slot : Geometry → (cylinder head : ℕ) → (slot : List ℕ) → List Finding
 findings_in_slot g cylinder head slot = findings_at g cylinder head slot (track_of slot)
 
-abbrev pub findings_on : (cylinder : ℕ) → Geometry → (slots : List (List ℕ)) → List Finding
-findings_on cylinder g slots =
-    of_each (λ head. findings_in_slot g cylinder head (slice_index_or slots (track_at g cylinder head) [])) (heads_of g.model)
+abbrev pub findings_in_track : ReadTrack → List Finding
+findings_in_track t = findings_in_slot t.track.geometry t.track.cylinder t.track.head t.slot
 
 -- the findings of a volume, cylinder by cylinder and head by head
 abbrev pub strict_findings : Geometry → (slots : List (List ℕ)) → List Finding
-strict_findings g slots = of_each (λ cylinder. findings_on cylinder g slots) g.cylinders
+strict_findings g slots = flat_map findings_in_track (tracks_in (all_tracks g) g slots)
 
 -- what a strict check prints of a volume, behind what was found before: its findings, but for notes that are left out, and how many there
 -- are of each severity in all
 abbrev pub strict_text : FindingStyle → (path : List ℕ) → (earlier : List Finding) → Geometry → (slots : List (List ℕ)) → List ℕ
 strict_text style path earlier g slots =
     finding_lines style path (strict_findings g slots) ++ tally_line style.style path (tally_of (earlier ++ strict_findings g slots))
-
--- these findings of a volume were printed and counted; with a fault only the first bytes of their lines, if its slots are known
-abbrev pub PrintsFindingsOf : {A : Type 0} → Result A VolumeFault → (Geometry → List (List ℕ) → List Finding) → KnownVolume → FindingStyle → (path : List ℕ)
-    → (before after : Stream) → (tally tally_now : Tally) → Type 0
-PrintsFindingsOf result found v style path before after tally tally_now =
-    (slots : List (List ℕ)) → v.slots ≡ Some slots → PrintsFindings result style path (found v.geometry slots) before after tally tally_now
 
 -- this is the tally of earlier findings and of a volume's, if its slots are known
 abbrev pub Adds : (earlier : List Finding) → KnownVolume → Tally → Type 0

@@ -3,16 +3,19 @@
 ghost use Rattle.std.specs.Prelude.{◌≡◌, ◌≢◌, ◌<◌, ◌≤◌, length, take, OnOk, IfOk, IfErr};
 ghost use Rattle.std.specs.Io.KnownBytes.{Appends};
 ghost use Rattle.counted_io.specs.Streams.{seen_by, IsFlushed};
-ghost use Rattle.ckd_track.specs.Geometry.{tracks_of};
+ghost use Rattle.ckd_image.specs.Store.{Counts};
+ghost use Rattle.ckd_track.specs.Geometry.{track_at};
 ghost use Rattle.dasd_volumes.specs.Printing.{CountsWrites};
 ghost use Rattle.dasd_volumes.specs.Reading.{IsSlotOf};
 ghost use Rattle.dasd_archive.specs.Printed.{PrintsBytes};
-ghost use Rattle.dasd_archive.specs.Compare.{track_lines, changed, cylinder_differences, changed_on, volume_differences, changed_in, number_line, compare_text};
+ghost use Rattle.dasd_archive.specs.Compare.{track_lines, changed, changed_in, number_line, compare_text};
 ghost use Rattle.dasd_archive.specs.Compare.{PrintsBoth, NumberOfBoth};
+ghost use Rattle.dasd_archive.specs.Walks.{IsTrack};
 
 use crate::compared::{TrackForm, compare_track};
 use crate::printed::{print_flushed, print_lines};
 use crate::reports::Style;
+use crate::walks::{EachTrack, VolumeTrack, all_tracks, each_track};
 use ckd_image::StoreFault;
 use counted_io::Counted;
 use dasd_volumes::{SlotReader, TrackAddress, VolumeFault};
@@ -35,19 +38,20 @@ pub struct Comparison<'a> {
     pub lists: bool,
 }
 
-// How the lines of a cylinder are written, and which it is.
-#[derive(Clone, Copy)]
-struct CylinderForm<'a> {
-    form: Comparison<'a>,
-    cylinder: u16,
+// The slot of a track on the second volume, and the lines of what differs of a track.
+#[derive(Drop)]
+struct Room {
+    slot: Vec<u8>,
+    lines: Vec<u8>,
 }
 
-// The slots of a track on both volumes, and the lines of what differs of them.
+// A comparison of tracks with those of a second volume, and how many of them differ.
 #[derive(Drop)]
-struct Slots {
-    one: Vec<u8>,
-    other: Vec<u8>,
-    lines: Vec<u8>,
+struct ComparedTracks<'a, U> {
+    form: Comparison<'a>,
+    other: &'a mut U,
+    room: &'a mut Room,
+    differing: u32,
 }
 
 /// Prints what differs of two volumes of one geometry, track by track, and how many tracks differ, which it answers. The lines of a
@@ -73,20 +77,28 @@ pub fn compare<V: SlotReader, U: SlotReader, W: Write>(
     ensures other_kept { U.volume other.new ≡ U.volume other.old }
     ensures flushed { OnOk result (IsFlushed (seen_by W.contents writer.new)) }
 {
-    let size = one.geometry().track_size as usize;
-    let (Ok(first), Ok(second)) = (vec![in alloc; 0u8; size], vec![in alloc; 0u8; size]) else {
+    let geometry = one.geometry();
+    let size = geometry.track_size as usize;
+    let (Ok(mut slot), Ok(other_slot)) = (vec![in alloc; 0u8; size], vec![in alloc; 0u8; size])
+    else {
         return Err(VolumeFault::OutOfMemory);
     };
-    let mut slots = Slots {
-        one: first,
-        other: second,
+    let mut room = Room {
+        slot: other_slot,
         lines: Vec::new(alloc),
     };
-    let differing = match compare_cylinders(one, other, writer, &form, &mut slots) {
-        Ok(differing) => differing,
-        Err(fault) => return Err(fault),
+    let mut beside = ComparedTracks {
+        form,
+        other,
+        room: &mut room,
+        differing: 0,
     };
-    match print_number(writer, &form, differing, &mut slots.lines) {
+    let slot = slot.as_mut_slice();
+    if let Err(fault) = each_track(&mut beside, one, writer, all_tracks(geometry), slot) {
+        return Err(fault);
+    }
+    let differing = beside.differing;
+    match print_number(writer, &form, differing, &mut room.lines) {
         Ok(()) => Ok(differing),
         Err(fault) => Err(fault),
     }
@@ -130,147 +142,108 @@ fn write_number<W: Write>(writer: &mut W, form: &Comparison, differing: u32) -> 
     }
 }
 
-// Prints the lines of all cylinders; and answers how many tracks differ.
-fn compare_cylinders<V: SlotReader, U: SlotReader, W: Write>(
-    one: &mut V,
-    other: &mut U,
-    writer: &mut Counted<W>,
-    form: &Comparison,
-    slots: &mut Slots,
-) -> Result<u32, VolumeFault>
-    requires same { (U.volume other.old).geometry ≡ (V.volume one.old).geometry }
-    requires size { length slots.old.one.items ≡ (V.volume one.old).geometry.track_size }
-    requires other_size { length slots.old.other.items ≡ (V.volume one.old).geometry.track_size }
-    ensures number { IfOk result (NumberOfBoth changed_in (V.volume one.old) (U.volume other.old)) }
-    ensures lines { PrintsBoth result (volume_differences form.now.style form.now.path.now form.now.other.now form.now.lists)
-        (V.volume one.old) (U.volume other.old) (seen_by W.contents writer.old) (seen_by W.contents writer.new) }
-    ensures writes { CountsWrites result (seen_by W.contents writer.old) (seen_by W.contents writer.new) }
-    ensures kept { V.volume one.new ≡ V.volume one.old }
-    ensures other_kept { U.volume other.new ≡ U.volume other.old }
-{
-    let mut differing: u32 = 0;
-    for cylinder in 0..one.geometry().cylinders {
-        let on_cylinder = CylinderForm {
-            form: *form,
-            cylinder,
-        };
-        match compare_cylinder(one, other, writer, &on_cylinder, slots) {
-            Ok(found) => differing += found,
-            Err(fault) => return Err(fault),
-        }
-    }
-    Ok(differing)
-}
+impl<'a, U: SlotReader> EachTrack for ComparedTracks<'a, U> {
+    ghost use Rattle.std.specs.Prelude.{◌≡◌, List, ℕ, Some, length, refl};
+    ghost use Rattle.std.proofs.Common.{◌∙◌};
+    ghost use Rattle.dasd_archive.specs.Compare.{lines_beside, known_slots};
+    ghost use Rattle.dasd_archive.specs.Beside.{CountsTrack};
 
-// Prints the lines of a cylinder's tracks, each of which is loaded into the slots; and answers how many differ.
-fn compare_cylinder<V: SlotReader, U: SlotReader, W: Write>(
-    one: &mut V,
-    other: &mut U,
-    writer: &mut Counted<W>,
-    form: &CylinderForm,
-    slots: &mut Slots,
-) -> Result<u32, VolumeFault>
-    requires same { (U.volume other.old).geometry ≡ (V.volume one.old).geometry }
-    requires exists { form.now.cylinder < (V.volume one.old).geometry.cylinders }
-    requires size { length slots.old.one.items ≡ (V.volume one.old).geometry.track_size }
-    requires other_size { length slots.old.other.items ≡ (V.volume one.old).geometry.track_size }
-    ensures number { IfOk result (NumberOfBoth (changed_on form.now.cylinder) (V.volume one.old) (U.volume other.old)) }
-    ensures few { IfOk result (λ n. n ≤ 20) }
-    ensures lines { PrintsBoth result
-        (cylinder_differences form.now.form.style form.now.form.path.now form.now.form.other.now form.now.form.lists form.now.cylinder)
-        (V.volume one.old) (U.volume other.old) (seen_by W.contents writer.old) (seen_by W.contents writer.new) }
-    ensures writes { CountsWrites result (seen_by W.contents writer.old) (seen_by W.contents writer.new) }
-    ensures kept { V.volume one.new ≡ V.volume one.old }
-    ensures other_kept { U.volume other.new ≡ U.volume other.old }
-    ensures size { length slots.new.one.items ≡ length slots.old.one.items }
-    ensures other_size { length slots.new.other.items ≡ length slots.old.other.items }
-{
-    let geometry = one.geometry();
-    let cylinder = form.cylinder;
-    let mut differing: u32 = 0;
-    for head in 0..geometry.model.heads() {
-        let track = geometry.track_at(cylinder, head);
-        let Ok(held) = load_both(one, other, track, slots) else {
+    ghost text = { λ b. lines_beside b.form.style b.form.path.now b.form.other.now b.form.lists (known_slots (U.volume b.other.now).slots) };
+
+    ghost IsKnown = { λ b. (slots : List (List ℕ)) × ((U.volume b.other.now).slots ≡ Some slots) };
+
+    ghost IsFor = { λ g b. ((U.volume b.other.now).geometry ≡ g) × (length b.room.now.slot.items ≡ g.track_size) };
+
+    ghost Notes = { λ before track now. CountsTrack (U.volume before.other.now) before.differing track (U.volume now.other.now) now.differing };
+
+    ghost Keeps = { λ before now. (now.other.ghost_name ≡ before.other.ghost_name) × (U.volume now.other.now ≡ U.volume before.other.now) };
+
+    ghost failures = { λ b. U.failures b.other.now };
+
+    ghost WantsMemory = { Unit {0} };
+
+    fn track<W: Write>(
+        &mut self,
+        writer: &mut Counted<W>,
+        track: VolumeTrack,
+        slot: &[u8],
+    ) -> Result<(), VolumeFault> {
+        let form = TrackForm {
+            form: self.form,
+            address: address_of(track),
+        };
+        let room = &mut *self.room;
+        let Ok(held) = load_beside(self.other, track, room) else {
             return Err(VolumeFault::Store);
         };
-        let on_track = TrackForm {
-            form: form.form,
-            address: TrackAddress { cylinder, head },
-        };
-        match print_track(writer, &on_track, slots, held) {
-            Ok(found) => differing += found,
-            Err(fault) => return Err(fault),
+        match print_track(writer, &form, slot, room, held) {
+            Ok(found) => {
+                self.differing = self.differing.saturating_add(found);
+                Ok(())
+            }
+            Err(fault) => Err(fault),
         }
     }
-    Ok(differing)
+
+    ghost still = { λ x. (refl, refl) };
+
+    ghost kept = { λ a b c first next. (next.0 ∙ first.0, next.1 ∙ first.1) };
 }
 
-// How many bytes there are of the slots of a track on both volumes.
-#[derive(Clone, Copy)]
-struct Held {
-    one: usize,
-    other: usize,
-}
-
-// Reads the slots of a track of both volumes, and says how many of their bytes there are.
-fn load_both<V: SlotReader, U: SlotReader>(
-    one: &mut V,
-    other: &mut U,
-    track: u32,
-    slots: &mut Slots,
-) -> Result<Held, StoreFault>
-    requires same { (U.volume other.old).geometry ≡ (V.volume one.old).geometry }
-    requires exists { track < tracks_of (V.volume one.old).geometry }
-    requires size { length slots.old.one.items ≡ (V.volume one.old).geometry.track_size }
-    requires other_size { length slots.old.other.items ≡ (V.volume one.old).geometry.track_size }
-    ensures within { IfOk result (λ held. held.one ≤ length slots.new.one.items) }
-    ensures other_within { IfOk result (λ held. held.other ≤ length slots.new.other.items) }
-    ensures first { IfOk result (λ held. IsSlotOf (V.volume one.old) track (take held.one slots.new.one.items)) }
-    ensures second { IfOk result (λ held. IsSlotOf (U.volume other.old) track (take held.other slots.new.other.items)) }
-    ensures kept { V.volume one.new ≡ V.volume one.old }
-    ensures other_kept { U.volume other.new ≡ U.volume other.old }
-    ensures size { length slots.new.one.items ≡ length slots.old.one.items }
-    ensures other_size { length slots.new.other.items ≡ length slots.old.other.items }
+// Where a track of a volume is.
+fn address_of(track: VolumeTrack) -> TrackAddress
+    ensures { result ≡ record { cylinder = track.cylinder; head = track.head } }
 {
-    let first = match one.load(track, slots.one.as_mut_slice()) {
-        Ok(held) => held,
-        Err(fault) => return Err(fault),
-    };
-    match other.load(track, slots.other.as_mut_slice()) {
-        Ok(held) => Ok(Held {
-            one: first,
-            other: held,
-        }),
-        Err(fault) => Err(fault),
-    }
+    let VolumeTrack { cylinder, head, .. } = track;
+    TrackAddress { cylinder, head }
 }
 
-// Prints the lines of a track, which are made in memory; and answers whether it differs.
+// Reads the slot of a track of the second volume, and says how many of its bytes there are.
+fn load_beside<U: SlotReader>(
+    other: &mut U,
+    track: VolumeTrack,
+    room: &mut Room,
+) -> Result<usize, StoreFault>
+    requires exists { IsTrack track }
+    requires same { (U.volume other.old).geometry ≡ track.geometry }
+    requires size { length room.old.slot.items ≡ track.geometry.track_size }
+    ensures within { IfOk result (λ held. held ≤ length room.new.slot.items) }
+    ensures slot { IfOk result (λ held. IsSlotOf (U.volume other.old) (track_at track.geometry track.cylinder track.head)
+        (take held room.new.slot.items)) }
+    ensures kept { U.volume other.new ≡ U.volume other.old }
+    ensures counted { Counts (U.failures other.old) (U.failures other.new) result }
+    ensures size { length room.new.slot.items ≡ length room.old.slot.items }
+{
+    let number = track.geometry.track_at(track.cylinder, track.head);
+    other.load(number, room.slot.as_mut_slice())
+}
+
+// Prints the lines of a track, which are made in memory; and answers whether it differs from the one in the room, of whose slot there
+// are so many bytes.
 fn print_track<W: Write>(
     writer: &mut Counted<W>,
     form: &TrackForm,
-    slots: &mut Slots,
-    held: Held,
+    slot: &[u8],
+    room: &mut Room,
+    held: usize,
 ) -> Result<u32, VolumeFault>
-    requires within { held.one ≤ length slots.old.one.items }
-    requires other_within { held.other ≤ length slots.old.other.items }
-    ensures number { IfOk result (λ n. n ≡ length (changed (take held.one slots.old.one.items) (take held.other slots.old.other.items))) }
+    requires within { held ≤ length room.old.slot.items }
+    ensures number { IfOk result (λ n. n ≡ length (changed slot.now (take held room.old.slot.items))) }
     ensures few { IfOk result (λ n. n ≤ 1) }
     ensures lines { PrintsBytes result
         (track_lines form.now.form.style form.now.form.path.now form.now.form.other.now form.now.form.lists form.now.address.cylinder form.now.address.head
-        (take held.one slots.old.one.items) (take held.other slots.old.other.items))
+        slot.now (take held room.old.slot.items))
         (seen_by W.contents writer.old) (seen_by W.contents writer.new) }
     ensures writes { CountsWrites result (seen_by W.contents writer.old) (seen_by W.contents writer.new) }
-    ensures size { length slots.new.one.items ≡ length slots.old.one.items }
-    ensures other_size { length slots.new.other.items ≡ length slots.old.other.items }
+    ensures fault { IfErr result (λ e. e ≢ VolumeFault.Store) }
+    ensures size { length room.new.slot.items ≡ length room.old.slot.items }
 {
-    slots.lines.clear();
-    let one = &slots.one.as_slice()[..held.one];
-    let other = &slots.other.as_slice()[..held.other];
-    let Ok(differing) = compare_track(&mut slots.lines, form, one, other) else {
+    room.lines.clear();
+    let other = &room.slot.as_slice()[..held];
+    let Ok(differing) = compare_track(&mut room.lines, form, slot, other) else {
         return Err(VolumeFault::OutOfMemory);
     };
-    match print_lines(writer, slots.lines.as_slice()) {
+    match print_lines(writer, room.lines.as_slice()) {
         Ok(()) => Ok(differing),
         Err(fault) => Err(fault),
     }

@@ -10,12 +10,13 @@ ghost use Rattle.dasd_volumes.specs.Reading.{IsRead};
 ghost use Rattle.dasd_volumes.specs.Lines.{record_line};
 ghost use Rattle.dasd_archive.specs.Printed.{PrintsBytes};
 ghost use Rattle.dasd_archive.specs.Dump.{holds, place_text, areas_text, object_text, record_dump, record_text, home_address_line, unreadable_line, track_dump};
-ghost use Rattle.dasd_archive.specs.Dump.{cylinder_dump, dump_text, IsPartOf};
+ghost use Rattle.dasd_archive.specs.Dump.{dump_text, IsPartOf};
 
 use crate::printed::print_lines;
 use crate::reports::{Form, Style};
 use crate::rows::write_rows;
 use crate::tracks::identifier;
+use crate::walks::{EachTrack, Tracks, VolumeTrack, each_track};
 use ckd_track::{SlotFault, TrackView, read_slot};
 use counted_io::{Counted, WriteFault, flush_all};
 use dasd_volumes::{Hexadecimal, Reason, SlotReader, TrackAddress, VolumeFault};
@@ -52,19 +53,12 @@ pub struct Part {
     pub numbers: Range,
 }
 
-// How the lines of a part of a volume are written, and which it is.
-#[derive(Clone, Copy)]
-struct PartForm<'a> {
+// A dump of tracks: how it is written, of which records, and the lines of one track.
+#[derive(Drop)]
+struct DumpedTracks<'a> {
     form: Form<'a>,
-    part: Part,
-}
-
-// How the lines of a part of a cylinder are written, and which it is.
-#[derive(Clone, Copy)]
-struct CylinderForm<'a> {
-    form: Form<'a>,
-    part: Part,
-    cylinder: u16,
+    numbers: Range,
+    lines: Vec<u8>,
 }
 
 /// How the lines of a track are written, and where it stands.
@@ -99,10 +93,17 @@ pub fn dump<V: SlotReader, W: Write>(
     let Ok(mut slot) = vec![in alloc; 0u8; volume.geometry().track_size as usize] else {
         return Err(VolumeFault::OutOfMemory);
     };
-    let mut lines = Vec::new(alloc);
-    let part = PartForm { form, part };
+    let tracks = Tracks {
+        cylinders: part.cylinders,
+        heads: part.heads,
+    };
+    let mut dump = DumpedTracks {
+        form,
+        numbers: part.numbers,
+        lines: Vec::new(alloc),
+    };
     let slot = slot.as_mut_slice();
-    if let Err(fault) = dump_cylinders(volume, writer, &part, slot, &mut lines) {
+    if let Err(fault) = each_track(&mut dump, volume, writer, tracks, slot) {
         return Err(fault);
     }
     match flush_all(writer) {
@@ -111,72 +112,40 @@ pub fn dump<V: SlotReader, W: Write>(
     }
 }
 
-// Prints the cylinders of a part, each of whose tracks is loaded into the slot.
-fn dump_cylinders<V: SlotReader, W: Write>(
-    volume: &mut V,
-    writer: &mut Counted<W>,
-    form: &PartForm,
-    slot: &mut [u8],
-    lines: &mut Vec<u8>,
-) -> Result<(), VolumeFault>
-    requires part { IsPartOf form.now.part (V.volume volume.old).geometry }
-    requires size { length slot.old ≡ (V.volume volume.old).geometry.track_size }
-    ensures lines { PrintsText result (dump_text form.now.form.style form.now.form.path.now form.now.part) (V.volume volume.old)
-        (seen_by W.contents writer.old) (seen_by W.contents writer.new) }
-    ensures writes { CountsWrites result (seen_by W.contents writer.old) (seen_by W.contents writer.new) }
-    ensures volume { IsRead result (V.volume volume.old) (V.volume volume.new) (V.failures volume.old) (V.failures volume.new) }
-{
-    let part = form.part;
-    let cylinders = volume.geometry().cylinders;
-    prove!(part.cylinders.last < cylinders);
-    for i in 0..part.cylinders.last + 1 - part.cylinders.first {
-        let on_cylinder = CylinderForm {
-            form: form.form,
-            part,
-            cylinder: part.cylinders.first + i,
-        };
-        if let Err(fault) = dump_cylinder(volume, writer, &on_cylinder, slot, lines) {
-            return Err(fault);
-        }
-    }
-    Ok(())
-}
+impl<'a> EachTrack for DumpedTracks<'a> {
+    ghost use Rattle.dasd_archive.specs.Dump.{dumped_text};
 
-// Prints the tracks of a part on one cylinder, each of which is loaded into the slot.
-fn dump_cylinder<V: SlotReader, W: Write>(
-    volume: &mut V,
-    writer: &mut Counted<W>,
-    form: &CylinderForm,
-    slot: &mut [u8],
-    lines: &mut Vec<u8>,
-) -> Result<(), VolumeFault>
-    requires part { IsPartOf form.now.part (V.volume volume.old).geometry }
-    requires exists { form.now.cylinder < (V.volume volume.old).geometry.cylinders }
-    requires size { length slot.old ≡ (V.volume volume.old).geometry.track_size }
-    ensures lines { PrintsText result (cylinder_dump form.now.form.style form.now.form.path.now form.now.part form.now.cylinder)
-        (V.volume volume.old) (seen_by W.contents writer.old) (seen_by W.contents writer.new) }
-    ensures writes { CountsWrites result (seen_by W.contents writer.old) (seen_by W.contents writer.new) }
-    ensures volume { IsRead result (V.volume volume.old) (V.volume volume.new) (V.failures volume.old) (V.failures volume.new) }
-    ensures size { length slot.new ≡ length slot.old }
-{
-    let part = form.part;
-    let cylinder = form.cylinder;
-    let geometry = volume.geometry();
-    for i in 0..part.heads.last + 1 - part.heads.first {
-        let head = part.heads.first + i;
-        let Ok(held) = volume.load(geometry.track_at(cylinder, head), slot) else {
-            return Err(VolumeFault::Store);
-        };
-        let track = TrackForm {
-            form: form.form,
+    ghost text = { λ d. dumped_text d.form.style d.form.path.now d.numbers };
+
+    ghost IsKnown = { λ d. Unit {0} };
+
+    ghost IsFor = { λ g d. Unit {0} };
+
+    ghost Notes = { λ before track now. Unit {0} };
+
+    ghost Keeps = { λ before now. Unit {0} };
+
+    ghost failures = { λ d. 0 };
+
+    ghost WantsMemory = { Unit {0} };
+
+    fn track<W: Write>(
+        &mut self,
+        writer: &mut Counted<W>,
+        track: VolumeTrack,
+        slot: &[u8],
+    ) -> Result<(), VolumeFault> {
+        let VolumeTrack { cylinder, head, .. } = track;
+        let form = TrackForm {
+            form: self.form,
             address: TrackAddress { cylinder, head },
         };
-        let slot = &slot[..held];
-        if let Err(fault) = print_track(writer, &track, part.numbers, slot, lines) {
-            return Err(fault);
-        }
+        print_track(writer, &form, self.numbers, slot, &mut self.lines)
     }
-    Ok(())
+
+    ghost still = { λ x. tt };
+
+    ghost kept = { λ a b c first next. tt };
 }
 
 // Prints the lines of one track, which are made in memory.

@@ -15,6 +15,7 @@ mod reports;
 mod rows;
 mod strict;
 mod tracks;
+mod walks;
 
 pub use crate::compares::{Comparison, compare};
 pub use crate::differences::Difference;

@@ -8,13 +8,13 @@ ghost use Rattle.dasd_volumes.specs.Lines.{model_number_of, volume_line, track_l
 ghost use Rattle.dasd_volumes.specs.Lines as lines;
 ghost use Rattle.dasd_volumes.specs.Printing.{PrintsText, CountsWrites};
 ghost use Rattle.dasd_volumes.specs.Reading.{IsRead};
-ghost use Rattle.dasd_archive.specs.Listing.{volume_part, track_part, listed_part, cylinder_part, cylinders_part, list_text};
+ghost use Rattle.dasd_archive.specs.Listing.{volume_part, track_part, listed_part, list_text};
 
 use crate::dumps::Range;
 use crate::objects::{list_object, list_unreadable_object, list_volume_object};
 use crate::pieces::{LINE, put_address, put_count, put_fault};
 use crate::reports::{Form, Style};
-use crate::tracks::TrackPlace;
+use crate::walks::{EachTrack, Tracks, VolumeTrack, all_heads, each_track};
 use arrayvec::ArrayString;
 use ckd_track::{DriveModel, Geometry, SlotFault, TrackView, read_slot, used};
 use counted_io::{Counted, WriteFault, flush_all, write_whole};
@@ -69,7 +69,7 @@ pub fn list_part<V: SlotReader, W: Write>(
     }
 }
 
-// Prints the volume and its cylinders, each of whose tracks is loaded into the slot.
+// Prints the volume and the tracks of its cylinders, each of which is loaded into the slot.
 fn list_all<V: SlotReader, W: Write>(
     volume: &mut V,
     writer: &mut Counted<W>,
@@ -86,8 +86,14 @@ fn list_all<V: SlotReader, W: Write>(
     ensures memory { IfErr result (λ e. e ≢ VolumeFault.OutOfMemory) }
     ensures volume { IsRead result (V.volume volume.old) (V.volume volume.new) (V.failures volume.old) (V.failures volume.new) }
 {
-    match list_volume(writer, listing.form, volume.geometry()) {
-        Ok(()) => list_cylinders(volume, writer, listing, slot),
+    let geometry = volume.geometry();
+    let tracks = Tracks {
+        cylinders: listing.cylinders,
+        heads: all_heads(geometry),
+    };
+    let mut each = listing;
+    match list_volume(writer, listing.form, geometry) {
+        Ok(()) => each_track(&mut each, volume, writer, tracks, slot),
         Err(WriteFault) => Err(VolumeFault::Write),
     }
 }
@@ -132,74 +138,46 @@ fn list_geometry<W: Write>(writer: &mut Counted<W>, geometry: Geometry) -> Resul
     write_whole(writer, line.as_bytes())
 }
 
-// The cylinders, each of whose tracks is loaded into the slot.
-fn list_cylinders<V: SlotReader, W: Write>(
-    volume: &mut V,
-    writer: &mut Counted<W>,
-    listing: Listing,
-    slot: &mut [u8],
-) -> Result<(), VolumeFault>
-    requires order { listing.cylinders.first ≤ listing.cylinders.last }
-    requires exists { listing.cylinders.last < (V.volume volume.old).geometry.cylinders }
-    requires size { length slot.old ≡ (V.volume volume.old).geometry.track_size }
-    ensures lines { PrintsText result
-        (cylinders_part listing.entry.form.style listing.entry.form.path.now listing.entry.used_only listing.entry.cylinders)
-        (V.volume volume.old) (seen_by W.contents writer.old) (seen_by W.contents writer.new) }
-    ensures writes { CountsWrites result (seen_by W.contents writer.old) (seen_by W.contents writer.new) }
-    ensures memory { IfErr result (λ e. e ≢ VolumeFault.OutOfMemory) }
-    ensures volume { IsRead result (V.volume volume.old) (V.volume volume.new) (V.failures volume.old) (V.failures volume.new) }
-{
-    let cylinders = volume.geometry().cylinders;
-    prove!(listing.cylinders.last < cylinders);
-    for i in 0..listing.cylinders.last + 1 - listing.cylinders.first {
-        let cylinder = listing.cylinders.first + i;
-        if let Err(fault) = list_cylinder(volume, writer, listing, cylinder, slot) {
-            return Err(fault);
-        }
-    }
-    Ok(())
-}
+impl<'a> EachTrack for Listing<'a> {
+    ghost use Rattle.dasd_archive.specs.Listing.{listed_text};
 
-// The tracks of one cylinder, each of which is loaded into the slot.
-fn list_cylinder<V: SlotReader, W: Write>(
-    volume: &mut V,
-    writer: &mut Counted<W>,
-    listing: Listing,
-    cylinder: u16,
-    slot: &mut [u8],
-) -> Result<(), VolumeFault>
-    requires exists { cylinder < (V.volume volume.old).geometry.cylinders }
-    requires size { length slot.old ≡ (V.volume volume.old).geometry.track_size }
-    ensures lines { PrintsText result
-        (cylinder_part listing.entry.form.style listing.entry.form.path.now listing.entry.used_only cylinder)
-        (V.volume volume.old) (seen_by W.contents writer.old) (seen_by W.contents writer.new) }
-    ensures writes { CountsWrites result (seen_by W.contents writer.old) (seen_by W.contents writer.new) }
-    ensures memory { IfErr result (λ e. e ≢ VolumeFault.OutOfMemory) }
-    ensures volume { IsRead result (V.volume volume.old) (V.volume volume.new) (V.failures volume.old) (V.failures volume.new) }
-    ensures size { length slot.new ≡ length slot.old }
-{
-    let geometry = volume.geometry();
-    for head in 0..geometry.model.heads() {
-        let Ok(held) = volume.load(geometry.track_at(cylinder, head), slot) else {
-            return Err(VolumeFault::Store);
-        };
-        let track = TrackPlace {
-            geometry,
-            cylinder,
-            head,
-        };
-        if let Err(WriteFault) = list_track(writer, listing, track, &slot[..held]) {
-            return Err(VolumeFault::Write);
+    ghost text = { λ l. listed_text l.form.style l.form.path.now l.used_only };
+
+    ghost IsKnown = { λ l. Unit {0} };
+
+    ghost IsFor = { λ g l. Unit {0} };
+
+    ghost Notes = { λ before track now. Unit {0} };
+
+    ghost Keeps = { λ before now. Unit {0} };
+
+    ghost failures = { λ l. 0 };
+
+    ghost WantsMemory = { ⊥ };
+
+    fn track<W: Write>(
+        &mut self,
+        writer: &mut Counted<W>,
+        track: VolumeTrack,
+        slot: &[u8],
+    ) -> Result<(), VolumeFault> {
+        let listing = *self;
+        match list_track(writer, listing, track, slot) {
+            Ok(()) => Ok(()),
+            Err(WriteFault) => Err(VolumeFault::Write),
         }
     }
-    Ok(())
+
+    ghost still = { λ x. tt };
+
+    ghost kept = { λ a b c first next. tt };
 }
 
 // The lines of one track, if it is asked for.
 fn list_track<W: Write>(
     writer: &mut Counted<W>,
     listing: Listing,
-    track: TrackPlace,
+    track: VolumeTrack,
     slot: &[u8],
 ) -> Result<(), WriteFault>
     ensures { WritesWhole result (seen_by W.contents writer.old) (seen_by W.contents writer.new)
@@ -216,13 +194,13 @@ fn list_track<W: Write>(
 fn list_unreadable<W: Write>(
     writer: &mut Counted<W>,
     form: Form,
-    track: TrackPlace,
+    track: VolumeTrack,
     fault: SlotFault,
 ) -> Result<(), WriteFault>
     ensures { WritesWhole result (seen_by W.contents writer.old) (seen_by W.contents writer.new)
         (track_part form.entry.style form.entry.path.now track.geometry.model track.cylinder track.head (Err fault)) }
 {
-    let TrackPlace { cylinder, head, .. } = track;
+    let VolumeTrack { cylinder, head, .. } = track;
     let address = TrackAddress { cylinder, head };
     match form.style {
         Style::Text => list_unreadable_line(writer, address, fault),
@@ -250,7 +228,7 @@ fn list_unreadable_line<W: Write>(
 fn list_asked<W: Write>(
     writer: &mut Counted<W>,
     listing: Listing,
-    track: TrackPlace,
+    track: VolumeTrack,
     view: &TrackView,
 ) -> Result<(), WriteFault>
     ensures { WritesWhole result (seen_by W.contents writer.old) (seen_by W.contents writer.new)
@@ -269,7 +247,7 @@ fn list_asked<W: Write>(
 // A track and its records, a line each.
 fn list_lines<W: Write>(
     writer: &mut Counted<W>,
-    track: TrackPlace,
+    track: VolumeTrack,
     view: &TrackView,
 ) -> Result<(), WriteFault>
     ensures { WritesWhole result (seen_by W.contents writer.old) (seen_by W.contents writer.new)
@@ -285,13 +263,13 @@ fn list_lines<W: Write>(
 // The first line of a track.
 fn list_home_address<W: Write>(
     writer: &mut Counted<W>,
-    track: TrackPlace,
+    track: VolumeTrack,
     view: &TrackView,
 ) -> Result<(), WriteFault>
     ensures { WritesWhole result (seen_by W.contents writer.old) (seen_by W.contents writer.new)
         (track_line track.geometry.model track.cylinder track.head view.now) }
 {
-    let TrackPlace { cylinder, head, .. } = track;
+    let VolumeTrack { cylinder, head, .. } = track;
     let mut line: ArrayString<LINE> = ArrayString::new();
     put_address(&mut line, TrackAddress { cylinder, head });
     line.push_str(" HA ");

@@ -11,7 +11,7 @@ ghost use Rattle.dasd_archive.specs.Listing.{volume_object, comma_before, listed
 
 use crate::lists::model_number;
 use crate::pieces::{LINE, put_count, put_fault};
-use crate::tracks::TrackPlace;
+use crate::walks::VolumeTrack;
 use arrayvec::ArrayString;
 use ckd_track::{DriveModel, Geometry, SlotFault, TrackView, used};
 use counted_io::{Counted, WriteFault, write_whole};
@@ -88,13 +88,13 @@ pub(crate) fn list_unreadable_object<W: Write>(
 pub(crate) fn list_object<W: Write>(
     writer: &mut Counted<W>,
     path: &str,
-    track: TrackPlace,
+    track: VolumeTrack,
     view: &TrackView,
 ) -> Result<(), WriteFault>
     ensures { WritesWhole result (seen_by W.contents writer.old) (seen_by W.contents writer.new)
         (track_object path.now track.geometry.model track.cylinder track.head view.now) }
 {
-    let TrackPlace { cylinder, head, .. } = track;
+    let VolumeTrack { cylinder, head, .. } = track;
     match begin_object(writer, path, TrackAddress { cylinder, head }) {
         Ok(()) => list_track(writer, track.geometry.model, view),
         Err(fault) => Err(fault),

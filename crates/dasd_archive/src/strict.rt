@@ -1,20 +1,18 @@
 //! A strict check of a volume.
 
-ghost use Rattle.std.specs.Prelude.{◌≡◌, ◌≢◌, ◌<◌, ◌≤◌, List, length, take, IfOk, IfErr, OnOk};
+ghost use Rattle.std.specs.Prelude.{◌≡◌, ◌≢◌, List, IfOk, IfErr, OnOk};
 ghost use Rattle.counted_io.specs.Streams.{seen_by, IsFlushed};
-ghost use Rattle.ckd_track.specs.Geometry.{tracks_of};
-ghost use Rattle.ckd_image.specs.Store.{Counts};
 ghost use Rattle.dasd_volumes.specs.Printing.{PrintsText, CountsWrites};
-ghost use Rattle.dasd_volumes.specs.Reading.{IsRead, IsSlotOf};
+ghost use Rattle.dasd_volumes.specs.Reading.{IsRead};
 ghost use Rattle.dasd_archive.specs.declared.findings.Finding.{Finding};
 ghost use Rattle.dasd_archive.specs.Printed.{PrintsBytes};
 ghost use Rattle.dasd_archive.specs.Reports.{tally_line, tally_of, PrintsFindings};
-ghost use Rattle.dasd_archive.specs.Strict.{findings_on, findings_in_slot, strict_findings, strict_text, findings_in_header, PrintsFindingsOf, Adds};
+ghost use Rattle.dasd_archive.specs.Strict.{strict_text, findings_in_header, Adds};
 
 use crate::printed::{print_flushed, print_lines};
 use crate::reports::{FindingForm, Tally, write_tally};
-use crate::tracks::{CheckedTrack, TrackPlace, check_header, check_track};
-use ckd_image::StoreFault;
+use crate::tracks::{CheckedTrack, check_header, check_track};
+use crate::walks::{EachTrack, VolumeTrack, all_tracks, each_track};
 use counted_io::Counted;
 use dasd_volumes::{SlotReader, VolumeFault};
 use std::alloc::Global;
@@ -29,17 +27,11 @@ pub struct FileHeader<'a> {
     pub bytes: &'a [u8; 512],
 }
 
-// How what is found of a cylinder is written, and which it is.
-#[derive(Clone, Copy)]
-struct CylinderForm<'a> {
-    form: FindingForm<'a>,
-    cylinder: u16,
-}
-
-// The slot of a track, a table of its records, and the lines of what is found of it.
+// A strict check of tracks: how what is found is written and how much it is, and a table of records and the lines of one track.
 #[derive(Drop)]
-struct Room {
-    slot: Vec<u8>,
+struct CheckedTracks<'a> {
+    form: FindingForm<'a>,
+    tally: Tally,
     table: Vec<u32>,
     lines: Vec<u8>,
 }
@@ -94,17 +86,23 @@ pub fn check_strict<V: SlotReader, W: Write>(
     ensures volume { IsRead result (V.volume volume.old) (V.volume volume.new) (V.failures volume.old) (V.failures volume.new) }
     ensures flushed { OnOk result (IsFlushed (seen_by W.contents writer.new)) }
 {
-    let mut tally = tally;
-    let size = volume.geometry().track_size as usize;
-    let (Ok(slot), Ok(table)) = (vec![in alloc; 0u8; size], vec![in alloc; 0u32; size]) else {
+    let geometry = volume.geometry();
+    let size = geometry.track_size as usize;
+    let (Ok(mut slot), Ok(table)) = (vec![in alloc; 0u8; size], vec![in alloc; 0u32; size]) else {
         return Err(VolumeFault::OutOfMemory);
     };
-    let lines = Vec::new(alloc);
-    let mut room = Room { slot, table, lines };
-    if let Err(fault) = check_cylinders(volume, writer, &mut tally, form, &mut room) {
+    let mut check = CheckedTracks {
+        form,
+        tally,
+        table,
+        lines: Vec::new(alloc),
+    };
+    let slot = slot.as_mut_slice();
+    if let Err(fault) = each_track(&mut check, volume, writer, all_tracks(geometry), slot) {
         return Err(fault);
     }
-    match print_tally(writer, form, tally, &mut room.lines) {
+    let tally = check.tally;
+    match print_tally(writer, form, tally, &mut check.lines) {
         Ok(()) => Ok(tally),
         Err(fault) => Err(fault),
     }
@@ -130,108 +128,44 @@ fn print_tally<W: Write>(
     print_flushed(writer, lines.as_slice())
 }
 
-// Checks the tracks of all cylinders.
-fn check_cylinders<V: SlotReader, W: Write>(
-    volume: &mut V,
-    writer: &mut Counted<W>,
-    tally: &mut Tally,
-    form: FindingForm,
-    room: &mut Room,
-) -> Result<(), VolumeFault>
-    requires size { length room.old.slot.items ≡ (V.volume volume.old).geometry.track_size }
-    requires table { length room.old.table.items ≡ (V.volume volume.old).geometry.track_size }
-    ensures found { PrintsFindingsOf result strict_findings (V.volume volume.old) form.entry.style form.entry.path.now
-        (seen_by W.contents writer.old) (seen_by W.contents writer.new) tally.old tally.new }
-    ensures writes { CountsWrites result (seen_by W.contents writer.old) (seen_by W.contents writer.new) }
-    ensures volume { IsRead result (V.volume volume.old) (V.volume volume.new) (V.failures volume.old) (V.failures volume.new) }
-{
-    let geometry = volume.geometry();
-    for cylinder in 0..geometry.cylinders {
-        let on_cylinder = CylinderForm { form, cylinder };
-        if let Err(fault) = check_cylinder(volume, writer, tally, &on_cylinder, room) {
-            return Err(fault);
-        }
-    }
-    Ok(())
-}
+impl<'a> EachTrack for CheckedTracks<'a> {
+    ghost use Rattle.std.specs.Prelude.{◌≡◌, length};
+    ghost use Rattle.dasd_archive.specs.Reports.{finding_lines, CountsUp};
+    ghost use Rattle.dasd_archive.specs.Strict.{findings_in_track};
 
-// Checks the tracks of a cylinder, each of which is loaded into the slot.
-fn check_cylinder<V: SlotReader, W: Write>(
-    volume: &mut V,
-    writer: &mut Counted<W>,
-    tally: &mut Tally,
-    form: &CylinderForm,
-    room: &mut Room,
-) -> Result<(), VolumeFault>
-    requires exists { form.now.cylinder < (V.volume volume.old).geometry.cylinders }
-    requires size { length room.old.slot.items ≡ (V.volume volume.old).geometry.track_size }
-    requires table { length room.old.table.items ≡ (V.volume volume.old).geometry.track_size }
-    ensures found { PrintsFindingsOf result (findings_on form.now.cylinder) (V.volume volume.old) form.now.form.style
-        form.now.form.path.now (seen_by W.contents writer.old) (seen_by W.contents writer.new) tally.old tally.new }
-    ensures writes { CountsWrites result (seen_by W.contents writer.old) (seen_by W.contents writer.new) }
-    ensures volume { IsRead result (V.volume volume.old) (V.volume volume.new) (V.failures volume.old) (V.failures volume.new) }
-    ensures size { length room.new.slot.items ≡ length room.old.slot.items }
-    ensures table { length room.new.table.items ≡ length room.old.table.items }
-{
-    let geometry = volume.geometry();
-    let cylinder = form.cylinder;
-    for head in 0..geometry.model.heads() {
-        let Ok(held) = load(volume, geometry.track_at(cylinder, head), room) else {
-            return Err(VolumeFault::Store);
-        };
+    ghost text = { λ c track. finding_lines c.form.style c.form.path.now (findings_in_track track) };
+
+    ghost IsKnown = { λ c. Unit {0} };
+
+    ghost IsFor = { λ g c. length c.table.items ≡ g.track_size };
+
+    ghost Notes = { λ before track now. CountsUp before.tally now.tally (findings_in_track track) };
+
+    ghost Keeps = { λ before now. Unit {0} };
+
+    ghost failures = { λ c. 0 };
+
+    ghost WantsMemory = { Unit {0} };
+
+    fn track<W: Write>(
+        &mut self,
+        writer: &mut Counted<W>,
+        track: VolumeTrack,
+        slot: &[u8],
+    ) -> Result<(), VolumeFault> {
         let track = CheckedTrack {
-            form: form.form,
-            place: TrackPlace {
-                geometry,
-                cylinder,
-                head,
-            },
+            form: self.form,
+            place: track,
         };
-        if let Err(fault) = print_track(writer, tally, &track, room, held) {
-            return Err(fault);
+        self.lines.clear();
+        let table = self.table.as_mut_slice();
+        if check_track(&mut self.lines, &mut self.tally, &track, slot, table).is_err() {
+            return Err(VolumeFault::OutOfMemory);
         }
+        print_lines(writer, self.lines.as_slice())
     }
-    Ok(())
-}
 
-// Reads the slot of a track, and says how many of its bytes there are.
-fn load<V: SlotReader>(volume: &mut V, track: u32, room: &mut Room) -> Result<usize, StoreFault>
-    requires exists { track < tracks_of (V.volume volume.old).geometry }
-    requires size { length room.old.slot.items ≡ (V.volume volume.old).geometry.track_size }
-    ensures within { IfOk result (λ held. held ≤ length room.new.slot.items) }
-    ensures slot { IfOk result (λ held. IsSlotOf (V.volume volume.old) track (take held room.new.slot.items)) }
-    ensures kept { V.volume volume.new ≡ V.volume volume.old }
-    ensures counted { Counts (V.failures volume.old) (V.failures volume.new) result }
-    ensures size { length room.new.slot.items ≡ length room.old.slot.items }
-    ensures table { length room.new.table.items ≡ length room.old.table.items }
-{
-    volume.load(track, room.slot.as_mut_slice())
-}
+    ghost still = { λ x. tt };
 
-// Checks the track in the slot, of whose bytes there are so many, and prints what is found of it.
-fn print_track<W: Write>(
-    writer: &mut Counted<W>,
-    tally: &mut Tally,
-    track: &CheckedTrack,
-    room: &mut Room,
-    held: usize,
-) -> Result<(), VolumeFault>
-    requires within { held ≤ length room.old.slot.items }
-    requires size { length room.old.slot.items ≤ 65536 }
-    requires table { length room.old.table.items ≡ length room.old.slot.items }
-    ensures found { PrintsFindings result track.now.form.style track.now.form.path.now
-        (findings_in_slot track.now.place.geometry track.now.place.cylinder track.now.place.head (take held room.old.slot.items))
-        (seen_by W.contents writer.old) (seen_by W.contents writer.new) tally.old tally.new }
-    ensures writes { CountsWrites result (seen_by W.contents writer.old) (seen_by W.contents writer.new) }
-    ensures fault { IfErr result (λ e. e ≢ VolumeFault.Store) }
-    ensures size { length room.new.slot.items ≡ length room.old.slot.items }
-    ensures table { length room.new.table.items ≡ length room.old.table.items }
-{
-    room.lines.clear();
-    let slot = &room.slot.as_slice()[..held];
-    let table = room.table.as_mut_slice();
-    if check_track(&mut room.lines, tally, track, slot, table).is_err() {
-        return Err(VolumeFault::OutOfMemory);
-    }
-    print_lines(writer, room.lines.as_slice())
+    ghost kept = { λ a b c first next. tt };
 }

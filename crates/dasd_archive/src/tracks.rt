@@ -12,26 +12,19 @@ ghost use Rattle.dasd_archive.specs.Strict.{rest_findings, findings_of, findings
 
 use crate::findings::{Finding, Place, Problem};
 use crate::reports::{FindingForm, Tally, report};
-use ckd_track::{Geometry, TrackView, end_offset_of, index_slot, used, view_at};
+use crate::walks::VolumeTrack;
+use ckd_track::{TrackView, end_offset_of, index_slot, used, view_at};
 use std::io;
 use std::io::Write;
 
 /// Where the reserved bytes of a header begin.
 const RESERVED_START: usize = 20;
 
-/// A track of a volume.
-#[derive(Clone, Copy)]
-pub(crate) struct TrackPlace {
-    pub(crate) geometry: Geometry,
-    pub(crate) cylinder: u16,
-    pub(crate) head: u16,
-}
-
 /// A track that is checked, and how what is found of it is written.
 #[derive(Clone, Copy)]
 pub(crate) struct CheckedTrack<'a> {
     pub(crate) form: FindingForm<'a>,
-    pub(crate) place: TrackPlace,
+    pub(crate) place: VolumeTrack,
 }
 
 /// Checks the track in a slot. The table has room for the offsets of its records.
@@ -66,7 +59,7 @@ pub(crate) fn check_track<W: Write>(
 }
 
 // A problem of a track.
-fn found(track: TrackPlace, problem: Problem) -> Finding
+fn found(track: VolumeTrack, problem: Problem) -> Finding
     ensures { result ≡ record { place = Place.Track track.cylinder track.head; problem = problem } }
 {
     Finding {
@@ -168,7 +161,7 @@ pub(crate) fn is_same(one: [u8; 5], other: [u8; 5]) -> bool
 }
 
 // Whether the four bytes are the track's own cylinder and head.
-fn is_own(track: TrackPlace, bytes: &[u8]) -> bool
+fn is_own(track: VolumeTrack, bytes: &[u8]) -> bool
     ensures { result ≡ is_own track.cylinder track.head bytes.now }
 {
     let [cylinder_high, cylinder_low] = track.cylinder.to_be_bytes();

@@ -1,5 +1,5 @@
 use Rattle.dasd_archive.specs.Compare.{difference_line}
-use Rattle.dasd_archive.proofs.Lined.{lines_then, lines_one}
+use Rattle.dasd_archive.proofs.Lined.{lines_one}
 use Rattle.dasd_archive.proofs.compared.write_difference.Goals as goal
 
 pub returns : goal.returns

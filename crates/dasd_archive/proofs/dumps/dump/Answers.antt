@@ -1,7 +1,6 @@
 use Rattle.std.proofs.Common.{rules, tests}
 use Rattle.counted_io.specs.Streams.{seen_by}
 use Rattle.dasd_volumes.proofs.Fronts.{front_then_none}
-use Rattle.dasd_archive.proofs.Printing.{none_printed}
 use Rattle.dasd_archive.proofs.dumps.dump.Goals as goal
 
 -- the flush failed

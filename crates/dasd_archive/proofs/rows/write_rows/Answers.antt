@@ -1,4 +1,4 @@
-use Rattle.std.proofs.Common.{[], arith}
+use Rattle.std.proofs.Common.{[]}
 use Rattle.std.proofs.KnownBytes.{Appends-nil}
 use Rattle.dasd_volumes.proofs.Appended.{begun, one_more}
 use Rattle.dasd_archive.proofs.rows.write_rows.Goals as goal

@@ -1,4 +1,3 @@
-use Rattle.std.proofs.Common.{rules, tests}
 use Rattle.dasd_archive.proofs.Reported.{then}
 use Rattle.dasd_archive.proofs.tracks.check_readable.Goals as goal
 

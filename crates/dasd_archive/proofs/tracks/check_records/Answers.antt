@@ -1,4 +1,3 @@
-use Rattle.std.proofs.Common.{rules, tests}
 use Rattle.dasd_archive.proofs.Reported.{none_of, one_more_of}
 use Rattle.dasd_archive.proofs.tracks.check_records.Goals as goal
 

@@ -1,4 +1,4 @@
-use Rattle.std.proofs.Common.{◌≡◌, ◌∙◌, take, rules}
+use Rattle.std.proofs.Common.{◌≡◌, ◌∙◌, take}
 use Rattle.dasd_volumes.proofs.Formats.{identifier_is}
 use Rattle.ckd_track.specs.Track.{record_in}
 use Rattle.dasd_archive.proofs.tracks.identifier.Goals as goal

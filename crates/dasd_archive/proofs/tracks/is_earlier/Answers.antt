@@ -1,4 +1,4 @@
-use Rattle.std.proofs.Common.{ℕ, ◌≡◌, ◌∙◌, ◌<◌, true, false, sym, ap, arith, bytes_eq, subst}
+use Rattle.std.proofs.Common.{◌≡◌, ◌∙◌, true, false, sym, ap, arith, bytes_eq}
 use borrow.Author.Count.{below_none, below_more}
 use Rattle.ckd_track.specs.Track.{record_in}
 use Rattle.dasd_archive.proofs.Sought.{found_at, found_nowhere}

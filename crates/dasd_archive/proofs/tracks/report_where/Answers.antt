@@ -1,4 +1,3 @@
-use Rattle.std.proofs.Common.{refl}
 use Rattle.dasd_archive.proofs.tracks.report_where.Goals as goal
 
 pub returns-then-is_so : goal.returns-then-is_so
