@@ -7,7 +7,7 @@ use Rattle.std.proofs.KnownBytes.{Appends-trans, Appends-nil}
 use Rattle.std.specs.Io.KnownBytes.{Appends}
 use Rattle.dasd_volumes.specs.Volumes.{of_each}
 use Rattle.dasd_volumes.proofs.Appended.{of_none, of_one_more}
-use Rattle.dasd_archive.specs.declared.findings.Finding.{Finding}
+use Rattle.dasd_archive.specs.declared.findings.StrictFinding.{StrictFinding}
 use Rattle.dasd_archive.specs.declared.reports.FindingStyle.{FindingStyle}
 use Rattle.dasd_archive.specs.declared.reports.Tally.{Tally}
 use Rattle.counted_io.specs.Streams.{Stream, Takes}
@@ -20,7 +20,7 @@ use Rattle.dasd_archive.proofs.Walked.{text_of_all, lines_of_all}
 use Rattle.dasd_archive.specs.Reports.{Reports, CountsUp, shown_line, finding_lines, tally_of}
 
 -- what was found of one after another is counted
-pub all_counted : {P X : Type 0} (tally : P → Tally) (found : X → List Finding) (p q : P) (xs : List X)
+pub all_counted : {P X : Type 0} (tally : P → Tally) (found : X → List StrictFinding) (p q : P) (xs : List X)
     → FoldsTo (λ p x q. CountsUp (tally p) (tally q) (found x)) p xs q → CountsUp (tally p) (tally q) (flat_map found xs)
 all_counted tally found p q [] same = λ earlier is. ap tally (sym same) ∙ is ∙ ap tally_of (sym (append-nil earlier))
 all_counted tally found p q (x ∷ xs) steps = λ earlier is.
@@ -50,7 +50,7 @@ module _ (style : FindingStyle) (path : List ℕ) where
     counts = λ earlier is. is ∙ ap tally_of (sym (append-nil earlier));
   }
 
-  pub more : (a b c : Option (List ℕ)) (t u v : Tally) (xs ys : List Finding)
+  pub more : (a b c : Option (List ℕ)) (t u v : Tally) (xs ys : List StrictFinding)
       → Reports style path a b t u xs → Reports style path b c u v ys → Reports style path a c t v (xs ++ ys)
   more a b c t u v xs ys first next = record {
     lines = subst (Appends a c) (sym (flat_map-append (shown_line style path) xs ys)) (Appends-trans a b c _ _ first.lines next.lines);
@@ -58,21 +58,21 @@ module _ (style : FindingStyle) (path : List ℕ) where
   }
 
   -- the same where the last step may have failed
-  pub then : {A E : Type 0} (r : Result A E) (a b c : Option (List ℕ)) (t u v : Tally) (xs ys : List Finding)
+  pub then : {A E : Type 0} (r : Result A E) (a b c : Option (List ℕ)) (t u v : Tally) (xs ys : List StrictFinding)
       → Reports style path a b t u xs → OnOk r (Reports style path b c u v ys) → OnOk r (Reports style path a c t v (xs ++ ys))
   then (Ok x) a b c t u v xs ys first next = more a b c t u v xs ys first next
   then (Err e) a b c t u v xs ys first next = next
 
-  pub none_of : (of : ℕ → List Finding) (a : Option (List ℕ)) (t : Tally) → Reports style path a a t t (of_each of 0)
+  pub none_of : (of : ℕ → List StrictFinding) (a : Option (List ℕ)) (t : Tally) → Reports style path a a t t (of_each of 0)
   none_of of a t = subst (Reports style path a a t t) (sym (of_none of)) (nothing a t)
 
-  pub one_more_of : (of : ℕ → List Finding) (n : ℕ) (a b c : Option (List ℕ)) (t u v : Tally)
+  pub one_more_of : (of : ℕ → List StrictFinding) (n : ℕ) (a b c : Option (List ℕ)) (t u v : Tally)
       → Reports style path a b t u (of_each of n) → Reports style path b c u v (of n) → Reports style path a c t v (of_each of (n + 1))
   one_more_of of n a b c t u v first next =
       subst (Reports style path a c t v) (sym (of_one_more of n)) (more a b c t u v (of_each of n) (of n) first next)
 
   -- the same of findings that are printed
-  pub none_found : (of : ℕ → List Finding) (a : Stream) (t : Tally) → Takes a a (finding_lines style path (of_each of 0))
+  pub none_found : (of : ℕ → List StrictFinding) (a : Stream) (t : Tally) → Takes a a (finding_lines style path (of_each of 0))
       × CountsUp t t (of_each of 0)
   none_found of a t = (
     no_lines (shown_line style path) of a,
@@ -80,7 +80,7 @@ module _ (style : FindingStyle) (path : List ℕ) where
         ∙ ap (λ l. earlier ++ l) (sym (of_none of))),
   )
 
-  pub one_more_found : (of : ℕ → List Finding) (n : ℕ) (a b c : Stream) (t u v : Tally)
+  pub one_more_found : (of : ℕ → List StrictFinding) (n : ℕ) (a b c : Stream) (t u v : Tally)
       → Takes a b (finding_lines style path (of_each of n)) × CountsUp t u (of_each of n) → Takes b c (finding_lines style path (of n))
       × CountsUp u v (of n)
       → Takes a c (finding_lines style path (of_each of (n + 1))) × CountsUp t v (of_each of (n + 1))

@@ -13,7 +13,7 @@ use Rattle.volume_labels.specs.Ebcdic.{shown}
 use Rattle.dasd_archive.specs.declared.reports.Style.{Style}
 use Rattle.dasd_archive.specs.declared.reports.Style.TheVariants.{Text, Json}
 use Rattle.dasd_archive.specs.declared.dumps.Range.{Range}
-use Rattle.dasd_archive.specs.declared.dumps.Part.{Part}
+use Rattle.dasd_archive.specs.declared.dumps.VolumePart.{VolumePart}
 use Rattle.dasd_archive.specs.declared.walks.Tracks.{Tracks}
 use Rattle.dasd_archive.specs.Walks.{ReadTrack, text_in}
 
@@ -93,15 +93,15 @@ abbrev pub dumped_text : Style → (path : List ℕ) → (numbers : Range) → R
 dumped_text style path numbers t = track_dump style path t.track.cylinder t.track.head numbers (track_of t.slot)
 
 -- the tracks of a part of a volume
-abbrev pub tracks_of_part : Part → Tracks
+abbrev pub tracks_of_part : VolumePart → Tracks
 tracks_of_part part = record { cylinders = part.cylinders; heads = part.heads }
 
 -- what a dump of a part of a volume prints: its tracks, cylinder by cylinder and head by head
-abbrev pub dump_text : Style → (path : List ℕ) → Part → Geometry → (slots : List (List ℕ)) → List ℕ
+abbrev pub dump_text : Style → (path : List ℕ) → VolumePart → Geometry → (slots : List (List ℕ)) → List ℕ
 dump_text style path part g slots = text_in (dumped_text style path part.numbers) (tracks_of_part part) g slots
 
 -- a part is of a volume: its first numbers are not behind its last ones, and the tracks exist
-pub record IsPartOf (part : Part) (g : Geometry) : Type 0 where
+pub record IsPartOf (part : VolumePart) (g : Geometry) : Type 0 where
   pub cylinders : part.cylinders.first ≤ part.cylinders.last
   pub on_volume : part.cylinders.last < g.cylinders
   pub heads : part.heads.first ≤ part.heads.last

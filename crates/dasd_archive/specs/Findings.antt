@@ -4,18 +4,18 @@ use Rattle.std.specs.List.{concat}
 use Rattle.std.specs.Fmt.{decimal}
 use Rattle.dasd_archive.specs.declared.findings.Severity.{Severity}
 use Rattle.dasd_archive.specs.declared.findings.Severity.TheVariants.{Error, Warning, Note}
-use Rattle.dasd_archive.specs.declared.findings.Problem.{Problem}
-use Rattle.dasd_archive.specs.declared.findings.Problem.TheVariants.{ReservedBytes, Unreadable, OtherHomeAddress, Flagged, NoRecord0, OverCapacity}
-use Rattle.dasd_archive.specs.declared.findings.Problem.TheVariants.{SameIdentifier, OtherIdentifier, EndOfFile, BytesBehindEnd}
-use Rattle.dasd_archive.specs.declared.findings.Place.{Place}
-use Rattle.dasd_archive.specs.declared.findings.Place.TheVariants as place
-use Rattle.dasd_archive.specs.declared.findings.Finding.{Finding}
+use Rattle.dasd_archive.specs.declared.findings.StrictProblem.{StrictProblem}
+use Rattle.dasd_archive.specs.declared.findings.StrictProblem.TheVariants.{ReservedBytes, Unreadable, OtherHomeAddress, Flagged, NoRecord0, OverCapacity}
+use Rattle.dasd_archive.specs.declared.findings.StrictProblem.TheVariants.{SameIdentifier, OtherIdentifier, EndOfFile, BytesBehindEnd}
+use Rattle.dasd_archive.specs.declared.findings.FindingPlace.{FindingPlace}
+use Rattle.dasd_archive.specs.declared.findings.FindingPlace.TheVariants as place
+use Rattle.dasd_archive.specs.declared.findings.StrictFinding.{StrictFinding}
 use Rattle.dasd_archive.specs.declared.reports.Style.{Style}
 use Rattle.dasd_archive.specs.declared.reports.Style.TheVariants.{Text, Json}
 use Rattle.dasd_volumes.specs.Lines.{bytes_text, address_text, fault_text, line_feed}
 
 -- errors are what a reader of the drive trips over; warnings are unusual; notes are legal
-abbrev pub severity_of : Problem → Severity
+abbrev pub severity_of : StrictProblem → Severity
 severity_of (ReservedBytes _) = Warning
 severity_of (Unreadable _) = Error
 severity_of (OtherHomeAddress _) = Error
@@ -33,7 +33,7 @@ severity_text Warning = codes "warning"
 severity_text Note = codes "note"
 
 -- a problem's kind, without the numbers of one
-abbrev pub kind_text : Problem → List ℕ
+abbrev pub kind_text : StrictProblem → List ℕ
 kind_text (ReservedBytes _) = codes "reserved bytes"
 kind_text (Unreadable _) = codes "unreadable"
 kind_text (OtherHomeAddress _) = codes "other home address"
@@ -46,7 +46,7 @@ kind_text (EndOfFile _) = codes "end of file"
 kind_text (BytesBehindEnd _) = codes "bytes behind end"
 
 -- a problem in words
-abbrev pub problem_text : Problem → List ℕ
+abbrev pub problem_text : StrictProblem → List ℕ
 problem_text (ReservedBytes at) = concat (codes "reserved byte at " ∷ decimal at ∷ codes " is not zero" ∷ [])
 problem_text (Unreadable fault) = fault_text fault
 problem_text (OtherHomeAddress ha) = concat (codes "home address " ∷ bytes_text ha ∷ codes " of another track" ∷ [])
@@ -61,16 +61,16 @@ problem_text (EndOfFile i) = concat (codes "record " ∷ decimal i ∷ codes " i
 problem_text (BytesBehindEnd at) = concat (codes "bytes behind the end mark from " ∷ decimal at ∷ codes " on" ∷ [])
 
 -- where it is: in the header of a file, or on a track
-abbrev pub place_text : Place → List ℕ
+abbrev pub place_text : FindingPlace → List ℕ
 place_text (place.Header file) = codes "header of file " ++ decimal file
 place_text (place.Track cylinder head) = address_text cylinder head
 
-abbrev pub place_members : Place → List ℕ
+abbrev pub place_members : FindingPlace → List ℕ
 place_members (place.Header file) = codes "\"file\":" ++ decimal file
 place_members (place.Track cylinder head) = concat (codes "\"cylinder\":" ∷ decimal cylinder ∷ codes ",\"head\":" ∷ decimal head ∷ [])
 
 -- the line of a finding, for people or for programs
-abbrev pub finding_line : Style → (path : List ℕ) → Finding → List ℕ
+abbrev pub finding_line : Style → (path : List ℕ) → StrictFinding → List ℕ
 finding_line Text path f =
     concat (severity_text (severity_of f.problem) ∷ codes " " ∷ place_text f.place ∷ codes " " ∷ problem_text f.problem ∷ line_feed ∷ [])
 finding_line Json path f = concat (

@@ -7,7 +7,7 @@ use Rattle.ckd_track.specs.Geometry.{track_at}
 use Rattle.ckd_track.specs.Track.{Track, track_of}
 use Rattle.dasd_volumes.specs.Reading.{KnownVolume}
 use Rattle.dasd_archive.specs.declared.dumps.Range.{Range}
-use Rattle.dasd_archive.specs.declared.dumps.Part.{Part}
+use Rattle.dasd_archive.specs.declared.dumps.VolumePart.{VolumePart}
 use Rattle.dasd_archive.specs.Dump.{holds}
 
 -- a track can be read, and none of its records has one of these numbers
@@ -21,7 +21,7 @@ LacksOn heads numbers cylinder g slots =
     (head : ℕ) → heads.first ≤ head → head ≤ heads.last → Lacks numbers (track_of (slice_index_or slots (track_at g cylinder head) []))
 
 -- a part of a volume has no such record, and none of its tracks is one that can't be read
-abbrev pub LacksRecords : Part → Geometry → (slots : List (List ℕ)) → Type 0
+abbrev pub LacksRecords : VolumePart → Geometry → (slots : List (List ℕ)) → Type 0
 LacksRecords part g slots =
     (cylinder : ℕ) → part.cylinders.first ≤ cylinder → cylinder ≤ part.cylinders.last → LacksOn part.heads part.numbers cylinder g slots
 

@@ -9,7 +9,7 @@ use Rattle.counted_io.specs.Streams.{Stream, Takes, TakesFront}
 use Rattle.dasd_volumes.specs.declared.fault.VolumeFault.{VolumeFault}
 use Rattle.dasd_archive.specs.declared.findings.Severity.{Severity}
 use Rattle.dasd_archive.specs.declared.findings.Severity.TheVariants.{Error, Warning, Note}
-use Rattle.dasd_archive.specs.declared.findings.Finding.{Finding}
+use Rattle.dasd_archive.specs.declared.findings.StrictFinding.{StrictFinding}
 use Rattle.dasd_archive.specs.declared.reports.Style.{Style}
 use Rattle.dasd_archive.specs.declared.reports.Style.TheVariants.{Text, Json}
 use Rattle.dasd_archive.specs.declared.reports.FindingStyle.{FindingStyle}
@@ -37,7 +37,7 @@ abbrev pub counted : ℕ → ℕ
 counted n = min n (2 ^ 64 - 1)
 
 -- how many findings there are of each severity
-abbrev pub tally_of : List Finding → Tally
+abbrev pub tally_of : List StrictFinding → Tally
 tally_of findings = record {
   errors = counted (count_by (λ f. is_error (severity_of f.problem)) findings);
   warnings = counted (count_by (λ f. is_warning (severity_of f.problem)) findings);
@@ -50,10 +50,10 @@ one_more Warning t = record t { warnings = counted (t.warnings + 1) }
 one_more Note t = record t { notes = counted (t.notes + 1) }
 
 -- a note has no line where notes are left out; each other finding has one
-abbrev pub shown_line : FindingStyle → (path : List ℕ) → Finding → List ℕ
+abbrev pub shown_line : FindingStyle → (path : List ℕ) → StrictFinding → List ℕ
 shown_line s path f = if is_note (severity_of f.problem) && not s.with_notes then [] else finding_line s.style path f
 
-abbrev pub finding_lines : FindingStyle → (path : List ℕ) → List Finding → List ℕ
+abbrev pub finding_lines : FindingStyle → (path : List ℕ) → List StrictFinding → List ℕ
 finding_lines style path findings = flat_map (shown_line style path) findings
 
 abbrev pub tally_line : Style → (path : List ℕ) → Tally → List ℕ
@@ -65,16 +65,16 @@ tally_line Json path t = concat (
     ∷ codes ",\"notes\":" ∷ decimal t.notes ∷ codes "}" ∷ line_feed ∷ [])
 
 -- these findings were counted, with those before them
-abbrev pub CountsUp : (tally tally_now : Tally) → List Finding → Type 0
-CountsUp tally tally_now findings = (earlier : List Finding) → tally ≡ tally_of earlier → tally_now ≡ tally_of (earlier ++ findings)
+abbrev pub CountsUp : (tally tally_now : Tally) → List StrictFinding → Type 0
+CountsUp tally tally_now findings = (earlier : List StrictFinding) → tally ≡ tally_of earlier → tally_now ≡ tally_of (earlier ++ findings)
 
 -- from before to now the lines of these findings were appended, and they were counted
-pub record Reports (style : FindingStyle) (path : List ℕ) (before now : Option (List ℕ)) (tally tally_now : Tally) (findings : List Finding) : Type 0 where
+pub record Reports (style : FindingStyle) (path : List ℕ) (before now : Option (List ℕ)) (tally tally_now : Tally) (findings : List StrictFinding) : Type 0 where
   pub lines : Appends before now (finding_lines style path findings)
   pub counts : CountsUp tally tally_now findings
 
 -- these findings were printed and counted; with a fault only the first bytes of their lines were printed
-abbrev pub PrintsFindings : {A : Type 0} → Result A VolumeFault → FindingStyle → (path : List ℕ) → List Finding → (before after : Stream)
+abbrev pub PrintsFindings : {A : Type 0} → Result A VolumeFault → FindingStyle → (path : List ℕ) → List StrictFinding → (before after : Stream)
     → (tally tally_now : Tally) → Type 0
 PrintsFindings (Ok _) style path findings before after tally tally_now = Takes before after (finding_lines style path findings)
     × CountsUp tally tally_now findings

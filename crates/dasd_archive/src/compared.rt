@@ -20,7 +20,7 @@ use std::io::Write;
 
 /// How the lines of two tracks are written, and where both stand.
 #[derive(Clone, Copy)]
-pub(crate) struct TrackForm<'a> {
+pub(crate) struct DifferenceForm<'a> {
     pub(crate) form: Comparison<'a>,
     pub(crate) address: TrackAddress,
 }
@@ -35,7 +35,7 @@ struct ReadSlot<'a> {
 /// The lines of a track; and whether it differs.
 pub(crate) fn compare_track<W: Write>(
     writer: &mut W,
-    lines: &TrackForm,
+    lines: &DifferenceForm,
     slot: &[u8],
     other_slot: &[u8],
 ) -> io::Result<u32>
@@ -55,7 +55,7 @@ pub(crate) fn compare_track<W: Write>(
 // The lines of a track that differs, where each difference has one.
 fn write_listed<W: Write>(
     writer: &mut W,
-    lines: &TrackForm,
+    lines: &DifferenceForm,
     slot: &[u8],
     other_slot: &[u8],
 ) -> io::Result<()>
@@ -74,7 +74,7 @@ fn write_listed<W: Write>(
 // The lines of a track that differs.
 fn write_differences<W: Write>(
     writer: &mut W,
-    lines: &TrackForm,
+    lines: &DifferenceForm,
     slot: &[u8],
     other_slot: &[u8],
 ) -> io::Result<()>
@@ -107,7 +107,7 @@ fn write_differences<W: Write>(
 // A difference as the only one.
 fn write_difference<W: Write>(
     writer: &mut W,
-    lines: &TrackForm,
+    lines: &DifferenceForm,
     difference: Difference,
 ) -> io::Result<()>
     ensures { OnOk result (Appends (W.contents writer.old) (W.contents writer.new)
@@ -118,7 +118,11 @@ fn write_difference<W: Write>(
 }
 
 // The line of a difference.
-fn write_line<W: Write>(writer: &mut W, lines: &TrackForm, difference: Difference) -> io::Result<()>
+fn write_line<W: Write>(
+    writer: &mut W,
+    lines: &DifferenceForm,
+    difference: Difference,
+) -> io::Result<()>
     ensures { OnOk result (Appends (W.contents writer.old) (W.contents writer.new)
         (difference_line lines.now.form.style lines.now.form.path.now lines.now.form.other.now lines.now.address.cylinder lines.now.address.head difference)) }
 {
@@ -138,7 +142,7 @@ fn write_line<W: Write>(writer: &mut W, lines: &TrackForm, difference: Differenc
 // The line of a difference, unless the two are the same.
 fn write_unless<W: Write>(
     writer: &mut W,
-    lines: &TrackForm,
+    lines: &DifferenceForm,
     is_same: bool,
     difference: Difference,
 ) -> io::Result<()>
@@ -169,7 +173,7 @@ fn same_length(one: &[u8], other: &[u8]) -> usize
 // The lines of two tracks that can be read.
 fn compare_readable<W: Write>(
     writer: &mut W,
-    lines: &TrackForm,
+    lines: &DifferenceForm,
     one: &ReadSlot,
     other: &ReadSlot,
 ) -> io::Result<()>
@@ -188,7 +192,7 @@ fn compare_readable<W: Write>(
 // The line of two home addresses that differ.
 fn compare_home_addresses<W: Write>(
     writer: &mut W,
-    lines: &TrackForm,
+    lines: &DifferenceForm,
     one: &TrackView,
     other: &TrackView,
 ) -> io::Result<()>
@@ -205,7 +209,7 @@ fn compare_home_addresses<W: Write>(
 // The line of two numbers of records that differ.
 fn compare_numbers<W: Write>(
     writer: &mut W,
-    lines: &TrackForm,
+    lines: &DifferenceForm,
     one: &TrackView,
     other: &TrackView,
 ) -> io::Result<()>
@@ -229,7 +233,7 @@ fn is_equal(one: &[u8], other: &[u8]) -> bool
 // The lines of the records that both tracks have.
 fn compare_records<W: Write>(
     writer: &mut W,
-    lines: &TrackForm,
+    lines: &DifferenceForm,
     one: &TrackView,
     other: &TrackView,
 ) -> io::Result<()>
@@ -246,7 +250,7 @@ fn compare_records<W: Write>(
 // The lines of two records.
 fn compare_record<W: Write>(
     writer: &mut W,
-    lines: &TrackForm,
+    lines: &DifferenceForm,
     one: &TrackView,
     other: &TrackView,
     i: usize,
@@ -265,7 +269,7 @@ fn compare_record<W: Write>(
 // The line of two identifiers that differ.
 fn compare_identifiers<W: Write>(
     writer: &mut W,
-    lines: &TrackForm,
+    lines: &DifferenceForm,
     one: &TrackView,
     other: &TrackView,
     i: usize,
@@ -286,7 +290,7 @@ fn compare_identifiers<W: Write>(
 // The line of two keys that differ.
 fn compare_keys<W: Write>(
     writer: &mut W,
-    lines: &TrackForm,
+    lines: &DifferenceForm,
     one: &TrackView,
     other: &TrackView,
     i: usize,
@@ -307,7 +311,7 @@ fn compare_keys<W: Write>(
 // The line of the data of two records that differ.
 fn compare_contents<W: Write>(
     writer: &mut W,
-    lines: &TrackForm,
+    lines: &DifferenceForm,
     one: &TrackView,
     other: &TrackView,
     i: usize,
@@ -336,7 +340,7 @@ fn rest_of(slot: &[u8]) -> &[u8]
 // The line of what stands behind two end marks.
 fn compare_rests<W: Write>(
     writer: &mut W,
-    lines: &TrackForm,
+    lines: &DifferenceForm,
     one: &[u8],
     other: &[u8],
 ) -> io::Result<()>

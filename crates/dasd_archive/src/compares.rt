@@ -12,7 +12,7 @@ ghost use Rattle.dasd_archive.specs.Compare.{track_lines, changed, changed_in, n
 ghost use Rattle.dasd_archive.specs.Compare.{PrintsBoth, NumberOfBoth};
 ghost use Rattle.dasd_archive.specs.Walks.{IsTrack};
 
-use crate::compared::{TrackForm, compare_track};
+use crate::compared::{DifferenceForm, compare_track};
 use crate::printed::{print_flushed, print_lines};
 use crate::reports::Style;
 use crate::walks::{EachTrack, VolumeTrack, all_tracks, each_track};
@@ -168,7 +168,7 @@ impl<'a, U: SlotReader> EachTrack for ComparedTracks<'a, U> {
         track: VolumeTrack,
         slot: &[u8],
     ) -> Result<(), VolumeFault> {
-        let form = TrackForm {
+        let form = DifferenceForm {
             form: self.form,
             address: address_of(track),
         };
@@ -222,7 +222,7 @@ fn load_beside<U: SlotReader>(
 // are so many bytes.
 fn print_track<W: Write>(
     writer: &mut Counted<W>,
-    form: &TrackForm,
+    form: &DifferenceForm,
     slot: &[u8],
     room: &mut Room,
     held: usize,

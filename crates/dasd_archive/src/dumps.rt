@@ -44,7 +44,7 @@ impl Range {
 
 /// A part of a volume.
 #[derive(Clone, Copy)]
-pub struct Part {
+pub struct VolumePart {
     /// Its cylinders.
     pub cylinders: Range,
     /// The heads on each of them.
@@ -81,7 +81,7 @@ pub fn dump<V: SlotReader, W: Write>(
     volume: &mut V,
     writer: &mut Counted<W>,
     form: Form,
-    part: Part,
+    part: VolumePart,
 ) -> Result<(), VolumeFault>
     requires { IsPartOf part (V.volume volume.old).geometry }
     ensures lines { PrintsText result (dump_text form.entry.style form.entry.path.now part) (V.volume volume.old)

@@ -24,7 +24,7 @@ pub enum Severity {
 /// What is found of a header or of a track. A record is named by its place on the track, R0 being 0; bytes are those that stand
 /// there.
 #[derive(Clone, Copy)]
-pub enum Problem {
+pub enum StrictProblem {
     /// A reserved byte of a header is not zero; the first such offset, in bytes.
     ReservedBytes(usize),
     /// The slot spells no track.
@@ -49,7 +49,7 @@ pub enum Problem {
 
 /// Where something is found.
 #[derive(Clone, Copy)]
-pub enum Place {
+pub enum FindingPlace {
     /// In the header of a file of the image; the first is number 1.
     Header(u8),
     /// On the track of this cylinder and head.
@@ -58,28 +58,29 @@ pub enum Place {
 
 /// A problem and where it is.
 #[derive(Clone, Copy)]
-pub struct Finding {
+pub struct StrictFinding {
     /// Where it is.
-    pub place: Place,
+    pub place: FindingPlace,
     /// What it is.
-    pub problem: Problem,
+    pub problem: StrictProblem,
 }
 
-impl Problem {
+impl StrictProblem {
     /// How grave it is.
     pub fn severity(&self) -> Severity
         ensures { result ≡ severity_of self.now }
     {
         match self {
-            Problem::Unreadable(_)
-            | Problem::OtherHomeAddress(_)
-            | Problem::NoRecord0
-            | Problem::OverCapacity(_) => Severity::Error,
-            Problem::ReservedBytes(_) | Problem::Flagged(_) | Problem::SameIdentifier(_, _) => {
-                Severity::Warning
-            }
-            Problem::OtherIdentifier(_, _) | Problem::EndOfFile(_) | Problem::BytesBehindEnd(_) =>
-                Severity::Note,
+            StrictProblem::Unreadable(_)
+            | StrictProblem::OtherHomeAddress(_)
+            | StrictProblem::NoRecord0
+            | StrictProblem::OverCapacity(_) => Severity::Error,
+            StrictProblem::ReservedBytes(_)
+            | StrictProblem::Flagged(_)
+            | StrictProblem::SameIdentifier(_, _) => { Severity::Warning }
+            StrictProblem::OtherIdentifier(_, _)
+            | StrictProblem::EndOfFile(_)
+            | StrictProblem::BytesBehindEnd(_) => Severity::Note,
         }
     }
 
@@ -88,16 +89,16 @@ impl Problem {
         ensures { result.now ≡ kind_text self.now }
     {
         match self {
-            Problem::ReservedBytes(_) => "reserved bytes",
-            Problem::Unreadable(_) => "unreadable",
-            Problem::OtherHomeAddress(_) => "other home address",
-            Problem::Flagged(_) => "flagged home address",
-            Problem::NoRecord0 => "no record 0",
-            Problem::OverCapacity(_) => "over capacity",
-            Problem::SameIdentifier(_, _) => "same identifier",
-            Problem::OtherIdentifier(_, _) => "other identifier",
-            Problem::EndOfFile(_) => "end of file",
-            Problem::BytesBehindEnd(_) => "bytes behind end",
+            StrictProblem::ReservedBytes(_) => "reserved bytes",
+            StrictProblem::Unreadable(_) => "unreadable",
+            StrictProblem::OtherHomeAddress(_) => "other home address",
+            StrictProblem::Flagged(_) => "flagged home address",
+            StrictProblem::NoRecord0 => "no record 0",
+            StrictProblem::OverCapacity(_) => "over capacity",
+            StrictProblem::SameIdentifier(_, _) => "same identifier",
+            StrictProblem::OtherIdentifier(_, _) => "other identifier",
+            StrictProblem::EndOfFile(_) => "end of file",
+            StrictProblem::BytesBehindEnd(_) => "bytes behind end",
         }
     }
 }
@@ -114,23 +115,38 @@ impl fmt::Display for Severity {
     }
 }
 
-impl fmt::Display for Problem {
+impl fmt::Display for StrictProblem {
     ghost output = { λ p. Some (problem_text p) };
 
     fn fmt<W: fmt::Write>(&self, f: &mut fmt::Formatter<W>) -> fmt::Result {
         match self {
-            Problem::ReservedBytes(at) => write_number(f, "reserved byte at ", *at, " is not zero"),
-            Problem::Unreadable(fault) => write!(f, "{}", Reason(*fault)),
-            Problem::OtherHomeAddress(ha) => write_home_address(f, ha, " of another track"),
-            Problem::Flagged(ha) => write_home_address(f, ha, " with flags"),
-            Problem::NoRecord0 => f.write_str("no record 0"),
-            Problem::OverCapacity(used) => {
+            StrictProblem::ReservedBytes(at) => write_number(
+                f,
+                "reserved byte at ",
+                *at,
+                " is not zero",
+            ),
+            StrictProblem::Unreadable(fault) => write!(f, "{}", Reason(*fault)),
+            StrictProblem::OtherHomeAddress(ha) => write_home_address(f, ha, " of another track"),
+            StrictProblem::Flagged(ha) => write_home_address(f, ha, " with flags"),
+            StrictProblem::NoRecord0 => f.write_str("no record 0"),
+            StrictProblem::OverCapacity(used) => {
                 write_number(f, "records take ", *used as usize, ", over the capacity")
             }
-            Problem::SameIdentifier(i, id) => write_identifier(f, *i, id, " of an earlier one"),
-            Problem::OtherIdentifier(i, id) => write_identifier(f, *i, id, " of another track"),
-            Problem::EndOfFile(i) => write_number(f, "record ", *i, " is an end of file"),
-            Problem::BytesBehindEnd(at) => {
+            StrictProblem::SameIdentifier(i, id) => write_identifier(
+                f,
+                *i,
+                id,
+                " of an earlier one",
+            ),
+            StrictProblem::OtherIdentifier(i, id) => write_identifier(
+                f,
+                *i,
+                id,
+                " of another track",
+            ),
+            StrictProblem::EndOfFile(i) => write_number(f, "record ", *i, " is an end of file"),
+            StrictProblem::BytesBehindEnd(at) => {
                 write_number(f, "bytes behind the end mark from ", *at, " on")
             }
         }
@@ -179,13 +195,13 @@ fn write_identifier<W: fmt::Write>(
     )
 }
 
-impl fmt::Display for Place {
+impl fmt::Display for FindingPlace {
     ghost output = { λ p. Some (place_text p) };
 
     fn fmt<W: fmt::Write>(&self, f: &mut fmt::Formatter<W>) -> fmt::Result {
         match self {
-            Place::Header(file) => write!(f, "header of file {file}"),
-            Place::Track(cylinder, head) => {
+            FindingPlace::Header(file) => write!(f, "header of file {file}"),
+            FindingPlace::Track(cylinder, head) => {
                 let cylinder = *cylinder;
                 let head = *head;
                 write!(f, "{}", TrackAddress { cylinder, head })
@@ -196,15 +212,18 @@ impl fmt::Display for Place {
 
 /// A place as members of an object.
 #[derive(Clone, Copy)]
-pub(crate) struct Members(pub(crate) Place);
+pub(crate) struct PlaceMembers(pub(crate) FindingPlace);
 
-impl fmt::Display for Members {
+impl fmt::Display for PlaceMembers {
     ghost output = { λ m. Some (place_members m.0) };
 
     fn fmt<W: fmt::Write>(&self, f: &mut fmt::Formatter<W>) -> fmt::Result {
         match self.0 {
-            Place::Header(file) => write!(f, "\"file\":{file}"),
-            Place::Track(cylinder, head) => write!(f, "\"cylinder\":{cylinder},\"head\":{head}"),
+            FindingPlace::Header(file) => write!(f, "\"file\":{file}"),
+            FindingPlace::Track(cylinder, head) => write!(
+                f,
+                "\"cylinder\":{cylinder},\"head\":{head}"
+            ),
         }
     }
 }

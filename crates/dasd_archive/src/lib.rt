@@ -19,8 +19,8 @@ mod walks;
 
 pub use crate::compares::{Comparison, compare};
 pub use crate::differences::Difference;
-pub use crate::dumps::{Part, Range, dump};
-pub use crate::findings::{Finding, Place, Problem, Severity};
+pub use crate::dumps::{Range, VolumePart, dump};
+pub use crate::findings::{FindingPlace, Severity, StrictFinding, StrictProblem};
 pub use crate::lists::{Listing, list_part};
 pub use crate::numbered::has_records;
 pub use crate::reports::{FindingForm, FindingStyle, Form, Style, Tally};

@@ -8,7 +8,7 @@ ghost use Rattle.dasd_volumes.specs.Reading.{IsRead};
 ghost use Rattle.dasd_archive.specs.Dump.{holds, IsPartOf};
 ghost use Rattle.dasd_archive.specs.Numbered.{Lacks, LacksOn, LacksRecords, Tells, TellsOf};
 
-use crate::dumps::{Part, Range, number_of};
+use crate::dumps::{Range, VolumePart, number_of};
 use ckd_track::{TrackView, read_slot};
 use dasd_volumes::{SlotReader, VolumeFault};
 use std::alloc::Global;
@@ -30,7 +30,7 @@ struct CylinderPart {
 pub fn has_records<V: SlotReader>(
     alloc: Global,
     volume: &mut V,
-    part: Part,
+    part: VolumePart,
 ) -> Result<bool, VolumeFault>
     requires { IsPartOf part (V.volume volume.old).geometry }
     ensures tells { IfOk result (λ has. TellsOf has (LacksRecords part) (V.volume volume.old)) }

@@ -5,7 +5,7 @@ ghost use Rattle.std.specs.Io.KnownBytes.{Appends};
 ghost use Rattle.dasd_archive.specs.Findings.{finding_line, severity_of};
 ghost use Rattle.dasd_archive.specs.Reports.{one_more, shown_line, tally_line, tally_of, Reports};
 
-use crate::findings::{Finding, Members, Severity};
+use crate::findings::{PlaceMembers, Severity, StrictFinding};
 use quantities::Quantity;
 use std::io;
 use std::io::Write;
@@ -86,7 +86,7 @@ pub(crate) fn report<W: Write>(
     writer: &mut W,
     tally: &mut Tally,
     form: FindingForm,
-    finding: Finding,
+    finding: StrictFinding,
 ) -> io::Result<()>
     ensures { OnOk result (Reports form.entry.style form.entry.path.now (W.contents writer.old) (W.contents writer.new)
         tally.old tally.new (finding ∷ [])) }
@@ -96,7 +96,11 @@ pub(crate) fn report<W: Write>(
 }
 
 // The line of a finding; none of a note, where notes have none.
-fn write_shown<W: Write>(writer: &mut W, form: FindingForm, finding: Finding) -> io::Result<()>
+fn write_shown<W: Write>(
+    writer: &mut W,
+    form: FindingForm,
+    finding: StrictFinding,
+) -> io::Result<()>
     ensures { OnOk result (Appends (W.contents writer.old) (W.contents writer.new)
         (shown_line form.entry.style form.entry.path.now finding)) }
 {
@@ -113,7 +117,7 @@ fn write_shown<W: Write>(writer: &mut W, form: FindingForm, finding: Finding) ->
 }
 
 // The line of a finding.
-fn write_finding<W: Write>(writer: &mut W, form: Form, finding: Finding) -> io::Result<()>
+fn write_finding<W: Write>(writer: &mut W, form: Form, finding: StrictFinding) -> io::Result<()>
     ensures { OnOk result (Appends (W.contents writer.old) (W.contents writer.new)
         (finding_line form.entry.style form.entry.path.now finding)) }
 {
@@ -127,7 +131,7 @@ fn write_finding<W: Write>(writer: &mut W, form: Form, finding: Finding) -> io::
         Style::Json => writeln!(
             writer,
             "{{\"path\":{path},\"severity\":\"{severity}\",{},\"kind\":\"{kind}\",\"text\":\"{problem}\"}}",
-            Members(place)
+            PlaceMembers(place)
         ),
     }
 }

@@ -4,7 +4,7 @@ ghost use Rattle.std.specs.Prelude.{◌≡◌, ◌≢◌, List, IfOk, IfErr, OnO
 ghost use Rattle.counted_io.specs.Streams.{seen_by, IsFlushed};
 ghost use Rattle.dasd_volumes.specs.Printing.{PrintsText, CountsWrites};
 ghost use Rattle.dasd_volumes.specs.Reading.{IsRead};
-ghost use Rattle.dasd_archive.specs.declared.findings.Finding.{Finding};
+ghost use Rattle.dasd_archive.specs.declared.findings.StrictFinding.{StrictFinding};
 ghost use Rattle.dasd_archive.specs.Printed.{PrintsBytes};
 ghost use Rattle.dasd_archive.specs.Reports.{tally_line, tally_of, PrintsFindings};
 ghost use Rattle.dasd_archive.specs.Strict.{strict_text, findings_in_header, Adds};
@@ -77,9 +77,9 @@ pub fn check_strict<V: SlotReader, W: Write>(
     form: FindingForm,
     tally: Tally,
 ) -> Result<Tally, VolumeFault>
-    ensures counts { (earlier : List Finding) → tally ≡ tally_of earlier
+    ensures counts { (earlier : List StrictFinding) → tally ≡ tally_of earlier
         → IfOk result (λ t. Adds earlier (V.volume volume.old) t) }
-    ensures lines { (earlier : List Finding) → tally ≡ tally_of earlier
+    ensures lines { (earlier : List StrictFinding) → tally ≡ tally_of earlier
         → PrintsText result (strict_text form.entry.style form.entry.path.now earlier) (V.volume volume.old)
         (seen_by W.contents writer.old) (seen_by W.contents writer.new) }
     ensures writes { CountsWrites result (seen_by W.contents writer.old) (seen_by W.contents writer.new) }

@@ -10,7 +10,7 @@ ghost use Rattle.dasd_archive.specs.Reports.{Reports};
 ghost use Rattle.dasd_archive.specs.Strict.{where_so, is_own, home_address_findings, begins_with_record_0, track_findings, record_findings, first_set};
 ghost use Rattle.dasd_archive.specs.Strict.{rest_findings, findings_of, findings_in_slot, findings_in_header};
 
-use crate::findings::{Finding, Place, Problem};
+use crate::findings::{FindingPlace, StrictFinding, StrictProblem};
 use crate::reports::{FindingForm, Tally, report};
 use crate::walks::VolumeTrack;
 use ckd_track::{TrackView, end_offset_of, index_slot, used, view_at};
@@ -53,17 +53,17 @@ pub(crate) fn check_track<W: Write>(
             writer,
             tally,
             track.form,
-            found(track.place, Problem::Unreadable(fault)),
+            found(track.place, StrictProblem::Unreadable(fault)),
         ),
     }
 }
 
 // A problem of a track.
-fn found(track: VolumeTrack, problem: Problem) -> Finding
-    ensures { result ≡ record { place = Place.Track track.cylinder track.head; problem = problem } }
+fn found(track: VolumeTrack, problem: StrictProblem) -> StrictFinding
+    ensures { result ≡ record { place = FindingPlace.Track track.cylinder track.head; problem = problem } }
 {
-    Finding {
-        place: Place::Track(track.cylinder, track.head),
+    StrictFinding {
+        place: FindingPlace::Track(track.cylinder, track.head),
         problem,
     }
 }
@@ -74,7 +74,7 @@ fn report_where<W: Write>(
     tally: &mut Tally,
     form: FindingForm,
     is_so: bool,
-    finding: Finding,
+    finding: StrictFinding,
 ) -> io::Result<()>
     ensures { OnOk result (Reports form.entry.style form.entry.path.now (W.contents writer.old) (W.contents writer.new)
         tally.old tally.new (where_so is_so finding.place finding.problem)) }
@@ -116,11 +116,11 @@ fn check_whole<W: Write>(
         (track_findings track.now.place.geometry track.now.place.cylinder track.now.place.head view.now)) }
 {
     check_home_address(writer, tally, track, view)?;
-    let finding = found(track.place, Problem::NoRecord0);
+    let finding = found(track.place, StrictProblem::NoRecord0);
     report_where(writer, tally, track.form, !has_record_0(view), finding)?;
     let used = used(track.place.geometry.model, view);
     let is_over = track.place.geometry.model.capacity() < used;
-    let finding = found(track.place, Problem::OverCapacity(used));
+    let finding = found(track.place, StrictProblem::OverCapacity(used));
     report_where(writer, tally, track.form, is_over, finding)
 }
 
@@ -183,9 +183,12 @@ fn check_home_address<W: Write>(
 {
     let home_address = view.ha();
     let is_other = !is_own(track.place, bytes_from(home_address, 1));
-    let finding = found(track.place, Problem::OtherHomeAddress(five(home_address)));
+    let finding = found(
+        track.place,
+        StrictProblem::OtherHomeAddress(five(home_address)),
+    );
     report_where(writer, tally, track.form, is_other, finding)?;
-    let finding = found(track.place, Problem::Flagged(five(home_address)));
+    let finding = found(track.place, StrictProblem::Flagged(five(home_address)));
     report_where(writer, tally, track.form, home_address[0] != 0, finding)
 }
 
@@ -220,7 +223,7 @@ fn check_record<W: Write>(
         (record_findings track.now.place.cylinder track.now.place.head view.now i)) }
 {
     let identifier = identifier(view, i);
-    let finding = found(track.place, Problem::SameIdentifier(i, identifier));
+    let finding = found(track.place, StrictProblem::SameIdentifier(i, identifier));
     report_where(
         writer,
         tally,
@@ -229,9 +232,9 @@ fn check_record<W: Write>(
         finding,
     )?;
     let is_other = !is_own(track.place, &identifier[..4]);
-    let finding = found(track.place, Problem::OtherIdentifier(i, identifier));
+    let finding = found(track.place, StrictProblem::OtherIdentifier(i, identifier));
     report_where(writer, tally, track.form, is_other, finding)?;
-    let finding = found(track.place, Problem::EndOfFile(i));
+    let finding = found(track.place, StrictProblem::EndOfFile(i));
     report_where(
         writer,
         tally,
@@ -281,7 +284,7 @@ fn check_rest<W: Write>(
             writer,
             tally,
             track.form,
-            found(track.place, Problem::BytesBehindEnd(from + i)),
+            found(track.place, StrictProblem::BytesBehindEnd(from + i)),
         ),
     }
 }
@@ -309,9 +312,9 @@ pub(crate) fn check_header<W: Write>(
     match first_set(bytes_from(header, RESERVED_START)) {
         None => Ok(()),
         Some(i) => {
-            let place = Place::Header(file);
-            let problem = Problem::ReservedBytes(RESERVED_START + i);
-            report(writer, tally, form, Finding { place, problem })
+            let place = FindingPlace::Header(file);
+            let problem = StrictProblem::ReservedBytes(RESERVED_START + i);
+            report(writer, tally, form, StrictFinding { place, problem })
         }
     }
 }
