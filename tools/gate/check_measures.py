@@ -182,7 +182,7 @@ def places() -> dict[str, list[Found]]:
 
 
 MEASURES = (
-    Measure("parameters of a function", 5, 3),
+    Measure("parameters of a function", 5, 1),
     Measure("lines of a function's body", 40, 0),
     Measure("lines of a file", 500, 0),
     Measure("functions of a crate", 100, 5),

@@ -12,7 +12,7 @@ use crate::faults::{note_rule, write_fault, write_reach};
 use crate::terminal::{HostInput, HostOutput, TerminalLine};
 use counted_io::Counted;
 use dasd_jobs::{ImageFiles, JobFault};
-use dasd_run::{Ending, ProgramFault, obey};
+use dasd_run::{Ending, HostParts, ProgramFault, obey_with};
 use dasd_words::is_comparison;
 use host_files::{HostFiles, Remarks, Shown};
 use std::alloc::{AllocError, Global};
@@ -60,14 +60,33 @@ fn main(rt: HostRuntime) -> ExitCode {
         return conclude(&rt, &files, false, Err(ProgramFault::OutOfMemory));
     };
     let words = words.as_slice();
-    let compares = is_comparison(words);
-    let mut writer = Counted::new(writer);
-    match answer(&rt, &remarks, &mut files, &mut writer, words) {
-        Err(ProgramFault::Job(JobFault::Write)) if writer.inner.get_ref().is_broken() => {
-            ExitCode::from(if compares { NOT_COMPARED } else { 1 })
-        }
-        ended => conclude(&rt, &files, compares, ended),
+    let (alloc, writer) = (rt.alloc(), Counted::new(writer));
+    let progress = TerminalLine::new(&rt, &remarks);
+    if words.len() <= 1 {
+        let parts = HostParts {
+            alloc,
+            files,
+            reader: Counted::new(&STORED_DECK[..]),
+            writer,
+            progress,
+        };
+        let (ended, parts) = obey_with(parts, &STORED_RUN);
+        return end(&rt, &parts.files, &parts.writer, false, ended);
     }
+    if as_far(words) || words.iter().any(|word| *word == "--verbose") {
+        files.ask_remarks();
+    }
+    let parts = HostParts {
+        alloc,
+        files,
+        reader: Counted::new(HostInput::new(rt.reader(), &remarks)),
+        writer,
+        progress,
+    };
+    let (ended, mut parts) = obey_with(parts, words);
+    let ended = say_more(alloc, &remarks, &mut parts.writer, words, ended);
+    let compares = is_comparison(words);
+    end(&rt, &parts.files, &parts.writer, compares, ended)
 }
 
 // The words as texts.
@@ -77,6 +96,22 @@ fn texts(alloc: Global, words: &[String]) -> Result<Vec<&str>, AllocError> {
         texts.push(word.as_str())?;
     }
     Ok(texts)
+}
+
+// Ends the program: what nobody reads any more is not told of.
+fn end(
+    rt: &HostRuntime,
+    files: &HostFiles,
+    writer: &Counted<BufWriter<HostOutput>>,
+    compares: bool,
+    ended: Result<Ending, ProgramFault>,
+) -> ExitCode {
+    match ended {
+        Err(ProgramFault::Job(JobFault::Write)) if writer.inner.get_ref().is_broken() => {
+            ExitCode::from(if compares { NOT_COMPARED } else { 1 })
+        }
+        ended => conclude(rt, files, compares, ended),
+    }
 }
 
 // The status of what was done, behind what is said of it on standard error; help goes to standard output.
@@ -127,26 +162,19 @@ fn print_help(rt: &HostRuntime, text: &str) {
     }
 }
 
-// Does what the words of the host ask, or else the stored run.
-fn answer(
-    rt: &HostRuntime,
+// Whether words ask for volumes as far as they go.
+fn as_far(words: &[&str]) -> bool {
+    words.iter().any(|word| *word == AS_FAR)
+}
+
+// Says more of a fault, or how far the files of a volume went, where the words of the host ask for that.
+fn say_more(
+    alloc: Global,
     remarks: &Remarks,
-    files: &mut HostFiles,
     writer: &mut Counted<BufWriter<HostOutput>>,
     words: &[&str],
+    ended: Result<Ending, ProgramFault>,
 ) -> Result<Ending, ProgramFault> {
-    let alloc = rt.alloc();
-    let mut progress = TerminalLine::new(rt, remarks);
-    if words.len() <= 1 {
-        let mut deck = Counted::new(&STORED_DECK[..]);
-        return obey(alloc, &STORED_RUN, files, &mut deck, writer, &mut progress);
-    }
-    let as_far = words.iter().any(|word| *word == AS_FAR);
-    if as_far || words.iter().any(|word| *word == "--verbose") {
-        files.ask_remarks();
-    }
-    let mut deck = Counted::new(HostInput::new(rt.reader(), remarks));
-    let ended = obey(alloc, words, files, &mut deck, writer, &mut progress);
     if let Err(fault) = &ended {
         note_rule(alloc, words, remarks, fault);
     }
@@ -155,7 +183,7 @@ fn answer(
     }
     match &ended {
         Err(fault) => write_fault(alloc, words, remarks, writer, fault),
-        Ok(_) if as_far => write_reach(alloc, words, remarks, writer)?,
+        Ok(_) if as_far(words) => write_reach(alloc, words, remarks, writer)?,
         Ok(_) => {}
     }
     ended

@@ -20,7 +20,7 @@ use Rattle.dasd_run.specs.declared.fault.ProgramFault.{ProgramFault}
 use Rattle.dasd_run.specs.declared.fault.ProgramFault.TheVariants as fault
 use Rattle.dasd_run.specs.Faults.{printing_fault}
 use Rattle.dasd_run.specs.Held.{SaysWith, SaysAll, all_findings, said_text, contents_text, CountsFault, PrintsHeld}
-use Rattle.dasd_run.specs.Printed.{ending_of}
+use Rattle.dasd_run.specs.Ended.{counted_ending}
 
 -- the text of what was read is that of what the volume says
 text_is : (json : Option (List ℕ)) (g : Geometry) (s : Said) (all : List Finding) (c : Contents) → SaysWith s all c
@@ -38,7 +38,7 @@ text_is (Some path) g s all c w =
 
 -- all of it was printed, or its first bytes
 module _ (json : Option (List ℕ)) (v : KnownVolume) (c : Contents) (is : SaysAll v c) (a b : Stream) where
-  pub all_held : (ending : Ending) → ending ≡ ending_of (length c.found.findings.items) → Takes a b (contents_text json v.geometry c)
+  pub all_held : (ending : Ending) → ending ≡ counted_ending (length c.found.findings.items) → Takes a b (contents_text json v.geometry c)
       → NoneFailed a b → IsFlushed b
       → PrintsHeld (Ok ending) json v a b
   all_held ending ends took none flushed = (
@@ -47,7 +47,7 @@ module _ (json : Option (List ℕ)) (v : KnownVolume) (c : Contents) (is : SaysA
         let w = is slots known in (
           subst (Takes a b) (text_is json v.geometry s (all_findings v.geometry s) c w) took,
           ends
-              ∙ ap (λ (l : List Finding). ending_of (length l)) w.findings,
+              ∙ ap (λ (l : List Finding). counted_ending (length l)) w.findings,
         ),
     none,
     flushed,

@@ -17,7 +17,8 @@ use Rattle.dasd_run.specs.declared.fault.ProgramFault.{ProgramFault}
 use Rattle.dasd_run.specs.declared.fault.ProgramFault.TheVariants as fault
 use Rattle.dasd_run.specs.Faults.{printing_fault}
 use Rattle.dasd_run.specs.Held.{SaysAll, held_ending, CountsFault, PrintsHeld}
-use Rattle.dasd_run.specs.Details.{worse, PrintsDetails}
+use Rattle.dasd_run.specs.Details.{PrintsDetails}
+use Rattle.dasd_run.specs.Ended.{worse}
 
 -- a fault of the sections, behind a table of which no write failed
 counts_behind : (f : VolumeFault) (a b d : Stream) → NoneFailed a b → CountsWrites {A = Bool} (Err f) b d

@@ -27,6 +27,12 @@ memory_told OutOfMemory e = refl
 memory_told Store e = cc
 memory_told Write e = cc
 
+-- nor is the fault of a write
+pub write_told : (f : VolumeFault) → f ≢ Write → printing_fault f ≢ fault.Job job.Write
+write_told OutOfMemory other = λ e. absurd cc
+write_told Store other = λ e. absurd cc
+write_told Write other = absurd (other refl)
+
 -- no call failed, where the fault is not that of one
 pub none_written : (A : Type 0) (f : VolumeFault) (a : Stream) → f ≢ Write → CountsWrites {A = A} (Err f) a a
 none_written A OutOfMemory a other = refl

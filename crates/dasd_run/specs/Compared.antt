@@ -6,7 +6,7 @@ use Rattle.counted_io.specs.Streams.{Stream, IsFlushed}
 use Rattle.quantities.specs.Quantities.{quantity_text}
 use Rattle.ckd_track.specs.declared.geometries.Geometry.{Geometry}
 use Rattle.dasd_volumes.specs.declared.fault.VolumeFault.{VolumeFault}
-use Rattle.dasd_volumes.specs.Lines.{model_number_of, line_feed}
+use Rattle.dasd_volumes.specs.Lines.{line_feed}
 use Rattle.dasd_volumes.specs.Printing.{CountsWrites}
 use Rattle.dasd_volumes.specs.Reading.{KnownVolume}
 use Rattle.dasd_archive.specs.declared.reports.Style.{Style}
@@ -14,17 +14,21 @@ use Rattle.dasd_archive.specs.declared.reports.Style.TheVariants.{Text, Json}
 use Rattle.dasd_archive.specs.Compare.{compare_text, changed_in, PrintsBoth, NumberOfBoth}
 use Rattle.dasd_archive.specs.Printed.{PrintsBytes}
 use Rattle.dasd_words.specs.declared.requests.ComparedVolumes.{ComparedVolumes}
+use Rattle.dasd_jobs.specs.Lines.{model_digits}
 use Rattle.dasd_jobs.specs.Sources.{SourceFile, OfVolume}
 use Rattle.dasd_run.specs.declared.commands.Ending.{Ending}
 use Rattle.dasd_run.specs.declared.commands.Ending.TheVariants.{Findings}
 use Rattle.dasd_run.specs.declared.fault.ProgramFault.{ProgramFault}
+use Rattle.dasd_run.specs.Ended.{ended, counted_ending}
+use Rattle.dasd_run.specs.Faults.{printing_fault}
+use Rattle.dasd_run.specs.Outside.{Outside}
 use Rattle.dasd_run.specs.Paths.{quoted_paths}
-use Rattle.dasd_run.specs.Printed.{style_of, ending_of, printed_ending, IsUnopened}
+use Rattle.dasd_run.specs.Printed.{style_of, IsUnopened}
 
 -- a geometry in words
 abbrev pub shape_text : Geometry → List ℕ
 shape_text g = concat (
-    decimal (model_number_of g.model) ∷ codes " " ∷ quantity_text g.cylinders (codes "cylinder") (codes "cylinders") ∷ codes " slot "
+    model_digits g.model ∷ codes " " ∷ quantity_text g.cylinders (codes "cylinder") (codes "cylinders") ∷ codes " slot "
     ∷ decimal g.track_size ∷ [])
 
 -- the line of two geometries that differ
@@ -44,13 +48,13 @@ other_of asked = map (λ path. path.now) asked.other.items
 -- what differs of two volumes is printed, and none of it held back, and how many tracks differ is told
 abbrev pub ComparesTracks : Result Ending ProgramFault → Style → (path other : List ℕ) → (lists : Bool) → (v w : KnownVolume) → (before now : Stream) → Type 0
 ComparesTracks result style path other lists v w before now =
-    (comparing : Result ℕ VolumeFault) × (result ≡ printed_ending ending_of comparing) × IfOk comparing (NumberOfBoth changed_in v w)
+    (comparing : Result ℕ VolumeFault) × (result ≡ ended printing_fault counted_ending comparing) × IfOk comparing (NumberOfBoth changed_in v w)
     × PrintsBoth comparing (compare_text style path other lists) v w before now × CountsWrites comparing before now × OnOk comparing (IsFlushed now)
 
 -- the geometries of two volumes are printed
 abbrev pub ComparesGeometries : Result Ending ProgramFault → Style → (path other : List ℕ) → (v w : KnownVolume) → (before now : Stream) → Type 0
 ComparesGeometries result style path other v w before now =
-    (printing : Result (Unit {0}) VolumeFault) × (result ≡ printed_ending (λ done. Findings) printing)
+    (printing : Result (Unit {0}) VolumeFault) × (result ≡ ended printing_fault (λ done. Findings) printing)
     × PrintsBytes printing (geometries_line style path other v.geometry w.geometry) before now × CountsWrites printing before now
     × OnOk printing (IsFlushed now)
 
@@ -67,15 +71,16 @@ pub record OfVolumes (as_far : Bool) (paths other_paths : List (List ℕ)) (befo
   pub so : OfVolume as_far paths before between (λ v. OfVolume as_far other_paths between now (λ w. P v w))
 
 -- The first is not opened; or it is, and the other is not; and nothing is printed.
-abbrev pub NotBothOpened : Result Ending ProgramFault → ComparedVolumes → (opened_before opened : List SourceFile) → (before now : Stream) → Type 0
-NotBothOpened result asked opened_before opened before now =
-    IsUnopened asked.as_far result (one_of asked) opened_before opened before now
-    ⊎ ((between : List SourceFile) × OfVolume asked.as_far (one_of asked) opened_before between (λ v. Unit {0})
-    × IsUnopened asked.as_far result (other_of asked) between opened before now)
+abbrev pub NotBothOpened : Result Ending ProgramFault → ComparedVolumes → (before now : Outside) → Type 0
+NotBothOpened result asked before now =
+    IsUnopened asked.as_far result (one_of asked) before.opened now.opened before.printed now.printed
+    ⊎ ((between : List SourceFile) × OfVolume asked.as_far (one_of asked) before.opened between (λ v. Unit {0})
+    × IsUnopened asked.as_far result (other_of asked) between now.opened before.printed now.printed)
 
 -- the volumes of two lists of files are compared; or they are not opened
-abbrev pub ComparesFiles : Result Ending ProgramFault → ComparedVolumes → (opened_before opened : List SourceFile) → (before now : Stream) → Type 0
-ComparesFiles result asked opened_before opened before now =
-    NotBothOpened result asked opened_before opened before now
-    ⊎ OfVolumes asked.as_far (one_of asked) (other_of asked) opened_before opened
-    (λ v w. ComparesVolumes result (style_of asked.json) (quoted_paths (one_of asked)) (quoted_paths (other_of asked)) asked.lists v w before now)
+abbrev pub ComparesFiles : Result Ending ProgramFault → ComparedVolumes → (before now : Outside) → Type 0
+ComparesFiles result asked before now =
+    NotBothOpened result asked before now
+    ⊎ OfVolumes asked.as_far (one_of asked) (other_of asked) before.opened now.opened
+    (λ v w. ComparesVolumes result (style_of asked.json) (quoted_paths (one_of asked)) (quoted_paths (other_of asked)) asked.lists v w
+    before.printed now.printed)

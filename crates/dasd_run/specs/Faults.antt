@@ -12,6 +12,18 @@ use Rattle.dasd_volumes.specs.declared.fault.VolumeFault.{VolumeFault}
 use Rattle.dasd_volumes.specs.declared.fault.VolumeFault.TheVariants as volume
 use Rattle.dasd_unload.specs.declared.fault.UnloadFault.{UnloadFault}
 use Rattle.dasd_unload.specs.declared.fault.UnloadFault.TheVariants as unload
+use Rattle.labelled_volumes.specs.declared.formats.FormatFault.{FormatFault}
+use Rattle.labelled_volumes.specs.declared.formats.FormatFault.TheVariants as format
+use Rattle.changed_volumes.specs.declared.fault.ChangeFault.{ChangeFault}
+use Rattle.changed_volumes.specs.declared.fault.ChangeFault.TheVariants as change
+use Rattle.loaded_sets.specs.declared.fault.LoadFault.{LoadFault}
+use Rattle.loaded_sets.specs.declared.fault.LoadFault.TheVariants as load
+use Rattle.loaded_folders.specs.declared.fault.FolderFault.{FolderFault}
+use Rattle.loaded_folders.specs.declared.fault.FolderFault.TheVariants as folder
+use Rattle.added_members.specs.declared.fault.NewMemberFault.{NewMemberFault}
+use Rattle.added_members.specs.declared.fault.NewMemberFault.TheVariants as add
+use Rattle.volume_details.specs.declared.fault.MemberListFault.{MemberListFault}
+use Rattle.volume_details.specs.declared.fault.MemberListFault.TheVariants as library
 use Rattle.dasd_run.specs.declared.fault.ProgramFault.{ProgramFault}
 use Rattle.dasd_run.specs.declared.fault.ProgramFault.TheVariants as fault
 
@@ -117,3 +129,40 @@ abbrev pub printing_fault : VolumeFault → ProgramFault
 printing_fault volume.OutOfMemory = fault.Job job.OutOfMemory
 printing_fault volume.Store = fault.Job job.Read
 printing_fault volume.Write = fault.Job job.Write
+
+-- what is to the program the fault of a format with a label
+abbrev pub format_fault : FormatFault → ProgramFault
+format_fault (format.Table f) = fault.Table f
+format_fault (format.Job f) = fault.Job f
+
+-- that of a volume that is changed
+abbrev pub change_fault : ChangeFault → ProgramFault
+change_fault (change.Refused refusal) = fault.Change refusal
+change_fault (change.Job f) = fault.Job f
+change_fault (change.Save f) = fault.Save f
+
+-- that of a data set that is put onto a volume
+abbrev pub load_fault : LoadFault → ProgramFault
+load_fault (load.Refused refusal) = fault.Load refusal
+load_fault (load.Job f) = fault.Job f
+load_fault (load.Save f) = fault.Save f
+
+-- that of a folder whose files are
+abbrev pub folder_fault : FolderFault → ProgramFault
+folder_fault (folder.Job f) = fault.Job f
+folder_fault (folder.Save f) = fault.Save f
+folder_fault f = fault.Folder f
+
+-- that of a member that is put into a library
+abbrev pub add_fault : NewMemberFault → ProgramFault
+add_fault (add.Refused refusal) = fault.Member refusal
+add_fault (add.Job f) = fault.Job f
+add_fault (add.Save f) = fault.Save f
+
+-- that of a library whose members are listed
+abbrev pub library_fault : MemberListFault → ProgramFault
+library_fault library.NoDataSet = fault.Unload unload.NoDataSet
+library_fault library.NotPartitioned = fault.NotPartitioned
+library_fault library.OutOfMemory = fault.Job job.OutOfMemory
+library_fault library.Read = fault.Job job.Read
+library_fault library.Write = fault.Job job.Write

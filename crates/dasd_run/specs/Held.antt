@@ -12,12 +12,13 @@ use Rattle.dasd_contents.specs.Lines.{volume_lines, finding_line, contents_lines
 use Rattle.dasd_contents.specs.Objects.{volume_objects, finding_object, contents_objects}
 use Rattle.dasd_words.specs.declared.requests.PrintedVolume.{PrintedVolume}
 use Rattle.dasd_jobs.specs.declared.faults.JobFault.TheVariants as job
-use Rattle.dasd_jobs.specs.Sources.{SourceFile}
 use Rattle.dasd_run.specs.declared.commands.Ending.{Ending}
 use Rattle.dasd_run.specs.declared.fault.ProgramFault.{ProgramFault}
 use Rattle.dasd_run.specs.declared.fault.ProgramFault.TheVariants as fault
+use Rattle.dasd_run.specs.Ended.{counted_ending}
+use Rattle.dasd_run.specs.Outside.{Outside}
 use Rattle.dasd_run.specs.Paths.{quoted_paths}
-use Rattle.dasd_run.specs.Printed.{paths_of, ending_of, IsUnopened}
+use Rattle.dasd_run.specs.Printed.{paths_of, IsUnopened}
 use Rattle.dasd_run.specs.Reaches.{EndsOver}
 
 -- all that is wrong: with the label and the control blocks, and with the data sets and the free tracks
@@ -49,7 +50,7 @@ SaysAll v c = (slots : List (List ℕ)) → v.slots ≡ Some slots → SaysWith 
     c
 
 abbrev pub held_ending : Geometry → (slots : List (List ℕ)) → Ending
-held_ending g slots = ending_of (length (all_findings g (contents_of g slots)))
+held_ending g slots = counted_ending (length (all_findings g (contents_of g slots)))
 
 -- a write failed, or the flush, exactly where that is the fault
 abbrev pub CountsFault : ProgramFault → (before now : Stream) → Type 0
@@ -70,7 +71,7 @@ json_path asked = if asked.json then Some (quoted_paths (paths_of asked)) else N
 
 -- The volume in the files at the paths that were named was printed so, and no other file was opened; or it was not opened, and nothing was
 -- printed.
-abbrev pub ListsContents : Result Ending ProgramFault → PrintedVolume → (opened_before opened : List SourceFile) → (before now : Stream) → Type 0
-ListsContents result asked opened_before opened before now =
-    IsUnopened asked.as_far result (paths_of asked) opened_before opened before now
-    ⊎ EndsOver result asked.as_far (paths_of asked) opened_before opened (λ ended v. PrintsHeld ended (json_path asked) v before now)
+abbrev pub ListsContents : Result Ending ProgramFault → PrintedVolume → (before now : Outside) → Type 0
+ListsContents result asked before now =
+    IsUnopened asked.as_far result (paths_of asked) before.opened now.opened before.printed now.printed
+    ⊎ EndsOver result asked.as_far (paths_of asked) before.opened now.opened (λ ended v. PrintsHeld ended (json_path asked) v before.printed now.printed)

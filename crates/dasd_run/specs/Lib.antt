@@ -3,6 +3,7 @@ pub mod Built
 pub mod Changes
 pub mod Decks
 pub mod Outside
+pub mod Ended
 pub mod Runs
 pub mod Saves
 pub mod Paths

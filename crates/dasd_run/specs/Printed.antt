@@ -1,5 +1,5 @@
 -- What a command prints of the volume of files, and which part of it words ask for.
-use Rattle.std.specs.Prelude.{◌≡◌, ◌≤◌, ◌<◌, ◌⊎◌, ◌-◌, ◌==◌, ℕ, Bool, true, false, if◌then◌else◌, List, map, Option, Some, None, Result, Ok, Err, IfOk, IfErr}
+use Rattle.std.specs.Prelude.{◌≡◌, ◌≤◌, ◌<◌, ◌⊎◌, ◌-◌, ℕ, Bool, true, false, not, List, map, Option, Some, None, Result, Ok, Err, IfOk, IfErr}
 use Rattle.std.specs.Prelude.{OnOk}
 use Rattle.counted_io.specs.Streams.{Stream, IsFlushed}
 use Rattle.ckd_track.specs.declared.geometries.Geometry.{Geometry}
@@ -10,7 +10,7 @@ use Rattle.dasd_volumes.specs.Reading.{KnownVolume}
 use Rattle.dasd_archive.specs.declared.reports.Style.{Style}
 use Rattle.dasd_archive.specs.declared.reports.Style.TheVariants.{Text, Json}
 use Rattle.dasd_archive.specs.declared.dumps.Range.{Range}
-use Rattle.dasd_archive.specs.declared.dumps.Part.{Part}
+use Rattle.dasd_archive.specs.declared.dumps.VolumePart.{VolumePart}
 use Rattle.dasd_archive.specs.Listing.{list_text}
 use Rattle.set_hash.specs.Lines.{Shown}
 use Rattle.set_hash.specs.Prints.{TellsWhole}
@@ -23,9 +23,9 @@ use Rattle.dasd_jobs.specs.declared.faults.JobFault.TheVariants as job
 use Rattle.dasd_jobs.specs.Sources.{SourceFile}
 use Rattle.dasd_jobs.specs.Unopened.{NotOpened}
 use Rattle.dasd_run.specs.declared.commands.Ending.{Ending}
-use Rattle.dasd_run.specs.declared.commands.Ending.TheVariants.{Done, Findings}
 use Rattle.dasd_run.specs.declared.fault.ProgramFault.{ProgramFault}
 use Rattle.dasd_run.specs.declared.fault.ProgramFault.TheVariants as fault
+use Rattle.dasd_run.specs.Ended.{ended, done_or, ending_of}
 use Rattle.dasd_run.specs.Faults.{printing_fault}
 
 -- for whom lines are printed
@@ -41,7 +41,7 @@ paths_of asked = map (λ path. path.now) asked.paths.items
 abbrev pub range_of : Numbers → Range
 range_of numbers = record { first = numbers.first; last = numbers.last }
 
-abbrev pub asked_part : DumpedPart → Part
+abbrev pub asked_part : DumpedPart → VolumePart
 asked_part part = record { cylinders = range_of part.cylinders; heads = range_of part.heads; numbers = range_of part.records }
 
 -- the cylinders that words ask for, or all of a volume
@@ -70,15 +70,6 @@ abbrev pub IsUnopened : (as_far : Bool) → Result Ending ProgramFault → (path
 IsUnopened as_far (Ok ending) paths opened_before opened before now = ⊥
 IsUnopened as_far (Err f) paths opened_before opened before now = WhyUnopened as_far f paths opened_before opened × (now ≡ before)
 
--- a check or a comparison has findings where it counts some
-abbrev pub ending_of : ℕ → Ending
-ending_of found = if found == 0 then Done else Findings
-
--- how a command ends that prints: so, where all is printed; and else its fault is the program's
-abbrev pub printed_ending : {A : Type 0} → (A → Ending) → Result A VolumeFault → Result Ending ProgramFault
-printed_ending ending (Ok done) = Ok (ending done)
-printed_ending ending (Err f) = Err (printing_fault f)
-
 -- This text of a volume is printed, and none of it held back; or with a fault only its first bytes are. A write or the flush failed
 -- exactly where that is the fault.
 abbrev pub PrintsWhole : {A : Type 0} → Result A VolumeFault → (text : Geometry → List (List ℕ) → List ℕ) → KnownVolume → (before now : Stream) → Type 0
@@ -92,16 +83,13 @@ TakesMemoryFirst result before now = IfErr result (λ e. e ≡ fault.Job job.Out
 abbrev pub PrintsPart : Result Ending ProgramFault → (Geometry → Type 0) → (text : Geometry → List (List ℕ) → List ℕ) → KnownVolume
     → (before now : Stream) → Type 0
 PrintsPart result HasPart text v before now =
-    (HasPart v.geometry × (printing : Result (Unit {0}) VolumeFault) × (result ≡ printed_ending (λ done. Done) printing)
+    (HasPart v.geometry × (printing : Result (Unit {0}) VolumeFault) × (result ≡ done_or printing_fault printing)
     × PrintsWhole printing text v before now)
     ⊎ ((HasPart v.geometry → ⊥) × (result ≡ Err fault.NoTrack) × (now ≡ before))
 
--- hashes have findings where something of what was hashed is not whole
-abbrev pub hash_ending : (whole : Bool) → Ending
-hash_ending whole = if whole then Done else Findings
-
--- the hash of a volume and those that are asked for are printed, or nothing where there is no memory; and whether all is whole is told
+-- the hash of a volume and those that are asked for are printed, or nothing where there is no memory; and whether all is whole is told:
+-- there are findings where it is not
 abbrev pub HashesWhole : Result Ending ProgramFault → Shown → KnownVolume → (before now : Stream) → Type 0
 HashesWhole result f v before now =
-    (hashing : Result Bool VolumeFault) × (result ≡ printed_ending hash_ending hashing) × IfOk hashing (TellsWhole f v)
+    (hashing : Result Bool VolumeFault) × (result ≡ ended printing_fault (λ whole. ending_of (not whole)) hashing) × IfOk hashing (TellsWhole f v)
     × IfErr hashing (λ e. e ≡ volume.OutOfMemory → now ≡ before) × PrintsWhole hashing (hashes_text f) v before now

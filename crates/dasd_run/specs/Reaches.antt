@@ -1,19 +1,15 @@
 -- How a command ends over a volume that may lack tracks, and what is said of it.
-use Rattle.std.specs.Prelude.{◌≡◌, ℕ, nat_lt, Bool, if◌then◌else◌, List, Result, Ok, Err}
+use Rattle.std.specs.Prelude.{◌≡◌, ℕ, nat_lt, Bool, List, Result, Ok, Err}
 use Rattle.dasd_volumes.specs.Reading.{KnownVolume}
 use Rattle.dasd_jobs.specs.declared.lengths.Reach.{Reach}
 use Rattle.dasd_jobs.specs.Sources.{SourceFile, OfReach}
 use Rattle.dasd_run.specs.declared.commands.Ending.{Ending}
-use Rattle.dasd_run.specs.declared.commands.Ending.TheVariants.{Done, Findings}
 use Rattle.dasd_run.specs.declared.fault.ProgramFault.{ProgramFault}
+use Rattle.dasd_run.specs.Ended.{worse}
 
 -- it has findings where tracks lack
-abbrev pub reached : Reach → Ending → Ending
-reached reach Done = if nat_lt 0 reach.lacking then Findings else Done
-reached reach Findings = Findings
-
 abbrev pub with_reach : Reach → Result Ending ProgramFault → Result Ending ProgramFault
-with_reach reach (Ok ending) = Ok (reached reach ending)
+with_reach reach (Ok ending) = Ok (worse ending (nat_lt 0 reach.lacking))
 with_reach reach (Err f) = Err f
 
 -- The files at these paths were opened, and no other; this is said of the volume that they hold and of how the command ended, but that it

@@ -1,12 +1,12 @@
 -- What a strict check of the volume of files prints: what is found of the headers, and of the volume.
-use Rattle.std.specs.Prelude.{◌≡◌, ◌⊎◌, ◌+◌, ◌==◌, ℕ, min, if◌then◌else◌, Bool, List, [], ◌++◌, length, slice_index_or, Result, Ok, Err, IfOk}
+use Rattle.std.specs.Prelude.{◌≡◌, ◌⊎◌, ◌+◌, ℕ, min, Bool, List, [], ◌++◌, length, slice_index_or, Result, Ok, Err, IfOk}
 use Rattle.std.specs.List.{AllZip}
 use Rattle.counted_io.specs.Streams.{Stream}
 use Rattle.ckd_track.specs.declared.geometries.Geometry.{Geometry}
 use Rattle.dasd_volumes.specs.declared.fault.VolumeFault.{VolumeFault}
 use Rattle.dasd_volumes.specs.Reading.{KnownVolume}
 use Rattle.dasd_volumes.specs.Volumes.{of_each}
-use Rattle.dasd_archive.specs.declared.findings.Finding.{Finding}
+use Rattle.dasd_archive.specs.declared.findings.StrictFinding.{StrictFinding}
 use Rattle.dasd_archive.specs.declared.reports.FindingStyle.{FindingStyle}
 use Rattle.dasd_archive.specs.declared.reports.Tally.{Tally}
 use Rattle.dasd_archive.specs.Reports.{finding_lines}
@@ -15,14 +15,16 @@ use Rattle.dasd_words.specs.declared.requests.StrictCheck.{StrictCheck}
 use Rattle.dasd_jobs.specs.Sources.{Content, SourceFile, IsHeader, OpensPaths, Mounts, OfVolume, volume_in}
 use Rattle.dasd_jobs.specs.declared.faults.JobFault.TheVariants.{Read, OutOfMemory}
 use Rattle.dasd_run.specs.declared.commands.Ending.{Ending}
-use Rattle.dasd_run.specs.declared.commands.Ending.TheVariants.{Done, Findings}
 use Rattle.dasd_run.specs.declared.fault.ProgramFault.{ProgramFault}
 use Rattle.dasd_run.specs.declared.fault.ProgramFault.TheVariants as fault
+use Rattle.dasd_run.specs.Ended.{ended, counted_ending}
+use Rattle.dasd_run.specs.Faults.{printing_fault}
+use Rattle.dasd_run.specs.Outside.{Outside}
 use Rattle.dasd_run.specs.Paths.{quoted_paths}
-use Rattle.dasd_run.specs.Printed.{style_of, paths_of, IsUnopened, printed_ending, PrintsWhole}
+use Rattle.dasd_run.specs.Printed.{style_of, paths_of, IsUnopened, PrintsWhole}
 
 -- what is found of the headers of files, the first of which is number 1; numbers go up to 255
-abbrev pub found_in : (heads : List (List ℕ)) → List Finding
+abbrev pub found_in : (heads : List (List ℕ)) → List StrictFinding
 found_in heads = of_each (λ i. findings_in_header (min (i + 1) 255) (slice_index_or heads i [])) (length heads)
 
 -- what is found of the headers and of the volume, and how many there are of each severity
@@ -31,12 +33,12 @@ checked_text style path heads g slots = finding_lines style path (found_in heads
 
 -- a strict check has findings where there is an error
 abbrev pub checked_ending : Tally → Ending
-checked_ending tally = if tally.errors == 0 then Done else Findings
+checked_ending tally = counted_ending tally.errors
 
 -- all that is found of headers and of a volume is printed and counted
 abbrev pub ChecksWhole : Result Ending ProgramFault → FindingStyle → (path : List ℕ) → (heads : List (List ℕ)) → KnownVolume → (before now : Stream) → Type 0
 ChecksWhole result style path heads v before now =
-    (checking : Result Tally VolumeFault) × (result ≡ printed_ending checked_ending checking) × IfOk checking (Adds (found_in heads) v)
+    (checking : Result Tally VolumeFault) × (result ≡ ended printing_fault checked_ending checking) × IfOk checking (Adds (found_in heads) v)
     × PrintsWhole checking (checked_text style path heads) v before now
 
 -- The files at these paths were opened, once each, and no other; and this is said of the volume that they hold and of their headers.
@@ -61,9 +63,9 @@ abbrev pub checked_style : StrictCheck → FindingStyle
 checked_style asked = record { style = style_of asked.volume.json; with_notes = asked.with_notes }
 
 -- the volume in the files that are named is checked; or they are not opened, and nothing is printed
-abbrev pub ChecksStrictly : Result Ending ProgramFault → StrictCheck → (opened_before opened : List SourceFile) → (before now : Stream) → Type 0
-ChecksStrictly result asked opened_before opened before now =
-    IsUnopened asked.volume.as_far result (paths_of asked.volume) opened_before opened before now
-    ⊎ HasNoHeads asked.volume.as_far result (paths_of asked.volume) opened_before opened before now
-    ⊎ OfHeads asked.volume.as_far (paths_of asked.volume) opened_before opened
-    (λ v heads. ChecksWhole result (checked_style asked) (quoted_paths (paths_of asked.volume)) heads v before now)
+abbrev pub ChecksStrictly : Result Ending ProgramFault → StrictCheck → (before now : Outside) → Type 0
+ChecksStrictly result asked before now =
+    IsUnopened asked.volume.as_far result (paths_of asked.volume) before.opened now.opened before.printed now.printed
+    ⊎ HasNoHeads asked.volume.as_far result (paths_of asked.volume) before.opened now.opened before.printed now.printed
+    ⊎ OfHeads asked.volume.as_far (paths_of asked.volume) before.opened now.opened
+    (λ v heads. ChecksWhole result (checked_style asked) (quoted_paths (paths_of asked.volume)) heads v before.printed now.printed)

@@ -13,20 +13,16 @@ use Rattle.dasd_unload.specs.Causes.{UnloadsOrTells}
 use Rattle.dasd_unload.specs.Tracks.{AskedTracks, asked_tracks, TracksOrTell}
 use Rattle.dasd_unload.specs.Volumes.{Plan, plan_of, CountsReport, UnloadsVolume}
 use Rattle.dasd_run.specs.declared.commands.Ending.{Ending}
-use Rattle.dasd_run.specs.declared.commands.Ending.TheVariants.{Done}
 use Rattle.dasd_run.specs.declared.fault.ProgramFault.{ProgramFault}
 use Rattle.dasd_run.specs.declared.fault.ProgramFault.TheVariants as fault
+use Rattle.dasd_run.specs.Ended.{ended, done_or, counted_ending}
+use Rattle.dasd_run.specs.Outside.{Outside, left_of}
 use Rattle.dasd_run.specs.Paths.{quoted_paths}
-use Rattle.dasd_run.specs.Printed.{ending_of, WhyUnopened}
+use Rattle.dasd_run.specs.Printed.{WhyUnopened}
 use Rattle.dasd_unload.specs.declared.sets.BlockForm.{BlockForm}
 use Rattle.dasd_unload.specs.declared.sets.BlockForm.TheVariants as form
 use Rattle.dasd_words.specs.declared.requests.FileForm.{FileForm}
 use Rattle.dasd_words.specs.declared.requests.FileForm.TheVariants as words
-
--- how the program ends with what was unloaded: so, where that is done; and else its fault is the program's
-abbrev pub unload_ending : {A : Type 0} → (A → Ending) → Result A UnloadFault → Result Ending ProgramFault
-unload_ending ending (Ok done) = Ok (ending done)
-unload_ending ending (Err f) = Err (fault.Unload f)
 
 -- the volume in the files at these paths is not opened, or there is no memory; and nothing came, and nothing was printed
 abbrev pub NothingCame : (as_far : Bool) → Result Ending ProgramFault → (paths : List (List ℕ)) → (opened_before opened : List SourceFile)
@@ -48,13 +44,14 @@ asked_set e = asked e.name.data_set.now (option_copied e.name.member) (block_for
 -- its end.
 pub record TakesSet (result : Result Ending ProgramFault) (e : ExtractedSet) (opened_before opened : List SourceFile) (before now : Outcome) : Type 0 where
   pub unloading : Result (Unit {0}) UnloadFault
-  pub told : result ≡ unload_ending (λ done. Done) unloading
+  pub told : result ≡ done_or fault.Unload unloading
   pub unloaded : OfVolume e.as_far (map (λ path. path.now) e.paths.items) opened_before opened (λ v. UnloadsOrTells unloading (asked_set e) v before now)
   pub writes : CountsSet unloading (option_copied e.target) before.printed now.printed
 
-abbrev pub ExtractsSet : Result Ending ProgramFault → ExtractedSet → (opened_before opened : List SourceFile) → (before now : Outcome) → Type 0
-ExtractsSet result e opened_before opened before now =
-    NothingCame e.as_far result (map (λ path. path.now) e.paths.items) opened_before opened before now ⊎ TakesSet result e opened_before opened before now
+abbrev pub ExtractsSet : Result Ending ProgramFault → ExtractedSet → (before now : Outside) → Type 0
+ExtractsSet result e before now =
+    NothingCame e.as_far result (map (λ path. path.now) e.paths.items) before.opened now.opened (left_of before) (left_of now)
+    ⊎ TakesSet result e before.opened now.opened (left_of before) (left_of now)
 
 -- the data set whose tracks are asked for
 abbrev pub tracks_asked : ExtractedTracks → AskedTracks
@@ -64,13 +61,14 @@ tracks_asked e = asked_tracks e.name.now (option_copied e.target)
 -- not, or not all.
 pub record TakesTracks (result : Result Ending ProgramFault) (e : ExtractedTracks) (opened_before opened : List SourceFile) (before now : Outcome) : Type 0 where
   pub unloading : Result (Unit {0}) UnloadFault
-  pub told : result ≡ unload_ending (λ done. Done) unloading
+  pub told : result ≡ done_or fault.Unload unloading
   pub unloaded : OfVolume e.as_far (map (λ path. path.now) e.paths.items) opened_before opened (λ v. TracksOrTell unloading (tracks_asked e) v before now)
   pub writes : CountsSet unloading (option_copied e.target) before.printed now.printed
 
-abbrev pub ExtractsTracks : Result Ending ProgramFault → ExtractedTracks → (opened_before opened : List SourceFile) → (before now : Outcome) → Type 0
-ExtractsTracks result e opened_before opened before now =
-    NothingCame e.as_far result (map (λ path. path.now) e.paths.items) opened_before opened before now ⊎ TakesTracks result e opened_before opened before now
+abbrev pub ExtractsTracks : Result Ending ProgramFault → ExtractedTracks → (before now : Outside) → Type 0
+ExtractsTracks result e before now =
+    NothingCame e.as_far result (map (λ path. path.now) e.paths.items) before.opened now.opened (left_of before) (left_of now)
+    ⊎ TakesTracks result e before.opened now.opened (left_of before) (left_of now)
 
 -- where all data sets go, and how what is told of them is printed
 abbrev pub asked_plan : ExtractedVolume → Plan
@@ -80,11 +78,12 @@ asked_plan e = plan_of e.folder.now (block_form_of e.form) e.json (quoted_paths 
 -- nothing that is told is held back. Or a fault stopped it.
 pub record TakesAll (result : Result Ending ProgramFault) (e : ExtractedVolume) (opened_before opened : List SourceFile) (before now : Outcome) : Type 0 where
   pub unloading : Result ℕ UnloadFault
-  pub told : result ≡ unload_ending ending_of unloading
+  pub told : result ≡ ended fault.Unload counted_ending unloading
   pub unloaded : UnloadsVolume e.as_far unloading (map (λ path. path.now) e.paths.items) (asked_plan e) opened_before opened before now
   pub writes : CountsReport unloading before.printed now.printed
   pub flushed : OnOk unloading (IsFlushed now.printed)
 
-abbrev pub ExtractsVolume : Result Ending ProgramFault → ExtractedVolume → (opened_before opened : List SourceFile) → (before now : Outcome) → Type 0
-ExtractsVolume result e opened_before opened before now =
-    NothingCame e.as_far result (map (λ path. path.now) e.paths.items) opened_before opened before now ⊎ TakesAll result e opened_before opened before now
+abbrev pub ExtractsVolume : Result Ending ProgramFault → ExtractedVolume → (before now : Outside) → Type 0
+ExtractsVolume result e before now =
+    NothingCame e.as_far result (map (λ path. path.now) e.paths.items) before.opened now.opened (left_of before) (left_of now)
+    ⊎ TakesAll result e before.opened now.opened (left_of before) (left_of now)

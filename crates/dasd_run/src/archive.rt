@@ -3,27 +3,28 @@
 ghost use Rattle.std.specs.Prelude.{◌≡◌, Some, IfSome, IfNone, IfOk, IfErr, OnOk};
 ghost use Rattle.std.specs.Io.KnownBytes.{Appends};
 ghost use Rattle.counted_io.specs.Streams.{seen_by, IsFlushed};
-ghost use Rattle.dasd_volumes.specs.Lines.{model_number_of};
 ghost use Rattle.dasd_volumes.specs.Printing.{CountsWrites};
 ghost use Rattle.dasd_archive.specs.Dump.{dump_text, IsPartOf};
 ghost use Rattle.dasd_archive.specs.Printed.{PrintsBytes};
 ghost use Rattle.dasd_run.specs.Answers.{DumpsPart, DumpsRecords, names_records};
 ghost use Rattle.dasd_run.specs.Compared.{shape_text, geometries_line, ComparesVolumes, ComparesFiles};
+ghost use Rattle.dasd_run.specs.Outside.{Looks};
 ghost use Rattle.dasd_run.specs.Printed.{style_of, range_of, asked_part};
 
 use crate::commands::{Ending, ending_of};
-use crate::fault::{ProgramFault, of_printing};
+use crate::fault::ProgramFault;
+use crate::host::Host;
 use crate::printed_paths::quoted;
 use crate::reaches::with_reach;
-use ckd_track::{DriveModel, Geometry};
+use ckd_track::Geometry;
 use counted_io::{Counted, WriteFault, write_flushed};
-use dasd_archive::{Comparison, Form, Part, Range, Style, compare, dump, has_records};
-use dasd_jobs::{ImageFiles, SlotReader, open_volume};
+use dasd_archive::{Comparison, Form, Range, Style, VolumePart, compare, dump, has_records};
+use dasd_jobs::{Progress, SlotReader, Traces, model_number, open_volume};
 use dasd_volumes::VolumeFault;
 use dasd_words::{ComparedVolumes, DumpedPart, Numbers, PrintedVolume};
 use quantities::Quantity;
 use std::alloc::Global;
-use std::io::Write;
+use std::io::{Read, Write};
 use std::{fmt, io};
 
 /// For whom lines are printed.
@@ -39,34 +40,24 @@ pub(crate) fn style(json: bool) -> Style
 ///
 /// There is no memory, or the files hold no volume, or it has no such part or, where records are named, none of them, before a line is
 /// printed; or what stopped the dump, behind the lines that are printed. A write fault comes exactly where a write failed, or the last flush.
-pub(crate) fn dump_part<F: ImageFiles, W: Write>(
-    alloc: Global,
-    files: &mut F,
-    writer: &mut Counted<W>,
+pub(crate) fn dump_part<F: Traces, R: Read, W: Write, P: Progress>(
+    host: &mut Host<F, R, W, P>,
     asked: &PrintedVolume,
     part: DumpedPart,
 ) -> Result<Ending, ProgramFault>
-    ensures kept { F.written files.new ≡ F.written files.old }
-    ensures dumps { DumpsPart result asked.now part (F.opened files.old) (F.opened files.new)
-        (seen_by W.contents writer.old) (seen_by W.contents writer.new) }
+    ensures looks { Looks host.old host.new }
+    ensures dumps { DumpsPart result asked.now part host.old host.new }
 {
     let paths = asked.paths.as_slice();
-    let path = match quoted(alloc, paths) {
-        Ok(path) => path,
-        Err(fault) => return Err(fault),
-    };
+    let path = quoted(host.alloc, paths)?;
     let form = Form {
         style: style(asked.json),
         path: path.as_str(),
     };
-    match open_volume(alloc, files, paths, asked.as_far) {
-        Ok(mut volume) => {
-            let reach = volume.reach();
-            let dumped = dump_opened(alloc, &mut volume, writer, form, part);
-            with_reach(reach, dumped)
-        }
-        Err(fault) => Err(ProgramFault::Job(fault)),
-    }
+    let mut volume = open_volume(host.alloc, &mut host.files, paths, asked.as_far)?;
+    let reach = volume.reach();
+    let dumped = dump_opened(host.alloc, &mut volume, &mut host.writer, form, part);
+    with_reach(reach, dumped)
 }
 
 // Prints the bytes of a part of a volume.
@@ -84,17 +75,11 @@ fn dump_opened<V: SlotReader, W: Write>(
     let Some(part) = part_of(volume.geometry(), part) else {
         return Err(ProgramFault::NoTrack);
     };
-    if names {
-        match has_records(alloc, volume, part) {
-            Ok(true) => {}
-            Ok(false) => return Err(ProgramFault::NoRecord),
-            Err(fault) => return Err(of_printing(fault)),
-        }
+    if names && !has_records(alloc, volume, part)? {
+        return Err(ProgramFault::NoRecord);
     }
-    match dump(alloc, volume, writer, form, part) {
-        Ok(()) => Ok(Ending::Done),
-        Err(fault) => Err(of_printing(fault)),
-    }
+    dump(alloc, volume, writer, form, part)?;
+    Ok(Ending::Done)
 }
 
 // Whether words name records, and do not ask for all from one on.
@@ -115,7 +100,7 @@ pub(crate) fn range(numbers: Numbers) -> Range
 }
 
 // The part of a volume of this geometry that words ask for, if it has these tracks.
-fn part_of(geometry: Geometry, part: DumpedPart) -> Option<Part>
+fn part_of(geometry: Geometry, part: DumpedPart) -> Option<VolumePart>
     ensures part { IfSome result (λ found. found ≡ asked_part part) }
     ensures exists { IfSome result (λ found. IsPartOf (asked_part part) geometry) }
     ensures none { IfNone result (IsPartOf (asked_part part) geometry → ⊥) }
@@ -130,7 +115,7 @@ fn part_of(geometry: Geometry, part: DumpedPart) -> Option<Part>
     {
         return None;
     }
-    Some(Part {
+    Some(VolumePart {
         cylinders,
         heads,
         numbers,
@@ -144,38 +129,26 @@ fn part_of(geometry: Geometry, part: DumpedPart) -> Option<Part>
 ///
 /// There is no memory, or the files of a list hold no volume, before a line is printed; or what stopped the comparison, behind the lines
 /// that are printed. A write fault comes exactly where a write failed, or the last flush.
-pub(crate) fn compare_both<F: ImageFiles, W: Write>(
-    alloc: Global,
-    files: &mut F,
-    writer: &mut Counted<W>,
+pub(crate) fn compare_both<F: Traces, R: Read, W: Write, P: Progress>(
+    host: &mut Host<F, R, W, P>,
     asked: &ComparedVolumes,
 ) -> Result<Ending, ProgramFault>
-    ensures kept { F.written files.new ≡ F.written files.old }
-    ensures compares { ComparesFiles result asked.now (F.opened files.old) (F.opened files.new)
-        (seen_by W.contents writer.old) (seen_by W.contents writer.new) }
+    ensures looks { Looks host.old host.new }
+    ensures compares { ComparesFiles result asked.now host.old host.new }
 {
-    let path = match quoted(alloc, asked.one.as_slice()) {
-        Ok(path) => path,
-        Err(fault) => return Err(fault),
-    };
-    let other = match quoted(alloc, asked.other.as_slice()) {
-        Ok(path) => path,
-        Err(fault) => return Err(fault),
-    };
+    let one = asked.one.as_slice();
+    let other = asked.other.as_slice();
+    let path = quoted(host.alloc, one)?;
+    let other_path = quoted(host.alloc, other)?;
     let form = Comparison {
         style: style(asked.json),
         path: path.as_str(),
-        other: other.as_str(),
+        other: other_path.as_str(),
         lists: asked.lists,
     };
-    let mut volume = match open_volume(alloc, files, asked.one.as_slice(), asked.as_far) {
-        Ok(volume) => volume,
-        Err(fault) => return Err(ProgramFault::Job(fault)),
-    };
-    match open_volume(alloc, files, asked.other.as_slice(), asked.as_far) {
-        Ok(mut beside) => compare_opened(alloc, &mut volume, &mut beside, writer, form),
-        Err(fault) => Err(ProgramFault::Job(fault)),
-    }
+    let mut volume = open_volume(host.alloc, &mut host.files, one, asked.as_far)?;
+    let mut beside = open_volume(host.alloc, &mut host.files, other, asked.as_far)?;
+    compare_opened(host.alloc, &mut volume, &mut beside, &mut host.writer, form)
 }
 
 // Prints what differs of two volumes, and says whether something does.
@@ -191,15 +164,11 @@ fn compare_opened<V: SlotReader, U: SlotReader, W: Write>(
 {
     let (geometry, beside) = (one.geometry(), other.geometry());
     if beside != geometry {
-        return match print_geometries(alloc, writer, form, geometry, beside) {
-            Ok(()) => Ok(Ending::Findings),
-            Err(fault) => Err(of_printing(fault)),
-        };
+        print_geometries(alloc, writer, form, geometry, beside)?;
+        return Ok(Ending::Findings);
     }
-    match compare(alloc, one, other, writer, form) {
-        Ok(differing) => Ok(ending_of(differing)),
-        Err(fault) => Err(of_printing(fault)),
-    }
+    let differing = compare(alloc, one, other, writer, form)?;
+    Ok(ending_of(differing > 0))
 }
 
 // Prints the line of two geometries that differ, which is made in memory.
@@ -261,15 +230,5 @@ impl fmt::Display for Shape {
         let cylinders = Quantity::new(self.0.cylinders as u64, "cylinder", "cylinders");
         let size = self.0.track_size;
         write!(f, "{model} {cylinders} slot {size}")
-    }
-}
-
-// The number of a drive's model.
-fn model_number(model: DriveModel) -> u16
-    ensures { result ≡ model_number_of model }
-{
-    match model {
-        DriveModel::D2311 => 2311,
-        DriveModel::D2314 => 2314,
     }
 }

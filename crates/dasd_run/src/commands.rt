@@ -4,10 +4,11 @@ ghost use Rattle.std.specs.Prelude.{◌≡◌, true, map, IfErr};
 ghost use Rattle.counted_io.specs.Streams.{seen_by};
 ghost use Rattle.dasd_run.specs.Decks.{NoTrace};
 ghost use Rattle.dasd_run.specs.Answers.{FormatsVolume, ListsVolume, ChecksVolume, Answers};
+ghost use Rattle.dasd_run.specs.Ended.{ending_of, worse, KeepsFiles};
 ghost use Rattle.dasd_run.specs.Faults.{keeps_files};
-ghost use Rattle.dasd_run.specs.Printed.{ending_of};
+ghost use Rattle.dasd_run.specs.Outside.{Looks};
 ghost use Rattle.dasd_run.specs.Runs.{RunsOrStops, Tells};
-ghost use Rattle.dasd_run.specs.Saves.{Concludes, Ends, plan_of, unsaved_ending};
+ghost use Rattle.dasd_run.specs.Saves.{Ends, plan_of};
 
 use crate::archive::{compare_both, dump_part};
 use crate::changes::{delete_set, load_file, relabel, rename_set};
@@ -17,6 +18,7 @@ use crate::explain::explain;
 use crate::fault::ProgramFault;
 use crate::folders::{load_all, load_one};
 use crate::hash::hash_volume;
+use crate::host::Host;
 use crate::labels::format_with_label;
 use crate::list::list_part;
 use crate::runs::{Disks, build, finish, tell_running};
@@ -30,7 +32,7 @@ use dasd_jobs::{
     ImageFiles, JobFault, NewVolume, Progress, SavePlan, Traces, check_files, format_file,
     list_files,
 };
-use dasd_words::{DeckRun, NewImage, Request, Volume, WordFault, read_words};
+use dasd_words::{DeckRun, NewImage, Request, WordFault, read_words};
 use s360_deck::RunFault;
 use std::alloc::Global;
 use std::io::{Read, Write};
@@ -45,9 +47,7 @@ pub enum Ending {
     Findings,
 }
 
-/// Does what these words ask, the first of which is the program's name. A deck is read from `reader`, where the words name no
-/// file of it; `writer` takes what is printed, and of both the failures are counted; `progress` takes what is shown while a job over a
-/// large volume goes on.
+/// Does what these words ask, the first of which is the program's name.
 ///
 /// # Errors
 ///
@@ -56,97 +56,71 @@ pub enum Ending {
 /// written its file, and its line is not printed. A run that can't save a volume has saved those before it; one whose trace can't be
 /// written ends as without it, and then reports that.
 pub fn obey<F: Traces, R: Read, W: Write, P: Progress>(
-    alloc: Global,
+    host: &mut Host<F, R, W, P>,
     words: &[&str],
-    files: &mut F,
-    reader: &mut Counted<R>,
-    writer: &mut Counted<W>,
-    progress: &mut P,
 ) -> Result<Ending, ProgramFault>
-    ensures { IfErr result (λ e. keeps_files e ≡ true → F.written files.new ≡ F.written files.old) }
+    ensures { KeepsFiles result host.old host.new }
 {
-    let asked = match read_words(alloc, words) {
+    let asked = match read_words(host.alloc, words) {
         Ok(asked) => asked,
-        Err(WordFault::Version(text)) => return tell(writer, text.as_bytes()),
+        Err(WordFault::Version(text)) => return tell(&mut host.writer, text.as_bytes()),
         Err(fault) => return Err(fault.into()),
     };
     if asked.is_verbose {
-        files.ask_remarks();
+        host.files.ask_remarks();
     }
-    answer(alloc, asked.request, files, reader, writer, progress)
+    answer(host, asked.request)
 }
 
-/// Does what is asked, as `obey` does of words. A deck is read from `reader`, where the request names no file of it; `writer` takes what
-/// is printed, and of both the failures are counted; `progress` takes what is shown while a job over a large volume goes on.
+/// Does what is asked, as `obey` does of words.
 ///
 /// # Errors
 ///
 /// What stopped the command, as of `obey`.
 pub fn answer<F: Traces, R: Read, W: Write, P: Progress>(
-    alloc: Global,
+    host: &mut Host<F, R, W, P>,
     request: Request,
-    files: &mut F,
-    reader: &mut Counted<R>,
-    writer: &mut Counted<W>,
-    progress: &mut P,
 ) -> Result<Ending, ProgramFault>
-    ensures keeps { IfErr result (λ e. keeps_files e ≡ true → F.written files.new ≡ F.written files.old) }
-    ensures answers { Answers request.entry result
-        (record {
-          read = seen_by R.remaining reader.old;
-          printed = seen_by W.contents writer.old;
-          written = F.written files.old;
-          opened = F.opened files.old;
-        })
-        (record {
-          read = seen_by R.remaining reader.new;
-          printed = seen_by W.contents writer.new;
-          written = F.written files.new;
-          opened = F.opened files.new;
-        }) }
+    ensures keeps { KeepsFiles result host.old host.new }
+    ensures answers { Answers request.entry result host.old host.new }
 {
     match request {
-        Request::Format(asked) => format_volume(alloc, files, writer, progress, &asked),
-        Request::FormatLabelled(image, label) => {
-            format_with_label(alloc, files, writer, progress, (&image, label))
-        }
-        Request::List(paths) => list_volume(alloc, files, writer, paths.as_slice()),
-        Request::ListPart(volume, part) => list_part(alloc, files, writer, &volume, part),
-        Request::Check(paths) => check_volume(alloc, files, writer, progress, paths.as_slice()),
-        Request::CheckStrictly(asked) => check_strictly(alloc, files, writer, &asked),
-        Request::Dump(volume, part) => dump_part(alloc, files, writer, &volume, part),
-        Request::Compare(volumes) => compare_both(alloc, files, writer, &volumes),
-        Request::Hash(asked) => hash_volume(alloc, files, writer, &asked),
-        Request::ListContents(volume) => list_contents(alloc, files, writer, &volume),
-        Request::ListDetails(asked) => list_details(alloc, files, writer, &asked),
-        Request::ListMembers(asked) => list_library(alloc, files, writer, &asked),
-        Request::Extract(asked) => extract_set(alloc, files, writer, &asked),
-        Request::ExtractTracks(asked) => extract_tracks(alloc, files, writer, &asked),
-        Request::ExtractAll(asked) => extract_volume(alloc, files, writer, &asked),
-        Request::Rename(asked) => rename_set(alloc, files, writer, &asked),
-        Request::Delete(asked) => delete_set(alloc, files, writer, &asked),
-        Request::Relabel(asked) => relabel(alloc, files, writer, &asked),
-        Request::Load(asked) => load_file(alloc, files, writer, &asked),
-        Request::LoadAll(asked) => load_all(alloc, files, writer, &asked),
-        Request::LoadMember(asked) => load_one(alloc, files, writer, &asked),
-        Request::Explain(noted) => explain(writer, noted),
-        Request::Assemble(path) => assemble_text(alloc, files, reader, writer, path),
-        Request::Disassemble(path) => disassemble_deck(alloc, files, reader, writer, path),
-        Request::Run(asked) => run_volumes(alloc, files, reader, writer, asked),
+        Request::Format(asked) => format_volume(host, &asked),
+        Request::FormatLabelled(image, label) => format_with_label(host, &image, label),
+        Request::List(paths) => list_volume(host, paths.as_slice()),
+        Request::ListPart(volume, part) => list_part(host, &volume, part),
+        Request::Check(paths) => check_volume(host, paths.as_slice()),
+        Request::CheckStrictly(asked) => check_strictly(host, &asked),
+        Request::Dump(volume, part) => dump_part(host, &volume, part),
+        Request::Compare(volumes) => compare_both(host, &volumes),
+        Request::Hash(asked) => hash_volume(host, &asked),
+        Request::ListContents(volume) => list_contents(host, &volume),
+        Request::ListDetails(asked) => list_details(host, &asked),
+        Request::ListMembers(asked) => list_library(host, &asked),
+        Request::Extract(asked) => extract_set(host, &asked),
+        Request::ExtractTracks(asked) => extract_tracks(host, &asked),
+        Request::ExtractAll(asked) => extract_volume(host, &asked),
+        Request::Rename(asked) => rename_set(host, &asked),
+        Request::Delete(asked) => delete_set(host, &asked),
+        Request::Relabel(asked) => relabel(host, &asked),
+        Request::Load(asked) => load_file(host, &asked),
+        Request::LoadAll(asked) => load_all(host, &asked),
+        Request::LoadMember(asked) => load_one(host, &asked),
+        Request::Explain(noted) => explain(&mut host.writer, noted),
+        Request::Assemble(path) => assemble_text(host, path),
+        Request::Disassemble(path) => disassemble_deck(host, path),
+        Request::Run(asked) => run_volumes(host, asked),
     }
 }
 
 // Writes a new image.
-fn format_volume<F: ImageFiles, W: Write, P: Progress>(
-    alloc: Global,
-    files: &mut F,
-    writer: &mut Counted<W>,
-    progress: &mut P,
+fn format_volume<F: Traces, R: Read, W: Write, P: Progress>(
+    host: &mut Host<F, R, W, P>,
     asked: &NewImage,
 ) -> Result<Ending, ProgramFault>
-    ensures keeps { IfErr result (λ e. keeps_files e ≡ true → F.written files.new ≡ F.written files.old) }
-    ensures formats { FormatsVolume result asked.now (F.written files.old) (F.written files.new)
-        (seen_by W.contents writer.old) (seen_by W.contents writer.new) }
+    ensures keeps { KeepsFiles result host.old host.new }
+    ensures formats { FormatsVolume result asked.now host.old host.new }
+    ensures unread { host.new.read ≡ host.old.read }
 {
     let volume = NewVolume {
         path: asked.path,
@@ -154,63 +128,70 @@ fn format_volume<F: ImageFiles, W: Write, P: Progress>(
         cylinders: asked.cylinders,
         replaces: asked.replaces,
     };
-    match format_file(alloc, files, writer, progress, volume) {
-        Ok(()) => Ok(Ending::Done),
-        Err(fault) => Err(ProgramFault::Job(fault)),
-    }
+    format_file(
+        host.alloc,
+        &mut host.files,
+        &mut host.writer,
+        &mut host.progress,
+        volume,
+    )?;
+    Ok(Ending::Done)
 }
 
 // Prints the tracks and records of the volume of these files.
-fn list_volume<F: ImageFiles, W: Write>(
-    alloc: Global,
-    files: &mut F,
-    writer: &mut Counted<W>,
+fn list_volume<F: Traces, R: Read, W: Write, P: Progress>(
+    host: &mut Host<F, R, W, P>,
     paths: &[&str],
 ) -> Result<Ending, ProgramFault>
-    ensures kept { F.written files.new ≡ F.written files.old }
-    ensures lists { ListsVolume result (map (λ path. path.now) paths.now) (F.opened files.old) (F.opened files.new)
-        (seen_by W.contents writer.old) (seen_by W.contents writer.new) }
+    ensures looks { Looks host.old host.new }
+    ensures lists { ListsVolume result (map (λ path. path.now) paths.now) host.old host.new }
 {
-    match list_files(alloc, files, writer, paths) {
-        Ok(()) => Ok(Ending::Done),
-        Err(fault) => Err(ProgramFault::Job(fault)),
-    }
+    list_files(host.alloc, &mut host.files, &mut host.writer, paths)?;
+    Ok(Ending::Done)
+}
+
+// Checks the volume of these files, and says whether it has tracks that can't be read.
+fn check_volume<F: Traces, R: Read, W: Write, P: Progress>(
+    host: &mut Host<F, R, W, P>,
+    paths: &[&str],
+) -> Result<Ending, ProgramFault>
+    ensures looks { Looks host.old host.new }
+    ensures checks { ChecksVolume result (map (λ path. path.now) paths.now) host.old host.new }
+{
+    let findings = check_files(
+        host.alloc,
+        &mut host.files,
+        &mut host.writer,
+        &mut host.progress,
+        paths,
+    )?;
+    Ok(ending_of(findings > 0))
 }
 
 // Runs a deck over its volumes. Of the faults of a deck that was run, that of its trace is reported last.
-fn run_volumes<F: Traces, R: Read, W: Write>(
-    alloc: Global,
-    files: &mut F,
-    reader: &mut Counted<R>,
-    writer: &mut Counted<W>,
+fn run_volumes<F: Traces, R: Read, W: Write, P: Progress>(
+    host: &mut Host<F, R, W, P>,
     asked: DeckRun,
 ) -> Result<Ending, ProgramFault>
-    ensures keeps { IfErr result (λ e. keeps_files e ≡ true → F.written files.new ≡ F.written files.old) }
-    ensures runs { RunsOrStops result asked.entry
-        (record {
-          read = seen_by R.remaining reader.old;
-          printed = seen_by W.contents writer.old;
-          written = F.written files.old;
-          opened = F.opened files.old;
-        })
-        (record {
-          read = seen_by R.remaining reader.new;
-          printed = seen_by W.contents writer.new;
-          written = F.written files.new;
-          opened = F.opened files.new;
-        }) }
+    ensures keeps { KeepsFiles result host.old host.new }
+    ensures runs { RunsOrStops result asked.entry host.old host.new }
 {
+    let alloc = host.alloc;
     let volumes = asked.volumes.as_slice();
-    let mut tracer = begin_run(alloc, files, &asked)?;
-    let mut channel = build(alloc, files, asked.storage, asked.channel, volumes)?;
-    let text = match read_deck(alloc, files, reader, asked.deck) {
-        Ok(text) => text,
-        Err(fault) => return Err(ProgramFault::Run(fault)),
-    };
-    let run = run_deck(alloc, writer, text.as_slice(), &mut channel, &mut tracer);
-    tell_fault(files, text.as_slice(), run);
+    let mut tracer = begin_run(alloc, &mut host.files, &asked)?;
+    let mut channel = build(
+        alloc,
+        &mut host.files,
+        asked.storage,
+        asked.channel,
+        volumes,
+    )?;
+    let text = read_deck(alloc, &mut host.files, &mut host.reader, asked.deck)?;
+    let text = text.as_slice();
+    let run = run_deck(alloc, &mut host.writer, text, &mut channel, &mut tracer);
+    tell_fault(&mut host.files, text, run);
     let traced = end_trace(tracer, run);
-    let concluded = end_run(alloc, files, &asked, channel, run);
+    let concluded = end_run(alloc, &mut host.files, &asked, channel, run);
     concluded.and(traced.and(Ok(Ending::Done)))
 }
 
@@ -241,32 +222,18 @@ fn save_plan(asked: &DeckRun) -> SavePlan
     }
 }
 
-// Checks the volume of these files, and says whether it has tracks that can't be read.
-fn check_volume<F: ImageFiles, W: Write, P: Progress>(
-    alloc: Global,
-    files: &mut F,
-    writer: &mut Counted<W>,
-    progress: &mut P,
-    paths: &[&str],
-) -> Result<Ending, ProgramFault>
-    ensures kept { F.written files.new ≡ F.written files.old }
-    ensures checks { ChecksVolume result (map (λ path. path.now) paths.now) (F.opened files.old) (F.opened files.new)
-        (seen_by W.contents writer.old) (seen_by W.contents writer.new) }
+/// How a command ends: with findings, where there are some.
+pub(crate) fn ending_of(found: bool) -> Ending
+    ensures { result ≡ ending_of found }
 {
-    match check_files(alloc, files, writer, progress, paths) {
-        Ok(findings) => Ok(ending_of(findings)),
-        Err(fault) => Err(ProgramFault::Job(fault)),
-    }
+    worse(Ending::Done, found)
 }
 
-/// How a command ends that counted so many findings.
-pub(crate) fn ending_of(findings: u32) -> Ending
-    ensures { result ≡ ending_of findings }
+/// How a command ends that would end so, where something more may be found.
+pub(crate) fn worse(ending: Ending, found: bool) -> Ending
+    ensures { result ≡ worse ending found }
 {
-    match findings {
-        0 => Ending::Done,
-        _ => Ending::Findings,
-    }
+    if found { Ending::Findings } else { ending }
 }
 
 /// Prints a text, and leaves none of it held back.
@@ -279,7 +246,7 @@ pub(crate) fn tell<W: Write>(writer: &mut Counted<W>, text: &[u8]) -> Result<End
     }
 }
 
-// Ends a run: the changed files are written, where that is asked.
+// Ends a run: the changed files are written, where that is asked, unless the deck was not run.
 fn end_run<F: ImageFiles>(
     alloc: Global,
     files: &mut F,
@@ -291,48 +258,16 @@ fn end_run<F: ImageFiles>(
     ensures ends { Ends asked.now.saves run result asked.now.volumes.items channel (F.written files.old) (F.written files.new) }
     ensures same { F.opened files.new ≡ F.opened files.old }
 {
-    if asked.saves {
-        conclude(alloc, files, asked.volumes.as_slice(), channel, run)
-    } else {
-        end_unsaved(files, channel, run)
+    if !asked.saves {
+        tell_running(files, &channel);
+        return Ok(run?);
     }
-}
-
-// Ends a run of which nothing is saved.
-fn end_unsaved<F: ImageFiles>(
-    files: &mut F,
-    channel: Disks,
-    run: Result<(), RunFault>,
-) -> Result<(), ProgramFault>
-    ensures kept { F.written files.new ≡ F.written files.old }
-    ensures same { F.opened files.new ≡ F.opened files.old }
-    ensures ending { result ≡ unsaved_ending run }
-{
-    tell_running(files, &channel);
     match run {
-        Ok(()) => Ok(()),
-        Err(fault) => Err(ProgramFault::Run(fault)),
-    }
-}
-
-// Writes the changed files of a run whose deck was run, and reports its fault, if it had one.
-fn conclude<F: ImageFiles>(
-    alloc: Global,
-    files: &mut F,
-    volumes: &[Volume],
-    channel: Disks,
-    run: Result<(), RunFault>,
-) -> Result<(), ProgramFault>
-    ensures keeps { IfErr result (λ e. keeps_files e ≡ true → F.written files.new ≡ F.written files.old) }
-    ensures concludes { Concludes run result volumes.now channel (F.written files.old) (F.written files.new) }
-    ensures same { F.opened files.new ≡ F.opened files.old }
-{
-    match run {
-        Ok(()) => finish(alloc, files, volumes, channel),
+        Ok(()) => finish(alloc, files, asked.volumes.as_slice(), channel),
         Err(RunFault::Write) => {
-            finish(alloc, files, volumes, channel)?;
-            Err(ProgramFault::Run(RunFault::Write))
+            finish(alloc, files, asked.volumes.as_slice(), channel)?;
+            Err(RunFault::Write.into())
         }
-        Err(fault) => Err(ProgramFault::Run(fault)),
+        Err(fault) => Err(fault.into()),
     }
 }

@@ -103,24 +103,16 @@ pub(crate) fn tell_fault<F: ImageFiles>(files: &mut F, text: &[u8], run: Result<
     ensures kept { F.written files.new ≡ F.written files.old }
     ensures same { F.opened files.new ≡ F.opened files.old }
 {
-    if let Err(fault) = run {
-        if let Some(remark) = remark_of(text, fault) {
-            files.remark(&remark);
+    let remark = match run {
+        Err(RunFault::Read) => Remark::LongDeck,
+        Err(RunFault::Deck(DeckFault::Unknown(line))) => {
+            Remark::NoEvent(line, first_word(text, line))
         }
-    }
-}
-
-// What is said of a fault of this text.
-fn remark_of(text: &[u8], fault: RunFault) -> Option<Remark<'_>> {
-    match fault {
-        RunFault::Read => Some(Remark::LongDeck),
-        RunFault::Deck(DeckFault::Unknown(line)) => {
-            Some(Remark::NoEvent(line, first_word(text, line)))
+        Err(RunFault::Deck(DeckFault::Operand(line))) => {
+            Remark::Operand(line, operand_rule(first_word(text, line)))
         }
-        RunFault::Deck(DeckFault::Operand(line)) => {
-            Some(Remark::Operand(line, operand_rule(first_word(text, line))))
-        }
-        RunFault::Deck(DeckFault::LineTooLong(line)) => Some(Remark::LongLine(line)),
-        RunFault::Deck(DeckFault::OutOfMemory) | RunFault::Write => None,
-    }
+        Err(RunFault::Deck(DeckFault::LineTooLong(line))) => Remark::LongLine(line),
+        Err(RunFault::Deck(DeckFault::OutOfMemory) | RunFault::Write) | Ok(()) => return,
+    };
+    files.remark(&remark);
 }

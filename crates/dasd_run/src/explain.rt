@@ -8,13 +8,18 @@ use crate::fault::ProgramFault;
 use counted_io::Counted;
 use dasd_jobs::JobFault;
 use dasd_words::Noted;
-use s360_explain::{Lines, of_ccw, of_csw, of_ending, of_pasted, of_sense, of_status};
+use s360_explain::{of_ccw, of_csw, of_ending, of_pasted, of_sense, of_status};
 use s360_words::{Ccw, Csw};
 use std::io::Write;
 
-// The lines of a number.
-fn lines_of(noted: Noted) -> Lines {
-    match noted {
+/// Prints what a number means.
+pub(crate) fn explain<W: Write>(
+    writer: &mut Counted<W>,
+    noted: Noted,
+) -> Result<Ending, ProgramFault>
+    ensures { OnOk result (IsFlushed (seen_by W.contents writer.new)) }
+{
+    let lines = match noted {
         Noted::Csw(bytes) => of_csw(Csw::from_bytes(bytes)),
         Noted::Ending(bytes) => {
             let [unit, channel, high, low] = bytes;
@@ -29,17 +34,7 @@ fn lines_of(noted: Noted) -> Lines {
         Noted::Sense(bytes) => of_sense(bytes.as_slice()),
         Noted::Ccw(bytes) => of_ccw(Ccw::from_bytes(bytes)),
         Noted::Line(pasted) => of_pasted(pasted),
-    }
-}
-
-/// Prints what a number means.
-pub(crate) fn explain<W: Write>(
-    writer: &mut Counted<W>,
-    noted: Noted,
-) -> Result<Ending, ProgramFault>
-    ensures { OnOk result (IsFlushed (seen_by W.contents writer.new)) }
-{
-    let lines = lines_of(noted);
+    };
     for line in lines.as_slice() {
         if writeln!(writer, "{line}").is_err() {
             return Err(ProgramFault::Job(JobFault::Write));

@@ -1,23 +1,26 @@
 //! Why `dasd` did not do what it was asked.
 
 ghost use Rattle.std.specs.Prelude.{◌≡◌};
-ghost use Rattle.dasd_run.specs.Faults.{attach_fault, volume_fault, printing_fault};
+ghost use Rattle.dasd_run.specs.Faults.{volume_fault};
 
-use added_members::AddRefusal;
+use added_members::{NewMemberFault, NewMemberRefusal};
+use changed_volumes::ChangeFault;
 use dasd_jobs::JobFault;
 use dasd_unload::UnloadFault;
 use dasd_volumes::VolumeFault;
 use dasd_words::WordFault;
+use labelled_volumes::FormatFault;
 use loaded_folders::FolderFault;
-use loaded_sets::LoadRefusal;
+use loaded_sets::{LoadFault, LoadRefusal};
 use new_labels::TableFault;
 use s360_assembler::AssemblyFault;
 use s360_channel::AttachFault;
-use s360_deck::{DeckFault, RunFault};
+use s360_deck::RunFault;
 use s360_disassembler::DisassemblyFault;
 use std::alloc::AllocError;
 use thiserror::Error;
-use volume_changes::Refusal;
+use volume_changes::ChangeRefusal;
+use volume_details::MemberListFault;
 
 /// Why `dasd` did not do what it was asked, or not to its end.
 #[derive(Debug, Drop, Error)]
@@ -60,7 +63,7 @@ pub enum ProgramFault {
     Table(TableFault),
     /// A volume is not changed as it was asked, and stays as it was.
     #[error(transparent)]
-    Change(Refusal),
+    Change(ChangeRefusal),
     /// A volume does not get a data set as it was asked, and stays as it was.
     #[error(transparent)]
     Load(LoadRefusal),
@@ -69,7 +72,7 @@ pub enum ProgramFault {
     Folder(FolderFault),
     /// A library does not get a member as it was asked, and its volume stays as it was.
     #[error(transparent)]
-    Member(AddRefusal),
+    Member(NewMemberRefusal),
     /// The file of a trace can't be opened.
     #[error("trace file not opened")]
     TraceNotOpened,
@@ -137,36 +140,157 @@ impl From<AllocError> for ProgramFault {
 }
 
 impl From<JobFault> for ProgramFault {
+    ghost use Rattle.std.specs.Prelude.{◌≡◌};
+    ghost use Rattle.dasd_run.specs.declared.fault.ProgramFault.TheVariants.{Job};
+
+    ghost from_gives = { λ f e. e ≡ Job f };
+
     fn from(fault: JobFault) -> ProgramFault {
         ProgramFault::Job(fault)
     }
 }
 
-impl From<VolumeFault> for ProgramFault {
-    fn from(fault: VolumeFault) -> ProgramFault {
-        of_printing(fault)
+impl From<RunFault> for ProgramFault {
+    ghost use Rattle.std.specs.Prelude.{◌≡◌};
+    ghost use Rattle.dasd_run.specs.declared.fault.ProgramFault.TheVariants.{Run};
+
+    ghost from_gives = { λ f e. e ≡ Run f };
+
+    fn from(fault: RunFault) -> ProgramFault {
+        ProgramFault::Run(fault)
     }
 }
 
-/// What the fault of a volume that is printed is to the program: a slot that can't be read is a file that can't be.
-pub(crate) fn of_printing(fault: VolumeFault) -> ProgramFault
-    ensures { result ≡ printing_fault fault }
-{
-    ProgramFault::Job(match fault {
-        VolumeFault::OutOfMemory => JobFault::OutOfMemory,
-        VolumeFault::Store => JobFault::Read,
-        VolumeFault::Write => JobFault::Write,
-    })
+impl From<UnloadFault> for ProgramFault {
+    ghost use Rattle.std.specs.Prelude.{◌≡◌};
+    ghost use Rattle.dasd_run.specs.declared.fault.ProgramFault.TheVariants.{Unload};
+
+    ghost from_gives = { λ f e. e ≡ Unload f };
+
+    fn from(fault: UnloadFault) -> ProgramFault {
+        ProgramFault::Unload(fault)
+    }
 }
 
-/// What a fault of attaching is to the program.
-pub(crate) fn of_attach(fault: AttachFault) -> ProgramFault
-    ensures { result ≡ attach_fault fault }
-{
-    match fault {
-        AttachFault::UnitTaken => ProgramFault::AddressTaken,
-        AttachFault::Full => ProgramFault::TooManyDrives,
-        AttachFault::OutOfMemory(_) => ProgramFault::OutOfMemory,
+// The fault of a volume that is printed: a slot that can't be read is a file that can't be.
+impl From<VolumeFault> for ProgramFault {
+    ghost use Rattle.std.specs.Prelude.{◌≡◌};
+    ghost use Rattle.dasd_run.specs.Faults.{printing_fault};
+
+    ghost from_gives = { λ f e. e ≡ printing_fault f };
+
+    fn from(fault: VolumeFault) -> ProgramFault {
+        ProgramFault::Job(match fault {
+            VolumeFault::OutOfMemory => JobFault::OutOfMemory,
+            VolumeFault::Store => JobFault::Read,
+            VolumeFault::Write => JobFault::Write,
+        })
+    }
+}
+
+impl From<MemberListFault> for ProgramFault {
+    ghost use Rattle.std.specs.Prelude.{◌≡◌};
+    ghost use Rattle.dasd_run.specs.Faults.{library_fault};
+
+    ghost from_gives = { λ f e. e ≡ library_fault f };
+
+    fn from(fault: MemberListFault) -> ProgramFault {
+        match fault {
+            MemberListFault::NoDataSet => ProgramFault::Unload(UnloadFault::NoDataSet),
+            MemberListFault::NotPartitioned => ProgramFault::NotPartitioned,
+            MemberListFault::OutOfMemory => ProgramFault::Job(JobFault::OutOfMemory),
+            MemberListFault::Read => ProgramFault::Job(JobFault::Read),
+            MemberListFault::Write => ProgramFault::Job(JobFault::Write),
+        }
+    }
+}
+
+impl From<FormatFault> for ProgramFault {
+    ghost use Rattle.std.specs.Prelude.{◌≡◌};
+    ghost use Rattle.dasd_run.specs.Faults.{format_fault};
+
+    ghost from_gives = { λ f e. e ≡ format_fault f };
+
+    fn from(fault: FormatFault) -> ProgramFault {
+        match fault {
+            FormatFault::Table(fault) => ProgramFault::Table(fault),
+            FormatFault::Job(fault) => ProgramFault::Job(fault),
+        }
+    }
+}
+
+impl From<ChangeFault> for ProgramFault {
+    ghost use Rattle.std.specs.Prelude.{◌≡◌};
+    ghost use Rattle.dasd_run.specs.Faults.{change_fault};
+
+    ghost from_gives = { λ f e. e ≡ change_fault f };
+
+    fn from(fault: ChangeFault) -> ProgramFault {
+        match fault {
+            ChangeFault::Refused(refusal) => ProgramFault::Change(refusal),
+            ChangeFault::Job(fault) => ProgramFault::Job(fault),
+            ChangeFault::Save(fault) => ProgramFault::Save(fault),
+        }
+    }
+}
+
+impl From<LoadFault> for ProgramFault {
+    ghost use Rattle.std.specs.Prelude.{◌≡◌};
+    ghost use Rattle.dasd_run.specs.Faults.{load_fault};
+
+    ghost from_gives = { λ f e. e ≡ load_fault f };
+
+    fn from(fault: LoadFault) -> ProgramFault {
+        match fault {
+            LoadFault::Refused(refusal) => ProgramFault::Load(refusal),
+            LoadFault::Job(fault) => ProgramFault::Job(fault),
+            LoadFault::Save(fault) => ProgramFault::Save(fault),
+        }
+    }
+}
+
+impl From<FolderFault> for ProgramFault {
+    ghost use Rattle.std.specs.Prelude.{◌≡◌};
+    ghost use Rattle.dasd_run.specs.Faults.{folder_fault};
+
+    ghost from_gives = { λ f e. e ≡ folder_fault f };
+
+    fn from(fault: FolderFault) -> ProgramFault {
+        match fault {
+            FolderFault::Job(fault) => ProgramFault::Job(fault),
+            FolderFault::Save(fault) => ProgramFault::Save(fault),
+            fault => ProgramFault::Folder(fault),
+        }
+    }
+}
+
+impl From<NewMemberFault> for ProgramFault {
+    ghost use Rattle.std.specs.Prelude.{◌≡◌};
+    ghost use Rattle.dasd_run.specs.Faults.{add_fault};
+
+    ghost from_gives = { λ f e. e ≡ add_fault f };
+
+    fn from(fault: NewMemberFault) -> ProgramFault {
+        match fault {
+            NewMemberFault::Refused(refusal) => ProgramFault::Member(refusal),
+            NewMemberFault::Job(fault) => ProgramFault::Job(fault),
+            NewMemberFault::Save(fault) => ProgramFault::Save(fault),
+        }
+    }
+}
+
+impl From<AttachFault> for ProgramFault {
+    ghost use Rattle.std.specs.Prelude.{◌≡◌};
+    ghost use Rattle.dasd_run.specs.Faults.{attach_fault};
+
+    ghost from_gives = { λ f e. e ≡ attach_fault f };
+
+    fn from(fault: AttachFault) -> ProgramFault {
+        match fault {
+            AttachFault::UnitTaken => ProgramFault::AddressTaken,
+            AttachFault::Full => ProgramFault::TooManyDrives,
+            AttachFault::OutOfMemory(_) => ProgramFault::OutOfMemory,
+        }
     }
 }
 

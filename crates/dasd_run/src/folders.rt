@@ -1,53 +1,28 @@
 //! Folders and members that are put onto volumes in files.
 
-ghost use Rattle.std.specs.Prelude.{◌≡◌, true, IfErr};
-ghost use Rattle.counted_io.specs.Streams.{seen_by};
-ghost use Rattle.dasd_run.specs.Faults.{keeps_files};
-ghost use Rattle.dasd_run.specs.Folders.{folder_ending, member_ending, FolderAsked, MemberAsked};
+ghost use Rattle.std.specs.Prelude.{◌≡◌};
+ghost use Rattle.dasd_run.specs.Ended.{KeepsFiles};
+ghost use Rattle.dasd_run.specs.Folders.{FolderAsked, MemberAsked};
 
 use crate::changes::source_of;
 use crate::commands::Ending;
 use crate::fault::ProgramFault;
-use added_members::{AddFault, NewMemberFile, load_member};
+use crate::host::Host;
+use added_members::{NewMemberFile, load_member};
 use changed_volumes::ChangedVolume;
-use counted_io::Counted;
-use dasd_jobs::ImageFiles;
+use dasd_jobs::{Progress, Traces};
 use dasd_words::{LoadedFolder, LoadedMember};
-use loaded_folders::{FolderFault, NewFolder, load_folder};
-use std::alloc::Global;
-use std::io::Write;
-
-// How a command ends that put the data sets of a folder onto a volume.
-fn folder_ending(loaded: Result<(), FolderFault>) -> Result<Ending, ProgramFault>
-    ensures { result ≡ folder_ending loaded }
-{
-    match loaded {
-        Ok(()) => Ok(Ending::Done),
-        Err(FolderFault::Job(fault)) => Err(ProgramFault::Job(fault)),
-        Err(FolderFault::Save(fault)) => Err(ProgramFault::Save(fault)),
-        Err(fault) => Err(ProgramFault::Folder(fault)),
-    }
-}
+use loaded_folders::{NewFolder, load_folder};
+use std::io::{Read, Write};
 
 /// Puts the data sets of a folder onto the volume of its files.
-pub(crate) fn load_all<F: ImageFiles, W: Write>(
-    alloc: Global,
-    files: &mut F,
-    writer: &mut Counted<W>,
+pub(crate) fn load_all<F: Traces, R: Read, W: Write, P: Progress>(
+    host: &mut Host<F, R, W, P>,
     asked: &LoadedFolder,
 ) -> Result<Ending, ProgramFault>
-    ensures keeps { IfErr result (λ e. keeps_files e ≡ true → F.written files.new ≡ F.written files.old) }
-    ensures loads { FolderAsked result asked.now
-        (record {
-          opened = F.opened files.old;
-          written = F.written files.old;
-          printed = seen_by W.contents writer.old;
-        })
-        (record {
-          opened = F.opened files.new;
-          written = F.written files.new;
-          printed = seen_by W.contents writer.new;
-        }) }
+    ensures keeps { KeepsFiles result host.old host.new }
+    ensures loads { FolderAsked result asked.now host.old host.new }
+    ensures unread { host.new.read ≡ host.old.read }
 {
     let volume = ChangedVolume {
         paths: asked.paths.as_slice(),
@@ -57,40 +32,24 @@ pub(crate) fn load_all<F: ImageFiles, W: Write>(
         folder: asked.folder,
         source: source_of(asked.form),
     };
-    folder_ending(load_folder(alloc, files, writer, &volume, &folder))
-}
-
-// How a command ends that put a member into a library.
-fn member_ending(loaded: Result<(), AddFault>) -> Result<Ending, ProgramFault>
-    ensures { result ≡ member_ending loaded }
-{
-    match loaded {
-        Ok(()) => Ok(Ending::Done),
-        Err(AddFault::Refused(refusal)) => Err(ProgramFault::Member(refusal)),
-        Err(AddFault::Job(fault)) => Err(ProgramFault::Job(fault)),
-        Err(AddFault::Save(fault)) => Err(ProgramFault::Save(fault)),
-    }
+    load_folder(
+        host.alloc,
+        &mut host.files,
+        &mut host.writer,
+        &volume,
+        &folder,
+    )?;
+    Ok(Ending::Done)
 }
 
 /// Puts a file into a library of the volume of its files as a new member.
-pub(crate) fn load_one<F: ImageFiles, W: Write>(
-    alloc: Global,
-    files: &mut F,
-    writer: &mut Counted<W>,
+pub(crate) fn load_one<F: Traces, R: Read, W: Write, P: Progress>(
+    host: &mut Host<F, R, W, P>,
     asked: &LoadedMember,
 ) -> Result<Ending, ProgramFault>
-    ensures keeps { IfErr result (λ e. keeps_files e ≡ true → F.written files.new ≡ F.written files.old) }
-    ensures loads { MemberAsked result asked.now
-        (record {
-          opened = F.opened files.old;
-          written = F.written files.old;
-          printed = seen_by W.contents writer.old;
-        })
-        (record {
-          opened = F.opened files.new;
-          written = F.written files.new;
-          printed = seen_by W.contents writer.new;
-        }) }
+    ensures keeps { KeepsFiles result host.old host.new }
+    ensures loads { MemberAsked result asked.now host.old host.new }
+    ensures unread { host.new.read ≡ host.old.read }
 {
     let volume = ChangedVolume {
         paths: asked.paths.as_slice(),
@@ -102,5 +61,12 @@ pub(crate) fn load_one<F: ImageFiles, W: Write>(
         path: asked.source,
         source: source_of(asked.form),
     };
-    member_ending(load_member(alloc, files, writer, &volume, &member))
+    load_member(
+        host.alloc,
+        &mut host.files,
+        &mut host.writer,
+        &volume,
+        &member,
+    )?;
+    Ok(Ending::Done)
 }

@@ -11,6 +11,7 @@ mod explain;
 mod fault;
 mod folders;
 mod hash;
+mod host;
 mod labels;
 mod list;
 mod loads;
@@ -27,4 +28,5 @@ mod words;
 
 pub use crate::commands::{Ending, answer, obey};
 pub use crate::fault::ProgramFault;
+pub use crate::host::{Host, HostParts, obey_with};
 pub use crate::runs::{Disks, build, finish};

@@ -3,20 +3,22 @@
 ghost use Rattle.std.specs.Prelude.{◌≡◌, IfSome, IfNone};
 ghost use Rattle.counted_io.specs.Streams.{seen_by};
 ghost use Rattle.dasd_run.specs.Answers.{ListsPart};
+ghost use Rattle.dasd_run.specs.Outside.{Looks};
 ghost use Rattle.dasd_run.specs.Printed.{asked_cylinders, asked_list, HasCylinders, PrintsPart, TakesMemoryFirst};
 
 use crate::archive::{range, style};
 use crate::commands::Ending;
-use crate::fault::{ProgramFault, of_printing};
+use crate::fault::ProgramFault;
+use crate::host::Host;
 use crate::printed_paths::quoted;
 use crate::reaches::with_reach;
 use ckd_track::Geometry;
 use counted_io::Counted;
 use dasd_archive::{Form, Listing, Range};
-use dasd_jobs::{ImageFiles, SlotReader, open_volume};
+use dasd_jobs::{Progress, SlotReader, Traces, open_volume};
 use dasd_words::{ListedPart, Numbers, PrintedVolume};
 use std::alloc::Global;
-use std::io::Write;
+use std::io::{Read, Write};
 
 /// Prints a part of the volume of these files.
 ///
@@ -24,35 +26,25 @@ use std::io::Write;
 ///
 /// There is no memory, or the files hold no volume, or it has no such part, before a line is printed; or what stopped the list, behind
 /// the lines that are printed. A write fault comes exactly where a write failed, or the last flush.
-pub(crate) fn list_part<F: ImageFiles, W: Write>(
-    alloc: Global,
-    files: &mut F,
-    writer: &mut Counted<W>,
+pub(crate) fn list_part<F: Traces, R: Read, W: Write, P: Progress>(
+    host: &mut Host<F, R, W, P>,
     asked: &PrintedVolume,
     part: ListedPart,
 ) -> Result<Ending, ProgramFault>
-    ensures kept { F.written files.new ≡ F.written files.old }
-    ensures lists { ListsPart result asked.now part (F.opened files.old) (F.opened files.new)
-        (seen_by W.contents writer.old) (seen_by W.contents writer.new) }
-    ensures memory { TakesMemoryFirst result (seen_by W.contents writer.old) (seen_by W.contents writer.new) }
+    ensures looks { Looks host.old host.new }
+    ensures lists { ListsPart result asked.now part host.old host.new }
+    ensures memory { TakesMemoryFirst result host.old.printed host.new.printed }
 {
     let paths = asked.paths.as_slice();
-    let path = match quoted(alloc, paths) {
-        Ok(path) => path,
-        Err(fault) => return Err(fault),
-    };
+    let path = quoted(host.alloc, paths)?;
     let form = Form {
         style: style(asked.json),
         path: path.as_str(),
     };
-    match open_volume(alloc, files, paths, asked.as_far) {
-        Ok(mut volume) => {
-            let reach = volume.reach();
-            let listed = list_opened(alloc, &mut volume, writer, form, part);
-            with_reach(reach, listed)
-        }
-        Err(fault) => Err(ProgramFault::Job(fault)),
-    }
+    let mut volume = open_volume(host.alloc, &mut host.files, paths, asked.as_far)?;
+    let reach = volume.reach();
+    let listed = list_opened(host.alloc, &mut volume, &mut host.writer, form, part);
+    with_reach(reach, listed)
 }
 
 // Prints a part of a volume.
@@ -75,10 +67,8 @@ fn list_opened<V: SlotReader, W: Write>(
         cylinders,
         used_only: part.used_only,
     };
-    match dasd_archive::list_part(alloc, volume, writer, listing) {
-        Ok(()) => Ok(Ending::Done),
-        Err(fault) => Err(of_printing(fault)),
-    }
+    dasd_archive::list_part(alloc, volume, writer, listing)?;
+    Ok(Ending::Done)
 }
 
 // The cylinders that words ask for, or all, if a volume of this geometry has them.

@@ -13,10 +13,7 @@ pub(crate) fn joined(alloc: Global, paths: &[&str]) -> Result<String, ProgramFau
     ensures text { IfOk result (λ text. string_bytes text ≡ joined_paths (map (λ path. path.now) paths.now)) }
     ensures fault { IfErr result (λ e. e ≡ ProgramFault.OutOfMemory) }
 {
-    match paths.join(alloc, "+") {
-        Ok(joined) => Ok(joined),
-        Err(_) => Err(ProgramFault::OutOfMemory),
-    }
+    Ok(paths.join(alloc, "+")?)
 }
 
 /// The paths of an image as one string of JSON: joined by plus signs, with quotes.
@@ -24,14 +21,8 @@ pub(crate) fn quoted(alloc: Global, paths: &[&str]) -> Result<String, ProgramFau
     ensures text { IfOk result (λ text. string_bytes text ≡ quoted_paths (map (λ path. path.now) paths.now)) }
     ensures fault { IfErr result (λ e. e ≡ ProgramFault.OutOfMemory) }
 {
-    let joined = match joined(alloc, paths) {
-        Ok(joined) => joined,
-        Err(fault) => return Err(fault),
-    };
-    match Value::String(joined).to_string(alloc) {
-        Ok(text) => Ok(text),
-        Err(_) => Err(ProgramFault::OutOfMemory),
-    }
+    let joined = joined(alloc, paths)?;
+    Ok(Value::String(joined).to_string(alloc)?)
 }
 
 /// They are printed where lines are objects of JSON.

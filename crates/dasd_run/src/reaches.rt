@@ -3,7 +3,7 @@
 ghost use Rattle.std.specs.Prelude.{◌≡◌};
 ghost use Rattle.dasd_run.specs.Reaches.{with_reach};
 
-use crate::commands::Ending;
+use crate::commands::{Ending, worse};
 use crate::fault::ProgramFault;
 use dasd_jobs::Reach;
 
@@ -14,8 +14,6 @@ pub(crate) fn with_reach(
 ) -> Result<Ending, ProgramFault>
     ensures { result ≡ with_reach reach ended }
 {
-    match ended {
-        Ok(Ending::Done) if reach.lacking > 0 => Ok(Ending::Findings),
-        ended => ended,
-    }
+    let ending = ended?;
+    Ok(worse(ending, reach.lacking > 0))
 }

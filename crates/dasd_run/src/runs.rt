@@ -7,7 +7,7 @@ ghost use Rattle.dasd_run.specs.Built.{IsNewChannel, NotMade, Opens, OpensVolume
 ghost use Rattle.dasd_run.specs.Faults.{keeps_files};
 ghost use Rattle.dasd_run.specs.Saves.{SavesRun};
 
-use crate::fault::{ProgramFault, of_attach, of_volume};
+use crate::fault::{ProgramFault, of_volume};
 use crate::remarks::Remark;
 use crate::saves::save_all;
 use ckd_image::Image;
@@ -88,7 +88,7 @@ fn attach<F: ImageFiles>(
     let Err((fault, _)) = channel.attach(alloc, volume.device, image) else {
         return Ok(());
     };
-    Err(of_attach(fault))
+    Err(fault.into())
 }
 
 // The place of the first of these volumes that has this address.

@@ -1,22 +1,23 @@
 //! A strict check of the volume of files.
 
-ghost use Rattle.std.specs.Prelude.{◌≡◌};
 ghost use Rattle.counted_io.specs.Streams.{seen_by};
 ghost use Rattle.dasd_volumes.specs.Printing.{CountsWrites};
 ghost use Rattle.dasd_archive.specs.Reports.{PrintsFindings};
-ghost use Rattle.dasd_run.specs.Strict.{found_in, checked_ending, checked_style, ChecksWhole, ChecksStrictly};
+ghost use Rattle.dasd_run.specs.Outside.{Looks};
+ghost use Rattle.dasd_run.specs.Strict.{found_in, ChecksWhole, ChecksStrictly};
 
 use crate::archive::style;
-use crate::commands::Ending;
-use crate::fault::{ProgramFault, of_printing};
+use crate::commands::{Ending, ending_of};
+use crate::fault::ProgramFault;
+use crate::host::Host;
 use crate::printed_paths::quoted;
 use counted_io::Counted;
 use dasd_archive::{FileHeader, FindingForm, FindingStyle, Tally, check_headers, check_strict};
-use dasd_jobs::{ImageFiles, SlotReader, open_volume};
+use dasd_jobs::{Progress, SlotReader, Traces, open_volume};
 use dasd_volumes::VolumeFault;
 use dasd_words::StrictCheck;
 use std::alloc::Global;
-use std::io::Write;
+use std::io::{Read, Write};
 
 /// The length of a file's header, in bytes.
 const HEADER: usize = 512;
@@ -27,43 +28,26 @@ const HEADER: usize = 512;
 ///
 /// There is no memory, or the files hold no volume, or a header can't be read, before a line is printed; or what stopped the check,
 /// behind the lines that are printed. A write fault comes exactly where a write failed, or the last flush.
-pub(crate) fn check_strictly<F: ImageFiles, W: Write>(
-    alloc: Global,
-    files: &mut F,
-    writer: &mut Counted<W>,
+pub(crate) fn check_strictly<F: Traces, R: Read, W: Write, P: Progress>(
+    host: &mut Host<F, R, W, P>,
     asked: &StrictCheck,
 ) -> Result<Ending, ProgramFault>
-    ensures kept { F.written files.new ≡ F.written files.old }
-    ensures checks { ChecksStrictly result asked.now (F.opened files.old) (F.opened files.new)
-        (seen_by W.contents writer.old) (seen_by W.contents writer.new) }
+    ensures looks { Looks host.old host.new }
+    ensures checks { ChecksStrictly result asked.now host.old host.new }
 {
     let paths = asked.volume.paths.as_slice();
-    let path = match quoted(alloc, paths) {
-        Ok(path) => path,
-        Err(fault) => return Err(fault),
-    };
+    let path = quoted(host.alloc, paths)?;
     let form = FindingForm {
-        style: style_of(asked),
+        style: FindingStyle {
+            style: style(asked.volume.json),
+            with_notes: asked.with_notes,
+        },
         path: path.as_str(),
     };
-    let mut volume = match open_volume(alloc, files, paths, asked.volume.as_far) {
-        Ok(volume) => volume,
-        Err(fault) => return Err(ProgramFault::Job(fault)),
-    };
-    match volume.read_headers(alloc) {
-        Ok(heads) => check_opened(alloc, &mut volume, writer, form, heads.as_slice()),
-        Err(fault) => Err(ProgramFault::Job(fault)),
-    }
-}
-
-// For whom what is found is printed, and whether notes are.
-fn style_of(asked: &StrictCheck) -> FindingStyle
-    ensures { result ≡ checked_style asked.now }
-{
-    FindingStyle {
-        style: style(asked.volume.json),
-        with_notes: asked.with_notes,
-    }
+    let mut volume = open_volume(host.alloc, &mut host.files, paths, asked.volume.as_far)?;
+    let heads = volume.read_headers(host.alloc)?;
+    let heads = heads.as_slice();
+    check_opened(host.alloc, &mut volume, &mut host.writer, form, heads)
 }
 
 // Prints what is found of these headers and of a volume, and says whether there is an error.
@@ -78,23 +62,9 @@ fn check_opened<V: SlotReader, W: Write>(
         (seen_by W.contents writer.old) (seen_by W.contents writer.new) }
 {
     let mut tally = Tally::new();
-    if let Err(fault) = check_heads(alloc, writer, &mut tally, form, heads) {
-        return Err(of_printing(fault));
-    }
-    match check_strict(alloc, volume, writer, form, tally) {
-        Ok(tally) => Ok(ending_of(tally)),
-        Err(fault) => Err(of_printing(fault)),
-    }
-}
-
-// How a strict check ends that counted so many findings.
-fn ending_of(tally: Tally) -> Ending
-    ensures { result ≡ checked_ending tally }
-{
-    match tally.errors {
-        0 => Ending::Done,
-        _ => Ending::Findings,
-    }
+    check_heads(alloc, writer, &mut tally, form, heads)?;
+    let counted = check_strict(alloc, volume, writer, form, tally)?;
+    Ok(ending_of(counted.errors > 0))
 }
 
 // Prints what is found of these headers, the first of which is number 1, and counts it.
@@ -114,9 +84,7 @@ fn check_heads<W: Write>(
             file: (i + 1).min(255) as u8,
             bytes: &heads[i],
         };
-        if let Err(fault) = check_headers(alloc, writer, tally, form, header) {
-            return Err(fault);
-        }
+        check_headers(alloc, writer, tally, form, header)?;
     }
     Ok(())
 }

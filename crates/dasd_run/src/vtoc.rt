@@ -4,21 +4,23 @@ ghost use Rattle.std.specs.Prelude.{◌≡◌, ◌≢◌, length, IfOk, IfErr, O
 ghost use Rattle.std.specs.Option.{option_copied};
 ghost use Rattle.counted_io.specs.Streams.{seen_by, Takes, TakesFront, IsFlushed};
 ghost use Rattle.dasd_volumes.specs.Printing.{CountsWrites};
+ghost use Rattle.dasd_run.specs.Ended.{counted_ending};
 ghost use Rattle.dasd_run.specs.Held.{SaysAll, PrintsHeld, ListsContents, contents_text};
-ghost use Rattle.dasd_run.specs.Printed.{ending_of};
+ghost use Rattle.dasd_run.specs.Outside.{Looks};
 
-use crate::commands::Ending;
-use crate::fault::{ProgramFault, of_printing};
+use crate::commands::{Ending, ending_of};
+use crate::fault::ProgramFault;
+use crate::host::Host;
 use crate::printed_paths::{path_if, quoted};
 use crate::reaches::with_reach;
 use ckd_track::Geometry;
 use counted_io::Counted;
 use dasd_contents::{write_lines, write_objects};
-use dasd_jobs::{ImageFiles, JobFault, SlotReader, open_volume};
+use dasd_jobs::{JobFault, Progress, SlotReader, Traces, open_volume};
 use dasd_volumes::VolumeFault;
 use dasd_words::PrintedVolume;
 use std::alloc::Global;
-use std::io::Write;
+use std::io::{Read, Write};
 use volume_contents::{Contents, check_contents, read_contents};
 
 /// Prints what the volume of these files holds, and says whether something is wrong with it.
@@ -27,30 +29,20 @@ use volume_contents::{Contents, check_contents, read_contents};
 ///
 /// There is no memory, or the files hold no volume, or it can't be read, before anything is printed; or a write failed, or the flush, and
 /// exactly then it is a write fault.
-pub(crate) fn list_contents<F: ImageFiles, W: Write>(
-    alloc: Global,
-    files: &mut F,
-    writer: &mut Counted<W>,
+pub(crate) fn list_contents<F: Traces, R: Read, W: Write, P: Progress>(
+    host: &mut Host<F, R, W, P>,
     asked: &PrintedVolume,
 ) -> Result<Ending, ProgramFault>
-    ensures kept { F.written files.new ≡ F.written files.old }
-    ensures lists { ListsContents result asked.now (F.opened files.old) (F.opened files.new)
-        (seen_by W.contents writer.old) (seen_by W.contents writer.new) }
+    ensures looks { Looks host.old host.new }
+    ensures lists { ListsContents result asked.now host.old host.new }
 {
     let paths = asked.paths.as_slice();
-    let path = match quoted(alloc, paths) {
-        Ok(path) => path,
-        Err(fault) => return Err(fault),
-    };
+    let path = quoted(host.alloc, paths)?;
     let json = path_if(asked.json, path.as_str());
-    match open_volume(alloc, files, paths, asked.as_far) {
-        Ok(mut volume) => {
-            let reach = volume.reach();
-            let printed = print_contents(alloc, &mut volume, writer, json);
-            with_reach(reach, printed)
-        }
-        Err(fault) => Err(ProgramFault::Job(fault)),
-    }
+    let mut volume = open_volume(host.alloc, &mut host.files, paths, asked.as_far)?;
+    let reach = volume.reach();
+    let printed = print_contents(host.alloc, &mut volume, &mut host.writer, json);
+    with_reach(reach, printed)
 }
 
 // Prints what a volume holds, in lines, or in objects where they have its paths; and says whether something is wrong with it.
@@ -63,14 +55,9 @@ fn print_contents<V: SlotReader, W: Write>(
     ensures { PrintsHeld result (option_copied json.entry) (V.volume volume.old) (seen_by W.contents writer.old) (seen_by W.contents writer.new) }
 {
     let geometry = volume.geometry();
-    let contents = match checked_contents(alloc, volume) {
-        Ok(contents) => contents,
-        Err(fault) => return Err(fault),
-    };
-    match write_contents(alloc, writer, json, geometry, &contents) {
-        Ok(()) => Ok(ending_of(&contents)),
-        Err(fault) => Err(of_printing(fault)),
-    }
+    let contents = checked_contents(alloc, volume)?;
+    write_contents(alloc, writer, json, geometry, &contents)?;
+    Ok(held_ending(&contents))
 }
 
 /// Prints what a volume says of itself, in lines, or in objects where they have its paths.
@@ -95,13 +82,10 @@ pub(crate) fn write_contents<W: Write>(
 }
 
 /// How the program ends, by what is wrong with a volume.
-pub(crate) fn ending_of(contents: &Contents) -> Ending
-    ensures { result ≡ ending_of (length contents.now.found.findings.items) }
+pub(crate) fn held_ending(contents: &Contents) -> Ending
+    ensures { result ≡ counted_ending (length contents.now.found.findings.items) }
 {
-    match contents.found.findings.as_slice().len() {
-        0 => Ending::Done,
-        _ => Ending::Findings,
-    }
+    ending_of(contents.found.findings.as_slice().len() > 0)
 }
 
 /// What a volume says of itself, with all that is wrong.
@@ -113,13 +97,7 @@ pub(crate) fn checked_contents<V: SlotReader>(
     ensures kept { V.volume volume.new ≡ V.volume volume.old }
     ensures fault { IfErr result (λ e. e ≢ ProgramFault.Job JobFault.Write) }
 {
-    let mut contents = match read_contents(alloc, volume) {
-        Ok(contents) => contents,
-        Err(VolumeFault::Store) => return Err(ProgramFault::Job(JobFault::Read)),
-        Err(_) => return Err(ProgramFault::OutOfMemory),
-    };
-    match check_contents(alloc, volume.geometry(), &mut contents) {
-        Ok(()) => Ok(contents),
-        Err(_) => Err(ProgramFault::OutOfMemory),
-    }
+    let mut contents = read_contents(alloc, volume)?;
+    check_contents(alloc, volume.geometry(), &mut contents)?;
+    Ok(contents)
 }

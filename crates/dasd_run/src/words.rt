@@ -7,9 +7,10 @@ ghost use Rattle.dasd_run.specs.Words.{source_name, IsAssemblyFault, IsDisassemb
 use crate::commands::{Ending, tell};
 use crate::decks::read_deck;
 use crate::fault::ProgramFault;
+use crate::host::Host;
 use crate::loads::load_files;
 use counted_io::Counted;
-use dasd_jobs::ImageFiles;
+use dasd_jobs::{ImageFiles, Progress, Traces};
 use s360_assembler::{AssemblyFault, LoadedFile, assemble, files_named};
 use s360_deck::RunFault;
 use s360_disassembler::{DisassemblyFault, disassemble};
@@ -79,9 +80,7 @@ fn load_and_print<F: ImageFiles, W: Write>(
     if text.len() > MOST_BYTES {
         return Err(ProgramFault::Run(RunFault::Read));
     }
-    let Ok(names) = files_named(alloc, text) else {
-        return Err(ProgramFault::OutOfMemory);
-    };
+    let names = files_named(alloc, text)?;
     match load_files(alloc, files, names.as_slice()) {
         Ok(loaded) => print_deck(alloc, writer, path, loaded.as_slice(), text),
         Err(fault) => Err(of_assembly(alloc, path, fault)),
@@ -111,33 +110,22 @@ fn print_words<W: Write>(
 ///
 /// # Errors
 ///
-/// It can't be read, it is wrong, its files have more bytes than a deck may have, or there is no memory: nothing is printed. A write fault comes exactly where a write failed, or the
-/// flush.
-pub(crate) fn assemble_text<F: ImageFiles, R: Read, W: Write>(
-    alloc: Global,
-    files: &mut F,
-    reader: &mut Counted<R>,
-    writer: &mut Counted<W>,
+/// It can't be read, it is wrong, its files have more bytes than a deck may have, or there is no memory: nothing is printed. A write
+/// fault comes exactly where a write failed, or the flush.
+pub(crate) fn assemble_text<F: Traces, R: Read, W: Write, P: Progress>(
+    host: &mut Host<F, R, W, P>,
     path: Option<&str>,
 ) -> Result<Ending, ProgramFault>
-    ensures { WithText AssemblesText result (option_map (λ path. path.now) path.entry)
-        (record {
-          read = seen_by R.remaining reader.old;
-          printed = seen_by W.contents writer.old;
-          written = F.written files.old;
-          opened = F.opened files.old;
-        })
-        (record {
-          read = seen_by R.remaining reader.new;
-          printed = seen_by W.contents writer.new;
-          written = F.written files.new;
-          opened = F.opened files.new;
-        }) }
+    ensures { WithText AssemblesText result (option_map (λ path. path.now) path.entry) host.old host.new }
 {
-    match read_deck(alloc, files, reader, path) {
-        Ok(text) => load_and_print(alloc, files, writer, path, text.as_slice()),
-        Err(fault) => Err(ProgramFault::Run(fault)),
-    }
+    let text = read_deck(host.alloc, &mut host.files, &mut host.reader, path)?;
+    load_and_print(
+        host.alloc,
+        &mut host.files,
+        &mut host.writer,
+        path,
+        text.as_slice(),
+    )
 }
 
 /// Prints a deck in words, the one of the file at this path or of the reader.
@@ -146,29 +134,12 @@ pub(crate) fn assemble_text<F: ImageFiles, R: Read, W: Write>(
 ///
 /// It can't be read, it is no deck, or there is no memory: nothing is printed. A write fault comes exactly where a write failed, or the
 /// flush.
-pub(crate) fn disassemble_deck<F: ImageFiles, R: Read, W: Write>(
-    alloc: Global,
-    files: &mut F,
-    reader: &mut Counted<R>,
-    writer: &mut Counted<W>,
+pub(crate) fn disassemble_deck<F: Traces, R: Read, W: Write, P: Progress>(
+    host: &mut Host<F, R, W, P>,
     path: Option<&str>,
 ) -> Result<Ending, ProgramFault>
-    ensures { WithText PrintsWords result (option_map (λ path. path.now) path.entry)
-        (record {
-          read = seen_by R.remaining reader.old;
-          printed = seen_by W.contents writer.old;
-          written = F.written files.old;
-          opened = F.opened files.old;
-        })
-        (record {
-          read = seen_by R.remaining reader.new;
-          printed = seen_by W.contents writer.new;
-          written = F.written files.new;
-          opened = F.opened files.new;
-        }) }
+    ensures { WithText PrintsWords result (option_map (λ path. path.now) path.entry) host.old host.new }
 {
-    match read_deck(alloc, files, reader, path) {
-        Ok(deck) => print_words(alloc, writer, path, deck.as_slice()),
-        Err(fault) => Err(ProgramFault::Run(fault)),
-    }
+    let deck = read_deck(host.alloc, &mut host.files, &mut host.reader, path)?;
+    print_words(host.alloc, &mut host.writer, path, deck.as_slice())
 }

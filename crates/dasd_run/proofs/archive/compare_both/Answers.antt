@@ -1,4 +1,5 @@
 use Rattle.std.proofs.Common.{◌≡◌, ◌∙◌, ℕ, List, map, inl, inr, refl, ap, subst}
+use Rattle.std.proofs.lemmas.Result.{err_from_is_err_and}
 use Rattle.counted_io.specs.Streams.{seen_by}
 use Rattle.dasd_archive.specs.declared.reports.Style.{Style}
 use Rattle.dasd_jobs.specs.Sources.{SourceFile, OpenedState, OpensPaths, volume_in}
@@ -8,34 +9,34 @@ use Rattle.dasd_run.specs.Paths.{quoted_paths}
 use Rattle.dasd_run.specs.Printed.{style_of}
 use Rattle.dasd_run.proofs.archive.compare_both.Goals as goal
 
-pub returns-in-Ok-open_volume-2-clause-compares : goal.returns-in-Ok-open_volume-2-clause-compares
-returns-in-Ok-open_volume-2-clause-compares g c = inr (record {
+pub returns-clause-compares : goal.returns-clause-compares
+returns-clause-compares g c = rw (← c.host.view_is) (inr (record {
   between = between;
   so = record {
     geometry = v.geometry;
     contents = v.contents;
-    opens = subst (λ paths. OpensPaths paths v.contents before between) (ap (map (λ path. path.now)) c.as_slice-3.ensures.value)
-        c.in-Ok-open_volume.ensures.opens;
-    mounts = c.in-Ok-open_volume.ensures.mounts;
+    opens = subst (λ paths. OpensPaths paths v.contents before between) (ap (map (λ path. path.now)) c.as_slice-one.ensures.value)
+        c.in_ok-volume.ensures.opens;
+    mounts = c.in_ok-volume.ensures.mounts;
     so = record {
       geometry = w.geometry;
       contents = w.contents;
-      opens = subst (λ paths. OpensPaths paths w.contents between now) (ap (map (λ path. path.now)) c.as_slice-4.ensures.value)
-          c.in-Ok-open_volume-2.ensures.opens;
-      mounts = c.in-Ok-open_volume-2.ensures.mounts;
+      opens = subst (λ paths. OpensPaths paths w.contents between now) (ap (map (λ path. path.now)) c.as_slice-other.ensures.value)
+          c.in_ok-beside.ensures.opens;
+      mounts = c.in_ok-beside.ensures.mounts;
       so = compares;
     };
   };
-})
+}))
   where
     v : OpenedState
-    v = c.in-Ok-open_volume.volume
+    v = c.in_ok-volume.volume
 
     w : OpenedState
-    w = c.in-Ok-open_volume-2.beside
+    w = c.in_ok-beside.beside
 
     before : List SourceFile
-    before = g.F.ImageFiles.opened c.args.files.now
+    before = g.F.ImageFiles.opened c.host.inside.files
 
     between : List SourceFile
     between = g.F.ImageFiles.opened c.open_volume.new.files
@@ -47,14 +48,15 @@ returns-in-Ok-open_volume-2-clause-compares g c = inr (record {
     Compares style path other =
         ComparesVolumes c.compare_opened.result style path other c.args.asked.now.lists (volume_in v.geometry v.contents)
         (volume_in w.geometry w.contents)
-        (seen_by g.W.Write.contents c.args.writer.now) (seen_by g.W.Write.contents c.compare_opened.new.writer)
+        (seen_by g.W.Write.contents c.host.inside.writer) (seen_by g.W.Write.contents c.compare_opened.new.writer)
 
     path_is : c.as_str.result.now ≡ quoted_paths (one_of c.args.asked.now)
-    path_is = c.as_str.ensures.value ∙ (c.in-Ok.ensures.text ∙ ap quoted_paths (ap (map (λ path. path.now)) c.as_slice.ensures.value))
+    path_is = c.as_str.ensures.value
+        ∙ (c.in_ok-path.ensures.text ∙ ap quoted_paths (ap (map (λ path. path.now)) c.as_slice-one.ensures.value))
 
     other_is : c.as_str-2.result.now ≡ quoted_paths (other_of c.args.asked.now)
     other_is = c.as_str-2.ensures.value
-        ∙ (c.in-Ok-quoted.ensures.text ∙ ap quoted_paths (ap (map (λ path. path.now)) c.as_slice-2.ensures.value))
+        ∙ (c.in_ok-other_path.ensures.text ∙ ap quoted_paths (ap (map (λ path. path.now)) c.as_slice-other.ensures.value))
 
     compares : Compares (style_of c.args.asked.now.json) (quoted_paths (one_of c.args.asked.now)) (quoted_paths (other_of c.args.asked.now))
     compares =
@@ -63,24 +65,25 @@ returns-in-Ok-open_volume-2-clause-compares g c = inr (record {
         (subst (λ style. Compares style c.as_str.result.now c.as_str-2.result.now) c.style.ensures c.compare_opened.ensures))
 
 -- the other volume is not opened
-pub returns-clause-compares : goal.returns-clause-compares
-returns-clause-compares g c =
+pub returns-in_err-beside-clause-compares : goal.returns-in_err-beside-clause-compares
+returns-in_err-beside-clause-compares g c =
     let opened = g.F.ImageFiles.opened in
-    let before = opened c.args.files.now in
+    let before = opened c.host.inside.files in
     let between = opened c.open_volume.new.files in
     let now = opened c.open_volume-2.new.files in
-    let v = c.in-Ok-open_volume.volume in
-    let one_is = ap (map (λ path. path.now)) c.as_slice-3.ensures.value in
-    let other_is = ap (map (λ path. path.now)) c.as_slice-4.ensures.value in
-    let f = c.in-Err-open_volume-2.fault in
-    inl (inr (
+    let v = c.in_ok-volume.volume in
+    let one_is = ap (map (λ path. path.now)) c.as_slice-one.ensures.value in
+    let other_is = ap (map (λ path. path.now)) c.as_slice-other.ensures.value in
+    let f = c.in_err-beside.field-0.0 in
+    let p = err_from_is_err_and c.from_residual-in_err-beside.result c.from_residual-in_err-beside.ensures.1 in
+    rw (p.1, p.2, ← c.host.view_is) (inl (inr (
       between,
       record {
         geometry = v.geometry;
         contents = v.contents;
-        opens = subst (λ paths. OpensPaths paths v.contents before between) one_is c.in-Ok-open_volume.ensures.opens;
-        mounts = c.in-Ok-open_volume.ensures.mounts;
+        opens = subst (λ paths. OpensPaths paths v.contents before between) one_is c.in_ok-volume.ensures.opens;
+        mounts = c.in_ok-volume.ensures.mounts;
         so = tt;
       },
-      (subst (λ paths. NotOpened c.args.asked.now.as_far f paths between now) other_is c.in-Err-open_volume-2.ensures.not_opened, refl),
-    ))
+      (subst (λ paths. NotOpened c.args.asked.now.as_far f paths between now) other_is c.in_err-beside.ensures.not_opened, refl),
+    )))

@@ -8,12 +8,12 @@ use Rattle.dasd_run.specs.Printed.{style_of, paths_of, asked_part}
 use Rattle.dasd_run.specs.Answers.{DumpsRecords}
 use Rattle.dasd_run.proofs.archive.dump_part.Goals as goal
 
-pub returns-in-Ok-open_volume-clause-dumps : goal.returns-in-Ok-open_volume-clause-dumps
-returns-in-Ok-open_volume-clause-dumps g c = inr (record {
+pub returns-clause-dumps : goal.returns-clause-dumps
+returns-clause-dumps g c = rw (← c.host.view_is) (inr (record {
   geometry = v.geometry;
   contents = v.contents;
-  opens = subst (λ paths. OpensPaths paths v.contents before now) same_paths c.in-Ok-open_volume.ensures.opens;
-  mounts = c.in-Ok-open_volume.ensures.mounts;
+  opens = subst (λ paths. OpensPaths paths v.contents before now) same_paths c.in_ok-volume.ensures.opens;
+  mounts = c.in_ok-volume.ensures.mounts;
   reach = c.reach-reach.result;
   is_reach = c.reach-reach.ensures;
   so = (
@@ -22,13 +22,13 @@ returns-in-Ok-open_volume-clause-dumps g c = inr (record {
     subst (Dumps (style_of c.args.asked.now.json)) same_path (subst (λ style. Dumps style c.as_str.result.now) c.style.ensures
         c.dump_opened-dumped.ensures),
   );
-})
+}))
   where
     v : OpenedState
-    v = c.in-Ok-open_volume.volume
+    v = c.in_ok-volume.volume
 
     before : List SourceFile
-    before = g.F.ImageFiles.opened c.args.files.now
+    before = g.F.ImageFiles.opened c.host.inside.files
 
     now : List SourceFile
     now = g.F.ImageFiles.opened c.open_volume.new.files
@@ -37,10 +37,10 @@ returns-in-Ok-open_volume-clause-dumps g c = inr (record {
     Dumps style path =
         DumpsRecords c.dump_opened-dumped.result c.args.part (dump_text style path (asked_part c.args.part))
         (volume_in v.geometry v.contents)
-        (seen_by g.W.Write.contents c.args.writer.now) (seen_by g.W.Write.contents c.dump_opened-dumped.new.writer)
+        (seen_by g.W.Write.contents c.host.inside.writer) (seen_by g.W.Write.contents c.dump_opened-dumped.new.writer)
 
     same_paths : map (λ path. path.now) c.as_slice-paths.result.now ≡ paths_of c.args.asked.now
     same_paths = ap (map (λ path. path.now)) c.as_slice-paths.ensures.value
 
     same_path : c.as_str.result.now ≡ quoted_paths (paths_of c.args.asked.now)
-    same_path = c.as_str.ensures.value ∙ (c.in-Ok.ensures.text ∙ ap quoted_paths same_paths)
+    same_path = c.as_str.ensures.value ∙ (c.in_ok-path.ensures.text ∙ ap quoted_paths same_paths)

@@ -17,7 +17,8 @@ use Rattle.dasd_run.proofs.commands.run_volumes.Goals as goal
 pub returns-in_err-tracer-clause-runs : goal.returns-in_err-tracer-clause-runs
 returns-in_err-tracer-clause-runs g c =
     let p = err_from_is_err_and c.from_residual.result c.from_residual.ensures.1 in
-    rw (p.1, p.2) (inr (inl (c.in_err-tracer.ensures.no_trace, c.begin_run.ensures.same, refl), c.begin_run.ensures.kept, refl))
+    let begun = c.begin_run.ensures in
+    rw (p.1, p.2, ← c.host.view_is) (inr (inl (c.in_err-tracer.ensures.no_trace, begun.same, refl), begun.kept, refl))
 
 pub returns-in_err-channel-clause-runs : goal.returns-in_err-channel-clause-runs
 returns-in_err-channel-clause-runs g c =
@@ -28,39 +29,40 @@ returns-in_err-channel-clause-runs g c =
     let size = c.args.asked.storage in
     let number = c.args.asked.channel in
     let not_built =
-    subst (λ (vs : List Volume). NotBuilt f size number vs (opened c.args.files.now) now) c.as_slice-volumes.ensures.value
+    subst (λ (vs : List Volume). NotBuilt f size number vs (opened c.host.inside.files) now) c.as_slice-volumes.ensures.value
     (subst (λ (l : List SourceFile). NotBuilt f size number c.as_slice-volumes.result.now l now) c.begin_run.ensures.same
     c.in_err-channel.ensures.not_built) in
-    rw (p.1, p.2) (inr (inr (inl (not_built, refl)), c.build.ensures.kept ∙ c.begin_run.ensures.kept, refl))
+    rw (p.1, p.2, ← c.host.view_is) (inr (inr (inl (not_built, refl)), c.build.ensures.kept ∙ c.begin_run.ensures.kept, refl))
 
-pub returns-in-Err-clause-runs : goal.returns-in-Err-clause-runs
-returns-in-Err-clause-runs g c =
+pub returns-in_err-text-clause-runs : goal.returns-in_err-text-clause-runs
+returns-in_err-text-clause-runs g c =
+    let p = err_from_is_err_and c.from_residual-in_err-text.result c.from_residual-in_err-text.ensures.1 in
     let opened = g.F.ImageFiles.opened in
     let built = c.in_ok-channel.channel in
     let now = opened c.read_deck.new.files in
     let opens =
-    subst (λ (vs : List Volume). OpensVolumes vs built.drives (opened c.args.files.now) now) c.as_slice-volumes.ensures.value
+    subst (λ (vs : List Volume). OpensVolumes vs built.drives (opened c.host.inside.files) now) c.as_slice-volumes.ensures.value
     (subst (λ (l : List SourceFile). OpensVolumes c.as_slice-volumes.result.now built.drives l now) c.begin_run.ensures.same
     (subst (λ (l : List SourceFile). OpensVolumes c.as_slice-volumes.result.now built.drives (opened c.begin_run.new.files) l)
-    (sym c.in-Err.ensures.none) c.in_ok-channel.ensures.drives)) in
+    (sym c.in_err-text.ensures.none) c.in_ok-channel.ensures.drives)) in
     let kept = c.read_deck.ensures.kept ∙ c.build.ensures.kept ∙ c.begin_run.ensures.kept in
-    inr (inr (inr ((built.drives, opens), c.in-Err.ensures.not_read)), kept, refl)
+    rw (p.1, p.2, ← c.host.view_is) (inr (inr (inr ((built.drives, opens), c.in_err-text.ensures.not_read)), kept, refl))
 
 -- a fault of the files is told first, and that of the trace last
 pub returns-clause-runs : goal.returns-clause-runs
 returns-clause-runs g c =
     let written = g.F.ImageFiles.written in
     let opened = g.F.ImageFiles.opened in
-    let before = opened c.args.files.now in
+    let before = opened c.host.inside.files in
     let between = opened c.build.new.files in
     let r = c.run_deck-run.result in
     let built = c.in_ok-channel.channel in
-    let text = c.in-Ok.text.items in
-    let same_files : written c.tell_fault.new.files ≡ written c.args.files.now =
+    let text = c.in_ok-text.text.items in
+    let same_files : written c.tell_fault.new.files ≡ written c.host.inside.files =
     c.tell_fault.ensures.kept ∙ c.read_deck.ensures.kept ∙ c.build.ensures.kept ∙ c.begin_run.ensures.kept in
     let none_behind : opened c.end_run-concluded.new.files ≡ opened c.read_deck.new.files =
     c.end_run-concluded.ensures.same ∙ c.tell_fault.ensures.same in
-    inl (record {
+    rw (← c.host.view_is) (inl (record {
       built = built;
       is_new = c.in_ok-channel.ensures.is_new;
       opened = between;
@@ -71,18 +73,18 @@ returns-clause-runs g c =
       text = text;
       reads =
           subst
-          (λ (now : List SourceFile). ReadsDeck (deck_path c.args.asked) (seen_by g.R.Read.remaining c.args.reader.now)
+          (λ (now : List SourceFile). ReadsDeck (deck_path c.args.asked) (seen_by g.R.Read.remaining c.host.inside.reader)
           (seen_by g.R.Read.remaining c.read_deck.new.reader) text between now)
-          (sym none_behind) c.in-Ok.ensures.read;
+          (sym none_behind) c.in_ok-text.ensures.read;
       run = r;
       last = c.run_deck-run.new.channel;
       runs =
           subst (λ (text : List ℕ). RunsText r text c.in_ok-channel.channel c.run_deck-run.new.channel
-          (seen_by g.W.Write.contents c.args.writer.now) (seen_by g.W.Write.contents c.run_deck-run.new.writer))
-          c.as_slice.ensures.value
+          (seen_by g.W.Write.contents c.host.inside.writer) (seen_by g.W.Write.contents c.run_deck-run.new.writer))
+          c.as_slice-text.ensures.value
           c.run_deck-run.ensures.runs;
       flushed = c.run_deck-run.ensures.flushed;
-      unless_run = stays_seen (seen_by g.W.Write.contents) r c.args.writer.now c.run_deck-run.new.writer
+      unless_run = stays_seen (seen_by g.W.Write.contents) r c.host.inside.writer c.run_deck-run.new.writer
           c.run_deck-run.ensures.nothing_written;
       concluded = c.end_run-concluded.result;
       concludes =
@@ -91,17 +93,17 @@ returns-clause-runs g c =
       traced = c.end_trace-traced.result;
       no_other = c.end_trace-traced.ensures.fault;
       told = search (rules, tests);
-    })
+    }))
 
 -- the files stayed, where the fault that is told says so
 pub returns-clause-keeps : goal.returns-clause-keeps
 returns-clause-keeps g c =
     let written = g.F.ImageFiles.written in
-    let same_files : written c.tell_fault.new.files ≡ written c.args.files.now =
+    let same_files : written c.tell_fault.new.files ≡ written c.host.inside.files =
     c.tell_fault.ensures.kept ∙ c.read_deck.ensures.kept ∙ c.build.ensures.kept ∙ c.begin_run.ensures.kept in
-    let kept = kept_if_told (written c.args.files.now) (written c.end_run-concluded.new.files) c.end_run-concluded.result
+    let kept = kept_if_told (written c.host.inside.files) (written c.end_run-concluded.new.files) c.end_run-concluded.result
     c.end_trace-traced.result Done
     (subst (λ (before : List Replaced). IfErr c.end_run-concluded.result (λ e. keeps_files e ≡ true
     → written c.end_run-concluded.new.files ≡ before)) same_files c.end_run-concluded.ensures.keeps)
     c.end_trace-traced.ensures.kept in
-    search (rules, tests, kept)
+    rw (← c.host.view_is) (search (rules, tests, kept))

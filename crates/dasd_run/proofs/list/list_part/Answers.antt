@@ -10,12 +10,12 @@ use Rattle.dasd_run.specs.declared.commands.Ending.{Ending}
 use Rattle.dasd_run.specs.declared.fault.ProgramFault.{ProgramFault}
 use Rattle.dasd_run.proofs.list.list_part.Goals as goal
 
-pub returns-in-Ok-open_volume-clause-lists : goal.returns-in-Ok-open_volume-clause-lists
-returns-in-Ok-open_volume-clause-lists g c = inr (record {
+pub returns-clause-lists : goal.returns-clause-lists
+returns-clause-lists g c = rw (← c.host.view_is) (inr (record {
   geometry = v.geometry;
   contents = v.contents;
-  opens = subst (λ paths. OpensPaths paths v.contents before now) same_paths c.in-Ok-open_volume.ensures.opens;
-  mounts = c.in-Ok-open_volume.ensures.mounts;
+  opens = subst (λ paths. OpensPaths paths v.contents before now) same_paths c.in_ok-volume.ensures.opens;
+  mounts = c.in_ok-volume.ensures.mounts;
   reach = c.reach-reach.result;
   is_reach = c.reach-reach.ensures;
   so = (
@@ -24,13 +24,13 @@ returns-in-Ok-open_volume-clause-lists g c = inr (record {
     subst (Lists (style_of c.args.asked.now.json)) same_path (subst (λ style. Lists style c.as_str.result.now) c.style.ensures
         c.list_opened-listed.ensures.part),
   );
-})
+}))
   where
     v : OpenedState
-    v = c.in-Ok-open_volume.volume
+    v = c.in_ok-volume.volume
 
     before : List SourceFile
-    before = g.F.ImageFiles.opened c.args.files.now
+    before = g.F.ImageFiles.opened c.host.inside.files
 
     now : List SourceFile
     now = g.F.ImageFiles.opened c.open_volume.new.files
@@ -39,19 +39,20 @@ returns-in-Ok-open_volume-clause-lists g c = inr (record {
     Lists style path =
         PrintsPart c.list_opened-listed.result (HasCylinders c.args.part.cylinders) (asked_list style path c.args.part)
         (volume_in v.geometry v.contents)
-        (seen_by g.W.Write.contents c.args.writer.now) (seen_by g.W.Write.contents c.list_opened-listed.new.writer)
+        (seen_by g.W.Write.contents c.host.inside.writer) (seen_by g.W.Write.contents c.list_opened-listed.new.writer)
 
     same_paths : map (λ path. path.now) c.as_slice-paths.result.now ≡ paths_of c.args.asked.now
     same_paths = ap (map (λ path. path.now)) c.as_slice-paths.ensures.value
 
     same_path : c.as_str.result.now ≡ quoted_paths (paths_of c.args.asked.now)
-    same_path = c.as_str.ensures.value ∙ (c.in-Ok.ensures.text ∙ ap quoted_paths same_paths)
+    same_path = c.as_str.ensures.value ∙ (c.in_ok-path.ensures.text ∙ ap quoted_paths same_paths)
 
 first : (reach : Reach) (ended result : Result Ending ProgramFault) (before now : Stream) → result ≡ with_reach reach ended
     → TakesMemoryFirst ended before now → TakesMemoryFirst result before now
 first reach (Ok ending) result before now is memory = rw is tt
 first reach (Err f) result before now is memory = rw is memory
 
-pub returns-in-Ok-open_volume-clause-memory : goal.returns-in-Ok-open_volume-clause-memory
-returns-in-Ok-open_volume-clause-memory g c =
-    first c.reach-reach.result c.list_opened-listed.result _ _ _ c.with_reach.ensures c.list_opened-listed.ensures.memory
+pub returns-clause-memory : goal.returns-clause-memory
+returns-clause-memory g c =
+    let listed = c.list_opened-listed in
+    rw (← c.host.view_is) (first c.reach-reach.result listed.result _ _ _ c.with_reach.ensures listed.ensures.memory)

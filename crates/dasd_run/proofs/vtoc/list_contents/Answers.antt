@@ -1,14 +1,14 @@
 use Rattle.std.proofs.Common.{◌∙◌, inr}
 use Rattle.dasd_run.proofs.vtoc.list_contents.Goals as goal
 
-pub returns-in-Ok-open_volume-clause-lists : goal.returns-in-Ok-open_volume-clause-lists
-returns-in-Ok-open_volume-clause-lists g c =
-    let v = c.in-Ok-open_volume.volume in
-    inr (record {
+pub returns-clause-lists : goal.returns-clause-lists
+returns-clause-lists g c =
+    let v = c.in_ok-volume.volume in
+    rw (← c.host.view_is) (inr (record {
       geometry = v.geometry;
       contents = v.contents;
-      opens = rw c.as_slice-paths.ensures.value at c.in-Ok-open_volume.ensures.opens;
-      mounts = c.in-Ok-open_volume.ensures.mounts;
+      opens = rw c.as_slice-paths.ensures.value at c.in_ok-volume.ensures.opens;
+      mounts = c.in_ok-volume.ensures.mounts;
       reach = c.reach-reach.result;
       is_reach = c.reach-reach.ensures;
       so = (
@@ -16,8 +16,8 @@ returns-in-Ok-open_volume-clause-lists g c =
         c.with_reach.ensures,
         rw (
           c.path_if-json.ensures,
-          c.as_str.ensures.value ∙ c.in-Ok.ensures.text,
+          c.as_str.ensures.value ∙ c.in_ok-path.ensures.text,
           c.as_slice-paths.ensures.value,
         ) at c.print_contents-printed.ensures,
       );
-    })
+    }))
