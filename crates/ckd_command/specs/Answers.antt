@@ -5,10 +5,10 @@ use Rattle.ckd_command.specs.declared.begin.Opened.{Opened}
 use Rattle.ckd_position.specs.declared.areas.Position.TheVariants.{AtIndex}
 use Rattle.ckd_command.specs.declared.registers.Lap.TheVariants.{First}
 use Rattle.ckd_command.specs.declared.close.DriveEnding.{DriveEnding}
-use Rattle.ckd_command.specs.declared.begin.Start.{Start}
-use Rattle.ckd_command.specs.declared.begin.Start.TheVariants as start
-use Rattle.ckd_command.specs.declared.look.Seen.{Seen}
-use Rattle.ckd_command.specs.declared.look.Seen.TheVariants as seen
+use Rattle.ckd_command.specs.declared.begin.CommandStart.{CommandStart}
+use Rattle.ckd_command.specs.declared.begin.CommandStart.TheVariants as start
+use Rattle.ckd_command.specs.declared.look.LookOutcome.{LookOutcome}
+use Rattle.ckd_command.specs.declared.look.LookOutcome.TheVariants as seen
 use Rattle.ckd_command.specs.declared.close.Closed.{Closed}
 use Rattle.ckd_command.specs.declared.close.Closed.TheVariants.{Stays, Moves}
 
@@ -42,14 +42,14 @@ moved_to r cylinder head = record r { cylinder = cylinder; head = head; position
 -- The same, by what a call answers and by the registers that it leaves.
 
 -- what a begin came to, by its answer and the registers that it left
-abbrev pub begun_as : Start → Registers → Beginning
+abbrev pub begun_as : CommandStart → Registers → Beginning
 begun_as start.Rejected r = Rejected r
 begun_as start.Immediate r = Immediate r
 begun_as (start.Works o) r = Started r o
 begun_as (start.ToCylinderZero o) r = ToCylinderZero r o
 
 -- what a look came to, by its answer, the command that looked and the registers that it left
-abbrev pub seen_as : Seen → Opened → Registers → Sight
+abbrev pub seen_as : LookOutcome → Opened → Registers → Sight
 seen_as (seen.Found a) o r = Found (record o { area = Some a })
 seen_as seen.IndexPassed o r = IndexPassed r
 seen_as seen.NextHead o r = NextHead (moved_to r r.cylinder (r.head + 1))
@@ -67,7 +67,7 @@ closed_as (Moves cylinder head ending) r = record {
 -- Where the arm has still to leave the track, or an area is found, a call has changed nothing.
 
 -- a look that found its area, or goes on at the next head, has changed no register yet
-abbrev pub SeenStays : Seen → Registers → Registers → Type 0
+abbrev pub SeenStays : LookOutcome → Registers → Registers → Type 0
 SeenStays (seen.Found a) r r' = r' ≡ r
 SeenStays seen.NextHead r r' = r' ≡ r
 SeenStays _ r r' = Unit {0}

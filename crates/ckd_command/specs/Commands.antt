@@ -13,7 +13,7 @@ use Rattle.ckd_position.specs.declared.areas.Next.TheVariants as next
 use Rattle.ckd_position.specs.Comparisons.{is_satisfied}
 use Rattle.ckd_position.specs.declared.areas.Area.{Area}
 use Rattle.ckd_position.specs.declared.areas.Area.TheVariants.{Of}
-use Rattle.ckd_position.specs.declared.areas.Part.TheVariants.{Data}
+use Rattle.ckd_position.specs.declared.areas.RecordPart.TheVariants.{Data}
 use Rattle.ckd_position.specs.declared.areas.Position.{Position}
 use Rattle.ckd_position.specs.declared.areas.Position.TheVariants.{AtIndex, At}
 use Rattle.ckd_sense.specs.Commands.{decoded}
@@ -37,7 +37,7 @@ use Rattle.ckd_command.specs.Answers.{Beginning, Rejected, Immediate, Started, T
 use Rattle.ckd_command.specs.Answers.{Sight, Found, IndexPassed, NextHead, Missed, CommandEnd, moved_to}
 use Rattle.ckd_command.specs.declared.tables.Action.{Action}
 use Rattle.ckd_command.specs.declared.tables.Action.TheVariants as action
-use Rattle.ckd_position.specs.declared.extents.Extent.{Extent}
+use Rattle.ckd_position.specs.declared.extents.AreaBytes.{AreaBytes}
 use Rattle.ckd_position.specs.Contents.{Sighted, is_readable, bytes_of, kept, has_no_data, replaced, with_record_changed, formatted}
 use Rattle.ckd_command.specs.Tables.{aim, credited, credit_of_search, action_of, extent_of, is_search, comparison, area_left, ends_with_data, needs_readable}
 
@@ -188,7 +188,7 @@ sight g t o r = look_for g t o r (aim o.command)
 -- The bytes that pass.
 
 -- these bytes of an area; none where there is no area
-abbrev pub bytes_at : Extent → Sighted → Option Area → List ℕ
+abbrev pub bytes_at : AreaBytes → Sighted → Option Area → List ℕ
 bytes_at e t (Some a) = bytes_of e t a
 bytes_at e t None = []
 
@@ -247,7 +247,7 @@ abbrev pub writes : Track → Closing → Closing
 writes t c = record c { written = Some t }
 
 -- the position at a command's end: the area that it worked on, or where it was
-abbrev pub position_left : Extent → Option Area → Position → Position
+abbrev pub position_left : AreaBytes → Option Area → Position → Position
 position_left e None p = p
 position_left e (Some a) p = At (area_left e a)
 

@@ -9,7 +9,7 @@ use Rattle.ckd_sense.specs.declared.commands.Command.TheVariants.{ReadKeyAndData
 use Rattle.ckd_sense.specs.declared.commands.Command.TheVariants.{WriteData, WriteKeyAndData}
 use Rattle.ckd_position.specs.declared.areas.Area.{Area}
 use Rattle.ckd_position.specs.declared.areas.Area.TheVariants.{HomeAddress, Of}
-use Rattle.ckd_position.specs.declared.areas.Part.TheVariants.{Data}
+use Rattle.ckd_position.specs.declared.areas.RecordPart.TheVariants.{Data}
 use Rattle.ckd_position.specs.declared.areas.Kind.TheVariants as kind
 use Rattle.ckd_position.specs.declared.comparisons.Compare.{Compare}
 use Rattle.ckd_position.specs.declared.comparisons.Compare.TheVariants.{Equal, High, EqualOrHigh}
@@ -19,8 +19,8 @@ use Rattle.ckd_command.specs.declared.tables.Aim.{Aim}
 use Rattle.ckd_command.specs.declared.tables.Aim.TheVariants.{NoArea, Next, Credited}
 use Rattle.ckd_command.specs.declared.tables.Action.{Action}
 use Rattle.ckd_command.specs.declared.tables.Action.TheVariants as action
-use Rattle.ckd_position.specs.declared.extents.Extent.{Extent}
-use Rattle.ckd_position.specs.declared.extents.Extent.TheVariants as extent
+use Rattle.ckd_position.specs.declared.extents.AreaBytes.{AreaBytes}
+use Rattle.ckd_position.specs.declared.extents.AreaBytes.TheVariants as extent
 
 -- what a command works on
 abbrev pub aim : Command → Aim
@@ -94,7 +94,7 @@ action_of WriteData = action.Update
 action_of WriteKeyAndData = action.Update
 
 -- which bytes of the area a command gives, compares or replaces
-abbrev pub extent_of : Command → Extent
+abbrev pub extent_of : Command → AreaBytes
 extent_of SearchHomeAddressEqual = extent.CylinderAndHead
 extent_of SearchIdEqual = extent.Identifier
 extent_of SearchIdHigh = extent.Identifier
@@ -127,7 +127,7 @@ comparison SearchKeyEqualOrHigh = EqualOrHigh
 comparison _ = Equal
 
 -- the area at which the position is left by a command that worked on this one
-abbrev pub area_left : Extent → Area → Area
+abbrev pub area_left : AreaBytes → Area → Area
 area_left extent.CountKeyAndData (Of part i) = Of Data i
 area_left _ a = a
 
@@ -138,7 +138,7 @@ is_giving action.Read = true
 is_giving _ = false
 
 -- whether the bytes end with a record's data: a record without data is then reported by unit exception
-abbrev pub ends_with_data : Extent → Bool
+abbrev pub ends_with_data : AreaBytes → Bool
 ends_with_data extent.Data = true
 ends_with_data extent.KeyAndData = true
 ends_with_data extent.CountKeyAndData = true

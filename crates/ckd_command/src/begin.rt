@@ -26,7 +26,7 @@ pub struct Opened {
 
 /// What a command code leads to, beside what the drive remembers then.
 #[derive(Clone, Copy)]
-pub enum Start {
+pub enum CommandStart {
     /// The command is not begun: the sense says why.
     Rejected,
     /// The command is over at once, and no byte passes.
@@ -135,30 +135,30 @@ fn refusal(command: Command, registers: &Registers) -> Option<Sense>
 }
 
 // The command is not begun, for this cause.
-fn rejected(command: Command, registers: &mut Registers, cause: Sense) -> Start
+fn rejected(command: Command, registers: &mut Registers, cause: Sense) -> CommandStart
     ensures { begun_as result registers.new ≡ Rejected (with_cause (cleared command registers.old) cause) }
 {
     clear(command, registers);
     add_cause(registers, cause);
-    Start::Rejected
+    CommandStart::Rejected
 }
 
 #[inline(always)]
-fn started(command: Command, opened: Opened) -> Start
+fn started(command: Command, opened: Opened) -> CommandStart
     ensures { (r : Registers) → begun_as result r ≡ started command r opened }
 {
     match command {
-        Command::NoOperation => Start::Immediate,
-        Command::Recalibrate => Start::ToCylinderZero(None),
-        Command::ReadIpl => Start::ToCylinderZero(Some(opened)),
-        _ => Start::Works(opened),
+        Command::NoOperation => CommandStart::Immediate,
+        Command::Recalibrate => CommandStart::ToCylinderZero(None),
+        Command::ReadIpl => CommandStart::ToCylinderZero(Some(opened)),
+        _ => CommandStart::Works(opened),
     }
 }
 
 /// What a command code leads to, beside what the drive remembers then.
 #[tactic(auto, unfolding(crate::specs::Commands::beginning))]
 #[inline(always)]
-pub fn begin_command(code: u8, registers: &mut Registers) -> Start
+pub fn begin_command(code: u8, registers: &mut Registers) -> CommandStart
     ensures { begun_as result registers.new ≡ beginning code registers.old }
 {
     let Some(

@@ -9,7 +9,7 @@ ghost use Rattle.ckd_command.specs.Answers.{closed_as, ClosedStays};
 use crate::begin::{Opened, add_cause};
 use crate::registers::{Credit, Registers};
 use crate::tables;
-use ckd_position::{Area, Part, Position};
+use ckd_position::{Area, Position, RecordPart};
 use ckd_sense::{FileMask, Sense};
 use ckd_track::Geometry;
 use s360_words::UnitStatus;
@@ -123,7 +123,7 @@ pub fn close_format(registers: &mut Registers, new: usize) -> Closed
     ensures closes { closed_as result registers.new ≡ command_end (format_ends registers.old new) }
     ensures stays { ClosedStays result registers.old registers.new }
 {
-    registers.position = Position::At(Area::Of(Part::Data, new));
+    registers.position = Position::At(Area::Of(RecordPart::Data, new));
     registers.credit = Some(Credit::WroteRecord(new));
     Closed::Stays(CHANNEL_AND_DEVICE_END)
 }

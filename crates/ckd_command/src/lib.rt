@@ -11,13 +11,13 @@ mod registers;
 pub mod tables;
 
 pub use crate::begin::{
-    Opened, Start, add_cause, begin_command, first_registers, move_to, start_program,
+    CommandStart, Opened, add_cause, begin_command, first_registers, move_to, start_program,
 };
 pub use crate::close::{
     CHANNEL_AND_DEVICE_END, Closed, DriveEnding, close_area, close_format, close_home_address,
     close_in_unit_check, close_search, close_seek, close_seek_head, close_set_file_mask,
     end_at_area, own_home_address,
 };
-pub use crate::look::{Seen, sight_of};
+pub use crate::look::{LookOutcome, sight_of};
 pub use crate::registers::{Credit, Lap, Mark, Registers};
 pub use crate::tables::{Action, Aim};

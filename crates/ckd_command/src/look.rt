@@ -15,7 +15,7 @@ use ckd_track::Geometry;
 
 /// What a look at the track under the arm leads to, beside what the drive remembers then.
 #[derive(Clone, Copy)]
-pub enum Seen {
+pub enum LookOutcome {
     /// This area is found.
     Found(Area),
     /// The index passed, and the looks go on at the index of the same track.
@@ -27,17 +27,17 @@ pub enum Seen {
 }
 
 // The command ends for this cause, with the track at its index.
-fn missed(registers: &mut Registers, cause: Sense) -> Seen
+fn missed(registers: &mut Registers, cause: Sense) -> LookOutcome
     ensures stays { SeenStays result registers.old registers.new }
     ensures seen { (o : Opened) → seen_as result o registers.new ≡ Missed (with_cause (at_index registers.old) cause) }
 {
     to_index(registers);
     add_cause(registers, cause);
-    Seen::Missed
+    LookOutcome::Missed
 }
 
 // The index passes on the same track.
-fn turned(registers: &mut Registers) -> Seen
+fn turned(registers: &mut Registers) -> LookOutcome
     ensures stays { SeenStays result registers.old registers.new }
     ensures seen { (o : Opened) → seen_as result o registers.new ≡ turned registers.old registers.old.lap }
 {
@@ -45,14 +45,14 @@ fn turned(registers: &mut Registers) -> Seen
         Lap::First => {
             registers.position = Position::AtIndex;
             registers.lap = Lap::Second;
-            Seen::IndexPassed
+            LookOutcome::IndexPassed
         }
         Lap::Second => missed(registers, Sense::NO_RECORD_FOUND),
     }
 }
 
 // The index passes, and a command with the multi-track bit goes on at the next head.
-fn next_head(geometry: Geometry, registers: &mut Registers) -> Seen
+fn next_head(geometry: Geometry, registers: &mut Registers) -> LookOutcome
     requires { registers.old.head < heads_of geometry.model }
     ensures seen { (o : Opened) → seen_as result o registers.new ≡ next_head geometry registers.old }
     ensures stays { SeenStays result registers.old registers.new }
@@ -63,18 +63,23 @@ fn next_head(geometry: Geometry, registers: &mut Registers) -> Seen
     if registers.head + 1 == geometry.model.heads() {
         return missed(registers, Sense::END_OF_CYLINDER);
     }
-    Seen::NextHead
+    LookOutcome::NextHead
 }
 
 /// What a look leads to that found this area next, or none behind the position, beside what the drive remembers then.
 #[inline(always)]
-pub fn sight_of(geometry: Geometry, opened: &Opened, registers: &mut Registers, next: Next) -> Seen
+pub fn sight_of(
+    geometry: Geometry,
+    opened: &Opened,
+    registers: &mut Registers,
+    next: Next,
+) -> LookOutcome
     requires { registers.old.head < heads_of geometry.model }
     ensures seen { seen_as result opened.now registers.new ≡ sight_of geometry opened.now registers.old next }
     ensures stays { SeenStays result registers.old registers.new }
 {
     match next {
-        Next::Found(area) => Seen::Found(area),
+        Next::Found(area) => LookOutcome::Found(area),
         Next::IndexPassed if opened.multi_track => next_head(geometry, registers),
         Next::IndexPassed => turned(registers),
     }

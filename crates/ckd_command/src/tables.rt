@@ -4,7 +4,7 @@ ghost use Rattle.std.specs.Prelude.{◌≡◌};
 ghost use Rattle.ckd_command.specs.Tables.{aim, credited, credit_of_search, action_of, extent_of, is_search, comparison, area_left, ends_with_data, is_giving};
 
 use crate::registers::Credit;
-use ckd_position::{Area, Compare, Extent, Kind, Part};
+use ckd_position::{Area, AreaBytes, Compare, Kind, RecordPart};
 use ckd_sense::Command;
 
 /// What a command works on.
@@ -109,21 +109,21 @@ pub fn action_of(command: Command) -> Action
 
 /// Which bytes of its area a command gives, compares or replaces.
 #[inline(always)]
-pub fn extent(command: Command) -> Extent
+pub fn extent(command: Command) -> AreaBytes
     ensures { result ≡ extent_of command }
 {
     match command {
-        Command::SearchHomeAddressEqual => Extent::CylinderAndHead,
-        Command::ReadHomeAddress => Extent::HomeAddress,
+        Command::SearchHomeAddressEqual => AreaBytes::CylinderAndHead,
+        Command::ReadHomeAddress => AreaBytes::HomeAddress,
         Command::SearchIdEqual | Command::SearchIdHigh | Command::SearchIdEqualOrHigh =>
-            Extent::Identifier,
+            AreaBytes::Identifier,
         Command::SearchKeyEqual | Command::SearchKeyHigh | Command::SearchKeyEqualOrHigh =>
-            Extent::Key,
-        Command::ReadIpl | Command::ReadData | Command::WriteData => Extent::Data,
-        Command::ReadCount => Extent::Count,
-        Command::ReadKeyAndData | Command::WriteKeyAndData => Extent::KeyAndData,
-        Command::ReadR0 | Command::ReadCountKeyAndData => Extent::CountKeyAndData,
-        _ => Extent::Nothing,
+            AreaBytes::Key,
+        Command::ReadIpl | Command::ReadData | Command::WriteData => AreaBytes::Data,
+        Command::ReadCount => AreaBytes::Count,
+        Command::ReadKeyAndData | Command::WriteKeyAndData => AreaBytes::KeyAndData,
+        Command::ReadR0 | Command::ReadCountKeyAndData => AreaBytes::CountKeyAndData,
+        _ => AreaBytes::Nothing,
     }
 }
 
@@ -135,15 +135,21 @@ pub fn credited(command: Command, credit: Option<Credit>) -> Option<Area>
     match (command, credit) {
         (Command::WriteR0, Some(Credit::EqualHomeAddress)) => Some(Area::HomeAddress),
         (Command::WriteR0, Some(Credit::WroteHomeAddress)) => Some(Area::HomeAddress),
-        (Command::WriteCountKeyAndData, Some(Credit::EqualId(i))) => Some(Area::Of(Part::Data, i)),
-        (Command::WriteCountKeyAndData, Some(Credit::EqualKey(i))) => Some(Area::Of(Part::Data, i)),
-        (Command::WriteCountKeyAndData, Some(Credit::WroteRecord(i))) => Some(Area::Of(
-            Part::Data,
+        (Command::WriteCountKeyAndData, Some(Credit::EqualId(i))) => Some(Area::Of(
+            RecordPart::Data,
             i,
         )),
-        (Command::WriteData, Some(Credit::EqualId(i))) => Some(Area::Of(Part::Data, i)),
-        (Command::WriteData, Some(Credit::EqualKey(i))) => Some(Area::Of(Part::Data, i)),
-        (Command::WriteKeyAndData, Some(Credit::EqualId(i))) => Some(Area::Of(Part::Data, i)),
+        (Command::WriteCountKeyAndData, Some(Credit::EqualKey(i))) => Some(Area::Of(
+            RecordPart::Data,
+            i,
+        )),
+        (Command::WriteCountKeyAndData, Some(Credit::WroteRecord(i))) => Some(Area::Of(
+            RecordPart::Data,
+            i,
+        )),
+        (Command::WriteData, Some(Credit::EqualId(i))) => Some(Area::Of(RecordPart::Data, i)),
+        (Command::WriteData, Some(Credit::EqualKey(i))) => Some(Area::Of(RecordPart::Data, i)),
+        (Command::WriteKeyAndData, Some(Credit::EqualId(i))) => Some(Area::Of(RecordPart::Data, i)),
         _ => None,
     }
 }
@@ -185,23 +191,23 @@ pub fn comparison(command: Command) -> Compare
 
 /// The area at which the position is left by a command that worked on this one.
 #[inline(always)]
-pub fn area_left(extent: Extent, area: Area) -> Area
+pub fn area_left(extent: AreaBytes, area: Area) -> Area
     ensures { result ≡ area_left extent area }
 {
     match (extent, area) {
-        (Extent::CountKeyAndData, Area::Of(_, i)) => Area::Of(Part::Data, i),
+        (AreaBytes::CountKeyAndData, Area::Of(_, i)) => Area::Of(RecordPart::Data, i),
         _ => area,
     }
 }
 
 /// Whether the bytes end with a record's data.
 #[inline(always)]
-pub fn ends_with_data(extent: Extent) -> bool
+pub fn ends_with_data(extent: AreaBytes) -> bool
     ensures { result ≡ ends_with_data extent }
 {
     matches!(
         extent,
-        Extent::Data | Extent::KeyAndData | Extent::CountKeyAndData
+        AreaBytes::Data | AreaBytes::KeyAndData | AreaBytes::CountKeyAndData
     )
 }
 

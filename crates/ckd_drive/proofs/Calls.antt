@@ -20,7 +20,7 @@ use Rattle.s360_words.specs.Storage.{overwritten}
 use Rattle.ckd_image.specs.Image.{ImageState}
 use Rattle.ckd_drive.specs.Calls.{Loses, Comes}
 use Rattle.ckd_drive.proofs.Standing.{number_there, failures_saved, saved_stands}
-use Rattle.ckd_drive.specs.declared.answers.Stage.{Stage}
+use Rattle.ckd_drive.specs.declared.answers.DriveStage.{DriveStage}
 
 pub no_more : (n : ℕ) → n ≡ n + 1 → ⊥
 no_more n e = omega (arith, e)
@@ -146,7 +146,7 @@ overwritten_whole _ _ e = absurd (omega (arith, e))
 
 pub record SaveLost (d : Parts) (left : List ℕ) (new : DriveState) : Type 0 where
   pub held : d.job.cache.held ≡ Some (own_track d.job)
-  pub written : d.mark ≡ Written
+  pub written : d.mark ≡ WrittenArea
   pub whole : overwritten (own_slot d.job) 0 left ≡ left
   pub fault : fault_met (state_of d) new ≡ Some (SaveFails left)
 
@@ -174,7 +174,7 @@ save_lost d h h' m new x f same l image =
 
 -- What a part of a call comes to that saves the track, if it was written, and meets no fault. Its premises are many, since a look
 -- and two ways of beginning come here, each by facts of its own.
-pub comes_saved : (loads saves : Bool) (d : Parts) (h : HalfDone) (s : Stage) (after : Option Fault → DriveState)
+pub comes_saved : (loads saves : Bool) (d : Parts) (h : HalfDone) (s : DriveStage) (after : Option Fault → DriveState)
     → Stands d → is_filled d.stage d.job ≡ false → saves ≡ is_written_by d.mark → h.cache ≡ after_save d.job.cache → is_filled s h ≡ false
     → IsAtTrack d.job.cache.image.geometry h.registers → StageIs s h
     → state_of (parts_of h Saved s) ≡ with_image (after None) h.cache.image → Comes loads saves (state_of d) after (parts_of h Saved s)

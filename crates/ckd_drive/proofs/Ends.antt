@@ -20,7 +20,7 @@ use Rattle.ckd_command.specs.Answers.{CommandEnd}
 use Rattle.ckd_slot.specs.declared.windows.Window.{Window}
 use Rattle.ckd_drive.specs.declared.transfer.Transfer.{Transfer}
 use Rattle.ckd_drive.specs.declared.transfer.Transfer.TheVariants.{Field, Search, Due, Filled}
-use Rattle.ckd_drive.specs.declared.answers.Stage.TheVariants.{Idle}
+use Rattle.ckd_drive.specs.declared.answers.DriveStage.TheVariants.{Idle}
 use Rattle.ckd_command.specs.Tables.{action_of}
 use Rattle.ckd_position.specs.Contents.{Sighted}
 use Rattle.ckd_command.specs.Commands.{Closing, IsAtTrack, area_bytes, closing, close_by, command_end, search_ends, own_home_address}
@@ -32,8 +32,8 @@ use Rattle.ckd_drive.specs.Invariant.{closing_in, closes_by, Goes}
 use Rattle.ckd_drive.specs.Passing.{mark_left, command_end_at, field_ends, is_due}
 use Rattle.ckd_command.specs.Drive.{State, closed_staying, SaveFails, is_written_by}
 use Rattle.ckd_command.specs.declared.close.DriveEnding.{DriveEnding}
-use Rattle.ckd_drive.specs.declared.transfer.Written.{Written}
-use Rattle.ckd_drive.specs.declared.transfer.Written.TheVariants as written
+use Rattle.ckd_drive.specs.declared.transfer.WrittenArea.{WrittenArea}
+use Rattle.ckd_drive.specs.declared.transfer.WrittenArea.TheVariants as written
 use Rattle.ckd_drive.specs.Work.{DriveState, CallsStore, closed_of, ending_of, after_end, end_saves, failed_ending, fault_met, with_image}
 use Rattle.ckd_drive.proofs.Calls.{changed_is, calls_none, calls_of_save, calls_of_failed_save, fault_none, lost_registers, save_lost}
 use Rattle.ckd_drive.specs.Calls.{Ends, Leaves, Loses}
@@ -103,7 +103,7 @@ unwritten_is job _ made x f = x.2.unwritten
 -- The state that is left.
 
 -- a track that was written is in its place
-written_there : (job : AtWork) (w : Window) (u : Written) → number_in job < length job.cache.slots → HasFilled job w u
+written_there : (job : AtWork) (w : Window) (u : WrittenArea) → number_in job < length job.cache.slots → HasFilled job w u
     → (t : Track) × ((closing_in job (seen_track job (Filled w u))).written ≡ Some t)
     × (slice_set (slice_set job.cache.slots (number_in job) job.before) (number_in job) (slot_of (geometry_in job).track_size t)
     ≡ job.cache.slots)
@@ -199,7 +199,7 @@ module _ (c : CacheState) (g : Geometry) (n : ℕ) where
   field r o action.Format b none at f = whole r b 8 _ none (plain _ refl none)
   field r o _ b none at f = absurd f
 
-written_stays : (r : Registers) (o : Opened) (what : Written) → (closes_by r o what).moves_off ≡ false
+written_stays : (r : Registers) (o : Opened) (what : WrittenArea) → (closes_by r o what).moves_off ≡ false
 written_stays r o (written.Area no_data) = refl
 written_stays r o _ = refl
 

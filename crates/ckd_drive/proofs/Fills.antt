@@ -9,8 +9,8 @@ use Rattle.ckd_track.specs.Track.{Track, track_of, track_in, track_or_none, reco
 use Rattle.ckd_track.specs.Changes.{overwritten}
 use Rattle.ckd_track.proofs.Slots.{slot_of_reads, length-slot_of}
 use Rattle.ckd_position.specs.declared.areas.Area.TheVariants.{Of}
-use Rattle.ckd_position.specs.declared.areas.Part.{Part}
-use Rattle.ckd_position.specs.declared.extents.Extent.{Extent}
+use Rattle.ckd_position.specs.declared.areas.RecordPart.{RecordPart}
+use Rattle.ckd_position.specs.declared.extents.AreaBytes.{AreaBytes}
 use Rattle.ckd_command.specs.Answers.{CommandEnd}
 use Rattle.ckd_slot.specs.declared.windows.Window.{Window}
 use Rattle.ckd_drive.specs.declared.transfer.Transfer.TheVariants.{Filled}
@@ -18,7 +18,7 @@ use Rattle.ckd_position.specs.Contents.{Sighted, is_readable, padded, replaced, 
 use Rattle.ckd_command.specs.Commands.{length_after, closing, command_end}
 use Rattle.ckd_slot.specs.Buffer.{FitsSlot, IsUpdate, SameRecords, lengths_on}
 use Rattle.ckd_slot.specs.Cache.{CacheState, slot_held, with_held}
-use Rattle.ckd_drive.specs.declared.transfer.Written.{Written}
+use Rattle.ckd_drive.specs.declared.transfer.WrittenArea.{WrittenArea}
 use Rattle.ckd_drive.specs.Invariant.{HalfDone, own_track, seen_with, HasFilled, IsFilled, slot_at, track_under, AtWork, geometry_in}
 use Rattle.ckd_drive.specs.Invariant.{slot_in, at_work, closes_by}
 use Rattle.ckd_drive.specs.Passing.{Works, MayTake, Absorbs, with_taken}
@@ -34,7 +34,7 @@ pub new_slot_at : (c : CacheState) (n : ℕ) (new : List ℕ) → c.held ≡ Som
 new_slot_at c n new held lt = rw held (get_or-set_same c.slots n new [] lt)
 
 -- The slot at hand has become another, made of a track.
-pub written_absorbs : (half : HalfDone) (before' : List ℕ) (more new : List ℕ) (w : Window) (u : Written)
+pub written_absorbs : (half : HalfDone) (before' : List ℕ) (more new : List ℕ) (w : Window) (u : WrittenArea)
     → Works half → half.cache.held ≡ Some (own_track half) → length new ≡ half.cache.image.geometry.track_size
     → half.progress.left - length more ≤ w.len
     → HasFilled (at_work (with_taken half more (with_held half.cache new) before' (Filled w u))) w u
@@ -88,8 +88,8 @@ reads_new size t new f e =
 pub record Filling : Type 0 where
   pub closes : CommandEnd
   pub track : Track
-  pub extent : Extent
-  pub part : Part
+  pub extent : AreaBytes
+  pub part : RecordPart
   pub number : ℕ
   pub lead : ℕ
 
@@ -193,7 +193,7 @@ pub next_made : (old head tail mid more : List ℕ) (room start : ℕ) → old �
 next_made old head tail mid more room start is at le = rw (is, ← at) (padded_on head tail mid more room le)
 
 -- the slot that a filled track has next
-pub record NextSlot (half : HalfDone) (more : List ℕ) (w : Window) (what : Written) : Type 0 where
+pub record NextSlot (half : HalfDone) (more : List ℕ) (w : Window) (what : WrittenArea) : Type 0 where
   pub held : half.cache.held ≡ Some (own_track half)
   pub le : length more ≤ w.len
   pub room : w.start + length more ≤ half.cache.image.geometry.track_size
@@ -201,7 +201,7 @@ pub record NextSlot (half : HalfDone) (more : List ℕ) (w : Window) (what : Wri
   pub absorbs : Absorbs half more (with_held half.cache (overwritten (slot_held half.cache) w.start more)) half.before
       (Filled (record { start = w.start + length more; len = w.len - length more }) what)
 
-pub filled_absorbs : (half : HalfDone) (more : List ℕ) (w : Window) (what : Written)
+pub filled_absorbs : (half : HalfDone) (more : List ℕ) (w : Window) (what : WrittenArea)
     → MayTake half more → half.progress.place ≡ Filled w what → NextSlot half more w what
 filled_absorbs half more w what may at =
     let c = half.cache in

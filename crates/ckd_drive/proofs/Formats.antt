@@ -9,10 +9,10 @@ use Rattle.ckd_track.specs.Track.{Track, Record, track_of, track_in, record_in, 
 use Rattle.ckd_track.specs.Changes.{overwritten}
 use Rattle.ckd_position.specs.declared.areas.Area.{Area}
 use Rattle.ckd_position.specs.declared.areas.Area.TheVariants.{Of}
-use Rattle.ckd_position.specs.declared.areas.Part.{Part}
-use Rattle.ckd_position.specs.declared.areas.Part.TheVariants as part
+use Rattle.ckd_position.specs.declared.areas.RecordPart.{RecordPart}
+use Rattle.ckd_position.specs.declared.areas.RecordPart.TheVariants as part
 use Rattle.ckd_command.specs.declared.tables.Action.TheVariants as action
-use Rattle.ckd_position.specs.declared.extents.Extent.TheVariants as extent
+use Rattle.ckd_position.specs.declared.extents.AreaBytes.TheVariants as extent
 use Rattle.ckd_drive.specs.declared.transfer.Whole.TheVariants as whole
 use Rattle.ckd_slot.specs.declared.windows.Window.{Window}
 use Rattle.ckd_drive.specs.declared.transfer.Transfer.TheVariants.{Field, Due, Filled}
@@ -20,7 +20,7 @@ use Rattle.ckd_position.specs.Contents.{Sighted, new_record, formatted, kept, pa
 use Rattle.ckd_command.specs.Commands.{Closing, command_end, own_home_address, new_record_fits, format_ends}
 use Rattle.ckd_slot.specs.Buffer.{HasFormatted, CanMake, IsPlaceOf, fits_track, lengths_on, made_on}
 use Rattle.ckd_slot.specs.Cache.{CacheState, with_held, slot_held, after_format}
-use Rattle.ckd_drive.specs.declared.transfer.Written.TheVariants as written
+use Rattle.ckd_drive.specs.declared.transfer.WrittenArea.TheVariants as written
 use Rattle.ckd_drive.specs.Invariant.{HalfDone, HasDue, HasFilled, IsFound, at_work, own_slot, own_track, action_now, IsFilled, AtHand}
 use Rattle.ckd_drive.specs.Invariant.{slot_at, AtWork, geometry_in, action_in}
 use Rattle.ckd_drive.specs.Passing.{Works, Absorbs, with_taken, whole_of}
@@ -81,7 +81,8 @@ pub format_bytes : (t : Sighted) (after : Option Area) (b : List ℕ) (i : ℕ) 
     → update_length extent.KeyAndData (record_in (formatted t after b) i) ≡ body_length b
 format_bytes t after b i e eight = ap (update_length extent.KeyAndData) (record_last t after b i eight e) ∙ length-record b [] (omega arith)
 
-pub format_written : (t : Sighted) (after : Option Area) (b m : List ℕ) (part : Part) (i : ℕ) → length b ≡ 8 → i ≡ length (kept t after)
+pub format_written : (t : Sighted) (after : Option Area) (b m : List ℕ) (part : RecordPart) (i : ℕ) → length b ≡ 8
+  → i ≡ length (kept t after)
     → length m ≤ body_length b
     → with_record_changed
     (replaced extent.KeyAndData (padded (drop 8 (b ++ m)) (update_length extent.KeyAndData (record_in (formatted t after b) i))))
@@ -103,7 +104,7 @@ format_written t after b m part i eight e le =
     ) refl
 
 -- the record that a formatting write fills, behind its count bytes
-abbrev format_filling : AtWork → Part → ℕ → Filling
+abbrev format_filling : AtWork → RecordPart → ℕ → Filling
 format_filling job part i = record {
   closes = command_end (format_ends job.registers i);
   track =
@@ -114,7 +115,7 @@ format_filling job part i = record {
   lead = 8;
 }
 
-pub format_filled : (job : AtWork) (m : List ℕ) (part : Part) (i : ℕ) → action_in job ≡ action.Format → length job.passed ≡ 8
+pub format_filled : (job : AtWork) (m : List ℕ) (part : RecordPart) (i : ℕ) → action_in job ≡ action.Format → length job.passed ≡ 8
     → new_record_fits (geometry_in job) (track_of job.before) job.opened job.passed ≡ true
     → i ≡ length (kept (track_of job.before) job.opened.area) → length m ≤ room_of (format_filling job part i)
     → ClosesFilled job (job.passed ++ m) (format_filling job part i)

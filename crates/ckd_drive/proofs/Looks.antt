@@ -24,9 +24,9 @@ use Rattle.ckd_drive.specs.Invariant.{HalfDone, Parts, parts_of, own_track, own_
 use Rattle.ckd_drive.specs.Passing.{first_progress}
 use Rattle.ckd_track.specs.declared.geometries.Geometry.{Geometry}
 use Rattle.ckd_command.specs.declared.registers.Registers.{Registers}
-use Rattle.ckd_drive.specs.declared.transfer.Progress.{Progress}
-use Rattle.ckd_drive.specs.declared.answers.Stage.{Stage}
-use Rattle.ckd_drive.specs.declared.answers.Stage.TheVariants.{Looking, Passing, Failed}
+use Rattle.ckd_drive.specs.declared.transfer.OpenTransfer.{OpenTransfer}
+use Rattle.ckd_drive.specs.declared.answers.DriveStage.{DriveStage}
+use Rattle.ckd_drive.specs.declared.answers.DriveStage.TheVariants.{Looking, Passing, Failed}
 use Rattle.ckd_drive.specs.Work.{fault_met, with_image, after_look, DriveState, after_sight, look_loads, look_saves}
 use Rattle.ckd_command.specs.Drive.{is_written_by, AfterLook, Ready, LoadFails, look as look_by, Fault}
 use Rattle.ckd_drive.proofs.Calls.{fault_none, fault_loading, lost_registers, save_lost, changed_is, no_more, calls_none}
@@ -46,12 +46,12 @@ use Rattle.ckd_position.specs.declared.areas.Area.TheVariants.{Of}
 use Rattle.ckd_position.specs.declared.areas.Next.{Next as NextArea}
 use Rattle.ckd_position.specs.declared.areas.Next.TheVariants as next
 use Rattle.ckd_position.specs.Areas.{IsOnTrack, IfFound}
-use Rattle.ckd_position.specs.declared.extents.Extent.{Extent}
-use Rattle.ckd_position.specs.declared.extents.Extent.TheVariants as extent
+use Rattle.ckd_position.specs.declared.extents.AreaBytes.{AreaBytes}
+use Rattle.ckd_position.specs.declared.extents.AreaBytes.TheVariants as extent
 use Rattle.ckd_command.proofs.Sights.{passing, sight_by, look_again}
 use Rattle.ckd_slot.specs.Buffer.{HasBytes}
 
-pub on_track : (e : Extent) (t : Sighted) (a : Area) → IsOnTrack (track_or_none t) a → HasBytes e t a
+pub on_track : (e : AreaBytes) (t : Sighted) (a : Area) → IsOnTrack (track_or_none t) a → HasBytes e t a
 on_track extent.Count t (Of part i) on = on
 on_track extent.CountKeyAndData t (Of part i) on = on
 on_track _ t _ on = tt
@@ -300,7 +300,7 @@ module _ (old : HalfDone) (was : Mark) (x : Stands (parts_of old was Looking)) w
   sees o = sight old.cache.image.geometry (track_of (own_slot old)) o old.registers
 
   -- It finds its area.
-  pub found_looks : (o : Opened) (p : Progress) (s : Stage) → IsFirstPlace (own_slot old) o old.registers p.place
+  pub found_looks : (o : Opened) (p : OpenTransfer) (s : DriveStage) → IsFirstPlace (own_slot old) o old.registers p.place
       → HandIfAimed old.cache (own_track old) o → sees o ≡ Found o → sees old.opened ≡ Found o
       → p ≡ first_progress (action_of o.command) p.place → s ≡ Passing
       → Looks asked (parts_of (record old { opened = o; progress = p }) was s)
@@ -329,7 +329,7 @@ module _ (old : HalfDone) (was : Mark) (x : Stands (parts_of old was Looking)) w
       ) refl))
 
   -- The arm stays, and its registers are these.
-  stays_looks : (q : Registers) (s : Stage) → old.cache.held ≡ Some (own_track old) → StaysAt old.registers q
+  stays_looks : (q : Registers) (s : DriveStage) → old.cache.held ≡ Some (own_track old) → StaysAt old.registers q
       → is_filled s (record old { registers = q; passed = [] }) ≡ false → StageIs s (record old { registers = q; passed = [] })
       → look_saves (state_of asked) ≡ false → state_of (parts_of (record old { registers = q; passed = [] }) was s)
       ≡ with_image (after_look None (state_of asked)) old.cache.image

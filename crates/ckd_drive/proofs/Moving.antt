@@ -11,7 +11,7 @@ use Rattle.ckd_command.specs.Answers.{CommandEnd}
 use Rattle.ckd_slot.specs.declared.windows.Window.{Window}
 use Rattle.ckd_drive.specs.declared.transfer.Transfer.{Transfer}
 use Rattle.ckd_drive.specs.declared.transfer.Transfer.TheVariants.{Sense, Field, Read, Search, Fill, Due, Filled}
-use Rattle.ckd_drive.specs.declared.answers.Stage.TheVariants.{Passing}
+use Rattle.ckd_drive.specs.declared.answers.DriveStage.TheVariants.{Passing}
 use Rattle.ckd_command.specs.Tables.{is_giving}
 use Rattle.ckd_position.specs.Contents.{Sighted}
 use Rattle.ckd_command.specs.Commands.{Closing, area_bytes, command_end}

@@ -21,8 +21,8 @@ use Rattle.ckd_position.specs.Contents.{Sighted, padded}
 use Rattle.ckd_command.specs.Commands.{Closing, sight, length_after, closing, command_end, own_home_address, home_address_ends, writes}
 use Rattle.ckd_slot.specs.Buffer.{lengths_on}
 use Rattle.ckd_slot.specs.Cache.{slot_held, with_held}
-use Rattle.ckd_drive.specs.declared.transfer.Written.{Written}
-use Rattle.ckd_drive.specs.declared.transfer.Written.TheVariants as written
+use Rattle.ckd_drive.specs.declared.transfer.WrittenArea.{WrittenArea}
+use Rattle.ckd_drive.specs.declared.transfer.WrittenArea.TheVariants as written
 use Rattle.ckd_drive.specs.Invariant.{HalfDone, own_track, own_slot, action_now, HasFilled, IsFilled, slot_at, is_filled_by, AtWork}
 use Rattle.ckd_drive.specs.Invariant.{geometry_in, slot_in, action_in, at_work, closes_by}
 use Rattle.ckd_drive.specs.Passing.{Works, Absorbs, whole_of, with_taken}
@@ -34,11 +34,11 @@ use Rattle.ckd_drive.proofs.Takes.{ChangesNothing, Collects, field_goes, field_a
 use Rattle.ckd_drive.proofs.Standing.{no_filled_seen, slot_is}
 
 -- a command whose first bytes change the track, once they came: the slot is this
-abbrev pub new_work : HalfDone → (more new : List ℕ) → Window → Written → AtWork
+abbrev pub new_work : HalfDone → (more new : List ℕ) → Window → WrittenArea → AtWork
 new_work half more new w what = at_work (with_taken half more (with_held half.cache new) (own_slot half) (Filled w what))
 
 -- It goes on. Its premises are many, since three commands come here, each by facts of its own.
-pub newly_absorbs : (half : HalfDone) (more new : List ℕ) (w : Window) (what : Written) (le0 : length {A = ℕ} [] ≤ w.len)
+pub newly_absorbs : (half : HalfDone) (more new : List ℕ) (w : Window) (what : WrittenArea) (le0 : length {A = ℕ} [] ≤ w.len)
     → Works half → half.cache.held ≡ Some (own_track half) → is_filled_by half.progress.place ≡ false
     → sight half.cache.image.geometry (track_of (own_slot half)) half.opened half.registers ≡ Found half.opened
     → is_giving (action_now half) ≡ false

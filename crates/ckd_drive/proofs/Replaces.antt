@@ -9,10 +9,10 @@ use Rattle.ckd_sense.specs.declared.commands.Command.{Command}
 use Rattle.ckd_sense.specs.declared.commands.Command.TheVariants as command
 use Rattle.ckd_position.specs.declared.areas.Area.{Area}
 use Rattle.ckd_position.specs.declared.areas.Area.TheVariants.{HomeAddress, Of}
-use Rattle.ckd_position.specs.declared.areas.Part.{Part}
+use Rattle.ckd_position.specs.declared.areas.RecordPart.{RecordPart}
 use Rattle.ckd_command.specs.declared.tables.Action.TheVariants as action
-use Rattle.ckd_position.specs.declared.extents.Extent.{Extent}
-use Rattle.ckd_position.specs.declared.extents.Extent.TheVariants as extent
+use Rattle.ckd_position.specs.declared.extents.AreaBytes.{AreaBytes}
+use Rattle.ckd_position.specs.declared.extents.AreaBytes.TheVariants as extent
 use Rattle.ckd_command.specs.Answers.{CommandEnd, Found}
 use Rattle.ckd_slot.specs.declared.windows.Window.{Window}
 use Rattle.ckd_drive.specs.declared.transfer.Transfer.TheVariants.{Fill, Filled}
@@ -21,7 +21,7 @@ use Rattle.ckd_position.specs.Contents.{bytes_of, padded, replaced, with_record_
 use Rattle.ckd_command.specs.Commands.{Closing, bytes_at, area_bytes, sight, end_of_area, command_end, area_ends}
 use Rattle.ckd_slot.specs.Buffer.{FitsSlot, IsUpdate, IsUpdateAt, IsRecordOf, lengths_on}
 use Rattle.ckd_slot.specs.Cache.{with_held, slot_held}
-use Rattle.ckd_drive.specs.declared.transfer.Written.TheVariants as written
+use Rattle.ckd_drive.specs.declared.transfer.WrittenArea.TheVariants as written
 use Rattle.ckd_drive.specs.Invariant.{HalfDone, own_track, own_slot, action_now, IsFilled, AtHand, slot_at, track_under, AtWork}
 use Rattle.ckd_drive.specs.Invariant.{geometry_in, action_in}
 use Rattle.ckd_drive.specs.Passing.{MayTake, Absorbs}
@@ -48,7 +48,7 @@ in_range t i size none some = elim (cases_lt i (length t.records)) [
       ap size (get_or_past t.records i no_record le) in omega (arith, z, none, some))
 ]
 
-bytes_there : (e : Extent) (t : Track) (a : Area) → IsUpdate e → 0 < length (bytes_of e (Ok t) a) → IsRecordOf t a
+bytes_there : (e : AreaBytes) (t : Track) (a : Area) → IsUpdate e → 0 < length (bytes_of e (Ok t) a) → IsRecordOf t a
 bytes_there extent.Data t (Of part i) u some = in_range t i (λ r. length r.data_area) refl some
 bytes_there extent.Data t HomeAddress u some = absurd (omega (arith, some))
 bytes_there extent.KeyAndData t (Of part i) u some = in_range t i (λ r. length (r.key_area ++ r.data_area)) refl some
@@ -56,7 +56,7 @@ bytes_there extent.KeyAndData t HomeAddress u some = absurd (omega (arith, some)
 bytes_there _ t a u some = absurd u
 
 -- the record that an update fills
-abbrev fill_filling : AtWork → Part → ℕ → CommandEnd → Filling
+abbrev fill_filling : AtWork → RecordPart → ℕ → CommandEnd → Filling
 fill_filling job part i u = record {
   closes = u;
   track = track_in job.before;
@@ -68,7 +68,7 @@ fill_filling job part i u = record {
 }
 
 -- how an update of that record closes, by all that a look found of it
-fill_filled : (job : AtWork) (part : Part) (i : ℕ) (b : List ℕ) (u : CommandEnd) → action_in job ≡ action.Update
+fill_filled : (job : AtWork) (part : RecordPart) (i : ℕ) (b : List ℕ) (u : CommandEnd) → action_in job ≡ action.Update
     → IsUpdate (extent_of job.opened.command) → track_of job.before ≡ Ok (track_in job.before) → job.opened.area ≡ Some (Of part i)
     → 0 < length b → length b ≤ update_length (extent_of job.opened.command) (record_in (track_in job.before) i)
     → command_end (end_of_area (track_of job.before) job.opened job.registers) ≡ u

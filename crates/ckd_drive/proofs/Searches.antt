@@ -46,8 +46,8 @@ use Rattle.ckd_command.proofs.Sights.{passing, sight_by}
 use Rattle.ckd_slot.specs.declared.windows.Window.{Window}
 use Rattle.ckd_slot.specs.Buffer.{Lies}
 use Rattle.ckd_slot.specs.Cache.{holds, slot_at_hand, slot_held}
-use Rattle.ckd_drive.specs.declared.answers.Stage.{Stage}
-use Rattle.ckd_drive.specs.declared.answers.Stage.TheVariants.{Idle}
+use Rattle.ckd_drive.specs.declared.answers.DriveStage.{DriveStage}
+use Rattle.ckd_drive.specs.declared.answers.DriveStage.TheVariants.{Idle}
 use Rattle.ckd_drive.specs.Invariant.{HalfDone, Stands, own_slot, own_track, parts_of, state_of}
 use Rattle.ckd_drive.specs.Jobs.{IsUnlike, IsUnlikeBy}
 use Rattle.ckd_drive.specs.Searches.{TellsCode, TellsSearch, Turns, asked_by, fails_at_once, fails_begun, fails_by, idle_state, searched_by}
@@ -257,7 +257,7 @@ passes_on h m code wanted (suc n) p (q, a, earlier, u, at) =
     (state_of (parts_of (turned n q h) m Idle), a, passes_on h m code wanted n q earlier, rw at (one_more h m code wanted n q a earlier u))
 
 -- of a drive that stands so, where any has passed
-pub passes_some : (h : HalfDone) (m : Mark) (s : Stage) (code : ℕ) (wanted : List ℕ) (n : ℕ) (p : Position) (old : DriveState)
+pub passes_some : (h : HalfDone) (m : Mark) (s : DriveStage) (code : ℕ) (wanted : List ℕ) (n : ℕ) (p : Position) (old : DriveState)
     → (n ≡ 0 → ⊥) → s ≡ Idle → state_of (parts_of h m s) ≡ old
     → Turns (λ q. IsUnlikeBy (turned_to q h) code wanted) h.registers.position n p
     → PassesOn code wanted n old (state_of (parts_of (turned_to p h) m s))
@@ -471,11 +471,11 @@ written_at_hand h m stands marked =
     rw held (same (own_track h) (own_track h) refl)
 
 -- an idle drive of these parts, which stand together
-abbrev pub Stood : HalfDone → Mark → Stage → DriveState → Type 0
+abbrev pub Stood : HalfDone → Mark → DriveStage → DriveState → Type 0
 Stood h m s old = (s ≡ Idle) × (state_of (parts_of h m s) ≡ old) × Stands (parts_of h m s)
 
 -- none has passed
-pub written_none : (h : HalfDone) (m : Mark) (s : Stage) (code : ℕ) (wanted : List ℕ) (n most : ℕ) (p : Position) (old : DriveState)
+pub written_none : (h : HalfDone) (m : Mark) (s : DriveStage) (code : ℕ) (wanted : List ℕ) (n most : ℕ) (p : Position) (old : DriveState)
     → Stood h m s old → (n ≡ 0) × (0 < most) × (n < most → TellsCode (turned n p h) code wanted false)
     → is_written old.state ≡ true → fails_at_once code wanted old ≡ false
 written_none h m s code wanted (suc n) most p old stood (none, few, tells) written = absurd (cc none)
@@ -485,7 +485,7 @@ written_none h m s code wanted zero most p old (idle, is, stands) (none, few, te
     rw (← is, idle) (sym (rw there at (tells few m)))
 
 -- some have passed
-pub written_some : (h : HalfDone) (m : Mark) (s : Stage) (code : ℕ) (wanted : List ℕ) (n : ℕ) (p : Position) (old : DriveState)
+pub written_some : (h : HalfDone) (m : Mark) (s : DriveStage) (code : ℕ) (wanted : List ℕ) (n : ℕ) (p : Position) (old : DriveState)
     → Stood h m s old → (n ≡ 0 → ⊥) → TellsCode (turned n p h) code wanted false
     → is_written old.state ≡ true → fails_at_once code wanted (state_of (parts_of (turned_to p h) m s)) ≡ false
 written_some h m s code wanted zero p old stood some tells written = absurd (some refl)

@@ -12,8 +12,8 @@ use Rattle.ckd_drive.specs.Invariant.{Goes, seen_by, slot_at, is_filled_by, AtWo
 use Rattle.std.proofs.lemmas.List.Elements.{All-set}
 use Rattle.ckd_track.specs.declared.model.DriveModel.TheVariants.{D2311, D2314}
 use Rattle.ckd_command.specs.declared.registers.Mark.TheVariants.{Saved, Lost}
-use Rattle.ckd_drive.specs.declared.answers.Stage.{Stage}
-use Rattle.ckd_drive.specs.declared.answers.Stage.TheVariants.{Idle, Passing}
+use Rattle.ckd_drive.specs.declared.answers.DriveStage.{DriveStage}
+use Rattle.ckd_drive.specs.declared.answers.DriveStage.TheVariants.{Idle, Passing}
 use Rattle.ckd_command.specs.Answers.{moved_to}
 use Rattle.ckd_slot.specs.Cache.{CacheState, IsVolume, saved, after_save, after_failed_save, after_failed_hold, slot_held}
 use Rattle.ckd_drive.specs.Work.{is_idle, DriveState, passes_now}
@@ -35,7 +35,7 @@ pub number_there : (d : Parts) → Stands d → own_track d.job < length d.job.c
 number_there d x =
     rw x.volume.count (number_below d.job.cache.image.geometry d.job.registers x.arm)
 
-pub idle_stage : (s : Stage) (h : HalfDone) → is_idle (work_of s h) ≡ true → s ≡ Idle
+pub idle_stage : (s : DriveStage) (h : HalfDone) → is_idle (work_of s h) ≡ true → s ≡ Idle
 idle_stage Idle h e = refl
 idle_stage _ h e = absurd cc
 
@@ -81,7 +81,7 @@ pub failures_saved : (c : CacheState) → (after_save c).image.failures ≡ c.im
 failures_saved c = elim c.changed as (λ b. (saved c.image c.slots b).failures ≡ c.image.failures) [ true ↦ refl | false ↦ refl ]
 
 -- Where a written track was saved.
-pub saved_stands : (d : Parts) (h : HalfDone) (s : Stage) → Stands d → h.cache ≡ after_save d.job.cache → is_filled s h ≡ false
+pub saved_stands : (d : Parts) (h : HalfDone) (s : DriveStage) → Stands d → h.cache ≡ after_save d.job.cache → is_filled s h ≡ false
     → IsAtTrack d.job.cache.image.geometry h.registers → StageIs s h → Stands (parts_of h Saved s)
 saved_stands d h s x e f at w = record {
   volume = rw e (volume_saved d.job.cache x.volume);
@@ -92,7 +92,7 @@ saved_stands d h s x e f at w = record {
 }
 
 -- Where its saving failed: by all that a drive stands by, since four calls come here.
-pub lost_stands : (d : Parts) (left : List ℕ) (h : HalfDone) (s : Stage)
+pub lost_stands : (d : Parts) (left : List ℕ) (h : HalfDone) (s : DriveStage)
     → Stands d → length left ≡ d.job.cache.image.geometry.track_size → h.cache ≡ after_failed_save d.job.cache left → is_filled s h ≡ false
     → h.registers.cylinder ≡ d.job.registers.cylinder → h.registers.head ≡ d.job.registers.head → StageIs s h
     → Stands (parts_of h Lost s)
@@ -124,7 +124,7 @@ slot_is c n slot held e = rw held at e
 abbrev pub parts_in : {S : Type 0} → Inside S → Parts
 parts_in i = parts_held i.job i.mark i.stage
 
-passing_stage : (s : Stage) (h : HalfDone) → passes_now (work_of s h) ≡ true → s ≡ Passing
+passing_stage : (s : DriveStage) (h : HalfDone) → passes_now (work_of s h) ≡ true → s ≡ Passing
 passing_stage Passing h e = refl
 passing_stage _ h e = absurd cc
 

@@ -22,8 +22,8 @@ use Rattle.ckd_drive.specs.Invariant.{CreditIs, CreditAtHand, BeginsWell, Stands
 use Rattle.ckd_drive.specs.Invariant.{IsCleared}
 use Rattle.ckd_command.specs.declared.registers.Mark.{Mark}
 use Rattle.ckd_command.specs.declared.registers.Mark.TheVariants.{Lost}
-use Rattle.ckd_drive.specs.declared.answers.Stage.{Stage}
-use Rattle.ckd_drive.specs.declared.answers.Stage.TheVariants as stage
+use Rattle.ckd_drive.specs.declared.answers.DriveStage.{DriveStage}
+use Rattle.ckd_drive.specs.declared.answers.DriveStage.TheVariants as stage
 use Rattle.ckd_command.specs.Answers.{moved_to, Beginning, ToCylinderZero}
 use Rattle.ckd_drive.specs.Work.{DriveState, is_idle, fault_met, after_begun, after_begin, answer_of_begin, begin_saves}
 use Rattle.std.proofs.Math.Bool.{and-true}
@@ -125,7 +125,8 @@ module _ (old : HalfDone) (was : Mark) (x : Stands (parts_of old was stage.Idle)
 -- The drive that was called.
 
 -- the answer goes by the stage
-begun_work : (x : AfterBegin) (d : DriveState) (s : Stage) (h : HalfDone) → is_idle d.work ≡ true → work_of s h ≡ (after_begun x d).work
+begun_work : (x : AfterBegin) (d : DriveState) (s : DriveStage) (h : HalfDone) → is_idle d.work ≡ true
+  → work_of s h ≡ (after_begun x d).work
     → begun_at s ≡ answer_of_begin x
 begun_work (Rejected t) d s h idle e = rw (idle_stage s h (ap is_idle e ∙ idle)) refl
 begun_work (Immediate t motion) d stage.Ended h idle e = refl

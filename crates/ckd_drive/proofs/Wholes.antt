@@ -23,7 +23,7 @@ use Rattle.ckd_command.specs.Tables.{aim, action_of, extent_of, area_left, ends_
 use Rattle.ckd_command.proofs.Closings.{area_by, closing_by}
 use Rattle.ckd_command.proofs.Sights.{passing}
 use Rattle.ckd_slot.specs.Cache.{holds, slot_at_hand, slot_held}
-use Rattle.ckd_drive.specs.declared.answers.Stage.TheVariants.{Looking}
+use Rattle.ckd_drive.specs.declared.answers.DriveStage.TheVariants.{Looking}
 use Rattle.ckd_drive.specs.declared.answers.WholeRead.{WholeRead}
 use Rattle.ckd_drive.specs.Invariant.{HalfDone, own_slot, own_track, parts_of, state_of}
 use Rattle.ckd_drive.specs.Work.{GivesWhole, gives_at_once, is_ready, open_at}

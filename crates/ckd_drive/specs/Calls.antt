@@ -6,8 +6,8 @@ use Rattle.ckd_command.specs.declared.registers.Mark.{Mark}
 use Rattle.ckd_command.specs.declared.registers.Mark.TheVariants.{Saved, Lost}
 use Rattle.ckd_command.specs.declared.close.DriveEnding.{DriveEnding}
 use Rattle.ckd_command.specs.Answers.{Beginning}
-use Rattle.ckd_drive.specs.declared.answers.Stage.{Stage}
-use Rattle.ckd_drive.specs.declared.answers.Stage.TheVariants as stage
+use Rattle.ckd_drive.specs.declared.answers.DriveStage.{DriveStage}
+use Rattle.ckd_drive.specs.declared.answers.DriveStage.TheVariants as stage
 use Rattle.ckd_drive.specs.declared.answers.Begun.{Begun}
 use Rattle.ckd_drive.specs.declared.answers.Begun.TheVariants as begun
 use Rattle.ckd_command.specs.Commands.{with_cause}
@@ -19,7 +19,7 @@ use Rattle.ckd_drive.specs.Work.{failed_ending, goes_to_cylinder_zero, look_load
 use Rattle.ckd_drive.specs.Invariant.{HalfDone, Parts, parts_of, Stands, state_of}
 
 -- what a begin answers, by the stage that it came to
-abbrev pub begun_at : Stage → Begun
+abbrev pub begun_at : DriveStage → Begun
 begun_at stage.Idle = begun.Rejected
 begun_at stage.Looking = begun.Started
 begun_at stage.Passing = begun.Started

@@ -10,7 +10,7 @@ use Rattle.ckd_command.specs.declared.registers.Mark.{Mark}
 use Rattle.ckd_command.specs.declared.tables.Action.{Action}
 use Rattle.ckd_command.specs.declared.tables.Action.TheVariants as action
 use Rattle.ckd_position.specs.declared.areas.Area.{Area}
-use Rattle.ckd_position.specs.declared.extents.Extent.{Extent}
+use Rattle.ckd_position.specs.declared.extents.AreaBytes.{AreaBytes}
 use Rattle.ckd_command.specs.declared.tables.Aim.{Aim}
 use Rattle.ckd_command.specs.declared.tables.Aim.TheVariants.{Next, Credited}
 use Rattle.ckd_command.specs.declared.begin.Opened.{Opened}
@@ -24,11 +24,11 @@ use Rattle.std.specs.declared.cmp.Ordering.TheVariants as order
 use Rattle.std.specs.Cmp.Lexicographic.{slice_cmp}
 use Rattle.ckd_drive.specs.declared.transfer.Transfer.{Transfer}
 use Rattle.ckd_drive.specs.declared.transfer.Transfer.TheVariants.{Sense, Field, Read, Search, Fill, Due, Filled}
-use Rattle.ckd_drive.specs.declared.transfer.Written.{Written as WrittenBy}
-use Rattle.ckd_drive.specs.declared.transfer.Written.TheVariants as written
-use Rattle.ckd_drive.specs.declared.transfer.Progress.{Progress}
-use Rattle.ckd_drive.specs.declared.answers.Stage.{Stage}
-use Rattle.ckd_drive.specs.declared.answers.Stage.TheVariants as stage
+use Rattle.ckd_drive.specs.declared.transfer.WrittenArea.{WrittenArea as WrittenBy}
+use Rattle.ckd_drive.specs.declared.transfer.WrittenArea.TheVariants as written
+use Rattle.ckd_drive.specs.declared.transfer.OpenTransfer.{OpenTransfer}
+use Rattle.ckd_drive.specs.declared.answers.DriveStage.{DriveStage}
+use Rattle.ckd_drive.specs.declared.answers.DriveStage.TheVariants as stage
 use Rattle.ckd_command.specs.Tables.{action_of, extent_of, aim, is_giving}
 use Rattle.ckd_sense.specs.SenseBytes.{sense_bytes}
 use Rattle.ckd_position.specs.Contents.{Sighted, is_readable, padded}
@@ -87,7 +87,7 @@ pub record HalfDone : Type 0 where
   pub cache : CacheState
   pub registers : Registers
   pub opened : Opened
-  pub progress : Progress
+  pub progress : OpenTransfer
   pub before : List ℕ
   pub passed : List ℕ
 
@@ -95,10 +95,10 @@ pub record HalfDone : Type 0 where
 pub record Parts : Type 0 where
   pub job : HalfDone
   pub mark : Mark
-  pub stage : Stage
+  pub stage : DriveStage
 
 -- a drive made of these
-abbrev pub parts_of : HalfDone → Mark → Stage → Parts
+abbrev pub parts_of : HalfDone → Mark → DriveStage → Parts
 parts_of h m s = record { job = h; mark = m; stage = s }
 
 -- A command whose area is found: over what, the slot under the arm as it was before it wrote, and the bytes that passed.
@@ -154,12 +154,12 @@ abbrev pub seen_with : HalfDone → (before : List ℕ) → Transfer → List (L
 seen_with h before place = seen_by h.cache.slots (own_track h) before place
 
 -- the slots as the definitions see them, by what the drive does
-abbrev pub seen : Stage → HalfDone → List (List ℕ)
+abbrev pub seen : DriveStage → HalfDone → List (List ℕ)
 seen stage.Passing h = seen_with h h.before h.progress.place
 seen _ h = h.cache.slots
 
 -- how far the drive is, as those see it who call
-abbrev pub work_of : Stage → HalfDone → Work
+abbrev pub work_of : DriveStage → HalfDone → Work
 work_of stage.Idle h = Idle
 work_of stage.Ended h = Over (immediate_ending false)
 work_of stage.InMotion h = Over (immediate_ending true)
@@ -273,7 +273,7 @@ pub record HasSearched (job : AtWork) (w : Window) (so_far : Ordering) : Type 0 
   pub compared : so_far ≡ order_of (area_in job) job.passed
 
 -- the window is where these bytes of a record of the track stand
-abbrev pub PlaceIn : Extent → Track → Option Area → Window → Type 0
+abbrev pub PlaceIn : AreaBytes → Track → Option Area → Window → Type 0
 PlaceIn e t (Some a) w = IsPlaceOf e t a w
 PlaceIn e t None w = Unit {0}
 
@@ -331,7 +331,7 @@ IsPlaced job (Filled w what) = HasFilled job w what
 -- What a look has found.
 
 -- an area, if there is one, has the bytes that are asked for
-abbrev pub AreaBy : Sighted → Extent → Option Area → Type 0
+abbrev pub AreaBy : Sighted → AreaBytes → Option Area → Type 0
 AreaBy t e (Some a) = HasBytes e t a
 AreaBy t e None = Unit {0}
 
@@ -397,7 +397,7 @@ pub record WillLook (h : HalfDone) : Type 0 where
   pub no_credit : h.registers.credit ≡ None
 
 -- what stands of the command at hand, by what the drive does
-abbrev pub StageIs : Stage → HalfDone → Type 0
+abbrev pub StageIs : DriveStage → HalfDone → Type 0
 StageIs stage.Looking h = WillLook h
 StageIs stage.Passing h = Goes h
 StageIs _ h = CreditIs h.registers.credit h.cache (own_track h)
@@ -408,7 +408,7 @@ is_filled_by (Filled w what) = true
 is_filled_by _ = false
 
 -- the same, by what the drive does
-abbrev pub is_filled : Stage → HalfDone → Bool
+abbrev pub is_filled : DriveStage → HalfDone → Bool
 is_filled stage.Passing h = is_filled_by h.progress.place
 is_filled _ h = false
 

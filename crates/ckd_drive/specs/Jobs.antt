@@ -13,13 +13,13 @@ use Rattle.ckd_command.specs.declared.tables.Action.TheVariants.{Search}
 use Rattle.ckd_command.specs.declared.tables.Aim.TheVariants.{Next}
 use Rattle.ckd_command.specs.Tables.{aim, action_of, comparison, extent_of}
 use Rattle.ckd_command.specs.declared.registers.Mark.{Mark}
-use Rattle.ckd_command.specs.declared.look.Seen.{Seen}
+use Rattle.ckd_command.specs.declared.look.LookOutcome.{LookOutcome}
 use Rattle.ckd_command.specs.declared.close.Closed.{Closed}
 use Rattle.ckd_command.specs.Answers.{seen_as, SeenStays, closed_as, ClosedStays}
 use Rattle.ckd_command.specs.Commands.{beginning, sight}
 use Rattle.ckd_drive.specs.declared.job.Job.{Job}
-use Rattle.ckd_drive.specs.declared.answers.Stage.{Stage}
-use Rattle.ckd_drive.specs.declared.answers.Stage.TheVariants as stage
+use Rattle.ckd_drive.specs.declared.answers.DriveStage.{DriveStage}
+use Rattle.ckd_drive.specs.declared.answers.DriveStage.TheVariants as stage
 use Rattle.ckd_drive.specs.Invariant.{HalfDone, own_track, own_slot, Parts, parts_of, BeginsWell, AreaIsThere, state_of}
 use Rattle.ckd_drive.specs.Passing.{Absorbs, Finishes, command_end_at}
 use Rattle.ckd_drive.specs.Calls.{Begins, Looks}
@@ -38,7 +38,7 @@ half_done j = record {
 }
 
 -- what a drive of this job is made of
-abbrev pub parts_held : {S : Type 0} → Job S → Mark → Stage → Parts
+abbrev pub parts_held : {S : Type 0} → Job S → Mark → DriveStage → Parts
 parts_held j m s = parts_of (half_done j) m s
 
 -- A job takes these bytes, into its cache where the command writes; the rest have the place that is left, and nothing else
@@ -56,13 +56,13 @@ abbrev pub BeginsBy : {S : Type 0} → (code : ℕ) → Job S → Type 0
 BeginsBy code j = BeginsWell j.cache (own_track (half_done j)) j.registers (beginning code j.registers)
 
 -- an idle job with this mark begins the command of a code, and comes to this mark and this stage
-abbrev pub Starts : {S : Type 0} → (code : ℕ) → (old : Job S) → (was : Mark) → (new : Job S) → (now : Mark) → Stage
+abbrev pub Starts : {S : Type 0} → (code : ℕ) → (old : Job S) → (was : Mark) → (new : Job S) → (now : Mark) → DriveStage
     → Type 0
 Starts code old was new now s = Begins (parts_held old was stage.Idle) (parts_held new now s)
     (beginning code old.registers)
 
 -- a job whose track is at hand looks at it, and sees this; nothing but the registers changes
-pub record Sees {S : Type 0} (old : Job S) (seen : Seen) (new : Job S) : Type 0 where
+pub record Sees {S : Type 0} (old : Job S) (seen : LookOutcome) (new : Job S) : Type 0 where
   pub seen_is : seen_as seen old.opened new.registers
       ≡ sight old.cache.image.geometry (track_of (own_slot (half_done old))) old.opened old.registers
   pub there : AreaIsThere (track_of (own_slot (half_done old))) old.opened (seen_as seen old.opened new.registers)
@@ -70,7 +70,7 @@ pub record Sees {S : Type 0} (old : Job S) (seen : Seen) (new : Job S) : Type 0 
   pub stays : new ≡ record old { registers = new.registers }
 
 -- a job with this mark whose command looks for its area looks, and comes to this mark and this stage
-abbrev pub LooksTo : {S : Type 0} → (old : Job S) → (was : Mark) → (new : Job S) → (now : Mark) → Stage → Type 0
+abbrev pub LooksTo : {S : Type 0} → (old : Job S) → (was : Mark) → (new : Job S) → (now : Mark) → DriveStage → Type 0
 LooksTo old was new now s = Looks (parts_held old was stage.Looking) (parts_held new now s)
 
 -- a job closes its command so by the bytes that passed, once a record that was due is made; nothing else but the registers changes

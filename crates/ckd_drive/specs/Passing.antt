@@ -11,10 +11,10 @@ use Rattle.ckd_command.specs.declared.begin.Opened.{Opened}
 use Rattle.ckd_command.specs.Answers.{CommandEnd}
 use Rattle.ckd_drive.specs.declared.transfer.Transfer.{Transfer}
 use Rattle.ckd_drive.specs.declared.transfer.Transfer.TheVariants.{Sense, Field, Read, Search, Fill, Due, Filled}
-use Rattle.ckd_drive.specs.declared.transfer.Written.TheVariants as written
+use Rattle.ckd_drive.specs.declared.transfer.WrittenArea.TheVariants as written
 use Rattle.ckd_drive.specs.declared.transfer.Whole.{Whole}
 use Rattle.ckd_drive.specs.declared.transfer.Whole.TheVariants as whole
-use Rattle.ckd_drive.specs.declared.transfer.Progress.{Progress}
+use Rattle.ckd_drive.specs.declared.transfer.OpenTransfer.{OpenTransfer}
 use Rattle.ckd_command.specs.Tables.{action_of, comparison, is_giving}
 use Rattle.ckd_position.specs.Comparisons.{accepts}
 use Rattle.ckd_sense.specs.declared.sense_bytes.TheConstants.Sense as cause
@@ -26,11 +26,11 @@ use Rattle.ckd_drive.specs.Invariant.{field_size, remaining, closes_by, seen_by,
 -- More bytes.
 
 -- a command once so many more bytes passed, and the rest have this place
-abbrev pub next_progress : Progress → (more : ℕ) → Transfer → Progress
+abbrev pub next_progress : OpenTransfer → (more : ℕ) → Transfer → OpenTransfer
 next_progress p n place = record { moved = p.moved + n; left = p.left - n; place = place }
 
 -- a command of this action that has just found the place of its bytes: none passed, and all that are known of may
-abbrev pub first_progress : Action → Transfer → Progress
+abbrev pub first_progress : Action → Transfer → OpenTransfer
 first_progress a place = record { moved = 0; left = remaining a place 0; place = place }
 
 -- so many bytes may be given that have this place

@@ -13,7 +13,7 @@ use Rattle.ckd_command.specs.declared.registers.Mark.{Mark}
 use Rattle.ckd_command.specs.Commands.{ending_status}
 use Rattle.ckd_command.specs.Drive.{State, Open, AfterBegin, Started, AfterLook, Ready, begin, look, close, length_of, with_registers, no_sense}
 use Rattle.ckd_command.specs.Tables.{action_of, is_search}
-use Rattle.ckd_drive.specs.declared.answers.Stage.TheVariants.{Idle}
+use Rattle.ckd_drive.specs.declared.answers.DriveStage.TheVariants.{Idle}
 use Rattle.ckd_drive.specs.Invariant.{HalfDone, own_track, parts_of, state_of}
 use Rattle.ckd_drive.specs.Work.{DriveState}
 use Rattle.ckd_slot.specs.Cache.{holds}

@@ -70,7 +70,7 @@ pub struct WholeRead {
 
 /// What a drive does.
 #[derive(Clone, Copy)]
-pub enum Stage {
+pub enum DriveStage {
     /// Nothing.
     Idle,
     /// A command is over, and waits for its end.

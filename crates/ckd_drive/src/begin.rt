@@ -2,7 +2,7 @@
 
 ghost use Rattle.std.specs.Prelude.{◌≡◌, ℕ, None, OnOk, OnErr};
 ghost use Rattle.ckd_command.specs.Commands.{with_cause};
-ghost use Rattle.ckd_drive.specs.declared.answers.Stage.TheVariants as stage;
+ghost use Rattle.ckd_drive.specs.declared.answers.DriveStage.TheVariants as stage;
 ghost use Rattle.ckd_drive.specs.Invariant.{Stands};
 ghost use Rattle.ckd_drive.specs.Jobs.{half_done, parts_held, BeginsBy, Starts};
 ghost use Rattle.ckd_drive.specs.Calls.{Leaves, Loses, begun_at};
@@ -10,9 +10,9 @@ ghost use Rattle.ckd_sense.specs.declared.sense_bytes.TheConstants.Sense.{STORE_
 ghost use Rattle.ckd_command.specs.Answers.{moved_to};
 ghost use Rattle.ckd_slot.specs.Cache.{after_save};
 
-use crate::answers::{Begun, Stage};
+use crate::answers::{Begun, DriveStage};
 use crate::job::Job;
-use ckd_command::{Mark, Opened, Registers, Start, add_cause, begin_command, move_to};
+use ckd_command::{CommandStart, Mark, Opened, Registers, add_cause, begin_command, move_to};
 use ckd_image::{ImageStore, StoreFault};
 use ckd_sense::Sense;
 
@@ -28,13 +28,13 @@ fn lose(registers: &mut Registers)
 }
 
 /// What a begin answers that came to this stage.
-pub(crate) fn begun(stage: Stage) -> Begun
+pub(crate) fn begun(stage: DriveStage) -> Begun
     ensures { result ≡ begun_at stage }
 {
     match stage {
-        Stage::Idle => Begun::Rejected,
-        Stage::Ended | Stage::InMotion | Stage::Failed => Begun::Immediate,
-        Stage::Looking | Stage::Passing => Begun::Started,
+        DriveStage::Idle => Begun::Rejected,
+        DriveStage::Ended | DriveStage::InMotion | DriveStage::Failed => Begun::Immediate,
+        DriveStage::Looking | DriveStage::Passing => Begun::Started,
     }
 }
 
@@ -76,25 +76,25 @@ impl<S: ImageStore> Job<S> {
 
     // An idle drive starts the command that this code leads to, which is that of any code asked for that equals it.
     #[inline(always)]
-    fn start_here(&mut self, mark: &mut Mark, code: u8) -> Stage
+    fn start_here(&mut self, mark: &mut Mark, code: u8) -> DriveStage
         requires idle { Stands (parts_held self.old mark.old stage.Idle) }
         requires well { BeginsBy code self.old }
         ensures { (asked : ℕ) → asked ≡ code → Starts asked self.old mark.old self.new mark.new result }
     {
         match begin_command(code, &mut self.registers) {
-            Start::Rejected => Stage::Idle,
-            Start::Immediate => Stage::Ended,
-            Start::Works(next) => {
+            CommandStart::Rejected => DriveStage::Idle,
+            CommandStart::Immediate => DriveStage::Ended,
+            CommandStart::Works(next) => {
                 self.opened = next;
-                Stage::Looking
+                DriveStage::Looking
             }
-            Start::ToCylinderZero(next) => match self.leave(mark, 0, 0) {
-                Err(_) => Stage::Idle,
+            CommandStart::ToCylinderZero(next) => match self.leave(mark, 0, 0) {
+                Err(_) => DriveStage::Idle,
                 Ok(()) => match next {
-                    None => Stage::InMotion,
+                    None => DriveStage::InMotion,
                     Some(next) => {
                         self.opened = next;
-                        Stage::Looking
+                        DriveStage::Looking
                     }
                 },
             },
@@ -103,7 +103,7 @@ impl<S: ImageStore> Job<S> {
 
     // The same, of a code that is not a common one.
     #[inline(never)]
-    fn start_elsewhere(&mut self, mark: &mut Mark, code: u8) -> Stage
+    fn start_elsewhere(&mut self, mark: &mut Mark, code: u8) -> DriveStage
         requires idle { Stands (parts_held self.old mark.old stage.Idle) }
         requires well { BeginsBy code self.old }
         ensures { Starts code self.old mark.old self.new mark.new result }
@@ -114,7 +114,7 @@ impl<S: ImageStore> Job<S> {
     /// An idle drive starts the command that this code leads to, and this is the stage that it comes to.
     // The commonest codes by themselves: what they lead to is then known as the crate is compiled.
     #[inline(always)]
-    pub(crate) fn start(&mut self, mark: &mut Mark, code: u8) -> Stage
+    pub(crate) fn start(&mut self, mark: &mut Mark, code: u8) -> DriveStage
         requires idle { Stands (parts_held self.old mark.old stage.Idle) }
         requires well { BeginsBy code self.old }
         ensures { Starts code self.old mark.old self.new mark.new result }
@@ -135,7 +135,7 @@ impl<S: ImageStore> Job<S> {
     // The same, of a code that is none of these: the other reads that go over whole cylinders are known too.
     // Told from the rest by the code without its multi-track bit, so that the commonest codes are told by no more tests than without them.
     #[inline(always)]
-    fn start_rarer(&mut self, mark: &mut Mark, code: u8) -> Stage
+    fn start_rarer(&mut self, mark: &mut Mark, code: u8) -> DriveStage
         requires idle { Stands (parts_held self.old mark.old stage.Idle) }
         requires well { BeginsBy code self.old }
         ensures { Starts code self.old mark.old self.new mark.new result }

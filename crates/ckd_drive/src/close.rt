@@ -11,7 +11,7 @@ ghost use Rattle.ckd_drive.specs.Passing.{field_ends, MovedInField, mark_left, i
 ghost use Rattle.ckd_drive.specs.Jobs.{half_done, ClosesTo};
 
 use crate::job::Job;
-use crate::transfer::{Transfer, Written};
+use crate::transfer::{Transfer, WrittenArea};
 use ckd_command::{
     Action, CHANNEL_AND_DEVICE_END, Closed, Mark, Opened, Registers, close_area, close_format,
     close_home_address, close_in_unit_check, close_search, close_seek, close_seek_head,
@@ -98,14 +98,14 @@ fn field_ends(
 }
 
 // How a command closes that has written.
-fn written_ends(opened: &Opened, registers: &mut Registers, written: Written) -> Closed
+fn written_ends(opened: &Opened, registers: &mut Registers, written: WrittenArea) -> Closed
     ensures closes { closed_as result registers.new ≡ closes_by registers.old opened.now written }
     ensures stays { ClosedStays result registers.old registers.new }
 {
     match written {
-        Written::HomeAddress => close_home_address(opened, registers),
-        Written::Record(number) => close_format(registers, number),
-        Written::Area(no_data) => close_area(opened, registers, no_data),
+        WrittenArea::HomeAddress => close_home_address(opened, registers),
+        WrittenArea::Record(number) => close_format(registers, number),
+        WrittenArea::Area(no_data) => close_area(opened, registers, no_data),
     }
 }
 
@@ -141,7 +141,7 @@ impl<S: ImageStore> Job<S> {
             Transfer::Sense(_) => close_area(opened, registers, false),
             Transfer::Read(_, no_data)
             | Transfer::Fill(_, no_data)
-            | Transfer::Filled(_, Written::Area(no_data)) => close_area(
+            | Transfer::Filled(_, WrittenArea::Area(no_data)) => close_area(
                 opened, registers, *no_data,
             ),
             Transfer::Filled(_, written) => written_ends(opened, registers, *written),

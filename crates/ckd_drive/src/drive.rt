@@ -11,9 +11,9 @@ ghost use Rattle.ckd_drive.specs.Work.{after_begin, after_look, moved_on, left_o
 ghost use Rattle.ckd_drive.specs.Work.{is_idle, is_working, may_end, passes_now, after_settle, begun_program, answer_of_begin, answer_of_look, with_image};
 ghost use Rattle.ckd_drive.specs.Work.{new_drive, without_sense, phase_of, Allows};
 
-use crate::answers::{Begun, Look, Phase, Stage};
+use crate::answers::{Begun, DriveStage, Look, Phase};
 use crate::job::Job;
-use crate::transfer::{Progress, Transfer};
+use crate::transfer::{OpenTransfer, Transfer};
 use crate::{begin, close, look, transfer};
 use ckd_command::{
     Closed, DriveEnding, Mark, Opened, Registers, first_registers, start_program, tables,
@@ -31,7 +31,7 @@ use std::marker::Model;
 pub struct Drive<S: ImageStore> {
     pub(crate) job: Job<S>,
     pub(crate) mark: Mark,
-    pub(crate) stage: Stage,
+    pub(crate) stage: DriveStage,
 }
 
 impl<S: ImageStore> Model for Drive<S> {
@@ -69,7 +69,7 @@ impl<S: ImageStore> Drive<S> {
                 multi_track: false,
                 area: None,
             },
-            progress: Progress {
+            progress: OpenTransfer {
                 moved: 0,
                 left: 0,
                 place: Transfer::Field([0; 8]),
@@ -80,7 +80,7 @@ impl<S: ImageStore> Drive<S> {
         Ok(Drive {
             job,
             mark: Mark::Saved,
-            stage: Stage::Idle,
+            stage: DriveStage::Idle,
         })
     }
 
@@ -120,7 +120,7 @@ impl<S: ImageStore> Drive<S> {
         ensures calls { CallsStore (look_loads self.old) (look_saves self.old) self.old self.new }
         ensures reported { Reports (self.new.work ≡ Over failed_ending) self.old self.new }
     {
-        if let Stage::Passing = self.stage {
+        if let DriveStage::Passing = self.stage {
             look::make_ready(
                 tables::action_of(self.job.opened.command),
                 &mut self.job.progress,
@@ -141,7 +141,7 @@ impl<S: ImageStore> Drive<S> {
         ensures reported { Reports (self.new.work ≡ Over failed_ending) self.old self.new }
     {
         match self.stage {
-            Stage::Looking => {}
+            DriveStage::Looking => {}
             _ => unreachable!(),
         }
         self.stage = self.job.look(&mut self.mark);
@@ -160,7 +160,7 @@ impl<S: ImageStore> Drive<S> {
     {
         let n = into.len();
         let passed = self.job.passed.and(&self.next_bytes()[..n]);
-        let Stage::Passing = self.stage else {
+        let DriveStage::Passing = self.stage else {
             unreachable!();
         };
         let Transfer::Read(window, _) = self.job.progress.place else {
@@ -183,7 +183,7 @@ impl<S: ImageStore> Drive<S> {
         ensures bytes { result.now ≡ slice_range (given_now self.now self.now.work) (length (passed_of self.now.work))
             (length (passed_of self.now.work) + left_of self.now.work) }
     {
-        let Stage::Passing = self.stage else {
+        let DriveStage::Passing = self.stage else {
             unreachable!();
         };
         let p = &self.job.progress;
@@ -207,7 +207,7 @@ impl<S: ImageStore> Drive<S> {
     {
         let passed = self.job.passed.and(&self.next_bytes()[..n]);
         self.job.passed = passed;
-        let Stage::Passing = self.stage else {
+        let DriveStage::Passing = self.stage else {
             unreachable!();
         };
         transfer::give_on(&mut self.job.progress.place, n);
@@ -224,7 +224,7 @@ impl<S: ImageStore> Drive<S> {
         requires room { length bytes.now ≤ left_of self.old.work }
         ensures { self.new ≡ record self.old { work = moved_on bytes.now self.old.work } }
     {
-        let Stage::Passing = self.stage else {
+        let DriveStage::Passing = self.stage else {
             unreachable!();
         };
         self.job.absorb(bytes);
@@ -247,7 +247,7 @@ impl<S: ImageStore> Drive<S> {
         ensures reported { Reports (result ≡ failed_ending) self.old self.new }
     {
         // the commands by themselves that end at an area, and so leave the arm where it is
-        if let Stage::Passing = self.stage {
+        if let DriveStage::Passing = self.stage {
             match self.job.progress.place {
                 Transfer::Read(_, _) => return self.end_here(),
                 Transfer::Search(_, _) => return self.end_here(),
@@ -274,20 +274,20 @@ impl<S: ImageStore> Drive<S> {
         ensures { Ends self.old self.new result }
     {
         match self.stage {
-            Stage::Idle | Stage::Looking => unreachable!(),
-            Stage::Ended => {
-                self.stage = Stage::Idle;
+            DriveStage::Idle | DriveStage::Looking => unreachable!(),
+            DriveStage::Ended => {
+                self.stage = DriveStage::Idle;
                 DriveEnding::ENDED
             }
-            Stage::InMotion => {
-                self.stage = Stage::Idle;
+            DriveStage::InMotion => {
+                self.stage = DriveStage::Idle;
                 DriveEnding::IN_MOTION
             }
-            Stage::Failed => {
-                self.stage = Stage::Idle;
+            DriveStage::Failed => {
+                self.stage = DriveStage::Idle;
                 DriveEnding::FAILED
             }
-            Stage::Passing => self.end_passing(),
+            DriveStage::Passing => self.end_passing(),
         }
     }
 
@@ -298,7 +298,7 @@ impl<S: ImageStore> Drive<S> {
         ensures { Ends self.old self.new result }
     {
         let closed = self.job.close();
-        self.stage = Stage::Idle;
+        self.stage = DriveStage::Idle;
         match closed {
             Closed::Stays(unit) => {
                 self.mark = close::mark_left(&self.job.progress.place, self.mark);
@@ -331,7 +331,7 @@ impl<S: ImageStore> Drive<S> {
         ensures reported { Reports (unsaved self.new.state
             ≡ Some (self.old.state.registers.cylinder, self.old.state.registers.head)) self.old self.new }
     {
-        self.stage = Stage::Idle;
+        self.stage = DriveStage::Idle;
         self.job.save(&mut self.mark)?;
         self.mark = close::settled_mark(self.mark);
         Ok(())
@@ -354,16 +354,17 @@ impl<S: ImageStore> Drive<S> {
     {
         let p = &self.job.progress;
         match self.stage {
-            Stage::Idle => Phase::Idle,
-            Stage::Ended | Stage::InMotion | Stage::Failed => Phase::Over,
-            Stage::Looking => Phase::Looking,
-            Stage::Passing if tables::is_giving(tables::action_of(self.job.opened.command)) => {
-                Phase::Gives {
-                    passed: p.moved,
-                    left: p.left,
+            DriveStage::Idle => Phase::Idle,
+            DriveStage::Ended | DriveStage::InMotion | DriveStage::Failed => Phase::Over,
+            DriveStage::Looking => Phase::Looking,
+            DriveStage::Passing if tables::is_giving(tables::action_of(self.job.opened.command)) =>
+                {
+                    Phase::Gives {
+                        passed: p.moved,
+                        left: p.left,
+                    }
                 }
-            }
-            Stage::Passing => Phase::Takes {
+            DriveStage::Passing => Phase::Takes {
                 passed: p.moved,
                 left: p.left,
             },
@@ -430,7 +431,7 @@ impl<S: ImageStore> Drive<S> {
     {
         self.job.registers = first_registers();
         self.mark = Mark::Saved;
-        self.stage = Stage::Idle;
+        self.stage = DriveStage::Idle;
         let before = self.job.cache.exchange(image);
         // the geometry is that of an image, so that there is a first track
         let _geometry = self.job.cache.geometry();

@@ -1,6 +1,6 @@
 //! A command half done.
 
-use crate::transfer::Progress;
+use crate::transfer::OpenTransfer;
 use ckd_command::{Opened, Registers};
 use ckd_image::ImageStore;
 use ckd_slot::TrackCache;
@@ -16,7 +16,7 @@ pub struct Job<S: ImageStore> {
     /// The command that works, if one does.
     pub opened: Opened,
     /// How far its bytes are, if they pass.
-    pub progress: Progress,
+    pub progress: OpenTransfer,
     /// The slot under the arm as it was before the command wrote to it.
     pub before: Trace,
     /// The bytes that passed in the command.

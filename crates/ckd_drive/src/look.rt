@@ -3,7 +3,7 @@
 ghost use Rattle.std.specs.Prelude.{◌≡◌, Some, ◌<◌, List, ℕ};
 ghost use Rattle.ckd_command.specs.declared.tables.Aim.TheVariants.{Next, NoArea};
 ghost use Rattle.ckd_command.specs.Tables.{aim, action_of};
-ghost use Rattle.ckd_drive.specs.declared.answers.Stage.TheVariants as stage;
+ghost use Rattle.ckd_drive.specs.declared.answers.DriveStage.TheVariants as stage;
 ghost use Rattle.ckd_drive.specs.Work.{answer_of_look};
 ghost use Rattle.ckd_drive.specs.Invariant.{HalfDone, Stands, work_of, own_track, remaining, AreaOf, IsFirstPlace, ReadsWhole};
 ghost use Rattle.ckd_drive.specs.Passing.{first_progress};
@@ -13,11 +13,11 @@ ghost use Rattle.ckd_track.specs.Model.{heads_of};
 ghost use Rattle.ckd_track.specs.Track.{track_of};
 ghost use Rattle.ckd_command.specs.declared.tables.Action.TheVariants.{NoTransfer};
 
-use crate::answers::{Look, Stage};
+use crate::answers::{DriveStage, Look};
 use crate::job::Job;
 use crate::transfer;
-use crate::transfer::{Progress, Transfer};
-use ckd_command::{Action, Aim, Mark, Opened, Registers, Seen, add_cause, sight_of, tables};
+use crate::transfer::{OpenTransfer, Transfer};
+use ckd_command::{Action, Aim, LookOutcome, Mark, Opened, Registers, add_cause, sight_of, tables};
 use ckd_image::ImageStore;
 use ckd_position::Kind;
 use ckd_sense::Command::{
@@ -28,7 +28,7 @@ use ckd_slot::{TrackBuffer, Window};
 use std::cmp::Ordering;
 
 // A command of this action has just found the place of its bytes.
-fn ready(action: Action, progress: &mut Progress, place: Transfer) -> Stage
+fn ready(action: Action, progress: &mut OpenTransfer, place: Transfer) -> DriveStage
     ensures ready { progress.new ≡ first_progress action place }
     ensures passing { result ≡ stage.Passing }
 {
@@ -36,24 +36,25 @@ fn ready(action: Action, progress: &mut Progress, place: Transfer) -> Stage
     progress.moved = 0;
     progress.left = left;
     progress.place = place;
-    Stage::Passing
+    DriveStage::Passing
 }
 
 /// All the bytes may pass that are known to be left.
-pub(crate) fn make_ready(action: Action, progress: &mut Progress)
+pub(crate) fn make_ready(action: Action, progress: &mut OpenTransfer)
     ensures { progress.new ≡ record progress.old { left = remaining action progress.old.place progress.old.moved } }
 {
     progress.left = transfer::remaining(action, &progress.place, progress.moved);
 }
 
 /// What a look answers that came to this stage, with so many bytes that may pass.
-pub(crate) fn looked(stage: Stage, left: usize) -> Look
+pub(crate) fn looked(stage: DriveStage, left: usize) -> Look
     ensures { (h : HalfDone) → h.progress.left ≡ left → result ≡ answer_of_look (work_of stage h) }
 {
     match stage {
-        Stage::Idle | Stage::Ended | Stage::InMotion | Stage::Failed => Look::Failed,
-        Stage::Looking => Look::Passed,
-        Stage::Passing => Look::Ready(left),
+        DriveStage::Idle | DriveStage::Ended | DriveStage::InMotion | DriveStage::Failed =>
+            Look::Failed,
+        DriveStage::Looking => Look::Passed,
+        DriveStage::Passing => Look::Ready(left),
     }
 }
 
@@ -63,8 +64,8 @@ fn place_without_area(
     opened: &Opened,
     registers: &Registers,
     command: Command,
-    progress: &mut Progress,
-) -> Stage
+    progress: &mut OpenTransfer,
+) -> DriveStage
     requires command { command ≡ opened.now.command }
     requires aim { aim opened.now.command ≡ NoArea }
     requires transfers { action_of opened.now.command ≡ NoTransfer → ⊥ }
@@ -86,8 +87,8 @@ fn place_on(
     buffer: &TrackBuffer,
     opened: &Opened,
     command: Command,
-    progress: &mut Progress,
-) -> Stage
+    progress: &mut OpenTransfer,
+) -> DriveStage
     requires command { command ≡ opened.now.command }
     requires aim { aim opened.now.command ≡ NoArea → ⊥ }
     requires readable { ReadsWhole (action_of opened.now.command) (track_of buffer.now) }
@@ -116,7 +117,7 @@ impl<S: ImageStore> Job<S> {
     // The command looks at the track under the arm, which is at hand, for the next area of this kind.
     #[tactic(auto, unfolding(ckd_command::specs::Commands::sight))]
     #[inline(always)]
-    fn look_at(&mut self, command: Command, kind: Kind) -> Seen
+    fn look_at(&mut self, command: Command, kind: Kind) -> LookOutcome
         requires head { self.old.registers.head < heads_of self.old.cache.image.geometry.model }
         requires command { command ≡ self.old.opened.command }
         requires aim { aim self.old.opened.command ≡ Next kind }
@@ -128,7 +129,7 @@ impl<S: ImageStore> Job<S> {
         let reads_whole = !matches!(tables::action_of(command), Action::WriteHomeAddress);
         if reads_whole && !buffer.is_readable() {
             add_cause(&mut self.registers, Sense::UNREADABLE_TRACK);
-            return Seen::Missed;
+            return LookOutcome::Missed;
         }
         let next = buffer.next_area(self.registers.position, kind);
         sight_of(geometry, &self.opened, &mut self.registers, next)
@@ -136,7 +137,7 @@ impl<S: ImageStore> Job<S> {
 
     // The look of this command at the track under the arm, which is at hand.
     #[inline(always)]
-    fn look_at_hand(&mut self, mark: &mut Mark, command: Command, kind: Kind) -> Stage
+    fn look_at_hand(&mut self, mark: &mut Mark, command: Command, kind: Kind) -> DriveStage
         requires stands { Stands (parts_held self.old mark.old stage.Looking) }
         requires command { command ≡ self.old.opened.command }
         requires aim { aim self.old.opened.command ≡ Next kind }
@@ -145,7 +146,7 @@ impl<S: ImageStore> Job<S> {
         ensures loads { self.new.cache.image.loads ≡ self.old.cache.image.loads }
     {
         match self.look_at(command, kind) {
-            Seen::Found(area) => {
+            LookOutcome::Found(area) => {
                 self.opened.area = Some(area);
                 place_on(
                     self.cache.buffer(),
@@ -154,21 +155,21 @@ impl<S: ImageStore> Job<S> {
                     &mut self.progress,
                 )
             }
-            Seen::IndexPassed => Stage::Looking,
-            Seen::NextHead => {
+            LookOutcome::IndexPassed => DriveStage::Looking,
+            LookOutcome::NextHead => {
                 let (cylinder, head) = (self.registers.cylinder, self.registers.head + 1);
                 match self.leave(mark, cylinder, head) {
-                    Ok(()) => Stage::Looking,
-                    Err(_) => Stage::Failed,
+                    Ok(()) => DriveStage::Looking,
+                    Err(_) => DriveStage::Failed,
                 }
             }
-            Seen::Missed => Stage::Failed,
+            LookOutcome::Missed => DriveStage::Failed,
         }
     }
 
     // The look for the next area of this kind, which loads the track under the arm where it is not at hand.
     #[inline(always)]
-    fn look_for_next(&mut self, mark: &mut Mark, command: Command, kind: Kind) -> Stage
+    fn look_for_next(&mut self, mark: &mut Mark, command: Command, kind: Kind) -> DriveStage
         requires stands { Stands (parts_held self.old mark.old stage.Looking) }
         requires command { command ≡ self.old.opened.command }
         requires aim { aim self.old.opened.command ≡ Next kind }
@@ -182,14 +183,14 @@ impl<S: ImageStore> Job<S> {
             Ok(()) => self.look_at_hand(mark, command, kind),
             Err(_) => {
                 add_cause(&mut self.registers, Sense::STORE_FAULT);
-                Stage::Failed
+                DriveStage::Failed
             }
         }
     }
 
     // A command that has not looked yet looks.
     #[inline(always)]
-    fn look_here(&mut self, mark: &mut Mark, command: Command) -> Stage
+    fn look_here(&mut self, mark: &mut Mark, command: Command) -> DriveStage
         requires stands { Stands (parts_held self.old mark.old stage.Looking) }
         requires command { command ≡ self.old.opened.command }
         ensures { LooksTo self.old mark.old self.new mark.new result }
@@ -213,7 +214,7 @@ impl<S: ImageStore> Job<S> {
 
     // The same, of a command that is not a common one.
     #[inline(never)]
-    fn look_elsewhere(&mut self, mark: &mut Mark) -> Stage
+    fn look_elsewhere(&mut self, mark: &mut Mark) -> DriveStage
         requires { Stands (parts_held self.old mark.old stage.Looking) }
         ensures { LooksTo self.old mark.old self.new mark.new result }
     {
@@ -224,7 +225,7 @@ impl<S: ImageStore> Job<S> {
     /// A command that has not looked yet looks, and this is the stage that it comes to.
     // The commonest commands by themselves: what they look for is then known as the crate is compiled.
     #[inline(always)]
-    pub(crate) fn look(&mut self, mark: &mut Mark) -> Stage
+    pub(crate) fn look(&mut self, mark: &mut Mark) -> DriveStage
         requires { Stands (parts_held self.old mark.old stage.Looking) }
         ensures { LooksTo self.old mark.old self.new mark.new result }
     {

@@ -4,7 +4,7 @@ ghost use Rattle.std.specs.Prelude.{◌≡◌, false, true, is_ok, OnOk, OnErr};
 ghost use Rattle.ckd_command.specs.Drive.{is_written};
 ghost use Rattle.ckd_drive.specs.Work.{has_track, is_idle, restored};
 
-use crate::answers::{NoSuchTrack, Stage};
+use crate::answers::{DriveStage, NoSuchTrack};
 use crate::drive::Drive;
 use ckd_command::{Mark, first_registers};
 use ckd_image::ImageStore;
@@ -34,7 +34,7 @@ impl<S: ImageStore> Drive<S> {
         registers.sense = sense;
         self.job.registers = registers;
         self.mark = Mark::Saved;
-        self.stage = Stage::Idle;
+        self.stage = DriveStage::Idle;
         Ok(())
     }
 }

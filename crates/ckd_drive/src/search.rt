@@ -16,12 +16,12 @@ ghost use Rattle.ckd_drive.specs.Jobs.{half_done, IsUnlike, IsUnlikeBy};
 ghost use Rattle.ckd_drive.specs.Searches.{TellsSearch, TellsCode, Turns, turned, turned_to, fails_at_once, searched_by};
 ghost use Rattle.ckd_drive.specs.Work.{PassesOn, is_idle};
 
-use crate::answers::Stage;
+use crate::answers::DriveStage;
 use crate::drive::Drive;
 use crate::job::Job;
 use ckd_command::{Action, Aim, tables};
 use ckd_image::ImageStore;
-use ckd_position::{Area, Extent, Kind, Next, Position, verdict};
+use ckd_position::{Area, AreaBytes, Kind, Next, Position, verdict};
 use ckd_sense::{Command, Sense};
 use ckd_slot::TrackBuffer;
 
@@ -30,7 +30,7 @@ use ckd_slot::TrackBuffer;
 struct Sought {
     command: Command,
     kind: Kind,
-    extent: Extent,
+    extent: AreaBytes,
 }
 
 // The kind of area that a search looks for; none for another command.
@@ -161,7 +161,7 @@ impl<S: ImageStore> Job<S> {
         ensures tells { 0 < length wanted.now → result.0 < most
             → TellsSearch (turned_to result.1 (half_done self.now)) SearchKeyEqual wanted.now false }
     {
-        let (command, kind, extent) = (Command::SearchKeyEqual, Kind::Key, Extent::Key);
+        let (command, kind, extent) = (Command::SearchKeyEqual, Kind::Key, AreaBytes::Key);
         self.pass_on(
             Sought {
                 command,
@@ -188,23 +188,23 @@ impl<S: ImageStore> Job<S> {
     {
         let command = sought.command;
         match (command, sought.kind, sought.extent) {
-            (_, Kind::AnyCount, Extent::Identifier) => {
+            (_, Kind::AnyCount, AreaBytes::Identifier) => {
                 self.pass_on(
                     Sought {
                         command,
                         kind: Kind::AnyCount,
-                        extent: Extent::Identifier,
+                        extent: AreaBytes::Identifier,
                     },
                     wanted,
                     most,
                 )
             }
-            (Command::SearchKeyEqual, Kind::Key, Extent::Key) => self.pass_keys(wanted, most),
-            (_, Kind::Key, Extent::Key) => self.pass_on(
+            (Command::SearchKeyEqual, Kind::Key, AreaBytes::Key) => self.pass_keys(wanted, most),
+            (_, Kind::Key, AreaBytes::Key) => self.pass_on(
                 Sought {
                     command,
                     kind: Kind::Key,
-                    extent: Extent::Key,
+                    extent: AreaBytes::Key,
                 },
                 wanted,
                 most,
@@ -256,7 +256,11 @@ impl<S: ImageStore> Job<S> {
         ensures tells { 0 < length wanted.now → result.0 < most
             → TellsCode (turned result.0 result.1 (half_done self.now)) code wanted.now false }
     {
-        let (command, kind, extent) = (Command::SearchIdEqual, Kind::AnyCount, Extent::Identifier);
+        let (command, kind, extent) = (
+            Command::SearchIdEqual,
+            Kind::AnyCount,
+            AreaBytes::Identifier,
+        );
         match code {
             0x31 | 0xB1 => self.pass_unlike(
                 Sought {
@@ -288,7 +292,7 @@ impl<S: ImageStore> Drive<S> {
         ensures written { is_written self.old.state ≡ true → 0 < length wanted.now → result < most
             → fails_at_once code wanted.now self.new ≡ false }
     {
-        let Stage::Idle = self.stage else {
+        let DriveStage::Idle = self.stage else {
             unreachable!()
         };
         let (passed, position) = self.job.pass_by(code, wanted, most);

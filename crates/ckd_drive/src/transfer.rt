@@ -10,7 +10,7 @@ ghost use Rattle.std.specs.Cmp.Lexicographic.{slice_cmp};
 ghost use Rattle.ckd_command.specs.Tables.{action_of};
 ghost use Rattle.ckd_track.specs.Changes.{overwritten};
 ghost use Rattle.ckd_drive.specs.declared.transfer.Transfer.TheVariants as held;
-ghost use Rattle.ckd_drive.specs.declared.transfer.Written.TheVariants as written;
+ghost use Rattle.ckd_drive.specs.declared.transfer.WrittenArea.TheVariants as written;
 
 use crate::job::Job;
 use ckd_command::{Action, Opened, Registers, own_home_address, tables};
@@ -38,12 +38,12 @@ pub enum Transfer {
     // No struct of its own: with one inside, each read and each search takes a tenth more instructions.
     Due(Window, usize, [u8; 8]),
     /// The track is changed, these bytes are zeros that may still be replaced, and the command then closes so.
-    Filled(Window, Written),
+    Filled(Window, WrittenArea),
 }
 
 /// What a command has written.
 #[derive(Clone, Copy)]
-pub enum Written {
+pub enum WrittenArea {
     /// The home address.
     HomeAddress,
     /// The record of this number.
@@ -65,7 +65,7 @@ pub enum Whole {
 
 /// A command half done, whose area is found.
 #[derive(Clone, Copy)]
-pub struct Progress {
+pub struct OpenTransfer {
     /// How many bytes passed.
     pub moved: usize,
     /// How many more the last look allows.
@@ -218,7 +218,7 @@ impl<S: ImageStore> Job<S> {
                 self.cache.write_home_address(home_address);
                 self.progress.place = Transfer::Filled(
                     Window { start: 5, len: 0 },
-                    Written::HomeAddress,
+                    WrittenArea::HomeAddress,
                 );
             }
             Whole::Count(count) => {
@@ -244,7 +244,10 @@ impl<S: ImageStore> Job<S> {
         }
         // noted first, so that the copy is the last that is done
         self.before = Trace::of(self.cache.buffer().bytes());
-        self.progress.place = Transfer::Filled(behind(window, bytes.len()), Written::Area(no_data));
+        self.progress.place = Transfer::Filled(
+            behind(window, bytes.len()),
+            WrittenArea::Area(no_data),
+        );
         self.cache.replace(window, bytes);
     }
 
@@ -262,12 +265,15 @@ impl<S: ImageStore> Job<S> {
         };
         // noted first, so that the copy is the last that is done
         self.before = Trace::of(self.cache.buffer().bytes());
-        self.progress.place = Transfer::Filled(behind(place, bytes.len()), Written::Record(number));
+        self.progress.place = Transfer::Filled(
+            behind(place, bytes.len()),
+            WrittenArea::Record(number),
+        );
         self.cache.format(number, count, place, bytes);
     }
 
     // More bytes of an area that is being written.
-    fn fill_on(&mut self, bytes: &[u8], window: Window, written: Written)
+    fn fill_on(&mut self, bytes: &[u8], window: Window, written: WrittenArea)
         requires may { MayTake (half_done self.old) bytes.now }
         requires at { self.old.progress.place ≡ held.Filled window written }
         ensures { Takes self.old bytes.now self.new }

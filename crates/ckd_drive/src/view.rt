@@ -4,7 +4,7 @@ ghost use Rattle.std.specs.Prelude.{◌≡◌, IfSome, option_map};
 ghost use Rattle.ckd_command.specs.Drive.{slot_under};
 ghost use Rattle.ckd_drive.specs.Work.{command_of};
 
-use crate::answers::{Phase, Stage};
+use crate::answers::{DriveStage, Phase};
 use crate::drive::Drive;
 use ckd_command::{Opened, Registers};
 use ckd_image::ImageStore;
@@ -23,8 +23,9 @@ impl<S: ImageStore> Drive<S> {
         ensures { option_map (λ o. o.now) result ≡ command_of self.now.work }
     {
         match self.stage {
-            Stage::Looking | Stage::Passing => Some(&self.job.opened),
-            Stage::Idle | Stage::Ended | Stage::InMotion | Stage::Failed => None,
+            DriveStage::Looking | DriveStage::Passing => Some(&self.job.opened),
+            DriveStage::Idle | DriveStage::Ended | DriveStage::InMotion | DriveStage::Failed =>
+                None,
         }
     }
 

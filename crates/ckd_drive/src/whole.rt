@@ -7,12 +7,12 @@ ghost use Rattle.ckd_command.specs.Commands.{IsAtTrack};
 ghost use Rattle.ckd_command.specs.Drive.{is_written};
 ghost use Rattle.ckd_command.specs.declared.tables.Action.TheVariants.{Read};
 ghost use Rattle.ckd_command.specs.Tables.{aim, action_of};
-ghost use Rattle.ckd_drive.specs.declared.answers.Stage.TheVariants as stage;
+ghost use Rattle.ckd_drive.specs.declared.answers.DriveStage.TheVariants as stage;
 ghost use Rattle.ckd_drive.specs.Invariant.{state_of};
 ghost use Rattle.ckd_drive.specs.Jobs.{parts_held, lends, lends_common};
 ghost use Rattle.ckd_drive.specs.Work.{Idle, GivesWhole, gives_at_once, gives_common, whole_ending, state_behind};
 
-use crate::answers::{Stage, WholeRead};
+use crate::answers::{DriveStage, WholeRead};
 use crate::drive::Drive;
 use crate::job::Job;
 use ckd_command::{CHANNEL_AND_DEVICE_END, DriveEnding, tables};
@@ -108,7 +108,7 @@ impl<S: ImageStore> Drive<S> {
         ensures written { is_written self.now.state ≡ true → is_some result ≡ gives_common self.now }
     {
         match self.stage {
-            Stage::Looking => self.job.common(),
+            DriveStage::Looking => self.job.common(),
             _ => None,
         }
     }
@@ -122,7 +122,7 @@ impl<S: ImageStore> Drive<S> {
         ensures written { is_written self.now.state ≡ true → is_some result ≡ gives_at_once self.now }
     {
         match self.stage {
-            Stage::Looking => self.job.whole(),
+            DriveStage::Looking => self.job.whole(),
             _ => None,
         }
     }
@@ -136,7 +136,7 @@ impl<S: ImageStore> Drive<S> {
         ensures ending { result ≡ whole_ending read }
     {
         self.job.registers.position = Position::At(read.area);
-        self.stage = Stage::Idle;
+        self.stage = DriveStage::Idle;
         let unit = if read.no_data {
             END_WITH_UNIT_EXCEPTION
         } else {

@@ -6,8 +6,8 @@ use Rattle.std.proofs.lemmas.Bool.{cases_lt, lt-ltb, le-ltb, and_right}
 use Rattle.std.proofs.lemmas.Bool.Decides.{nat_tests}
 use Rattle.std.proofs.lemmas.List.{drop_more, drop_all}
 use Rattle.ckd_track.specs.Track.{Record, Track, no_record, record_in}
-use Rattle.ckd_position.specs.declared.areas.Part.{Part}
-use Rattle.ckd_position.specs.declared.areas.Part.TheVariants.{Count, Key, Data}
+use Rattle.ckd_position.specs.declared.areas.RecordPart.{RecordPart}
+use Rattle.ckd_position.specs.declared.areas.RecordPart.TheVariants.{Count, Key, Data}
 use Rattle.ckd_position.specs.declared.areas.Area.{Area}
 use Rattle.ckd_position.specs.declared.areas.Area.TheVariants.{HomeAddress, Of}
 use Rattle.ckd_position.specs.declared.areas.Position.{Position}
@@ -19,7 +19,7 @@ use Rattle.ckd_position.specs.Looks.{part_on, records_begun, key_record, data_re
 use Rattle.ckd_position.proofs.Walk.{with_key, NoneBefore, skip}
 
 -- a look takes no area before record n, and of that record this part first
-part_found : (test : Area → Bool) (part : Part) (t : Track) (n : ℕ) → test HomeAddress ≡ false → NoneBefore test n
+part_found : (test : Area → Bool) (part : RecordPart) (t : Track) (n : ℕ) → test HomeAddress ≡ false → NoneBefore test n
     → (n < length t.records → (b : Bool) (rest : List Area) → find test (with_key b n ++ rest) ≡ Some (Of part n))
     → found (find test (areas t)) ≡ part_on t part n
 part_found test part t n home before first = by (cases_lt n (length t.records))
@@ -74,7 +74,7 @@ count_passed t (At (Of Count i)) j h = grind (arith, nat_tests)
 count_passed t _ j h = grind (arith, nat_tests)
 
 -- and every area of the others is still to pass
-still_behind : (t : Track) (p : Position) (part : Part) (j : ℕ) → records_begun t p ≤ j → j < length t.records
+still_behind : (t : Track) (p : Position) (part : RecordPart) (j : ℕ) → records_begun t p ≤ j → j < length t.records
     → is_behind p (Of part j) ≡ true
 still_behind t (At (Of q i)) part j h l = grind (arith, nat_tests)
 still_behind t _ part j h l = refl

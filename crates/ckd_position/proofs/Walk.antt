@@ -3,7 +3,7 @@ use Rattle.std.proofs.Common.{◌≡◌, ℕ, zero, suc, ◌+◌, ◌<◌, ◌�
 use Rattle.std.specs.Prelude.{find, if◌then◌else◌}
 use Rattle.std.proofs.lemmas.List.{drop_more, drop_all}
 use Rattle.ckd_track.specs.Track.{Record, Track, no_record, record_in}
-use Rattle.ckd_position.specs.declared.areas.Part.TheVariants.{Count, Key, Data}
+use Rattle.ckd_position.specs.declared.areas.RecordPart.TheVariants.{Count, Key, Data}
 use Rattle.ckd_position.specs.declared.areas.Area.{Area}
 use Rattle.ckd_position.specs.declared.areas.Area.TheVariants.{Of}
 use Rattle.ckd_position.specs.declared.areas.Next.TheVariants.{Found, IndexPassed}

@@ -3,8 +3,8 @@
 use Rattle.std.specs.Prelude.{⊤, ℕ, ◌+◌, ◌<◌, List, [], ◌∷◌, ◌++◌, Bool, true, false, not, ◌&&◌, ◌||◌, ◌==◌, Option, Some, None, length, nat_lt, if◌then◌else◌}
 use Rattle.std.specs.Prelude.{find}
 use Rattle.ckd_track.specs.Track.{Record, Track}
-use Rattle.ckd_position.specs.declared.areas.Part.{Part}
-use Rattle.ckd_position.specs.declared.areas.Part.TheVariants.{Count, Key, Data}
+use Rattle.ckd_position.specs.declared.areas.RecordPart.{RecordPart}
+use Rattle.ckd_position.specs.declared.areas.RecordPart.TheVariants.{Count, Key, Data}
 use Rattle.ckd_position.specs.declared.areas.Area.{Area}
 use Rattle.ckd_position.specs.declared.areas.Area.TheVariants.{HomeAddress, Of}
 use Rattle.ckd_position.specs.declared.areas.Position.{Position}
@@ -32,7 +32,7 @@ abbrev pub areas : Track → List Area
 areas t = HomeAddress ∷ areas_from 0 t.records
 
 -- whether the one part of a record passes before the other: count, key, data
-abbrev pub part_before : Part → Part → Bool
+abbrev pub part_before : RecordPart → RecordPart → Bool
 part_before Count Key = true
 part_before Count Data = true
 part_before Key Data = true

@@ -7,8 +7,8 @@ use Rattle.ckd_track.specs.Changes.{kept_records, with_record}
 use Rattle.ckd_track.specs.declared.fault.SlotFault.{SlotFault}
 use Rattle.ckd_position.specs.declared.areas.Area.{Area}
 use Rattle.ckd_position.specs.declared.areas.Area.TheVariants.{HomeAddress, Of}
-use Rattle.ckd_position.specs.declared.extents.Extent.{Extent}
-use Rattle.ckd_position.specs.declared.extents.Extent.TheVariants as extent
+use Rattle.ckd_position.specs.declared.extents.AreaBytes.{AreaBytes}
+use Rattle.ckd_position.specs.declared.extents.AreaBytes.TheVariants as extent
 
 -- the track under the arm: its home address and records, or why it can't be read
 abbrev pub Sighted : Type 0
@@ -36,7 +36,7 @@ abbrev pub padded : List ℕ → (size : ℕ) → List ℕ
 padded bytes size = bytes ++ replicate (size - length bytes) 0
 
 -- which bytes of an area are meant
-abbrev pub bytes_of : Extent → Sighted → Area → List ℕ
+abbrev pub bytes_of : AreaBytes → Sighted → Area → List ℕ
 bytes_of extent.CylinderAndHead t HomeAddress = drop 1 (home_address_on t)
 bytes_of extent.HomeAddress t HomeAddress = home_address_on t
 bytes_of extent.Identifier t (Of part i) = (record_on t i).id
@@ -65,7 +65,7 @@ with_key_and_data b r =
     record r { key_area = take (length r.key_area) bytes; data_area = drop (length r.key_area) bytes }
 
 -- a record with these bytes in the place of its data area, or of its key area and data area
-abbrev pub replaced : Extent → List ℕ → Record → Record
+abbrev pub replaced : AreaBytes → List ℕ → Record → Record
 replaced extent.KeyAndData b = with_key_and_data b
 replaced _ b = with_data b
 

@@ -1,8 +1,8 @@
 -- How the next area of a kind is reached from the number of a record.
 use Rattle.std.specs.Prelude.{ℕ, ◌+◌, max, min, Bool, true, false, length, drop, nat_lt, if◌then◌else◌, find}
 use Rattle.ckd_track.specs.Track.{Track}
-use Rattle.ckd_position.specs.declared.areas.Part.{Part}
-use Rattle.ckd_position.specs.declared.areas.Part.TheVariants.{Count, Key}
+use Rattle.ckd_position.specs.declared.areas.RecordPart.{RecordPart}
+use Rattle.ckd_position.specs.declared.areas.RecordPart.TheVariants.{Count, Key}
 use Rattle.ckd_position.specs.declared.areas.Area.{Area}
 use Rattle.ckd_position.specs.declared.areas.Area.TheVariants.{Of}
 use Rattle.ckd_position.specs.declared.areas.Position.{Position}
@@ -12,7 +12,7 @@ use Rattle.ckd_position.specs.declared.areas.Next.TheVariants.{Found, IndexPasse
 use Rattle.ckd_position.specs.Areas.{areas_from, found}
 
 -- a part of record i, if the track has that record
-abbrev pub part_on : Track → Part → ℕ → Next
+abbrev pub part_on : Track → RecordPart → ℕ → Next
 part_on t part i = if nat_lt i (length t.records) then Found (Of part i) else IndexPassed
 
 -- how many records of the track have begun to pass at a position

@@ -2,7 +2,7 @@
 
 /// A part of a record.
 #[derive(Clone, Copy, Debug)]
-pub enum Part {
+pub enum RecordPart {
     /// The count area: cylinder, head, record number, key length and data length.
     Count,
     /// The key area, which a record with key length 0 does not have.
@@ -17,7 +17,7 @@ pub enum Area {
     /// The home address.
     HomeAddress,
     /// A part of the record of this number: R0, the track's first record, is record 0.
-    Of(Part, usize),
+    Of(RecordPart, usize),
 }
 
 /// How far a turn of the track has come.

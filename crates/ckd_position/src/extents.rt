@@ -2,7 +2,7 @@
 
 /// Which bytes of the home address or of a record a command gives, compares or replaces.
 #[derive(Clone, Copy)]
-pub enum Extent {
+pub enum AreaBytes {
     /// None.
     Nothing,
     /// Cylinder and head of the home address.

@@ -7,7 +7,7 @@ mod comparisons;
 mod extents;
 mod looks;
 
-pub use crate::areas::{Area, Kind, Next, Part, Position};
+pub use crate::areas::{Area, Kind, Next, Position, RecordPart};
 pub use crate::comparisons::{Compare, compared, verdict};
-pub use crate::extents::Extent;
+pub use crate::extents::AreaBytes;
 pub use crate::looks::next_area;

@@ -5,7 +5,7 @@ ghost use Rattle.ckd_track.specs.Track.{record_in};
 ghost use Rattle.ckd_position.specs.Areas.{IfFound, IsOnTrack, has_key, is_behind, next_of_kind};
 ghost use Rattle.ckd_position.specs.Looks.{part_on, records_begun, key_record, data_record, next_key_from};
 
-use crate::areas::{Area, Kind, Next, Part, Position};
+use crate::areas::{Area, Kind, Next, Position, RecordPart};
 use ckd_track::TrackView;
 
 /// The next area of this kind behind the position, on the same turn of the track.
@@ -22,18 +22,22 @@ pub fn next_area(view: &TrackView, position: Position, kind: Kind) -> Next
             Position::AtIndex => Next::Found(Area::HomeAddress),
             Position::At(_) => Next::IndexPassed,
         },
-        Kind::AnyCount => part_of(view, Part::Count, records_begun(view, position)),
+        Kind::AnyCount => part_of(view, RecordPart::Count, records_begun(view, position)),
         Kind::FirstCount => match records_begun(view, position) {
-            0 => part_of(view, Part::Count, 0),
+            0 => part_of(view, RecordPart::Count, 0),
             _ => Next::IndexPassed,
         },
-        Kind::LaterCount => part_of(view, Part::Count, records_begun(view, position).max(1)),
+        Kind::LaterCount => part_of(
+            view,
+            RecordPart::Count,
+            records_begun(view, position).max(1),
+        ),
         Kind::Key => next_key(view, key_record(view, position)),
-        Kind::Data => part_of(view, Part::Data, data_record(view, position)),
-        Kind::KeyAndData => part_of(view, Part::Data, key_record(view, position)),
+        Kind::Data => part_of(view, RecordPart::Data, data_record(view, position)),
+        Kind::KeyAndData => part_of(view, RecordPart::Data, key_record(view, position)),
         Kind::FirstData => {
             if is_first_data_behind(position) {
-                part_of(view, Part::Data, 1)
+                part_of(view, RecordPart::Data, 1)
             } else {
                 Next::IndexPassed
             }
@@ -58,7 +62,7 @@ fn key_record(view: &TrackView, position: Position) -> usize
     ensures { result ≡ key_record view.now position }
 {
     match position {
-        Position::At(Area::Of(Part::Count, number)) => number,
+        Position::At(Area::Of(RecordPart::Count, number)) => number,
         _ => records_begun(view, position).max(1),
     }
 }
@@ -69,24 +73,24 @@ fn data_record(view: &TrackView, position: Position) -> usize
     ensures { result ≡ data_record view.now position }
 {
     match position {
-        Position::At(Area::Of(Part::Count | Part::Key, number)) => number,
+        Position::At(Area::Of(RecordPart::Count | RecordPart::Key, number)) => number,
         _ => records_begun(view, position).max(1),
     }
 }
 
 /// Whether the data area of record 1 lies behind the position, if the track has that record.
 fn is_first_data_behind(position: Position) -> bool
-    ensures { result ≡ is_behind position (Area.Of Part.Data 1) }
+    ensures { result ≡ is_behind position (Area.Of RecordPart.Data 1) }
 {
     match position {
-        Position::At(Area::Of(Part::Data, number)) => number == 0,
-        Position::At(Area::Of(Part::Count | Part::Key, number)) => number <= 1,
+        Position::At(Area::Of(RecordPart::Data, number)) => number == 0,
+        Position::At(Area::Of(RecordPart::Count | RecordPart::Key, number)) => number <= 1,
         Position::At(Area::HomeAddress) | Position::AtIndex => true,
     }
 }
 
 /// This part of the record of this number, if the track has that record.
-fn part_of(view: &TrackView, part: Part, number: usize) -> Next
+fn part_of(view: &TrackView, part: RecordPart, number: usize) -> Next
     ensures next { result ≡ part_on view.now part number }
     ensures on_track { IfFound result (IsOnTrack view.now) }
 {
@@ -115,7 +119,7 @@ fn next_key(view: &TrackView, from: usize) -> Next
 {
     for number in from..view.len() {
         if has_key(view, number) {
-            return Next::Found(Area::Of(Part::Key, number));
+            return Next::Found(Area::Of(RecordPart::Key, number));
         }
     }
     Next::IndexPassed

@@ -16,9 +16,9 @@ use Rattle.ckd_track.proofs.Spelled.{reads_back}
 use Rattle.ckd_track.proofs.Offsets.{stands, parts_at, PartsAt, StandsAt, home_is, length-offsets_from}
 use Rattle.ckd_slot.specs.declared.charges.Charged.{Charged}
 use Rattle.ckd_position.specs.declared.areas.Area.TheVariants.{HomeAddress, Of}
-use Rattle.ckd_position.specs.declared.areas.Part.{Part}
-use Rattle.ckd_position.specs.declared.extents.Extent.{Extent}
-use Rattle.ckd_position.specs.declared.extents.Extent.TheVariants as extent
+use Rattle.ckd_position.specs.declared.areas.RecordPart.{RecordPart}
+use Rattle.ckd_position.specs.declared.extents.AreaBytes.{AreaBytes}
+use Rattle.ckd_position.specs.declared.extents.AreaBytes.TheVariants as extent
 use Rattle.ckd_position.specs.Contents.{Sighted, bytes_of, record_on, records_on, is_readable}
 use Rattle.ckd_slot.specs.Buffer.{Lies, Tabled, IsRead, IsBuffer, HasBytes, StandsThere, home_address_place, record_place}
 
@@ -26,7 +26,8 @@ take_five : (slot ha : List ℕ) → take 5 slot ≡ ha → take 4 (drop 1 slot)
 take_five [] ha e = rw (← e) refl
 take_five (x ∷ slot) ha e = rw (← e) refl
 
-pub home_lies : (slot : List ℕ) (t : Track) (e : Extent) → Spells slot t → Lies slot (home_address_place e) (bytes_of e (Ok t) HomeAddress)
+pub home_lies : (slot : List ℕ) (t : Track) (e : AreaBytes) → Spells slot t
+  → Lies slot (home_address_place e) (bytes_of e (Ok t) HomeAddress)
 home_lies slot t extent.HomeAddress s = let h = home_is slot t s in
     record { within = omega (arith, ap length h, length-take 5 slot, s.home_address); size = s.home_address; here = h }
 home_lies slot t extent.CylinderAndHead s = let h = home_is slot t s in
@@ -45,7 +46,7 @@ lies_by slot bytes at n room size here = let e : at + n - at ≡ n = omega arith
 
 -- each area of a record lies at its place; the record is named apart from the track that has it, since each case of the
 -- extent goes by the record alone
-pub record_lies : (slot : List ℕ) (r : Record) (at : ℕ) (e : Extent) (part : Part) (i : ℕ) (t : Sighted) → StandsAt slot at r
+pub record_lies : (slot : List ℕ) (r : Record) (at : ℕ) (e : AreaBytes) (part : RecordPart) (i : ℕ) (t : Sighted) → StandsAt slot at r
     → PartsAt slot at r → record_on t i ≡ r
     → Lies slot (record_place e at (key_length (drop at slot)) (data_length (drop at slot))) (bytes_of e t (Of part i))
 record_lies slot r at extent.Identifier part i t s p is =
@@ -88,7 +89,7 @@ pub reads : {slot offsets : List ℕ} {records : Option ℕ} {zeros_from : ℕ} 
 reads {slot} {offsets} {records = Some n} x e = record { read = x.indexed.read.read; spells = x.indexed.read.spells }
 reads {slot} {offsets} {records = None} x e = absurd (let no : is_readable (track_of slot) ≡ false = x.indexed.read in cc)
 
-pub home_window : {slot : List ℕ} (e : Extent) → Reads slot → Lies slot (home_address_place e) (bytes_of e (track_of slot) HomeAddress)
+pub home_window : {slot : List ℕ} (e : AreaBytes) → Reads slot → Lies slot (home_address_place e) (bytes_of e (track_of slot) HomeAddress)
 home_window {slot} e r =
     rw r.read (home_lies slot (track_in slot) e r.spells)
 
@@ -103,7 +104,7 @@ parts_there {slot} i at r there = parts_at slot at (record_in (track_in slot) i)
 pub room_there : {slot : List ℕ} (i at : ℕ) → Reads slot → StandsThere slot i (Some at) → at + 8 ≤ length slot
 room_there i at r there = omega (arith, (parts_there i at r there).within)
 
-pub record_window : {slot : List ℕ} (e : Extent) (part : Part) (i at : ℕ) → Reads slot → StandsThere slot i (Some at)
+pub record_window : {slot : List ℕ} (e : AreaBytes) (part : RecordPart) (i at : ℕ) → Reads slot → StandsThere slot i (Some at)
     → Lies slot (record_place e at (key_length (drop at slot)) (data_length (drop at slot))) (bytes_of e (track_of slot) (Of part i))
 record_window {slot} e part i at r there =
     rw r.read (record_lies slot (record_in (track_in slot) i) at e part i (Ok (track_in slot)) (standing i at r there)
@@ -115,7 +116,8 @@ not_there t i le = get_or_past (records_on t) i no_record le
 lies_nowhere : (slot bytes : List ℕ) → bytes ≡ [] → Lies slot (record { start = 0; len = 0 }) bytes
 lies_nowhere slot bytes e = rw e (record { within = omega arith; size = refl; here = refl })
 
-pub no_window : (slot : List ℕ) (e : Extent) (part : Part) (i : ℕ) → StandsThere slot i None → HasBytes e (track_of slot) (Of part i)
+pub no_window : (slot : List ℕ) (e : AreaBytes) (part : RecordPart) (i : ℕ) → StandsThere slot i None
+  → HasBytes e (track_of slot) (Of part i)
     → Lies slot (record { start = 0; len = 0 }) (bytes_of e (track_of slot) (Of part i))
 no_window slot extent.Count part i le on = absurd (omega (arith, le, on))
 no_window slot extent.CountKeyAndData part i le on = absurd (omega (arith, le, on))

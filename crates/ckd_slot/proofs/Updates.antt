@@ -8,8 +8,8 @@ use Rattle.ckd_track.proofs.Slots.{slot_of_spells, slot_of_reads, length-slot_of
 use Rattle.ckd_track.proofs.Places.{place-le, end_is}
 use Rattle.ckd_track.proofs.Rewritten.{length-overwritten, overwritten-middle, ended}
 use Rattle.ckd_position.specs.declared.areas.Area.TheVariants.{Of}
-use Rattle.ckd_position.specs.declared.areas.Part.{Part}
-use Rattle.ckd_position.specs.declared.extents.Extent.{Extent}
+use Rattle.ckd_position.specs.declared.areas.RecordPart.{RecordPart}
+use Rattle.ckd_position.specs.declared.extents.AreaBytes.{AreaBytes}
 use Rattle.ckd_position.specs.Contents.{is_readable, padded, replaced, with_record_changed}
 use Rattle.ckd_slot.specs.Buffer.{FitsSlot, IsUpdate, SameRecords, IsIndexed, IsBuffer, lengths_on}
 use Rattle.ckd_slot.specs.declared.charges.Charged.{Charged}
@@ -33,7 +33,7 @@ ended_same s t off b spells is within =
     rw (← tail) (take-append-drop e x)
 
 -- All slots that a record's area makes with other bytes: the same before it and behind it.
-pub record HasForm (size : ℕ) (t0 : Track) (e : Extent) (i : ℕ) (body : List ℕ) (t' : Track) : Type 0 where
+pub record HasForm (size : ℕ) (t0 : Track) (e : AreaBytes) (i : ℕ) (body : List ℕ) (t' : Track) : Type 0 where
   pub fits : FitsSlot size t'
   pub lengths : lengths_on t' ≡ lengths_on t0
   pub within : update_offset e t0 i + length body ≤ size
@@ -41,7 +41,7 @@ pub record HasForm (size : ℕ) (t0 : Track) (e : Extent) (i : ℕ) (body : List
       (slot_of size t0))
 
 -- An update makes such a slot. Its premises are many, since three updates come here, each with bytes of its own.
-pub form_of : (size : ℕ) (t0 : Track) (e : Extent) (part : Part) (i : ℕ) (body : List ℕ) → IsUpdate e → FitsSlot size t0
+pub form_of : (size : ℕ) (t0 : Track) (e : AreaBytes) (part : RecordPart) (i : ℕ) (body : List ℕ) → IsUpdate e → FitsSlot size t0
     → i < length t0.records → length body ≡ update_length e (record_in t0 i)
     → HasForm size t0 e i body (with_record_changed (replaced e body) (Of part i) t0)
 form_of size t0 e part i body u f lt same =

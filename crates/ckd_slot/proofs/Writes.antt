@@ -23,15 +23,15 @@ use Rattle.ckd_track.specs.Charges.{has_room}
 use Rattle.ckd_track.proofs.ChargeLaws.{leaves_room, no_end_mark}
 use Rattle.ckd_position.specs.declared.areas.Area.{Area}
 use Rattle.ckd_position.specs.declared.areas.Area.TheVariants.{HomeAddress, Of}
-use Rattle.ckd_position.specs.declared.areas.Part.{Part}
-use Rattle.ckd_position.specs.declared.areas.Part.TheVariants as part
+use Rattle.ckd_position.specs.declared.areas.RecordPart.{RecordPart}
+use Rattle.ckd_position.specs.declared.areas.RecordPart.TheVariants as part
 use Rattle.ckd_position.specs.Contents.{Sighted, is_readable, padded, new_record, record_before, formatted, kept, replaced}
 use Rattle.ckd_position.specs.Contents.{with_record_changed}
 use Rattle.ckd_slot.specs.Buffer.{IsIndexed, IsBuffer, StandsThere, number_up_to, FitsSlot, CanMake, IsUpdate, IsUpdateAt, IsPlaceOf}
 use Rattle.ckd_slot.specs.Buffer.{end_of_records, record_place, lengths_on, fits_track, area_before, made_on}
 use Rattle.ckd_slot.specs.declared.charges.Charged.{Charged}
-use Rattle.ckd_position.specs.declared.extents.Extent.{Extent}
-use Rattle.ckd_position.specs.declared.extents.Extent.TheVariants as extent
+use Rattle.ckd_position.specs.declared.extents.AreaBytes.{AreaBytes}
+use Rattle.ckd_position.specs.declared.extents.AreaBytes.TheVariants as extent
 use Rattle.ckd_slot.specs.declared.windows.Window.{Window}
 use Rattle.ckd_slot.proofs.AreaPlaces.{Reads, reads, parts_there, how_many}
 use Rattle.ckd_slot.proofs.Lengths.{lengths_of}
@@ -39,7 +39,7 @@ use Rattle.ckd_slot.proofs.Begun.{zeros_first}
 
 -- The table.
 
-pub place_there : {slot : List ℕ} (e : Extent) (i at : ℕ) → Reads slot → StandsThere slot i (Some at)
+pub place_there : {slot : List ℕ} (e : AreaBytes) (i at : ℕ) → Reads slot → StandsThere slot i (Some at)
     → record_place e at (key_length (drop at slot)) (data_length (drop at slot)) ≡ record_place e
     (slice_index (record_offsets (track_in slot)) i) (length (record_in (track_in slot) i).key_area)
     (length (record_in (track_in slot) i).data_area)
@@ -351,11 +351,11 @@ updated_by slot t i off body r s lt within is same law =
     }
 
 -- The window of an update, and the record with other bytes in it.
-abbrev pub update_offset : Extent → Track → ℕ → ℕ
+abbrev pub update_offset : AreaBytes → Track → ℕ → ℕ
 update_offset extent.KeyAndData t i = slice_index (record_offsets t) i + 8
 update_offset _ t i = data_offset t i
 
-abbrev pub update_length : Extent → Record → ℕ
+abbrev pub update_length : AreaBytes → Record → ℕ
 update_length extent.KeyAndData r = length r.key_area + length r.data_area
 update_length _ r = length r.data_area
 
@@ -368,7 +368,7 @@ padded_whole b n e = (let z : n - length b ≡ 0 = omega (arith, e) in rw z (app
 
 -- a record that gets all the bytes of its area; what is asked for that is a premise each, since it is cited of a slot
 -- that is made of a track, and of a slot and a window
-pub update_is : (e : Extent) (slot : List ℕ) (t : Track) (part : Part) (i : ℕ) (body : List ℕ) → IsUpdate e → Spells slot t
+pub update_is : (e : AreaBytes) (slot : List ℕ) (t : Track) (part : RecordPart) (i : ℕ) (body : List ℕ) → IsUpdate e → Spells slot t
     → i < length t.records → length body ≡ update_length e (record_in t i)
     → IsUpdated slot t (update_offset e t i) body (with_record_changed (replaced e body) (Of part i) t)
 update_is extent.Data slot t part i body u s lt same =
@@ -384,28 +384,29 @@ update_is extent.KeyAndData slot t part i body u s lt same =
     (key_data_slot slot t s i lt body same))
 update_is e slot t part i body u s lt same = absurd u
 
-pub update_place : (e : Extent) (t : Track) (part : Part) (i : ℕ) (w : Window) → IsUpdate e → i < length t.records
+pub update_place : (e : AreaBytes) (t : Track) (part : RecordPart) (i : ℕ) (w : Window) → IsUpdate e → i < length t.records
     → IsPlaceOf e t (Of part i) w → (w.start ≡ update_offset e t i) × (w.len ≡ update_length e (record_in t i))
 update_place extent.Data t part i w u lt p = (let e = p lt in (rw e (omega arith), rw e refl))
 update_place extent.KeyAndData t part i w u lt p = (let e = p lt in (rw e refl, rw e refl))
 update_place e t part i w u lt p = absurd u
 
 -- bytes with the zeros behind them replace as the bytes alone do
-padded_replaces : (e : Extent) (r : Record) (b : List ℕ) → IsUpdate e → length b ≤ update_length e r
+padded_replaces : (e : AreaBytes) (r : Record) (b : List ℕ) → IsUpdate e → length b ≤ update_length e r
     → replaced e (padded b (update_length e r)) r ≡ replaced e b r
 padded_replaces extent.Data r b u le = (let n = length r.data_area in rw (padded_whole (padded b n) n (length-padded b n le)) refl)
 padded_replaces extent.KeyAndData r b u le = (let n = length r.key_area + length r.data_area in
     rw (padded_whole (padded b n) n (length-padded b n le)) refl)
 padded_replaces e r b u le = absurd u
 
-pub padded_changes : (e : Extent) (part : Part) (i : ℕ) (t : Track) (b : List ℕ) → IsUpdate e → length b ≤ update_length e (record_in t i)
+pub padded_changes : (e : AreaBytes) (part : RecordPart) (i : ℕ) (t : Track) (b : List ℕ) → IsUpdate e
+  → length b ≤ update_length e (record_in t i)
     → with_record_changed (replaced e (padded b (update_length e (record_in t i)))) (Of part i) t ≡ with_record_changed (replaced e b)
     (Of part i) t
 padded_changes e part i t b u le = ap (λ (x : Record). let y : Track = record t { records = set t.records i x } in
     y) (padded_replaces e (record_in t i) b u le)
 
 -- a record whose bytes are replaced by these, and zeros behind them
-pub replaces : (slot : List ℕ) (t : Track) (e : Extent) (a : Area) (w : Window) (bytes : List ℕ) → Spells slot t → IsUpdateAt t e a w
+pub replaces : (slot : List ℕ) (t : Track) (e : AreaBytes) (a : Area) (w : Window) (bytes : List ℕ) → Spells slot t → IsUpdateAt t e a w
     → length bytes ≤ w.len
     → IsUpdated slot t w.start (padded bytes w.len) (with_record_changed (replaced e bytes) a t)
 replaces slot t e HomeAddress w bytes s at le = absurd at.there

@@ -6,13 +6,13 @@ use Rattle.ckd_track.specs.Track.{key_length, data_length}
 use Rattle.ckd_track.specs.declared.model.DriveModel.{DriveModel}
 use Rattle.ckd_position.specs.declared.areas.Area.{Area}
 use Rattle.ckd_position.specs.declared.areas.Area.TheVariants.{HomeAddress, Of}
-use Rattle.ckd_position.specs.declared.areas.Part.TheVariants as part
+use Rattle.ckd_position.specs.declared.areas.RecordPart.TheVariants as part
 use Rattle.ckd_track.specs.Changes.{IsZeroFrom, overwritten}
 use Rattle.ckd_track.specs.Charges.{capacity_left, has_room}
 use Rattle.ckd_slot.specs.declared.windows.Window.{Window}
 use Rattle.ckd_slot.specs.declared.charges.Charged.{Charged}
-use Rattle.ckd_position.specs.declared.extents.Extent.{Extent}
-use Rattle.ckd_position.specs.declared.extents.Extent.TheVariants as extent
+use Rattle.ckd_position.specs.declared.extents.AreaBytes.{AreaBytes}
+use Rattle.ckd_position.specs.declared.extents.AreaBytes.TheVariants as extent
 use Rattle.ckd_position.specs.Contents.{Sighted, is_readable, records_on, kept, formatted}
 
 -- these bytes stand there in the slot
@@ -50,13 +50,13 @@ pub record IsBuffer (slot offsets : List ℕ) (records : Option ℕ) (zeros_from
   pub charges : IsCharged (track_in slot).records charged
 
 -- where these bytes of the home address stand
-abbrev pub home_address_place : Extent → Window
+abbrev pub home_address_place : AreaBytes → Window
 home_address_place extent.HomeAddress = record { start = 0; len = 5 }
 home_address_place extent.CylinderAndHead = record { start = 1; len = 4 }
 home_address_place _ = record { start = 0; len = 0 }
 
 -- where these bytes of a record stand, by where its count area stands and by the lengths of its key and data
-abbrev pub record_place : Extent → (at key data_bytes : ℕ) → Window
+abbrev pub record_place : AreaBytes → (at key data_bytes : ℕ) → Window
 record_place extent.Identifier at key data_bytes = record { start = at; len = 5 }
 record_place extent.Count at key data_bytes = record { start = at; len = 8 }
 record_place extent.Key at key data_bytes = record { start = at + 8; len = key }
@@ -66,7 +66,7 @@ record_place extent.CountKeyAndData at key data_bytes = record { start = at; len
 record_place _ at key data_bytes = record { start = 0; len = 0 }
 
 -- the window is where these bytes of a record of the track stand
-abbrev pub IsPlaceOf : Extent → Track → Area → Window → Type 0
+abbrev pub IsPlaceOf : AreaBytes → Track → Area → Window → Type 0
 IsPlaceOf e t HomeAddress w = Unit {0}
 IsPlaceOf e t (Of part i) w = i < length t.records → w ≡ record_place e (slice_index (record_offsets t) i)
     (length (record_in t i).key_area) (length (record_in t i).data_area)
@@ -78,7 +78,7 @@ StandsThere slot i (Some at) = (i < length (track_in slot).records)
     × (at ≡ slice_index (record_offsets (track_in slot)) i)
 
 -- the area is one of the track's, or one of which no bytes are asked where it is none of the track's
-abbrev pub HasBytes : Extent → Sighted → Area → Type 0
+abbrev pub HasBytes : AreaBytes → Sighted → Area → Type 0
 HasBytes extent.Count t (Of part i) = i < length (records_on t)
 HasBytes extent.CountKeyAndData t (Of part i) = i < length (records_on t)
 HasBytes e t a = Unit {0}
@@ -101,7 +101,7 @@ pub record FitsSlot (size : ℕ) (t : Track) : Type 0 where
   pub room : length (spelling t) ≤ size
 
 -- what an update changes
-abbrev pub IsUpdate : Extent → Type 0
+abbrev pub IsUpdate : AreaBytes → Type 0
 IsUpdate extent.Data = Unit {0}
 IsUpdate extent.KeyAndData = Unit {0}
 IsUpdate _ = ⊥
@@ -116,14 +116,14 @@ IsRecordOf t (Of part i) = i < length t.records
 IsRecordOf t HomeAddress = ⊥
 
 -- what an update changes of this record of the track stands there
-pub record IsUpdateAt (t : Track) (e : Extent) (a : Area) (w : Window) : Type 0 where
+pub record IsUpdateAt (t : Track) (e : AreaBytes) (a : Area) (w : Window) : Type 0 where
   pub update : IsUpdate e
   pub there : IsRecordOf t a
   pub place : IsPlaceOf e t a w
 
 -- what some update changes of some record of the track stands there
 pub record HasUpdateAt (t : Track) (w : Window) : Type 0 where
-  pub extent : Extent
+  pub extent : AreaBytes
   pub area : Area
   pub is : IsUpdateAt t extent area w
 

@@ -10,14 +10,14 @@ ghost use Rattle.ckd_track.specs.Model.{capacity_of};
 ghost use Rattle.std.specs.Option.{ForSome};
 ghost use Rattle.ckd_position.specs.Contents.{bytes_of, is_readable, has_no_data, padded, with_record_changed, replaced, kept, record_before};
 ghost use Rattle.ckd_position.specs.declared.areas.Area.{Area};
-ghost use Rattle.ckd_position.specs.declared.extents.Extent.{Extent};
+ghost use Rattle.ckd_position.specs.declared.extents.AreaBytes.{AreaBytes};
 ghost use Rattle.ckd_slot.specs.Buffer.{Lies, HasBytes, IsPlaceOf, StandsThere, home_address_place, record_place, IsRead, end_of_records, number_up_to};
 ghost use Rattle.ckd_slot.specs.Buffer.{SameRecords, FitsSlot, IsUpdateAt, HasUpdateAt, Places, CanMake, made_on};
 
 use crate::charges::Charged;
 use crate::windows::Window;
 use ckd_image::{Image, ImageStore, StoreFault};
-use ckd_position::{Area, Extent, Kind, Next, Position, next_area};
+use ckd_position::{Area, AreaBytes, Kind, Next, Position, next_area};
 use ckd_track::{
     COUNT_LENGTH, DriveModel, RECORDS_START, body_length, clear_area, data_length, index_slot,
     key_length, overwrite, put_end_mark, put_home_address, view_at,
@@ -91,15 +91,15 @@ fn only_home_address(position: Position, kind: Kind) -> Next
 }
 
 // Where these bytes of the home address stand.
-fn home_address_window(extent: Extent) -> Window
+fn home_address_window(extent: AreaBytes) -> Window
     ensures { result ≡ home_address_place extent }
 {
     match extent {
-        Extent::HomeAddress => Window {
+        AreaBytes::HomeAddress => Window {
             start: 0,
             len: RECORDS_START,
         },
-        Extent::CylinderAndHead => Window {
+        AreaBytes::CylinderAndHead => Window {
             start: 1,
             len: RECORDS_START - 1,
         },
@@ -109,7 +109,7 @@ fn home_address_window(extent: Extent) -> Window
 
 // Where these bytes of the record at an offset stand.
 #[inline(always)]
-fn record_window(slot: &[u8], at: usize, extent: Extent) -> Window
+fn record_window(slot: &[u8], at: usize, extent: AreaBytes) -> Window
     requires room { at + 8 ≤ length slot.now }
     requires size { length slot.now < 2 ^ 32 }
     ensures { result ≡ record_place extent at (key_length (drop at slot.now)) (data_length (drop at slot.now)) }
@@ -118,20 +118,20 @@ fn record_window(slot: &[u8], at: usize, extent: Extent) -> Window
     let key = key_length(count);
     let data = data_length(count);
     let (start, len) = match extent {
-        Extent::Identifier => (at, 5),
-        Extent::Count => (at, COUNT_LENGTH),
-        Extent::Key => (at + COUNT_LENGTH, key),
-        Extent::Data => (at + COUNT_LENGTH + key, data),
-        Extent::KeyAndData => (at + COUNT_LENGTH, key + data),
-        Extent::CountKeyAndData => (at, COUNT_LENGTH + key + data),
-        Extent::Nothing | Extent::CylinderAndHead | Extent::HomeAddress => (0, 0),
+        AreaBytes::Identifier => (at, 5),
+        AreaBytes::Count => (at, COUNT_LENGTH),
+        AreaBytes::Key => (at + COUNT_LENGTH, key),
+        AreaBytes::Data => (at + COUNT_LENGTH + key, data),
+        AreaBytes::KeyAndData => (at + COUNT_LENGTH, key + data),
+        AreaBytes::CountKeyAndData => (at, COUNT_LENGTH + key + data),
+        AreaBytes::Nothing | AreaBytes::CylinderAndHead | AreaBytes::HomeAddress => (0, 0),
     };
     Window { start, len }
 }
 
 // The same, and whether the record has no data.
 #[inline(always)]
-fn record_part(slot: &[u8], at: usize, extent: Extent) -> (Window, bool)
+fn record_part(slot: &[u8], at: usize, extent: AreaBytes) -> (Window, bool)
     requires room { at + 8 ≤ length slot.now }
     requires size { length slot.now < 2 ^ 32 }
     ensures place { result.0 ≡ record_place extent at (key_length (drop at slot.now)) (data_length (drop at slot.now)) }
@@ -139,7 +139,7 @@ fn record_part(slot: &[u8], at: usize, extent: Extent) -> (Window, bool)
 {
     (
         record_window(slot, at, extent),
-        record_window(slot, at, Extent::Data).len == 0,
+        record_window(slot, at, AreaBytes::Data).len == 0,
     )
 }
 
@@ -290,7 +290,7 @@ impl TrackBuffer {
     /// Where these bytes of an area stand, an empty part where there are none; and whether its record has no data, or is
     /// not there.
     #[inline(always)]
-    pub fn part(&self, extent: Extent, area: Area) -> (Window, bool)
+    pub fn part(&self, extent: AreaBytes, area: Area) -> (Window, bool)
         requires readable { is_readable (track_of self.now) ≡ true }
         requires on_track { HasBytes extent (track_of self.now) area }
         ensures lies { Lies self.now result.0 (bytes_of extent (track_of self.now) area) }
@@ -341,7 +341,7 @@ impl TrackBuffer {
             return RECORDS_START;
         }
         match self.offset_of(records - 1) {
-            Some(at) => at + record_window(&self.slot, at, Extent::CountKeyAndData).len,
+            Some(at) => at + record_window(&self.slot, at, AreaBytes::CountKeyAndData).len,
             None => RECORDS_START,
         }
     }
@@ -427,9 +427,9 @@ impl TrackBuffer {
         requires readable { is_readable (track_of self.old) ≡ true }
         requires there { HasUpdateAt (track_in self.old) place }
         requires first { length bytes.now ≤ place.len }
-        ensures slot { (e : Extent) (a : Area) → IsUpdateAt (track_in self.old) e a place → self.new ≡
+        ensures slot { (e : AreaBytes) (a : Area) → IsUpdateAt (track_in self.old) e a place → self.new ≡
             slot_of (length self.old) (with_record_changed (replaced e bytes.now) a (track_in self.old)) }
-        ensures fits { (e : Extent) (a : Area) → IsUpdateAt (track_in self.old) e a place →
+        ensures fits { (e : AreaBytes) (a : Area) → IsUpdateAt (track_in self.old) e a place →
             FitsSlot (length self.old) (with_record_changed (replaced e bytes.now) a (track_in self.old)) }
         ensures fitted { FitsSlot (length self.old) (track_in self.old) }
         ensures size { length self.new ≡ length self.old }

@@ -7,7 +7,7 @@ ghost use Rattle.ckd_track.specs.Track.{track_of, track_in, slot_of};
 ghost use Rattle.ckd_track.specs.Changes.{overwritten, bare_track};
 ghost use Rattle.ckd_position.specs.Contents.{is_readable, with_record_changed, replaced};
 ghost use Rattle.ckd_position.specs.declared.areas.Area.{Area};
-ghost use Rattle.ckd_position.specs.declared.extents.Extent.{Extent};
+ghost use Rattle.ckd_position.specs.declared.extents.AreaBytes.{AreaBytes};
 ghost use Rattle.ckd_slot.specs.Buffer.{SameRecords, FitsSlot, IsUpdateAt, HasUpdateAt, Places, CanMake, made_on};
 ghost use Rattle.ckd_slot.specs.Cache.{slot_held, slot_at_hand, with_held, holds, after_hold, after_failed_hold, after_save, after_failed_save, IsVolume};
 
@@ -192,10 +192,10 @@ impl<S: ImageStore> TrackCache<S> {
         requires readable { is_readable (track_of (slot_held self.old)) ≡ true }
         requires there { HasUpdateAt (track_in (slot_held self.old)) place }
         requires first { length bytes.now ≤ place.len }
-        ensures slot { (e : Extent) (a : Area) → IsUpdateAt (track_in (slot_held self.old)) e a place → self.new ≡
+        ensures slot { (e : AreaBytes) (a : Area) → IsUpdateAt (track_in (slot_held self.old)) e a place → self.new ≡
             with_held self.old (slot_of self.old.image.geometry.track_size
             (with_record_changed (replaced e bytes.now) a (track_in (slot_held self.old)))) }
-        ensures fits { (e : Extent) (a : Area) → IsUpdateAt (track_in (slot_held self.old)) e a place →
+        ensures fits { (e : AreaBytes) (a : Area) → IsUpdateAt (track_in (slot_held self.old)) e a place →
             FitsSlot self.old.image.geometry.track_size
             (with_record_changed (replaced e bytes.now) a (track_in (slot_held self.old))) }
         ensures fitted { FitsSlot self.old.image.geometry.track_size (track_in (slot_held self.old)) }

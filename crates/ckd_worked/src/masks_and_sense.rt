@@ -4,7 +4,7 @@
 
 ghost use Rattle.std.specs.Prelude.{◌≡◌, ◌∷◌, [], None, false, replicate};
 ghost use Rattle.ckd_position.specs.declared.areas.Area.TheVariants.{Of};
-ghost use Rattle.ckd_position.specs.declared.areas.Part.TheVariants.{Count, Data};
+ghost use Rattle.ckd_position.specs.declared.areas.RecordPart.TheVariants.{Count, Data};
 ghost use Rattle.ckd_position.specs.declared.areas.Position.TheVariants.{AtIndex, At};
 ghost use Rattle.ckd_sense.specs.Masks.{mask_of_byte};
 ghost use Rattle.ckd_command.specs.declared.registers.Credit.TheVariants.{EqualId};

@@ -4,7 +4,7 @@
 
 ghost use Rattle.std.specs.Prelude.{◌≡◌, ◌∷◌, [], Some, None, Ok, false, replicate};
 ghost use Rattle.ckd_position.specs.declared.areas.Area.TheVariants.{HomeAddress, Of};
-ghost use Rattle.ckd_position.specs.declared.areas.Part.TheVariants.{Count, Key, Data};
+ghost use Rattle.ckd_position.specs.declared.areas.RecordPart.TheVariants.{Count, Key, Data};
 ghost use Rattle.ckd_position.specs.declared.areas.Position.TheVariants.{AtIndex, At};
 ghost use Rattle.ckd_command.specs.declared.registers.Credit.TheVariants.{EqualId, EqualKey};
 ghost use Rattle.ckd_command.specs.declared.registers.Lap.TheVariants.{First};

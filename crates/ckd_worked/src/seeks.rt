@@ -4,7 +4,7 @@
 
 ghost use Rattle.std.specs.Prelude.{◌≡◌, ◌∷◌, [], Some, None, true, false};
 ghost use Rattle.ckd_position.specs.declared.areas.Area.TheVariants.{Of};
-ghost use Rattle.ckd_position.specs.declared.areas.Part.TheVariants.{Count, Data};
+ghost use Rattle.ckd_position.specs.declared.areas.RecordPart.TheVariants.{Count, Data};
 ghost use Rattle.ckd_position.specs.declared.areas.Position.TheVariants.{AtIndex, At};
 ghost use Rattle.ckd_command.specs.declared.registers.Credit.TheVariants.{EqualId};
 ghost use Rattle.ckd_command.specs.declared.registers.Lap.TheVariants.{First};

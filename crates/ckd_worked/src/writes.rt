@@ -5,7 +5,7 @@
 
 ghost use Rattle.std.specs.Prelude.{◌≡◌, ◌∷◌, [], Some, None, Ok, true, false};
 ghost use Rattle.ckd_position.specs.declared.areas.Area.TheVariants.{HomeAddress, Of};
-ghost use Rattle.ckd_position.specs.declared.areas.Part.TheVariants.{Count, Data};
+ghost use Rattle.ckd_position.specs.declared.areas.RecordPart.TheVariants.{Count, Data};
 ghost use Rattle.ckd_position.specs.declared.areas.Position.TheVariants.{At};
 ghost use Rattle.ckd_command.specs.declared.registers.Credit.TheVariants.{EqualHomeAddress, EqualId, EqualKey, WroteHomeAddress, WroteRecord};
 ghost use Rattle.ckd_command.specs.declared.registers.Lap.TheVariants.{Second};

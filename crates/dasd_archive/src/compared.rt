@@ -14,7 +14,7 @@ use crate::differences::Difference;
 use crate::reports::Style;
 use crate::tracks::{bytes_from, five, identifier, is_same};
 use ckd_track::{TrackView, end_offset_of, read_slot};
-use dasd_volumes::TrackAddress;
+use dasd_volumes::PrintedAddress;
 use std::io;
 use std::io::Write;
 
@@ -22,7 +22,7 @@ use std::io::Write;
 #[derive(Clone, Copy)]
 pub(crate) struct DifferenceForm<'a> {
     pub(crate) form: Comparison<'a>,
-    pub(crate) address: TrackAddress,
+    pub(crate) address: PrintedAddress,
 }
 
 // A slot, and the track that it spells.
@@ -129,7 +129,7 @@ fn write_line<W: Write>(
     let path = lines.form.path;
     let other = lines.form.other;
     let address = lines.address;
-    let TrackAddress { cylinder, head } = address;
+    let PrintedAddress { cylinder, head } = address;
     match lines.form.style {
         Style::Text => writeln!(writer, "{address} {difference}"),
         Style::Json => writeln!(

@@ -18,7 +18,7 @@ use crate::reports::Style;
 use crate::walks::{EachTrack, VolumeTrack, all_tracks, each_track};
 use ckd_image::StoreFault;
 use counted_io::Counted;
-use dasd_volumes::{SlotReader, TrackAddress, VolumeFault};
+use dasd_volumes::{PrintedAddress, SlotReader, VolumeFault};
 use quantities::Quantity;
 use std::alloc::Global;
 use std::io;
@@ -191,11 +191,11 @@ impl<'a, U: SlotReader> EachTrack for ComparedTracks<'a, U> {
 }
 
 // Where a track of a volume is.
-fn address_of(track: VolumeTrack) -> TrackAddress
+fn address_of(track: VolumeTrack) -> PrintedAddress
     ensures { result ≡ record { cylinder = track.cylinder; head = track.head } }
 {
     let VolumeTrack { cylinder, head, .. } = track;
-    TrackAddress { cylinder, head }
+    PrintedAddress { cylinder, head }
 }
 
 // Reads the slot of a track of the second volume, and says how many of its bytes there are.

@@ -19,7 +19,7 @@ use crate::tracks::identifier;
 use crate::walks::{EachTrack, Tracks, VolumeTrack, each_track};
 use ckd_track::{SlotFault, TrackView, read_slot};
 use counted_io::{Counted, WriteFault, flush_all};
-use dasd_volumes::{Hexadecimal, Reason, SlotReader, TrackAddress, VolumeFault};
+use dasd_volumes::{Hexadecimal, PrintedAddress, Reason, SlotReader, VolumeFault};
 use std::alloc::Global;
 use std::io;
 use std::io::Write;
@@ -65,7 +65,7 @@ struct DumpedTracks<'a> {
 #[derive(Clone, Copy)]
 pub(crate) struct TrackForm<'a> {
     pub(crate) form: Form<'a>,
-    pub(crate) address: TrackAddress,
+    pub(crate) address: PrintedAddress,
 }
 
 /// Prints the home addresses and the records of a part of a volume, sixteen bytes of a key or of data to a line: the offset of
@@ -138,7 +138,7 @@ impl<'a> EachTrack for DumpedTracks<'a> {
         let VolumeTrack { cylinder, head, .. } = track;
         let form = TrackForm {
             form: self.form,
-            address: TrackAddress { cylinder, head },
+            address: PrintedAddress { cylinder, head },
         };
         print_track(writer, &form, self.numbers, slot, &mut self.lines)
     }
@@ -198,7 +198,7 @@ pub(crate) fn dump_unreadable<W: Write>(
 {
     let path = lines.form.path;
     let address = lines.address;
-    let TrackAddress { cylinder, head } = address;
+    let PrintedAddress { cylinder, head } = address;
     match lines.form.style {
         Style::Text => writeln!(writer, "{address} unreadable {}", Reason(fault)),
         Style::Json => writeln!(
@@ -241,7 +241,7 @@ fn dump_home_address<W: Write>(
 {
     let path = lines.form.path;
     let address = lines.address;
-    let TrackAddress { cylinder, head } = address;
+    let PrintedAddress { cylinder, head } = address;
     let home_address = Hexadecimal(track.ha());
     match lines.form.style {
         Style::Text => writeln!(writer, "{address} HA {home_address}"),
@@ -335,7 +335,7 @@ struct Areas<'a> {
 fn write_object<W: Write>(
     writer: &mut W,
     path: &str,
-    address: TrackAddress,
+    address: PrintedAddress,
     areas: &Areas,
 ) -> io::Result<()>
     ensures { OnOk result (Appends (W.contents writer.old) (W.contents writer.new)
@@ -350,12 +350,12 @@ fn write_object<W: Write>(
 pub(crate) fn write_place<W: Write>(
     writer: &mut W,
     path: &str,
-    address: TrackAddress,
+    address: PrintedAddress,
 ) -> io::Result<()>
     ensures { OnOk result (Appends (W.contents writer.old) (W.contents writer.new)
         (place_text path.now address.cylinder address.head)) }
 {
-    let TrackAddress { cylinder, head } = address;
+    let PrintedAddress { cylinder, head } = address;
     write!(
         writer,
         "{{\"path\":{path},\"cylinder\":{cylinder},\"head\":{head}"

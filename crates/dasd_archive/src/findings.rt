@@ -7,7 +7,7 @@ ghost use Rattle.dasd_volumes.specs.Lines.{bytes_text};
 ghost use Rattle.dasd_archive.specs.Findings.{severity_of, severity_text, kind_text, problem_text, place_text, place_members};
 
 use ckd_track::SlotFault;
-use dasd_volumes::{Hexadecimal, Reason, TrackAddress};
+use dasd_volumes::{Hexadecimal, PrintedAddress, Reason};
 use std::fmt;
 
 /// How grave a finding is.
@@ -204,7 +204,7 @@ impl fmt::Display for FindingPlace {
             FindingPlace::Track(cylinder, head) => {
                 let cylinder = *cylinder;
                 let head = *head;
-                write!(f, "{}", TrackAddress { cylinder, head })
+                write!(f, "{}", PrintedAddress { cylinder, head })
             }
         }
     }

@@ -18,7 +18,7 @@ use crate::walks::{EachTrack, Tracks, VolumeTrack, all_heads, each_track};
 use arrayvec::ArrayString;
 use ckd_track::{DriveModel, Geometry, SlotFault, TrackView, read_slot, used};
 use counted_io::{Counted, WriteFault, flush_all, write_whole};
-use dasd_volumes::{SlotReader, TrackAddress, VolumeFault};
+use dasd_volumes::{PrintedAddress, SlotReader, VolumeFault};
 use std::alloc::Global;
 use std::io::Write;
 use text_lines::{put_bytes, put_decimal};
@@ -201,7 +201,7 @@ fn list_unreadable<W: Write>(
         (track_part form.entry.style form.entry.path.now track.geometry.model track.cylinder track.head (Err fault)) }
 {
     let VolumeTrack { cylinder, head, .. } = track;
-    let address = TrackAddress { cylinder, head };
+    let address = PrintedAddress { cylinder, head };
     match form.style {
         Style::Text => list_unreadable_line(writer, address, fault),
         Style::Json => list_unreadable_object(writer, form.path, address, fault),
@@ -211,7 +211,7 @@ fn list_unreadable<W: Write>(
 // A track that can't be read, as a line.
 fn list_unreadable_line<W: Write>(
     writer: &mut Counted<W>,
-    address: TrackAddress,
+    address: PrintedAddress,
     fault: SlotFault,
 ) -> Result<(), WriteFault>
     ensures { WritesWhole result (seen_by W.contents writer.old) (seen_by W.contents writer.new) (lines.unreadable_line address.cylinder address.head fault) }
@@ -271,7 +271,7 @@ fn list_home_address<W: Write>(
 {
     let VolumeTrack { cylinder, head, .. } = track;
     let mut line: ArrayString<LINE> = ArrayString::new();
-    put_address(&mut line, TrackAddress { cylinder, head });
+    put_address(&mut line, PrintedAddress { cylinder, head });
     line.push_str(" HA ");
     put_bytes(&mut line, view.ha());
     line.push_str(" records ");

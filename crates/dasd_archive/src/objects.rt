@@ -15,7 +15,7 @@ use crate::walks::VolumeTrack;
 use arrayvec::ArrayString;
 use ckd_track::{DriveModel, Geometry, SlotFault, TrackView, used};
 use counted_io::{Counted, WriteFault, write_whole};
-use dasd_volumes::TrackAddress;
+use dasd_volumes::PrintedAddress;
 use std::io::Write;
 use text_lines::{put_bytes, put_decimal};
 
@@ -53,7 +53,7 @@ fn write_path<W: Write>(writer: &mut Counted<W>, path: &str) -> Result<(), Write
 fn begin_object<W: Write>(
     writer: &mut Counted<W>,
     path: &str,
-    address: TrackAddress,
+    address: PrintedAddress,
 ) -> Result<(), WriteFault>
     ensures { WritesWhole result (seen_by W.contents writer.old) (seen_by W.contents writer.new) (place_text path.now address.cylinder address.head) }
 {
@@ -70,7 +70,7 @@ fn begin_object<W: Write>(
 pub(crate) fn list_unreadable_object<W: Write>(
     writer: &mut Counted<W>,
     path: &str,
-    address: TrackAddress,
+    address: PrintedAddress,
     fault: SlotFault,
 ) -> Result<(), WriteFault>
     ensures { WritesWhole result (seen_by W.contents writer.old) (seen_by W.contents writer.new)
@@ -95,7 +95,7 @@ pub(crate) fn list_object<W: Write>(
         (track_object path.now track.geometry.model track.cylinder track.head view.now) }
 {
     let VolumeTrack { cylinder, head, .. } = track;
-    match begin_object(writer, path, TrackAddress { cylinder, head }) {
+    match begin_object(writer, path, PrintedAddress { cylinder, head }) {
         Ok(()) => list_track(writer, track.geometry.model, view),
         Err(fault) => Err(fault),
     }

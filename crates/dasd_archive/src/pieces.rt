@@ -6,7 +6,7 @@ ghost use Rattle.dasd_volumes.specs.Lines.{address_text, fault_text};
 
 use arrayvec::ArrayString;
 use ckd_track::SlotFault;
-use dasd_volumes::TrackAddress;
+use dasd_volumes::PrintedAddress;
 use itoa::Buffer;
 use text_lines::put_hexadecimal;
 
@@ -14,7 +14,7 @@ use text_lines::put_hexadecimal;
 pub(crate) const LINE: usize = 128;
 
 /// Cylinder and head go to the end of the line, which has room for them.
-pub(crate) fn put_address(line: &mut ArrayString<LINE>, address: TrackAddress)
+pub(crate) fn put_address(line: &mut ArrayString<LINE>, address: PrintedAddress)
     requires { length line.old.bytes + 17 ≤ 128 }
     ensures text { line.new.bytes ≡ line.old.bytes ++ address_text address.cylinder address.head }
     ensures size { length line.new.bytes ≤ length line.old.bytes + 17 }

@@ -12,7 +12,7 @@ use crate::headers::HEADER;
 use crate::reasons::Head;
 use byteorder::{ByteOrder, LittleEndian};
 use ckd_track::Geometry;
-use dasd_volumes::TrackAddress;
+use dasd_volumes::PrintedAddress;
 use quantities::Quantity;
 use std::fmt;
 
@@ -114,7 +114,7 @@ pub(crate) fn left_out(heads: &[Head], geometry: Geometry) -> u64
 #[derive(Clone, Copy)]
 enum Remark<'a> {
     /// So many tracks, from this one on.
-    Lacks(&'a str, u32, TrackAddress),
+    Lacks(&'a str, u32, PrintedAddress),
     /// So many bytes.
     LeavesOut(&'a str, u64),
 }
@@ -162,9 +162,9 @@ pub(crate) fn remark_reach<F: ImageFiles>(
 }
 
 // Where a track is.
-fn address_of(geometry: Geometry, track: u32) -> TrackAddress {
+fn address_of(geometry: Geometry, track: u32) -> PrintedAddress {
     let heads = u32::from(geometry.model.heads());
-    TrackAddress {
+    PrintedAddress {
         cylinder: u16::try_from(track.checked_div(heads).unwrap_or(0)).unwrap_or(0),
         head: u16::try_from(track.checked_rem(heads).unwrap_or(0)).unwrap_or(0),
     }

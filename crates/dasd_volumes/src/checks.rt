@@ -11,7 +11,7 @@ use crate::fault::VolumeFault;
 use crate::pieces::{LINE, put_address, put_fault};
 use crate::progress::{Progress, Stage, is_large};
 use crate::reading::SlotReader;
-use crate::text::TrackAddress;
+use crate::text::PrintedAddress;
 use arrayvec::ArrayString;
 use ckd_track::{Geometry, SlotFault, read_slot};
 use counted_io::{Counted, WriteFault, write_flushed};
@@ -111,7 +111,7 @@ fn check_cylinder<V: SlotReader, W: Write, P: Progress>(
         let Ok(held) = volume.load(geometry.track_at(cylinder, head), slot) else {
             return Err(VolumeFault::Store);
         };
-        let address = TrackAddress { cylinder, head };
+        let address = PrintedAddress { cylinder, head };
         match check_track(writer, progress, address, &slot[..held]) {
             Ok(found) => findings += found,
             Err(WriteFault) => return Err(VolumeFault::Write),
@@ -124,7 +124,7 @@ fn check_cylinder<V: SlotReader, W: Write, P: Progress>(
 fn check_track<W: Write, P: Progress>(
     writer: &mut Counted<W>,
     progress: &mut P,
-    address: TrackAddress,
+    address: PrintedAddress,
     slot: &[u8],
 ) -> Result<u32, WriteFault>
     ensures number { IfOk result (λ n. n ≡ length (findings_at address.cylinder address.head (track_of slot.now))) }
@@ -144,7 +144,7 @@ fn check_track<W: Write, P: Progress>(
 fn write_finding<W: Write, P: Progress>(
     writer: &mut Counted<W>,
     _progress: &P,
-    address: TrackAddress,
+    address: PrintedAddress,
     fault: SlotFault,
 ) -> Result<(), WriteFault>
     requires { P.is_shown _progress.now ≡ false }

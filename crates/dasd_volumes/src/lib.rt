@@ -15,4 +15,4 @@ pub use crate::fault::VolumeFault;
 pub use crate::lists::list;
 pub use crate::progress::{Progress, Stage, is_large};
 pub use crate::reading::SlotReader;
-pub use crate::text::{Hexadecimal, Reason, TrackAddress};
+pub use crate::text::{Hexadecimal, PrintedAddress, Reason};

@@ -12,7 +12,7 @@ ghost use Rattle.dasd_volumes.specs.Volumes.{cylinder_text, volume_text};
 use crate::fault::VolumeFault;
 use crate::pieces::{LINE, put_address, put_count, put_fault};
 use crate::reading::SlotReader;
-use crate::text::{TrackAddress, model_number};
+use crate::text::{PrintedAddress, model_number};
 use arrayvec::ArrayString;
 use ckd_track::{Geometry, SlotFault, TrackView, read_slot, used};
 use counted_io::{Counted, WriteFault, flush_all, write_whole};
@@ -91,7 +91,7 @@ fn list_cylinder<V: SlotReader, W: Write>(
         let Ok(held) = volume.load(geometry.track_at(cylinder, head), slot) else {
             return Err(VolumeFault::Store);
         };
-        let address = TrackAddress { cylinder, head };
+        let address = PrintedAddress { cylinder, head };
         if let Err(WriteFault) = list_track(writer, geometry, address, &slot[..held]) {
             return Err(VolumeFault::Write);
         }
@@ -103,7 +103,7 @@ fn list_cylinder<V: SlotReader, W: Write>(
 fn list_track<W: Write>(
     writer: &mut Counted<W>,
     geometry: Geometry,
-    address: TrackAddress,
+    address: PrintedAddress,
     slot: &[u8],
 ) -> Result<(), WriteFault>
     ensures { WritesWhole result (seen_by W.contents writer.old) (seen_by W.contents writer.new) (track_lines geometry.model address.cylinder address.head
@@ -118,7 +118,7 @@ fn list_track<W: Write>(
 // The line of a track that can't be read.
 fn list_unreadable<W: Write>(
     writer: &mut Counted<W>,
-    address: TrackAddress,
+    address: PrintedAddress,
     fault: SlotFault,
 ) -> Result<(), WriteFault>
     ensures { WritesWhole result (seen_by W.contents writer.old) (seen_by W.contents writer.new) (unreadable_line address.cylinder address.head fault) }
@@ -135,7 +135,7 @@ fn list_unreadable<W: Write>(
 fn list_records<W: Write>(
     writer: &mut Counted<W>,
     geometry: Geometry,
-    address: TrackAddress,
+    address: PrintedAddress,
     track: &TrackView,
 ) -> Result<(), WriteFault>
     ensures { WritesWhole result (seen_by W.contents writer.old) (seen_by W.contents writer.new)
@@ -152,7 +152,7 @@ fn list_records<W: Write>(
 fn list_home_address<W: Write>(
     writer: &mut Counted<W>,
     geometry: Geometry,
-    address: TrackAddress,
+    address: PrintedAddress,
     track: &TrackView,
 ) -> Result<(), WriteFault>
     ensures { WritesWhole result (seen_by W.contents writer.old) (seen_by W.contents writer.new)

@@ -4,7 +4,7 @@ ghost use Rattle.std.specs.Prelude.{◌≡◌, ◌+◌, ◌≤◌, ◌++◌, len
 ghost use Rattle.std.specs.Fmt.{decimal};
 ghost use Rattle.dasd_volumes.specs.Lines.{address_text, fault_text};
 
-use crate::text::TrackAddress;
+use crate::text::PrintedAddress;
 use arrayvec::ArrayString;
 use ckd_track::SlotFault;
 use itoa::Buffer;
@@ -14,7 +14,7 @@ use text_lines::put_hexadecimal;
 pub(crate) const LINE: usize = 96;
 
 /// Cylinder and head go to the end of the line, which has room for them.
-pub(crate) fn put_address(line: &mut ArrayString<LINE>, address: TrackAddress)
+pub(crate) fn put_address(line: &mut ArrayString<LINE>, address: PrintedAddress)
     requires { length line.old.bytes + 17 ≤ 96 }
     ensures text { line.new.bytes ≡ line.old.bytes ++ address_text address.cylinder address.head }
     ensures size { length line.new.bytes ≤ length line.old.bytes + 17 }

@@ -42,14 +42,14 @@ fn write_digits<W: fmt::Write>(f: &mut fmt::Formatter<W>, piece: &[u8]) -> fmt::
 
 /// Cylinder and head of a track, four hexadecimal digits each.
 #[derive(Clone, Copy)]
-pub struct TrackAddress {
+pub struct PrintedAddress {
     /// The cylinder.
     pub cylinder: u16,
     /// The head.
     pub head: u16,
 }
 
-impl fmt::Display for TrackAddress {
+impl fmt::Display for PrintedAddress {
     ghost output = { λ a. Some (address_text a.cylinder a.head) };
 
     fn fmt<W: fmt::Write>(&self, f: &mut fmt::Formatter<W>) -> fmt::Result {

@@ -15,7 +15,7 @@ use Rattle.s360_runs.specs.Status.{no_unit_status, no_channel_status}
 use Rattle.s360_runs.specs.Units.{standing_in}
 use Rattle.s360_program.specs.Advances.{Cuts, CutTellsOf, AdvancesTo, TellsOf}
 use Rattle.s360_program.specs.Advances as program
-use Rattle.s360_program.specs.declared.program.Ran.{Ran}
+use Rattle.s360_program.specs.declared.program.LongAdvance.{LongAdvance}
 use Rattle.s360_program.specs.Stands.{RunningState, phase_in, Stands}
 use Rattle.s360_laws.specs.declared.condition.ConditionCode.TheVariants.{Two, Three, Zero}
 use Rattle.s360_laws.specs.Events.{Answer, Hio, Reset, WithCode, WasReset, StepBy, Stepped, StatusStored}
@@ -281,7 +281,7 @@ no_step_does c m k never s = (
 )
 
 module _ (c : ChannelState) (m : Machine) (place : ℕ) (r : RunningState) (is : c.subchannel ≡ Working place r) (s : StandsFor c m) (k : ℕ)
-    (a : Ran) (r' : RunningState) (st : Storage) (drives : List AttachedState)
+    (a : LongAdvance) (r' : RunningState) (st : Storage) (drives : List AttachedState)
     (d : DriveChanges place (AdvancesAt r c.storage k a r' st) c.drives drives) where
   w : WorksFor c place r m
   w = works c m place r is s

@@ -10,7 +10,7 @@ use Rattle.s360_runs.specs.Unsaved.{has_written}
 use Rattle.s360_program.specs.Advances.{RunsOn, KeepsStorage, Cuts, CallsAtMost, Rests, TellsOf, CutTellsOf}
 use Rattle.s360_program.specs.Stands.{RunningState, phase_in}
 use Rattle.s360_program.specs.Starting.{IsFirst, StartsQuietly}
-use Rattle.s360_program.specs.declared.program.Ran.{Ran}
+use Rattle.s360_program.specs.declared.program.LongAdvance.{LongAdvance}
 use Rattle.s360_program.specs.declared.program.Start.{Start}
 use Rattle.s360_laws.specs.declared.arm.Arm.{Arm}
 use Rattle.s360_laws.specs.declared.arm.Arm.TheVariants.{AtRest}
@@ -46,7 +46,7 @@ Starts caw s answer old new =
     IsFirst (record { caw = caw; storage = s; drive = drive_of old.state }) answer old new × StartsQuietly old new
 
 -- The running program does up to so many units at its drive.
-pub record AdvancesAt (r : RunningState) (s : Storage) (asked : ℕ) (a : Ran) (r' : RunningState) (s' : Storage)
+pub record AdvancesAt (r : RunningState) (s : Storage) (asked : ℕ) (a : LongAdvance) (r' : RunningState) (s' : Storage)
     (old new : DriveState) : Type 0 where
   pub advances : RunsOn r.key (phase_in r s old) asked a r' s' old new
   pub storage : KeepsStorage s s'

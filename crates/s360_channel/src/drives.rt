@@ -25,7 +25,7 @@ use ckd_image::{Image, ImageStore};
 use ckd_track::{DriveModel, Geometry};
 use s360_laws::arm::Arm;
 use s360_program::main_storage::MainStorage;
-use s360_program::program::{Ran, Running, Start};
+use s360_program::program::{LongAdvance, Running, Start};
 use s360_words::Csw;
 use std::alloc::{AllocError, Global};
 use std::marker::Model;
@@ -255,7 +255,7 @@ impl<S: ImageStore> Drives<S> {
         running: &mut Running,
         units: u32,
         storage: &mut M,
-    ) -> Ran
+    ) -> LongAdvance
         requires { DriveIs place (Stands running.old) self.old }
         ensures advances { DriveChanges place (AdvancesAt running.old (M.holds storage.old) units result running.new (M.holds storage.new)) self.old
             self.new }
@@ -442,7 +442,7 @@ fn advance<S: ImageStore, M: MainStorage>(
     running: &mut Running,
     units: u32,
     storage: &mut M,
-) -> Ran
+) -> LongAdvance
     requires { Stands running.old attached.old.drive }
     ensures advances { OnlyDrive (AdvancesAt running.old (M.holds storage.old) units result running.new (M.holds storage.new)) attached.old
         attached.new }

@@ -19,7 +19,7 @@ use Rattle.s360_runs.specs.Transfers.{Transfer, Moves, transfer_unit, check_of, 
 use Rattle.ckd_drive.specs.Work.{DriveState, Work, Idle, Over, Looking, Passing, takes_now, gives_now, given_now, passed_of, left_of}
 use Rattle.ckd_drive.specs.Work.{moved_on}
 use Rattle.s360_program.specs.Steps.{MovesBy, MovesBytesBy, transfer_by, status_of, refused}
-use Rattle.s360_program.specs.declared.moving.Segment.{Segment}
+use Rattle.s360_program.specs.declared.moving.StorageArea.{StorageArea}
 
 -- so many bytes from a place on, as they are taken
 pub ranged : (xs : List ℕ) (at m : ℕ) → slice_range xs at (at + m) ≡ take m (drop at xs)
@@ -130,7 +130,7 @@ may_give m key o t g r free = may_move m key o (AreFree key o) t keeps free r (s
 -- What moves.
 
 -- so many bytes of a segment pass at once, and the drive has them
-pub record MayPass (m : ℕ) (seg : Segment) (s : State) (w : Work) : Type 0 where
+pub record MayPass (m : ℕ) (seg : StorageArea) (s : State) (w : Work) : Type 0 where
   pub moving : MovesBy s w
   pub some : 0 < m
   pub few : m ≤ seg.count
@@ -141,7 +141,7 @@ within b left m most L x y z = omega arith
 
 -- so many bytes are taken; the work is named apart from the drive, since it goes by its cases, and what the code has at
 -- hand of them is a premise each
-pub takes_so : (m : ℕ) (seg : Segment) (s : Storage) (d d2 : DriveState) (w : Work) → MayPass m seg d.state w → takes_now w ≡ true
+pub takes_so : (m : ℕ) (seg : StorageArea) (s : Storage) (d d2 : DriveState) (w : Work) → MayPass m seg d.state w → takes_now w ≡ true
     → seg.address + m ≤ length s.bytes
     → d2 ≡ record d { work = moved_on (slice_range s.bytes seg.address (seg.address + m)) w } → MovesBytesBy seg (Ok m) s s d d2 w
 takes_so m seg s d d2 Idle h t inside e = absurd h.moving
@@ -171,7 +171,7 @@ takes_so m seg s d d2 (Passing o b left) h t inside e = (
 
 -- so many bytes are given; its premises are many, since a read that skips, one that stores and one of a whole area come
 -- here
-pub gives_so : (m : ℕ) (seg : Segment) (s s2 : Storage) (d d2 : DriveState) (w : Work) → MayPass m seg d.state w → gives_now w ≡ true
+pub gives_so : (m : ℕ) (seg : StorageArea) (s s2 : Storage) (d d2 : DriveState) (w : Work) → MayPass m seg d.state w → gives_now w ≡ true
     → ((i : ℕ) → i < m → IsFree seg.key seg.ccw s (seg.address + i))
     → d2 ≡ record d { work = moved_on (slice_range (given_now d w) (length (passed_of w)) (length (passed_of w) + m)) w }
     → s2 ≡ (if not (skips seg.ccw) then stored s seg.address (slice_range (given_now d w) (length (passed_of w)) (length (passed_of w) + m))
@@ -207,7 +207,8 @@ refuses : (s : Storage) (key at : ℕ) (t : Bool) → nat_lt at (length s.bytes)
 refuses s key at true e m = (refl, rw (some_below s.bytes at (grind (arith, nat_tests)), m))
 refuses s key at false e m = (refl, rw (slice_get_past s.bytes at (grind (arith, nat_tests))))
 
-pub gives_not : (seg : Segment) (s : Storage) (d : DriveState) (w : Work) → MovesBy d.state w → gives_now w ≡ true → skips seg.ccw ≡ false
+pub gives_not : (seg : StorageArea) (s : Storage) (d : DriveState) (w : Work) → MovesBy d.state w → gives_now w ≡ true
+  → skips seg.ccw ≡ false
     → may_store s seg.key seg.address ≡ false
     → MovesBytesBy seg (Err (refused (nat_lt seg.address (length s.bytes)))) s s d d w
 gives_not seg s d Idle f g k m = absurd f

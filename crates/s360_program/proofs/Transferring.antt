@@ -29,7 +29,7 @@ use Rattle.s360_program.specs.Steps.{condition_for, differs, request_at, behind,
 use Rattle.s360_program.specs.declared.conditions.ChannelCondition.{ChannelCondition}
 use Rattle.s360_program.specs.declared.conditions.ChannelCondition.TheVariants as condition
 use Rattle.s360_program.specs.declared.moving.Flow.{Flow}
-use Rattle.s360_program.specs.declared.moving.Segment.{Segment}
+use Rattle.s360_program.specs.declared.moving.StorageArea.{StorageArea}
 use Rattle.s360_program.specs.declared.run.Run.{Run}
 use Rattle.s360_program.specs.Stage.{stage_by, stage_of}
 use Rattle.s360_program.specs.Stage as stage
@@ -331,7 +331,7 @@ all_told m n false h = (grind (arith, nat_tests), inr (λ e. grind (arith, nat_t
 
 -- what the drive is at behind them; the work is named apart from the drive, since it goes by its cases, and storage and
 -- drive before and behind, since bytes that move are said of all of them
-behind_bytes : (g : Segment) (m : ℕ) (p : Place) (s s2 : Storage) (d d2 : DriveState) (w : Work) → MovesBytesBy g (Ok m) s s2 d d2 w
+behind_bytes : (g : StorageArea) (m : ℕ) (p : Place) (s s2 : Storage) (d d2 : DriveState) (w : Work) → MovesBytesBy g (Ok m) s s2 d d2 w
     → m ≤ p.residual
     → (left_of d2.work ≡ left_of w - m) × (length (passed_of d2.work) ≡ length (passed_of w) + m) × (gives_now d2.work ≡ gives_now w)
     × (d2.image ≡ d.image) × (d2.state ≡ d.state)
@@ -369,7 +369,7 @@ found_ends s (Looking o) f = absurd f
 found_ends s (Passing o b l) f = refl
 
 -- a drive whose first byte may not move stays
-pub refused_stays : (g : Segment) (check : ChannelCondition) (s s2 : Storage) (d d2 : DriveState) (w : Work)
+pub refused_stays : (g : StorageArea) (check : ChannelCondition) (s s2 : Storage) (d d2 : DriveState) (w : Work)
     → MovesBytesBy g (Err check) s s2 d d2 w → d2 ≡ d
 refused_stays g check s s2 d d2 Idle q = absurd q
 refused_stays g check s s2 d d2 (Over x) q = absurd q

@@ -15,7 +15,7 @@ use Rattle.s360_runs.specs.Units.{ProgramPhase, walk, StandsIn, EndsWith, standi
 use Rattle.s360_runs.specs.Unsaved.{GainsNoCheck, has_written}
 use Rattle.s360_program.specs.Stands.{RunningState, Stands, phase_in}
 use Rattle.s360_program.specs.declared.program.Advance.{Advance}
-use Rattle.s360_program.specs.declared.program.Ran.{Ran}
+use Rattle.s360_program.specs.declared.program.LongAdvance.{LongAdvance}
 
 -- Faults.
 
@@ -79,7 +79,7 @@ abbrev pub Advances : (key : ℕ) → ProgramPhase → (asked : ℕ) → Advance
 Advances key before asked a r s old new = AdvancesTo key before asked a.done a.ending r s old new
 
 -- the same of more units than 16 bits count
-abbrev pub RunsOn : (key : ℕ) → ProgramPhase → (asked : ℕ) → Ran → RunningState → Storage → (old new : DriveState)
+abbrev pub RunsOn : (key : ℕ) → ProgramPhase → (asked : ℕ) → LongAdvance → RunningState → Storage → (old new : DriveState)
     → Type 0
 RunsOn key before asked a r s old new = AdvancesTo key before asked a.done a.ending r s old new
 

@@ -31,8 +31,8 @@ use Rattle.s360_program.specs.Stands.{RunningState, LeftFits, Stands, Within, ph
 use Rattle.s360_program.specs.declared.conditions.ChannelCondition.{ChannelCondition}
 use Rattle.s360_program.specs.declared.conditions.ChannelCondition.TheVariants as condition
 use Rattle.s360_program.specs.declared.moving.Flow.{Flow}
-use Rattle.s360_program.specs.declared.moving.Segment.{Segment}
-use Rattle.s360_program.specs.declared.program.Ran.{Ran}
+use Rattle.s360_program.specs.declared.moving.StorageArea.{StorageArea}
+use Rattle.s360_program.specs.declared.program.LongAdvance.{LongAdvance}
 use Rattle.s360_program.specs.declared.run.Comes.TheVariants as comes
 use Rattle.s360_program.specs.declared.run.Run.{Run}
 use Rattle.s360_program.specs.Stage.{Stage, stage_of}
@@ -250,12 +250,12 @@ pub record Flows (flow : Flow) (old new : DriveState) : Type 0 where
   pub drive : new ≡ record old { work = with_left flow.left old.work }
 
 -- so many bytes of a program, under the word that it has kept
-abbrev pub segment_of : Run → (count : ℕ) → Segment
+abbrev pub segment_of : Run → (count : ℕ) → StorageArea
 segment_of r count = record { key = r.key; ccw = r.ccw; address = r.address; count = count }
 
 -- a segment lies within what the drive reports as left of the area that it has found: it has a byte at least, and an address and a
 -- key that programs may have
-pub record LiesWithin (g : Segment) (d : DriveState) : Type 0 where
+pub record LiesWithin (g : StorageArea) (d : DriveState) : Type 0 where
   pub some : 0 < g.count
   pub left : g.count ≤ left_of d.work
   pub moving : IsMoving d
@@ -263,7 +263,7 @@ pub record LiesWithin (g : Segment) (d : DriveState) : Type 0 where
   pub key : g.key < 16
 
 -- the bytes of a command, of which this segment comes next
-abbrev pub transfer_by : Segment → Storage → Place → Work → Transfer
+abbrev pub transfer_by : StorageArea → Storage → Place → Work → Transfer
 transfer_by g s p w = record { storage = s; ccw = g.ccw; place = p; address = g.address; bytes = passed_of w }
 
 -- so many bytes may move, and storage and the drive are those behind them
@@ -275,7 +275,7 @@ pub record MovesBytesAs (m key : ℕ) (o : Open) (t : Transfer) (w : Work) (s_ne
   pub drive : d_new ≡ record d { work = moved_on (next_bytes m o t) w }
 
 -- bytes of a segment move, or the first of them may not, for this reason
-abbrev pub MovesBytesBy : Segment → Result ℕ ChannelCondition → (s s_new : Storage) → (d d_new : DriveState) → Work
+abbrev pub MovesBytesBy : StorageArea → Result ℕ ChannelCondition → (s s_new : Storage) → (d d_new : DriveState) → Work
     → Type 0
 MovesBytesBy g (Ok m) s s_new d d_new (Passing o b left) =
     (0 < m) × (m ≤ g.count) × ((p : Place) → m ≤ p.residual →
@@ -288,7 +288,7 @@ MovesBytesBy g (Err c) s s_new d d_new (Passing o b left) =
 MovesBytesBy g r s s_new d d_new w = ⊥
 
 -- bytes move at once, at least one; or the first may not
-abbrev pub MovesBytes : Segment → Storage → DriveState → Result ℕ ChannelCondition → Storage → DriveState → Type 0
+abbrev pub MovesBytes : StorageArea → Storage → DriveState → Result ℕ ChannelCondition → Storage → DriveState → Type 0
 MovesBytes g s d r s_new d_new = MovesBytesBy g r s s_new d d_new d.work
 
 -- A command that looks for its area is a read whose bytes pass at once: these are all that the drive has, and has at hand; so many of
@@ -346,7 +346,7 @@ differs residual left = (not (residual == 0) && left == 0) || (residual == 0 && 
 -- Many units, and a cut.
 
 -- whether a program has not ended
-abbrev pub goes_on : Ran → Bool
+abbrev pub goes_on : LongAdvance → Bool
 goes_on a = is_none a.ending
 
 -- whether a byte of a command has moved

@@ -26,7 +26,7 @@ pub(crate) struct Flow {
 
 /// Bytes of a command that may move at once: under which word, from or to which address of storage on, and with which key.
 #[derive(Clone, Copy)]
-pub(crate) struct Segment {
+pub(crate) struct StorageArea {
     /// The protection key of the stores.
     pub(crate) key: u8,
     /// The word under which they move.
@@ -91,7 +91,7 @@ pub(crate) fn gives<S: ImageStore>(drive: &Drive<S>) -> bool
 #[inline(always)]
 pub(crate) fn move_bytes<S: ImageStore, M: MainStorage>(
     gives: bool,
-    segment: &Segment,
+    segment: &StorageArea,
     storage: &mut M,
     drive: &mut Drive<S>,
 ) -> Result<u16, ChannelCondition>
@@ -112,7 +112,7 @@ pub(crate) fn move_bytes<S: ImageStore, M: MainStorage>(
 // The drive takes bytes of storage, as they stand there.
 #[inline(always)]
 fn write<S: ImageStore, M: MainStorage>(
-    segment: &Segment,
+    segment: &StorageArea,
     storage: &M,
     drive: &mut Drive<S>,
 ) -> Result<u16, ChannelCondition>
@@ -132,7 +132,7 @@ fn write<S: ImageStore, M: MainStorage>(
 // The drive gives bytes, which go into storage, unless they are skipped.
 #[inline(always)]
 fn read<S: ImageStore, M: MainStorage>(
-    segment: &Segment,
+    segment: &StorageArea,
     storage: &mut M,
     drive: &mut Drive<S>,
 ) -> Result<u16, ChannelCondition>

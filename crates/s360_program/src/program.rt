@@ -67,7 +67,7 @@ pub struct Advance {
 
 /// The same of more units than 16 bits count.
 #[derive(Clone, Copy)]
-pub struct Ran {
+pub struct LongAdvance {
     /// How many were done: all that were asked for, unless the program ended.
     pub done: u32,
     /// The channel status word of a program that ended, and whether the arm still moves.
@@ -143,7 +143,7 @@ impl Running {
         units: u32,
         storage: &mut M,
         drive: &mut Drive<S>,
-    ) -> Ran
+    ) -> LongAdvance
         requires { Stands self.old drive.old }
         ensures runs { RunsOn self.old.key (phase_in self.old (M.holds storage.old) drive.old) units result self.new (M.holds storage.new)
             drive.old drive.new }
@@ -157,7 +157,7 @@ impl Running {
     {
         if self.run.is_within_read(units, storage, drive) {
             self.run.pass_read_bytes(units, storage, drive);
-            return Ran {
+            return LongAdvance {
                 done: units,
                 ending: None,
             };

@@ -17,9 +17,9 @@ ghost use Rattle.s360_program.specs.Steps.{request_at, status_of, condition_for,
 use crate::conditions::{ChannelCondition, chains};
 use crate::endings::{end_program, told};
 use crate::main_storage::MainStorage;
-use crate::moving::{COUNT_AREA, Segment, flow_of, gives, move_bytes};
+use crate::moving::{COUNT_AREA, StorageArea, flow_of, gives, move_bytes};
 use crate::place::Fetched;
-use crate::program::Ran;
+use crate::program::LongAdvance;
 use crate::run::{Comes, Run, Step};
 use ckd_command::DriveEnding;
 use ckd_drive::{Begun, Drive, Look, Phase};
@@ -35,7 +35,7 @@ impl Run {
         units: u32,
         storage: &mut M,
         drive: &mut Drive<S>,
-    ) -> Ran
+    ) -> LongAdvance
         requires { Fits self.old drive.old }
         ensures advances { RunsOn self.old.key (phase_in (run_of self.old) (M.holds storage.old) drive.old) units result
             (run_of self.new) (M.holds storage.new) drive.old drive.new }
@@ -53,14 +53,14 @@ impl Run {
             match self.step(left, storage, drive) {
                 Step::Units(n) => left -= n,
                 Step::Over(n) => {
-                    return Ran {
+                    return LongAdvance {
                         done: units - left + n,
                         ending: Some(told(self)),
                     };
                 }
             }
         }
-        Ran {
+        LongAdvance {
             done: units - left,
             ending: None,
         }
@@ -287,7 +287,7 @@ impl Run {
         let gives = gives(drive);
         let (key, ccw, count) = (self.key, self.ccw, self.place.residual);
         let address = ccw.address;
-        let segment = Segment {
+        let segment = StorageArea {
             key,
             ccw,
             address,
@@ -333,7 +333,7 @@ impl Run {
             let incorrect = is_incorrect(self.ccw, residual, flow.left);
             return self.conclude(self.ccw, incorrect, drive);
         }
-        let segment = Segment {
+        let segment = StorageArea {
             key: self.key,
             ccw: self.ccw,
             address: self.address,

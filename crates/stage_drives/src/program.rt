@@ -7,7 +7,7 @@ use crate::alone::{Alone, put};
 use crate::drive::{Disk, NO_DRIVE};
 use crate::shown::{moves, say_program, say_track};
 use ckd_drive::Phase;
-use s360_program::program::{Ran, Running, Start};
+use s360_program::program::{LongAdvance, Running, Start};
 use s360_words::Csw;
 use stage_files::{Line, Said, Word, yes};
 
@@ -109,7 +109,7 @@ impl Alone {
             mut drive,
             mut running,
         } = program;
-        let Ran { done, ending } = running.run_on(units, &mut self.storage, &mut drive);
+        let LongAdvance { done, ending } = running.run_on(units, &mut self.storage, &mut drive);
         if ending.is_none() {
             put(&mut self.program, Some(Program { drive, running }));
         } else {

@@ -1,7 +1,7 @@
 //! How programs, drives and volumes are printed.
 
 use ckd_command::{Credit, Lap, Registers};
-use ckd_position::{Area, Part, Position};
+use ckd_position::{Area, Position, RecordPart};
 use ckd_sense::{FileMask, SeekPermission, WritePermission};
 use ckd_track::{DriveModel, Geometry};
 use s360_program::view::{AtWork, ProgramView};
@@ -132,9 +132,9 @@ fn say_position(position: Position, said: &mut Said) {
     match position {
         Position::AtIndex => said.put(" INDEX"),
         Position::At(Area::HomeAddress) => said.put(" HOME"),
-        Position::At(Area::Of(Part::Count, record)) => say_record(" COUNT", record, said),
-        Position::At(Area::Of(Part::Key, record)) => say_record(" KEY", record, said),
-        Position::At(Area::Of(Part::Data, record)) => say_record(" DATA", record, said),
+        Position::At(Area::Of(RecordPart::Count, record)) => say_record(" COUNT", record, said),
+        Position::At(Area::Of(RecordPart::Key, record)) => say_record(" KEY", record, said),
+        Position::At(Area::Of(RecordPart::Data, record)) => say_record(" DATA", record, said),
     }
 }
 

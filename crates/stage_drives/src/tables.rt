@@ -3,7 +3,7 @@
 use crate::alone::Alone;
 use crate::shown::say_ccw;
 use bitflags::Flags;
-use ckd_position::{Area, Compare, Kind, Part, Position, next_area, verdict};
+use ckd_position::{Area, Compare, Kind, Position, RecordPart, next_area, verdict};
 use ckd_sense::{Command, FileMask, Permit, Sense};
 use ckd_track::read_slot;
 use s360_explain::{Lines, of_ccw, of_csw, of_ending, of_sense, of_status};
@@ -246,11 +246,11 @@ fn position_of(words: &[&str]) -> Option<Position> {
     }
 }
 
-fn part_of(word: &str) -> Option<Part> {
+fn part_of(word: &str) -> Option<RecordPart> {
     match word {
-        "COUNT" => Some(Part::Count),
-        "KEY" => Some(Part::Key),
-        "DATA" => Some(Part::Data),
+        "COUNT" => Some(RecordPart::Count),
+        "KEY" => Some(RecordPart::Key),
+        "DATA" => Some(RecordPart::Data),
         _ => None,
     }
 }

@@ -21,7 +21,7 @@ pub(crate) enum Holds {
     FailOn,
     Calls,
     Content,
-    Part,
+    RecordPart,
     Put,
 }
 
@@ -94,7 +94,7 @@ pub(crate) fn hold(files: &mut Files, holds: Holds, line: &mut Line) {
         Holds::Content => line
             .said
             .answer("CONTENT", &[Word::Spelled(file.content.bytes())]),
-        Holds::Part => say_part(file.content.bytes(), line),
+        Holds::RecordPart => say_part(file.content.bytes(), line),
         Holds::Put => put(file, line),
     }
 }

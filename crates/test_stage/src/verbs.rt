@@ -84,7 +84,7 @@ pub(crate) static VERBS: [Verb<Call>; 75] = [
         "",
         "CONTENT",
         &[Kind::Name, NUMBER, NUMBER],
-        Call::Holds(Holds::Part),
+        Call::Holds(Holds::RecordPart),
     ),
     (
         "",

@@ -4,7 +4,7 @@ use crate::line::Line;
 use crate::met::Met;
 use crate::passed::Passed;
 use ckd_command::Credit;
-use ckd_position::{Area, Part};
+use ckd_position::{Area, RecordPart};
 use s360_words::{Ccw, CcwFlags};
 
 /// One more than a number, or 0 where there is none.
@@ -121,18 +121,18 @@ impl KeptArea {
 fn number_of_area(area: Area) -> (u8, u64) {
     match area {
         Area::HomeAddress => (1, 0),
-        Area::Of(Part::Count, record) => (2, record as u64),
-        Area::Of(Part::Key, record) => (3, record as u64),
-        Area::Of(Part::Data, record) => (4, record as u64),
+        Area::Of(RecordPart::Count, record) => (2, record as u64),
+        Area::Of(RecordPart::Key, record) => (3, record as u64),
+        Area::Of(RecordPart::Data, record) => (4, record as u64),
     }
 }
 
 fn area_of(area: u8, record: u64) -> Option<Area> {
     match area {
         1 => Some(Area::HomeAddress),
-        2 => Some(Area::Of(Part::Count, record as usize)),
-        3 => Some(Area::Of(Part::Key, record as usize)),
-        4 => Some(Area::Of(Part::Data, record as usize)),
+        2 => Some(Area::Of(RecordPart::Count, record as usize)),
+        3 => Some(Area::Of(RecordPart::Key, record as usize)),
+        4 => Some(Area::Of(RecordPart::Data, record as usize)),
         _ => None,
     }
 }

@@ -10,7 +10,7 @@ ghost use Rattle.volume_details.specs.Long.{last_words, protection_words, last_m
 ghost use Rattle.volume_details.specs.Long.{object_text, long_text, described_by};
 
 use crate::indicators::{Protection, is_last_volume, protection_of, type_text};
-use dasd_volumes::{TrackAddress as Address, VolumeFault};
+use dasd_volumes::{PrintedAddress as Address, VolumeFault};
 use library_members::Report;
 use std::io::Write;
 use std::{fmt, io};

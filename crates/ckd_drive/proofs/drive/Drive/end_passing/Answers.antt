@@ -1,7 +1,7 @@
 use Rattle.std.proofs.Common.{◌≡◌, refl}
 use Rattle.ckd_command.specs.declared.close.Closed.TheVariants.{Stays, Moves}
 use Rattle.ckd_command.specs.Answers.{CommandEnd, closed_as}
-use Rattle.ckd_drive.specs.declared.answers.Stage.TheVariants.{Idle}
+use Rattle.ckd_drive.specs.declared.answers.DriveStage.TheVariants.{Idle}
 use Rattle.ckd_drive.specs.Calls.{Leaves, Loses}
 use Rattle.ckd_drive.specs.Invariant.{Parts, parts_of}
 use Rattle.ckd_drive.specs.Passing.{with_place, command_end_at}

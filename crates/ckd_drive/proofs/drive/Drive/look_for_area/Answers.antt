@@ -1,6 +1,6 @@
 use Rattle.std.proofs.Common.{refl}
 use Rattle.ckd_drive.specs.Jobs.{half_done, parts_held}
-use Rattle.ckd_drive.specs.declared.answers.Stage.TheVariants.{Looking}
+use Rattle.ckd_drive.specs.declared.answers.DriveStage.TheVariants.{Looking}
 use Rattle.ckd_drive.proofs.Reported.{look_reports}
 use Rattle.ckd_drive.proofs.drive.Drive.look_for_area.Goals as goal
 use Rattle.ckd_drive.proofs.Looks.{has_looked}

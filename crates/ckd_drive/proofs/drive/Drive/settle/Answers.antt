@@ -3,8 +3,8 @@ use Rattle.ckd_command.specs.declared.registers.Mark.{Mark}
 use Rattle.ckd_command.specs.declared.registers.Mark.TheVariants.{Lost}
 use Rattle.ckd_drive.specs.declared.transfer.Transfer.{Transfer}
 use Rattle.ckd_drive.specs.declared.transfer.Transfer.TheVariants.{Filled}
-use Rattle.ckd_drive.specs.declared.answers.Stage.{Stage}
-use Rattle.ckd_drive.specs.declared.answers.Stage.TheVariants.{Idle, Passing}
+use Rattle.ckd_drive.specs.declared.answers.DriveStage.{DriveStage}
+use Rattle.ckd_drive.specs.declared.answers.DriveStage.TheVariants.{Idle, Passing}
 use Rattle.ckd_slot.specs.Cache.{after_save, after_failed_save}
 use Rattle.ckd_drive.specs.Work.{DriveState, passed_of, fault_met, with_image, after_settle, settled_mark, CallsStore}
 use Rattle.ckd_drive.specs.Invariant.{Stands, StageIs, IsPlaced, state_of, work_of, seen, is_filled, is_filled_by, seen_with, HalfDone}
@@ -24,7 +24,8 @@ unwritten_by (Filled w u) h x e = absurd (let some : 0 < length h.passed = x.som
     omega (arith, some, none))
 unwritten_by _ h x e = (refl, refl)
 
-unwritten : (s : Stage) (h : HalfDone) → StageIs s h → passed_of (work_of s h) ≡ [] → (is_filled s h ≡ false) × (seen s h ≡ h.cache.slots)
+unwritten : (s : DriveStage) (h : HalfDone) → StageIs s h → passed_of (work_of s h) ≡ []
+  → (is_filled s h ≡ false) × (seen s h ≡ h.cache.slots)
 unwritten Passing h x e = unwritten_by h.progress.place h x.placed e
 unwritten _ h x e = (refl, refl)
 
