@@ -27,7 +27,7 @@ take_five [] ha e = rw (← e) refl
 take_five (x ∷ slot) ha e = rw (← e) refl
 
 pub home_lies : (slot : List ℕ) (t : Track) (e : AreaBytes) → Spells slot t
-  → Lies slot (home_address_place e) (bytes_of e (Ok t) HomeAddress)
+    → Lies slot (home_address_place e) (bytes_of e (Ok t) HomeAddress)
 home_lies slot t extent.HomeAddress s = let h = home_is slot t s in
     record { within = omega (arith, ap length h, length-take 5 slot, s.home_address); size = s.home_address; here = h }
 home_lies slot t extent.CylinderAndHead s = let h = home_is slot t s in
@@ -117,7 +117,7 @@ lies_nowhere : (slot bytes : List ℕ) → bytes ≡ [] → Lies slot (record { 
 lies_nowhere slot bytes e = rw e (record { within = omega arith; size = refl; here = refl })
 
 pub no_window : (slot : List ℕ) (e : AreaBytes) (part : RecordPart) (i : ℕ) → StandsThere slot i None
-  → HasBytes e (track_of slot) (Of part i)
+    → HasBytes e (track_of slot) (Of part i)
     → Lies slot (record { start = 0; len = 0 }) (bytes_of e (track_of slot) (Of part i))
 no_window slot extent.Count part i le on = absurd (omega (arith, le, on))
 no_window slot extent.CountKeyAndData part i le on = absurd (omega (arith, le, on))

@@ -399,7 +399,7 @@ padded_replaces extent.KeyAndData r b u le = (let n = length r.key_area + length
 padded_replaces e r b u le = absurd u
 
 pub padded_changes : (e : AreaBytes) (part : RecordPart) (i : ℕ) (t : Track) (b : List ℕ) → IsUpdate e
-  → length b ≤ update_length e (record_in t i)
+    → length b ≤ update_length e (record_in t i)
     → with_record_changed (replaced e (padded b (update_length e (record_in t i)))) (Of part i) t ≡ with_record_changed (replaced e b)
     (Of part i) t
 padded_changes e part i t b u le = ap (λ (x : Record). let y : Track = record t { records = set t.records i x } in
