@@ -2,7 +2,7 @@
 
 ghost use Rattle.std.specs.Prelude.{◌≡◌, ◌<◌, ◌+◌, ◌*◌, length, is_some, position, option_map};
 ghost use Rattle.s360_words.specs.Storage.{Storage as StorageState};
-ghost use Rattle.s360_program.specs.Advances.{KeepsStorage};
+ghost use Rattle.s360_storage.specs.Kept.{KeepsStorage};
 ghost use Rattle.s360_laws.specs.Events as machine;
 ghost use Rattle.s360_laws.specs.Machine.{Machine};
 ghost use Rattle.s360_events.specs.Seen.{answer_seen};
@@ -19,7 +19,7 @@ use crate::subchannel::Subchannel;
 use ckd_image::ImageStore;
 use s360_events::{Condition, Status};
 use s360_laws::arm::Arm;
-use s360_program::main_storage::MainStorage;
+use s360_storage::MainStorage;
 use s360_words::{ChannelStatus, Csw, UnitStatus};
 use std::mem;
 

@@ -10,7 +10,7 @@ use crate::drives::Drives;
 use crate::faults::NewFault;
 use crate::subchannel::Subchannel;
 use ckd_image::{Image, ImageStore};
-use s360_program::main_storage::MainStorage;
+use s360_storage::MainStorage;
 use std::marker::Model;
 
 /// A selector channel with its drives, to which storage is lent for each call that needs it. It asks of its caller that the

@@ -7,7 +7,7 @@ ghost use Rattle.s360_laws.specs.Machine.{Machine, test_device, device_at, csw_o
 ghost use Rattle.s360_events.specs.Seen.{condition_seen, csw_seen, answer_seen};
 ghost use Rattle.s360_events.specs.declared.answers.Answer.TheVariants as answer;
 ghost use Rattle.s360_events.specs.declared.conditions.Condition.TheVariants.{Stored};
-ghost use Rattle.s360_program.specs.Advances.{KeepsStorage};
+ghost use Rattle.s360_storage.specs.Kept.{KeepsStorage};
 ghost use Rattle.s360_channel.specs.Channel.{StandsFor};
 ghost use Rattle.s360_channel.specs.Calls.{DoesQuietly, CallsNoStore};
 ghost use Rattle.s360_channel.specs.Nexts.{DoesIdle};
@@ -20,7 +20,7 @@ use crate::subchannel::Subchannel;
 use ckd_image::ImageStore;
 use s360_events::Condition;
 use s360_laws::arm::Arm;
-use s360_program::main_storage::MainStorage;
+use s360_storage::MainStorage;
 use s360_words::{ChannelStatus, Csw, UnitStatus};
 
 impl<S: ImageStore> Selector<S> {

@@ -6,7 +6,7 @@ use Rattle.std.proofs.lemmas.List.{get_or_default, get_or_past, get_or-set_other
 use Rattle.std.specs.Prelude.{option_map, slice_index_or, slice_set}
 use Rattle.s360_words.specs.Storage.{Storage, cleared, is_size}
 use Rattle.ckd_image.specs.Image.{ImageState}
-use Rattle.s360_program.specs.Advances.{KeepsStorage}
+use Rattle.s360_storage.specs.Kept.{KeepsStorage}
 use Rattle.s360_laws.specs.Events.{Event, Answer}
 use Rattle.s360_laws.specs.Machine as machine
 use Rattle.s360_laws.specs.Machine.{Machine, react}

@@ -3,7 +3,7 @@
 ghost use Rattle.std.specs.Prelude.{ℕ, ◌≡◌, ◌↔◌, ◌+◌, ◌-◌, min, ◌/◌, ◌<◌, ◌≤◌, true, false, length, take, slice_range, Err, OnOk, IfSome, Some, None, []};
 ghost use Rattle.std.specs.Prelude.{if◌then◌else◌, option_map, IsTrue};
 ghost use Rattle.s360_words.specs.Storage.{is_size, admits, may_store, overwritten, changed, Bytes, is_inside};
-ghost use Rattle.s360_program.specs.Lent.{lent, IsStorage};
+ghost use Rattle.s360_storage.specs.Lent.{lent, IsStorage};
 
 use crate::main_storage::MainStorage;
 use bitflags::Flags;

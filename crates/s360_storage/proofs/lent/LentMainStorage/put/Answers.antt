@@ -1,7 +1,7 @@
 use Rattle.std.proofs.Common.{◌≡◌, length, sym, ap, arith}
 use Rattle.s360_words.proofs.Overwriting.{overwritten-none}
-use Rattle.s360_program.specs.Lent.{lent}
-use Rattle.s360_program.proofs.lent.LentMainStorage.put.Goals as goal
+use Rattle.s360_storage.specs.Lent.{lent}
+use Rattle.s360_storage.proofs.lent.LentMainStorage.put.Goals as goal
 
 pub returns-then-is_empty-clause-change : goal.returns-then-is_empty-clause-change
 returns-then-is_empty-clause-change c =

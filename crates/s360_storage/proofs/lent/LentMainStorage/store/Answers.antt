@@ -1,7 +1,7 @@
 use Rattle.std.proofs.Common.{◌≡◌, length, take, sym, ap, arith}
 use Rattle.s360_words.proofs.Overwriting.{overwritten-none}
-use Rattle.s360_program.specs.Lent.{lent}
-use Rattle.s360_program.proofs.lent.LentMainStorage.store.Goals as goal
+use Rattle.s360_storage.specs.Lent.{lent}
+use Rattle.s360_storage.proofs.lent.LentMainStorage.store.Goals as goal
 
 pub returns-else-n-gt0-clause-change : goal.returns-else-n-gt0-clause-change
 returns-else-n-gt0-clause-change c =

@@ -1,6 +1,6 @@
 use Rattle.std.proofs.Common.{◌≡◌, ◌+◌, ◌-◌, length, refl, arith}
 use Rattle.s360_words.proofs.Overwriting.{overwritten-part}
-use Rattle.s360_program.proofs.lent.overwrite.Goals as goal
+use Rattle.s360_storage.proofs.lent.overwrite.Goals as goal
 
 pub returns : goal.returns
 returns c =

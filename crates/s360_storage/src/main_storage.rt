@@ -4,7 +4,7 @@ ghost use Rattle.std.specs.Prelude.{ℕ, ◌≡◌, ◌+◌, ◌-◌, min, ◌/�
 ghost use Rattle.std.specs.Prelude.{IsTrue, IfSome};
 ghost use Rattle.s360_words.specs.Storage.{Storage as StorageState, is_size, is_inside, key_at, may_store, Bytes, changed, is_within, caw_word, ccw_at};
 ghost use Rattle.s360_words.specs.Storage.{csw_stored, status_stored};
-ghost use Rattle.s360_program.specs.Advances.{KeepsStorage};
+ghost use Rattle.s360_storage.specs.Kept.{KeepsStorage};
 
 use s360_words::{Ccw, ChannelStatus, Csw, Storage, UnitStatus};
 

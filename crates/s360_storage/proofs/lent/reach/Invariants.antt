@@ -1,6 +1,6 @@
 use Rattle.std.proofs.Common.{◌-◌, ℕ, ◌≡◌, ◌<◌, ◌≤◌, ◌/◌, true, slice_index}
 use Rattle.s360_words.specs.Storage.{admits}
-use Rattle.s360_program.proofs.lent.reach.Given as goal
+use Rattle.s360_storage.proofs.lent.reach.Given as goal
 
 -- each byte from the start up to here, within the end, is in a block that may be stored into
 abbrev pub invariant-loop-reach : goal.invariant-loop-reach
