@@ -11,10 +11,10 @@ ghost use Rattle.s360_channel.specs.Calls.{DoesQuietly, CallsNoStore};
 ghost use Rattle.s360_channel.specs.Nexts.{DoesOn, TakesProgram};
 ghost use Rattle.s360_channel.specs.Selector.{KeepsSelector, over};
 
-use crate::drives::Drives;
 use crate::selector::Selector;
 use crate::subchannel::Subchannel;
 use crate::testing::csw_of_unit;
+use attached_drives::Drives;
 use ckd_image::ImageStore;
 use s360_laws::arm::Arm;
 use s360_program::laws::{stands_after_change, stands_after_interruption};

@@ -13,16 +13,17 @@ ghost use Rattle.s360_events.specs.declared.answers.Answer.TheVariants as answer
 ghost use Rattle.s360_events.specs.declared.conditions.Condition.TheVariants.{Stored};
 ghost use Rattle.s360_program.specs.Advances.{Rests};
 ghost use Rattle.s360_storage.specs.Kept.{KeepsStorage};
-ghost use Rattle.s360_channel.specs.Channel.{StandsFor, device_of};
+ghost use Rattle.s360_channel.specs.Channel.{StandsFor};
+ghost use Rattle.attached_drives.specs.Drives.{device_of};
 ghost use Rattle.s360_channel.specs.Calls.{DoesQuietly, CallsNoStore};
 ghost use Rattle.s360_channel.specs.Nexts.{DoesAt};
 ghost use Rattle.s360_channel.specs.Selector.{KeepsSelector, over};
-ghost use Rattle.s360_channel.specs.DriveCalls.{DriveIs};
+ghost use Rattle.attached_drives.specs.DriveCalls.{DriveIs};
 ghost use Rattle.s360_channel.specs.declared.subchannel.Subchannel.TheVariants.{Idle};
 
-use crate::drives::Drives;
 use crate::selector::Selector;
 use crate::subchannel::Subchannel;
+use attached_drives::Drives;
 use ckd_image::ImageStore;
 use s360_events::{Condition, Status};
 use s360_laws::arm::Arm;

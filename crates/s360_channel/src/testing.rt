@@ -14,9 +14,9 @@ ghost use Rattle.s360_channel.specs.Nexts.{DoesIdle};
 ghost use Rattle.s360_channel.specs.Selector.{KeepsSelector, over};
 ghost use Rattle.s360_channel.specs.declared.subchannel.Subchannel.TheVariants.{Idle};
 
-use crate::drives::Drives;
 use crate::selector::Selector;
 use crate::subchannel::Subchannel;
+use attached_drives::Drives;
 use ckd_image::ImageStore;
 use s360_events::Condition;
 use s360_laws::arm::Arm;
