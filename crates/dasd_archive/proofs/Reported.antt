@@ -5,7 +5,7 @@ use Rattle.std.specs.List.{flat_map, FoldsTo}
 use Rattle.std.proofs.lemmas.List.Concat.{flat_map-append, flat_map-cons}
 use Rattle.std.proofs.KnownBytes.{Appends-trans, Appends-nil}
 use Rattle.std.specs.Io.KnownBytes.{Appends}
-use Rattle.dasd_volumes.specs.Volumes.{of_each}
+use Rattle.dasd_volumes.specs.Volumes.{of_each, tracks_in, all_tracks, text_in}
 use Rattle.dasd_volumes.proofs.Appended.{of_none, of_one_more}
 use Rattle.dasd_archive.specs.declared.findings.StrictFinding.{StrictFinding}
 use Rattle.dasd_archive.specs.declared.reports.FindingStyle.{FindingStyle}
@@ -13,10 +13,9 @@ use Rattle.dasd_archive.specs.declared.reports.Tally.{Tally}
 use Rattle.counted_io.specs.Streams.{Stream, Takes}
 use Rattle.dasd_volumes.proofs.Fronts.{no_lines, more_lines}
 use Rattle.ckd_track.specs.declared.geometries.Geometry.{Geometry}
-use Rattle.dasd_archive.specs.declared.walks.Tracks.{Tracks}
+use Rattle.dasd_volumes.specs.declared.walks.Tracks.{Tracks}
 use Rattle.dasd_archive.specs.Strict.{findings_in_track, strict_findings}
-use Rattle.dasd_archive.specs.Walks.{tracks_in, all_tracks, text_in}
-use Rattle.dasd_archive.proofs.Walked.{text_of_all, lines_of_all}
+use Rattle.dasd_volumes.proofs.Walked.{lines_of_found}
 use Rattle.dasd_archive.specs.Reports.{Reports, CountsUp, shown_line, finding_lines, tally_of}
 
 -- what was found of one after another is counted
@@ -40,8 +39,7 @@ pub strict_lines : (P : List ℕ → Type 0) (style : FindingStyle) (path : List
     → tracks ≡ all_tracks g → P (text_in (λ t. finding_lines style path (findings_in_track t)) tracks g slots)
     → P (finding_lines style path (strict_findings g slots))
 strict_lines P style path tracks g slots same holds =
-    subst P (lines_of_all (shown_line style path) findings_in_track (tracks_in (all_tracks g) g slots))
-    (text_of_all P (λ t. finding_lines style path (findings_in_track t)) tracks g slots same holds)
+    lines_of_found P (shown_line style path) findings_in_track tracks g slots same holds
 
 module _ (style : FindingStyle) (path : List ℕ) where
   pub nothing : (a : Option (List ℕ)) (t : Tally) → Reports style path a a t t []

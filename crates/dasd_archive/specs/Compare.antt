@@ -12,11 +12,10 @@ use Rattle.dasd_volumes.specs.Lines.{bytes_text, address_text, fault_text, line_
 use Rattle.counted_io.specs.Streams.{Stream}
 use Rattle.dasd_volumes.specs.declared.fault.VolumeFault.{VolumeFault}
 use Rattle.dasd_volumes.specs.Reading.{KnownVolume}
-use Rattle.dasd_volumes.specs.Volumes.{of_each}
-use Rattle.dasd_archive.specs.Printed.{PrintsBytes}
-use Rattle.dasd_archive.specs.Walks.{ReadTrack, slot_at, tracks_in, all_tracks, text_in}
-use Rattle.dasd_archive.specs.declared.reports.Style.{Style}
-use Rattle.dasd_archive.specs.declared.reports.Style.TheVariants.{Text, Json}
+use Rattle.dasd_volumes.specs.Volumes.{of_each, ReadTrack, slot_at, tracks_in, all_tracks, text_in}
+use Rattle.dasd_volumes.specs.Printing.{PrintsBytes}
+use Rattle.dasd_volumes.specs.declared.forms.Style.{Style}
+use Rattle.dasd_volumes.specs.declared.forms.Style.TheVariants.{Text, Json}
 use Rattle.dasd_archive.specs.declared.differences.Difference.{Difference}
 use Rattle.dasd_archive.specs.declared.differences.Difference.TheVariants.{HomeAddress, Records, Identifier, Key, Contents, BehindEnd, FirstUnreadable}
 use Rattle.dasd_archive.specs.declared.differences.Difference.TheVariants.{SecondUnreadable, Unreadable}

@@ -1,5 +1,5 @@
 -- What a dump prints: home addresses and records, their bytes in hexadecimal and in EBCDIC, sixteen to a line.
-use Rattle.std.specs.Prelude.{◌≤◌, ◌<◌, ℕ, ◌+◌, ◌-◌, ◌*◌, ◌/◌, min, Bool, ◌&&◌, nat_le, if◌then◌else◌, List, [], ◌∷◌, ◌++◌, length, slice_range}
+use Rattle.std.specs.Prelude.{◌≤◌, ◌<◌, ℕ, ◌+◌, ◌-◌, ◌*◌, ◌/◌, min, if◌then◌else◌, List, [], ◌∷◌, ◌++◌, length, slice_range}
 use Rattle.std.specs.Prelude.{slice_index, codes, encode_utf8, Result, Ok, Err}
 use Rattle.std.specs.List.{concat, flat_map}
 use Rattle.std.specs.Fmt.{decimal}
@@ -7,15 +7,16 @@ use Rattle.ckd_track.specs.declared.geometries.Geometry.{Geometry}
 use Rattle.ckd_track.specs.declared.fault.SlotFault.{SlotFault}
 use Rattle.ckd_track.specs.Model.{heads_of}
 use Rattle.ckd_track.specs.Track.{Record, Track, track_of}
-use Rattle.dasd_volumes.specs.Lines.{hexadecimal, bytes_text, address_text, fault_text, record_line, line_feed}
-use Rattle.dasd_volumes.specs.Volumes.{of_each}
+use Rattle.dasd_volumes.specs.Lines as lines
+use Rattle.dasd_volumes.specs.Lines.{hexadecimal, bytes_text, address_text, record_line, line_feed}
+use Rattle.dasd_volumes.specs.Listing.{place_text, unreadable_object}
 use Rattle.volume_labels.specs.Ebcdic.{shown}
-use Rattle.dasd_archive.specs.declared.reports.Style.{Style}
-use Rattle.dasd_archive.specs.declared.reports.Style.TheVariants.{Text, Json}
-use Rattle.dasd_archive.specs.declared.dumps.Range.{Range}
+use Rattle.dasd_volumes.specs.declared.forms.Style.{Style}
+use Rattle.dasd_volumes.specs.declared.forms.Style.TheVariants.{Text, Json}
+use Rattle.dasd_volumes.specs.declared.walks.Range.{Range}
 use Rattle.dasd_archive.specs.declared.dumps.VolumePart.{VolumePart}
-use Rattle.dasd_archive.specs.declared.walks.Tracks.{Tracks}
-use Rattle.dasd_archive.specs.Walks.{ReadTrack, text_in}
+use Rattle.dasd_volumes.specs.declared.walks.Tracks.{Tracks}
+use Rattle.dasd_volumes.specs.Volumes.{of_each, holds, ReadTrack, text_in}
 
 -- Lines of bytes.
 
@@ -41,13 +42,6 @@ abbrev pub rows_text : (letter : List ℕ) → List ℕ → List ℕ
 rows_text letter bytes = of_each (row_line letter bytes) ((length bytes + 15) / 16)
 
 -- Records and tracks.
-
-abbrev pub holds : Range → ℕ → Bool
-holds r n = nat_le r.first n && nat_le n r.last
-
--- how an object of a track begins
-abbrev pub place_text : (path : List ℕ) → (cylinder head : ℕ) → List ℕ
-place_text path cylinder head = concat (codes "{\"path\":" ∷ path ∷ codes ",\"cylinder\":" ∷ decimal cylinder ∷ codes ",\"head\":" ∷ decimal head ∷ [])
 
 -- how one of a record ends
 abbrev pub areas_text : (id key body : List ℕ) → List ℕ
@@ -78,10 +72,8 @@ home_address_line Json path cylinder head ha = concat (
 
 -- one that can't be read
 abbrev pub unreadable_line : Style → (path : List ℕ) → (cylinder head : ℕ) → SlotFault → List ℕ
-unreadable_line Text path cylinder head fault = concat (address_text cylinder head ∷ codes " unreadable " ∷ fault_text fault ∷ line_feed ∷ [])
-unreadable_line Json path cylinder head fault = concat (
-    codes "{\"path\":" ∷ path ∷ codes ",\"cylinder\":" ∷ decimal cylinder ∷ codes ",\"head\":" ∷ decimal head ∷ codes ",\"unreadable\":\"" ∷ fault_text fault
-    ∷ codes "\"}" ∷ line_feed ∷ [])
+unreadable_line Text path cylinder head fault = lines.unreadable_line cylinder head fault
+unreadable_line Json path cylinder head fault = unreadable_object path cylinder head fault
 
 abbrev pub track_dump : Style → (path : List ℕ) → (cylinder head : ℕ) → Range → Result Track SlotFault → List ℕ
 track_dump style path cylinder head numbers (Ok t) =

@@ -10,8 +10,8 @@ use Rattle.dasd_archive.specs.declared.findings.StrictProblem.TheVariants.{SameI
 use Rattle.dasd_archive.specs.declared.findings.FindingPlace.{FindingPlace}
 use Rattle.dasd_archive.specs.declared.findings.FindingPlace.TheVariants as place
 use Rattle.dasd_archive.specs.declared.findings.StrictFinding.{StrictFinding}
-use Rattle.dasd_archive.specs.declared.reports.Style.{Style}
-use Rattle.dasd_archive.specs.declared.reports.Style.TheVariants.{Text, Json}
+use Rattle.dasd_volumes.specs.declared.forms.Style.{Style}
+use Rattle.dasd_volumes.specs.declared.forms.Style.TheVariants.{Text, Json}
 use Rattle.dasd_volumes.specs.Lines.{bytes_text, address_text, fault_text, line_feed}
 
 -- errors are what a reader of the drive trips over; warnings are unusual; notes are legal

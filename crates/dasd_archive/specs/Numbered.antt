@@ -6,9 +6,9 @@ use Rattle.ckd_track.specs.declared.fault.SlotFault.{SlotFault}
 use Rattle.ckd_track.specs.Geometry.{track_at}
 use Rattle.ckd_track.specs.Track.{Track, track_of}
 use Rattle.dasd_volumes.specs.Reading.{KnownVolume}
-use Rattle.dasd_archive.specs.declared.dumps.Range.{Range}
+use Rattle.dasd_volumes.specs.declared.walks.Range.{Range}
 use Rattle.dasd_archive.specs.declared.dumps.VolumePart.{VolumePart}
-use Rattle.dasd_archive.specs.Dump.{holds}
+use Rattle.dasd_volumes.specs.Volumes.{holds}
 
 -- a track can be read, and none of its records has one of these numbers
 abbrev pub Lacks : Range → Result Track SlotFault → Type 0

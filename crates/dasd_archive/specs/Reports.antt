@@ -10,8 +10,8 @@ use Rattle.dasd_volumes.specs.declared.fault.VolumeFault.{VolumeFault}
 use Rattle.dasd_archive.specs.declared.findings.Severity.{Severity}
 use Rattle.dasd_archive.specs.declared.findings.Severity.TheVariants.{Error, Warning, Note}
 use Rattle.dasd_archive.specs.declared.findings.StrictFinding.{StrictFinding}
-use Rattle.dasd_archive.specs.declared.reports.Style.{Style}
-use Rattle.dasd_archive.specs.declared.reports.Style.TheVariants.{Text, Json}
+use Rattle.dasd_volumes.specs.declared.forms.Style.{Style}
+use Rattle.dasd_volumes.specs.declared.forms.Style.TheVariants.{Text, Json}
 use Rattle.dasd_archive.specs.declared.reports.FindingStyle.{FindingStyle}
 use Rattle.dasd_archive.specs.declared.reports.Tally.{Tally}
 use Rattle.dasd_volumes.specs.Lines.{line_feed}

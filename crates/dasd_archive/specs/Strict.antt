@@ -19,9 +19,8 @@ use Rattle.dasd_archive.specs.declared.findings.StrictFinding.{StrictFinding}
 use Rattle.dasd_archive.specs.declared.reports.FindingStyle.{FindingStyle}
 use Rattle.dasd_archive.specs.declared.reports.Tally.{Tally}
 use Rattle.dasd_archive.specs.Reports.{finding_lines, tally_line, tally_of}
-use Rattle.dasd_archive.specs.Walks.{ReadTrack, tracks_in, all_tracks}
+use Rattle.dasd_volumes.specs.Volumes.{ReadTrack, tracks_in, all_tracks, of_each}
 use Rattle.dasd_volumes.specs.Reading.{KnownVolume}
-use Rattle.dasd_volumes.specs.Volumes.{of_each}
 
 -- a finding where something is so, and else none
 abbrev pub where_so : Bool → FindingPlace → StrictProblem → List StrictFinding

@@ -11,10 +11,9 @@ ghost use Rattle.dasd_archive.specs.Compare.{differences_of, track_lines, change
 
 use crate::compares::Comparison;
 use crate::differences::Difference;
-use crate::reports::Style;
 use crate::tracks::{bytes_from, five, identifier, is_same};
 use ckd_track::{TrackView, end_offset_of, read_slot};
-use dasd_volumes::PrintedAddress;
+use dasd_volumes::{PrintedAddress, Style};
 use std::io;
 use std::io::Write;
 

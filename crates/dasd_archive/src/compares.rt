@@ -5,20 +5,19 @@ ghost use Rattle.std.specs.Io.KnownBytes.{Appends};
 ghost use Rattle.counted_io.specs.Streams.{seen_by, IsFlushed};
 ghost use Rattle.ckd_image.specs.Store.{Counts};
 ghost use Rattle.ckd_track.specs.Geometry.{track_at};
-ghost use Rattle.dasd_volumes.specs.Printing.{CountsWrites};
+ghost use Rattle.dasd_volumes.specs.Printing.{PrintsBytes, CountsWrites};
 ghost use Rattle.dasd_volumes.specs.Reading.{IsSlotOf};
-ghost use Rattle.dasd_archive.specs.Printed.{PrintsBytes};
 ghost use Rattle.dasd_archive.specs.Compare.{track_lines, changed, changed_in, number_line, compare_text};
 ghost use Rattle.dasd_archive.specs.Compare.{PrintsBoth, NumberOfBoth};
-ghost use Rattle.dasd_archive.specs.Walks.{IsTrack};
+ghost use Rattle.dasd_volumes.specs.Volumes.{IsTrack};
 
 use crate::compared::{DifferenceForm, compare_track};
 use crate::printed::{print_flushed, print_lines};
-use crate::reports::Style;
-use crate::walks::{EachTrack, VolumeTrack, all_tracks, each_track};
 use ckd_image::StoreFault;
 use counted_io::Counted;
-use dasd_volumes::{PrintedAddress, SlotReader, VolumeFault};
+use dasd_volumes::{
+    EachTrack, PrintedAddress, SlotReader, Style, VolumeFault, VolumeTrack, all_tracks, each_track,
+};
 use quantities::Quantity;
 use std::alloc::Global;
 use std::io;

@@ -5,42 +5,25 @@ ghost use Rattle.std.specs.List.{flat_map};
 ghost use Rattle.std.specs.Io.KnownBytes.{Appends};
 ghost use Rattle.counted_io.specs.Streams.{seen_by, IsFlushed};
 ghost use Rattle.ckd_track.specs.Track.{track_of, record_in};
-ghost use Rattle.dasd_volumes.specs.Printing.{PrintsText, CountsWrites};
+ghost use Rattle.dasd_volumes.specs.Printing.{PrintsText, PrintsBytes, CountsWrites};
 ghost use Rattle.dasd_volumes.specs.Reading.{IsRead};
 ghost use Rattle.dasd_volumes.specs.Lines.{record_line};
-ghost use Rattle.dasd_archive.specs.Printed.{PrintsBytes};
-ghost use Rattle.dasd_archive.specs.Dump.{holds, place_text, areas_text, object_text, record_dump, record_text, home_address_line, unreadable_line, track_dump};
+ghost use Rattle.dasd_volumes.specs.Listing.{place_text};
+ghost use Rattle.dasd_archive.specs.Dump.{areas_text, object_text, record_dump, record_text, home_address_line, unreadable_line, track_dump};
 ghost use Rattle.dasd_archive.specs.Dump.{dump_text, IsPartOf};
 
 use crate::printed::print_lines;
-use crate::reports::{Form, Style};
 use crate::rows::write_rows;
 use crate::tracks::identifier;
-use crate::walks::{EachTrack, Tracks, VolumeTrack, each_track};
 use ckd_track::{SlotFault, TrackView, read_slot};
 use counted_io::{Counted, WriteFault, flush_all};
-use dasd_volumes::{Hexadecimal, PrintedAddress, Reason, SlotReader, VolumeFault};
+use dasd_volumes::{
+    EachTrack, Form, Hexadecimal, PrintedAddress, Range, Reason, SlotReader, Style, Tracks,
+    VolumeFault, VolumeTrack, each_track,
+};
 use std::alloc::Global;
 use std::io;
 use std::io::Write;
-
-/// The numbers from a first to a last one, which is none where the last is less.
-#[derive(Clone, Copy)]
-pub struct Range {
-    /// The first.
-    pub first: u16,
-    /// The last.
-    pub last: u16,
-}
-
-impl Range {
-    /// Whether a number is one of them.
-    pub fn contains(&self, number: u16) -> bool
-        ensures { result ≡ holds self.now number }
-    {
-        self.first <= number && number <= self.last
-    }
-}
 
 /// A part of a volume.
 #[derive(Clone, Copy)]

@@ -5,12 +5,13 @@ ghost use Rattle.std.specs.List.{list_any};
 ghost use Rattle.ckd_track.specs.Model.{heads_of};
 ghost use Rattle.ckd_track.specs.Track.{track_of};
 ghost use Rattle.dasd_volumes.specs.Reading.{IsRead};
-ghost use Rattle.dasd_archive.specs.Dump.{holds, IsPartOf};
+ghost use Rattle.dasd_volumes.specs.Volumes.{holds};
+ghost use Rattle.dasd_archive.specs.Dump.{IsPartOf};
 ghost use Rattle.dasd_archive.specs.Numbered.{Lacks, LacksOn, LacksRecords, Tells, TellsOf};
 
-use crate::dumps::{Range, VolumePart, number_of};
+use crate::dumps::{VolumePart, number_of};
 use ckd_track::{TrackView, read_slot};
-use dasd_volumes::{SlotReader, VolumeFault};
+use dasd_volumes::{Range, SlotReader, VolumeFault};
 use std::alloc::Global;
 
 /// The tracks of a part of a volume that are on one cylinder, and the numbers of the records that are sought there.

@@ -2,8 +2,7 @@
 
 ghost use Rattle.std.specs.Prelude.{◌≡◌, IfErr, OnOk};
 ghost use Rattle.counted_io.specs.Streams.{seen_by, IsFlushed};
-ghost use Rattle.dasd_volumes.specs.Printing.{CountsWrites};
-ghost use Rattle.dasd_archive.specs.Printed.{PrintsBytes};
+ghost use Rattle.dasd_volumes.specs.Printing.{PrintsBytes, CountsWrites};
 
 use counted_io::{Counted, WriteFault, write_flushed, write_whole};
 use dasd_volumes::VolumeFault;

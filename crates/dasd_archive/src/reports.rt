@@ -6,27 +6,10 @@ ghost use Rattle.dasd_archive.specs.Findings.{finding_line, severity_of};
 ghost use Rattle.dasd_archive.specs.Reports.{one_more, shown_line, tally_line, tally_of, Reports};
 
 use crate::findings::{PlaceMembers, Severity, StrictFinding};
+use dasd_volumes::{Form, Style};
 use quantities::Quantity;
 use std::io;
 use std::io::Write;
-
-/// For whom lines are written.
-#[derive(Clone, Copy)]
-pub enum Style {
-    /// For people: words and hexadecimal addresses.
-    Text,
-    /// For programs: one object of JSON a line.
-    Json,
-}
-
-/// How lines are written: their style, and the volume's path as a string of JSON with its quotes, which objects have.
-#[derive(Clone, Copy)]
-pub struct Form<'a> {
-    /// The style.
-    pub style: Style,
-    /// The path, in quotes.
-    pub path: &'a str,
-}
 
 /// For whom the lines of findings are written, and which findings have one.
 #[derive(Clone, Copy)]

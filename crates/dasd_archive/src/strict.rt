@@ -2,19 +2,17 @@
 
 ghost use Rattle.std.specs.Prelude.{◌≡◌, ◌≢◌, List, IfOk, IfErr, OnOk};
 ghost use Rattle.counted_io.specs.Streams.{seen_by, IsFlushed};
-ghost use Rattle.dasd_volumes.specs.Printing.{PrintsText, CountsWrites};
+ghost use Rattle.dasd_volumes.specs.Printing.{PrintsText, PrintsBytes, CountsWrites};
 ghost use Rattle.dasd_volumes.specs.Reading.{IsRead};
 ghost use Rattle.dasd_archive.specs.declared.findings.StrictFinding.{StrictFinding};
-ghost use Rattle.dasd_archive.specs.Printed.{PrintsBytes};
 ghost use Rattle.dasd_archive.specs.Reports.{tally_line, tally_of, PrintsFindings};
 ghost use Rattle.dasd_archive.specs.Strict.{strict_text, findings_in_header, Adds};
 
 use crate::printed::{print_flushed, print_lines};
 use crate::reports::{FindingForm, Tally, write_tally};
 use crate::tracks::{CheckedTrack, check_header, check_track};
-use crate::walks::{EachTrack, VolumeTrack, all_tracks, each_track};
 use counted_io::Counted;
-use dasd_volumes::{SlotReader, VolumeFault};
+use dasd_volumes::{EachTrack, SlotReader, VolumeFault, VolumeTrack, all_tracks, each_track};
 use std::alloc::Global;
 use std::io::Write;
 

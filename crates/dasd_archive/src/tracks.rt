@@ -12,8 +12,8 @@ ghost use Rattle.dasd_archive.specs.Strict.{rest_findings, findings_of, findings
 
 use crate::findings::{FindingPlace, StrictFinding, StrictProblem};
 use crate::reports::{FindingForm, Tally, report};
-use crate::walks::VolumeTrack;
 use ckd_track::{TrackView, end_offset_of, index_slot, used, view_at};
+use dasd_volumes::VolumeTrack;
 use std::io;
 use std::io::Write;
 

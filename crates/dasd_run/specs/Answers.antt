@@ -4,8 +4,9 @@ use Rattle.counted_io.specs.Streams.{Stream, IsFlushed}
 use Rattle.ckd_track.specs.declared.geometries.Geometry.{Geometry}
 use Rattle.dasd_archive.specs.Dump.{dump_text, IsPartOf}
 use Rattle.dasd_archive.specs.Numbered.{LacksRecords, TellsOf}
+use Rattle.dasd_volumes.specs.Checks.{check_text, NumberIn}
+use Rattle.dasd_volumes.specs.Listing.{volume_text}
 use Rattle.dasd_volumes.specs.Reading.{KnownVolume}
-use Rattle.dasd_volumes.specs.Volumes.{volume_text, check_text, NumberIn}
 use Rattle.dasd_words.specs.declared.requests.NewImage.{NewImage}
 use Rattle.dasd_words.specs.declared.requests.HashedVolume.{HashedVolume}
 use Rattle.dasd_words.specs.declared.requests.PrintedVolume.{PrintedVolume}

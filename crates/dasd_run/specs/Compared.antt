@@ -9,10 +9,10 @@ use Rattle.dasd_volumes.specs.declared.fault.VolumeFault.{VolumeFault}
 use Rattle.dasd_volumes.specs.Lines.{line_feed}
 use Rattle.dasd_volumes.specs.Printing.{CountsWrites}
 use Rattle.dasd_volumes.specs.Reading.{KnownVolume}
-use Rattle.dasd_archive.specs.declared.reports.Style.{Style}
-use Rattle.dasd_archive.specs.declared.reports.Style.TheVariants.{Text, Json}
+use Rattle.dasd_volumes.specs.declared.forms.Style.{Style}
+use Rattle.dasd_volumes.specs.declared.forms.Style.TheVariants.{Text, Json}
 use Rattle.dasd_archive.specs.Compare.{compare_text, changed_in, PrintsBoth, NumberOfBoth}
-use Rattle.dasd_archive.specs.Printed.{PrintsBytes}
+use Rattle.dasd_volumes.specs.Printing.{PrintsBytes}
 use Rattle.dasd_words.specs.declared.requests.ComparedVolumes.{ComparedVolumes}
 use Rattle.dasd_jobs.specs.Lines.{model_digits}
 use Rattle.dasd_jobs.specs.Sources.{SourceFile, OfVolume}

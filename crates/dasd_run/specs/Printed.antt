@@ -7,11 +7,11 @@ use Rattle.dasd_volumes.specs.declared.fault.VolumeFault.{VolumeFault}
 use Rattle.dasd_volumes.specs.declared.fault.VolumeFault.TheVariants as volume
 use Rattle.dasd_volumes.specs.Printing.{PrintsText, CountsWrites}
 use Rattle.dasd_volumes.specs.Reading.{KnownVolume}
-use Rattle.dasd_archive.specs.declared.reports.Style.{Style}
-use Rattle.dasd_archive.specs.declared.reports.Style.TheVariants.{Text, Json}
-use Rattle.dasd_archive.specs.declared.dumps.Range.{Range}
+use Rattle.dasd_volumes.specs.declared.forms.Style.{Style}
+use Rattle.dasd_volumes.specs.declared.forms.Style.TheVariants.{Text, Json}
+use Rattle.dasd_volumes.specs.declared.walks.Range.{Range}
 use Rattle.dasd_archive.specs.declared.dumps.VolumePart.{VolumePart}
-use Rattle.dasd_archive.specs.Listing.{list_text}
+use Rattle.dasd_volumes.specs.Listing.{list_text}
 use Rattle.set_hash.specs.Lines.{Shown}
 use Rattle.set_hash.specs.Prints.{TellsWhole}
 use Rattle.set_hash.specs.Sets.{hashes_text}

@@ -14,8 +14,8 @@ use crate::printed_paths::quoted;
 use crate::reaches::with_reach;
 use ckd_track::Geometry;
 use counted_io::Counted;
-use dasd_archive::{Form, Listing, Range};
 use dasd_jobs::{Progress, SlotReader, Traces, open_volume};
+use dasd_volumes::{Form, Listing, Range};
 use dasd_words::{ListedPart, Numbers, PrintedVolume};
 use std::alloc::Global;
 use std::io::{Read, Write};
@@ -67,7 +67,7 @@ fn list_opened<V: SlotReader, W: Write>(
         cylinders,
         used_only: part.used_only,
     };
-    dasd_archive::list_part(alloc, volume, writer, listing)?;
+    dasd_volumes::list_part(alloc, volume, writer, listing)?;
     Ok(Ending::Done)
 }
 

@@ -1,6 +1,8 @@
 pub mod Sizes
 pub mod Lines
 pub mod Reading
-pub mod Printing
 pub mod Volumes
+pub mod Listing
+pub mod Checks
+pub mod Printing
 pub mod Stages

@@ -1,78 +1,88 @@
--- What is printed of whole volumes.
-use Rattle.std.specs.Prelude.{◌≡◌, ℕ, zero, suc, List, [], ◌∷◌, ◌++◌, length, slice_index_or, codes, Some, Result, Ok, Err}
-use Rattle.std.specs.List.{flat_map, concat}
-use Rattle.std.specs.Fmt.{decimal}
+-- The tracks of a volume and of its parts, in the order in which they are read.
+use Rattle.std.specs.Prelude.{◌≡◌, ℕ, zero, suc, ◌+◌, ◌-◌, ◌<◌, ◌≤◌, Bool, ◌&&◌, nat_le, List, [], ◌∷◌, ◌++◌, Some, Result, Err, slice_index_or}
+use Rattle.std.specs.List.{flat_map}
 use Rattle.ckd_track.specs.declared.geometries.Geometry.{Geometry}
-use Rattle.ckd_track.specs.declared.fault.SlotFault.{SlotFault}
 use Rattle.ckd_track.specs.Model.{heads_of}
-use Rattle.ckd_track.specs.Geometry.{track_at}
-use Rattle.ckd_track.specs.Track.{Track, track_of}
+use Rattle.ckd_track.specs.Geometry.{IsGeometry, track_at}
+use Rattle.dasd_volumes.specs.declared.fault.VolumeFault.{VolumeFault}
+use Rattle.dasd_volumes.specs.declared.fault.VolumeFault.TheVariants.{Store}
+use Rattle.dasd_volumes.specs.declared.walks.Range.{Range}
+use Rattle.dasd_volumes.specs.declared.walks.Tracks.{Tracks}
+use Rattle.dasd_volumes.specs.declared.walks.VolumeTrack.{VolumeTrack}
 use Rattle.dasd_volumes.specs.Reading.{KnownVolume}
-use Rattle.dasd_volumes.specs.Lines.{address_text, fault_text, line_feed, volume_line, track_lines}
 
 -- what there is of 0, of 1 and so on, of so many numbers
 unfoldable pub of_each : {A : Type 0} → (ℕ → List A) → ℕ → List A
 of_each of zero = []
 of_each of (suc n) = of_each of n ++ of n
 
--- the track at a cylinder and a head, or why its slot spells none
-abbrev pub track_seen : Geometry → (slots : List (List ℕ)) → (cylinder head : ℕ) → Result Track SlotFault
-track_seen g slots cylinder head = track_of (slice_index_or slots (track_at g cylinder head) [])
+-- what there is of each number of a range
+abbrev pub of_range : {A : Type 0} → Range → (ℕ → List A) → List A
+of_range r of = of_each (λ k. of (r.first + k)) (r.last + 1 - r.first)
 
--- Lists.
+-- a number is one of a range
+abbrev pub holds : Range → ℕ → Bool
+holds r n = nat_le r.first n && nat_le n r.last
 
-abbrev pub cylinder_text : (cylinder : ℕ) → Geometry → (slots : List (List ℕ)) → List ℕ
-cylinder_text cylinder g slots = of_each (λ head. track_lines g.model cylinder head (track_seen g slots cylinder head)) (heads_of g.model)
+-- the slot of a track; one that the volume lacks has no bytes
+abbrev pub slot_at : Geometry → (slots : List (List ℕ)) → (cylinder head : ℕ) → List ℕ
+slot_at g slots cylinder head = slice_index_or slots (track_at g cylinder head) []
 
--- what a list prints of a volume: its first line, and the lines of each track, cylinder by cylinder and head by head
-abbrev pub volume_text : Geometry → (slots : List (List ℕ)) → List ℕ
-volume_text g slots = volume_line g ++ of_each (λ cylinder. cylinder_text cylinder g slots) g.cylinders
+-- a track of a volume, and the bytes of its slot
+pub record ReadTrack : Type 0 where
+  pub track : VolumeTrack
+  pub slot : List ℕ
 
--- Checks.
+abbrev pub track_read : Geometry → (slots : List (List ℕ)) → (cylinder head : ℕ) → ReadTrack
+track_read g slots cylinder head = record {
+  track = record { geometry = g; cylinder = cylinder; head = head };
+  slot = slot_at g slots cylinder head;
+}
 
--- a track that can't be read
-pub record Finding : Type 0 where
-  pub cylinder : ℕ
-  pub head : ℕ
-  pub fault : SlotFault
+-- the tracks of some heads of a cylinder
+abbrev pub tracks_on : (heads : Range) → (cylinder : ℕ) → Geometry → (slots : List (List ℕ)) → List ReadTrack
+tracks_on heads cylinder g slots = of_range heads (λ head. track_read g slots cylinder head ∷ [])
 
-abbrev pub findings_at : (cylinder head : ℕ) → Result Track SlotFault → List Finding
-findings_at cylinder head (Ok t) = []
-findings_at cylinder head (Err fault) = record { cylinder = cylinder; head = head; fault = fault } ∷ []
+-- those of several cylinders, cylinder by cylinder and head by head
+abbrev pub tracks_in : Tracks → Geometry → (slots : List (List ℕ)) → List ReadTrack
+tracks_in tracks g slots = of_range tracks.cylinders (λ cylinder. tracks_on tracks.heads cylinder g slots)
 
-abbrev pub findings_on : Geometry → (slots : List (List ℕ)) → (cylinder : ℕ) → List Finding
-findings_on g slots cylinder = of_each (λ head. findings_at cylinder head (track_seen g slots cylinder head)) (heads_of g.model)
+-- all heads of a drive
+abbrev pub all_heads : Geometry → Range
+all_heads g = record { first = 0; last = heads_of g.model - 1 }
 
--- the tracks of a volume that can't be read, cylinder by cylinder and head by head
-abbrev pub findings_in : Geometry → (slots : List (List ℕ)) → List Finding
-findings_in g slots = of_each (findings_on g slots) g.cylinders
+-- all tracks of a volume
+abbrev pub all_tracks : Geometry → Tracks
+all_tracks g = record { cylinders = record { first = 0; last = g.cylinders - 1 }; heads = all_heads g }
 
-abbrev pub finding_line : Finding → List ℕ
-finding_line f = concat (address_text f.cylinder f.head ∷ codes " " ∷ fault_text f.fault ∷ line_feed ∷ [])
+-- what is printed of tracks, by what is printed of each
+abbrev pub text_in : (ReadTrack → List ℕ) → Tracks → Geometry → (slots : List (List ℕ)) → List ℕ
+text_in text tracks g slots = flat_map text (tracks_in tracks g slots)
 
-abbrev pub finding_lines : List Finding → List ℕ
-finding_lines findings = flat_map finding_line findings
+abbrev pub text_on : (ReadTrack → List ℕ) → (heads : Range) → (cylinder : ℕ) → Geometry → (slots : List (List ℕ)) → List ℕ
+text_on text heads cylinder g slots = flat_map text (tracks_on heads cylinder g slots)
 
-abbrev pub lines_on : (cylinder : ℕ) → Geometry → (slots : List (List ℕ)) → List ℕ
-lines_on cylinder g slots = finding_lines (findings_on g slots cylinder)
+-- the tracks exist: the first numbers are not behind the last ones, and these are on the volume
+pub record AreOn (tracks : Tracks) (g : Geometry) : Type 0 where
+  pub cylinders : tracks.cylinders.first ≤ tracks.cylinders.last
+  pub on_volume : tracks.cylinders.last < g.cylinders
+  pub heads : tracks.heads.first ≤ tracks.heads.last
+  pub on_cylinder : tracks.heads.last < heads_of g.model
 
-abbrev pub lines_in : Geometry → (slots : List (List ℕ)) → List ℕ
-lines_in g slots = finding_lines (findings_in g slots)
+-- a track exists
+pub record IsTrack (t : VolumeTrack) : Type 0 where
+  pub volume : IsGeometry t.geometry
+  pub cylinder : t.cylinder < t.geometry.cylinders
+  pub head : t.head < heads_of t.geometry.model
 
--- the last line of a check: how many findings there are
-abbrev pub number_line : (number : ℕ) → List ℕ
-number_line number = concat (decimal number ∷ codes " findings" ∷ line_feed ∷ [])
+-- one more read failed, exactly where a fault of the store is answered
+abbrev pub CountsReads : {A : Type 0} → Result A VolumeFault → (before now : ℕ) → Type 0
+CountsReads (Err Store) before now = now ≡ before + 1
+CountsReads result before now = now ≡ before
 
--- what a check prints: a line for each finding, and how many there are
-abbrev pub findings_text : List Finding → List ℕ
-findings_text findings = finding_lines findings ++ number_line (length findings)
+-- this holds of the tracks of a volume, if its slots are known
+abbrev pub OfTracks : (List ReadTrack → Type 0) → Tracks → KnownVolume → Type 0
+OfTracks Holds tracks v = (slots : List (List ℕ)) → v.slots ≡ Some slots → Holds (tracks_in tracks v.geometry slots)
 
-abbrev pub check_text : Geometry → (slots : List (List ℕ)) → List ℕ
-check_text g slots = findings_text (findings_in g slots)
-
--- so many tracks of a cylinder, or of the whole volume, can't be read, if its slots are known
-abbrev pub NumberOn : (cylinder : ℕ) → KnownVolume → ℕ → Type 0
-NumberOn cylinder v n = (slots : List (List ℕ)) → v.slots ≡ Some slots → n ≡ length (findings_on v.geometry slots cylinder)
-
-abbrev pub NumberIn : KnownVolume → ℕ → Type 0
-NumberIn v n = (slots : List (List ℕ)) → v.slots ≡ Some slots → n ≡ length (findings_in v.geometry slots)
+abbrev pub OfTracksOn : (List ReadTrack → Type 0) → (heads : Range) → (cylinder : ℕ) → KnownVolume → Type 0
+OfTracksOn Holds heads cylinder v = (slots : List (List ℕ)) → v.slots ≡ Some slots → Holds (tracks_on heads cylinder v.geometry slots)

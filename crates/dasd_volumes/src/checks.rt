@@ -1,23 +1,32 @@
 //! The tracks of a volume that can't be read.
 
-ghost use Rattle.std.specs.Prelude.{◌≡◌, ◌≢◌, ◌<◌, ◌≤◌, false, length, IfOk, IfErr, OnOk};
+ghost use Rattle.std.specs.Prelude.{◌≡◌, ◌≢◌, false, length, IfOk, IfErr, OnOk};
 ghost use Rattle.counted_io.specs.Streams.{seen_by, WritesWhole, IsFlushed};
 ghost use Rattle.ckd_track.specs.Track.{track_of};
 ghost use Rattle.dasd_volumes.specs.Printing.{PrintsText, CountsWrites, CountsFindings};
 ghost use Rattle.dasd_volumes.specs.Reading.{IsRead};
-ghost use Rattle.dasd_volumes.specs.Volumes.{findings_at, finding_line, number_line, lines_on, lines_in, check_text, NumberOn, NumberIn};
+ghost use Rattle.dasd_volumes.specs.Volumes.{IsTrack};
+ghost use Rattle.dasd_volumes.specs.Checks.{findings_at, finding_line, number_line, lines_in, check_text, NumberIn};
 
 use crate::fault::VolumeFault;
 use crate::pieces::{LINE, put_address, put_fault};
 use crate::progress::{Progress, Stage, is_large};
 use crate::reading::SlotReader;
 use crate::text::PrintedAddress;
+use crate::walks::{EachTrack, VolumeTrack, all_tracks, each_track};
 use arrayvec::ArrayString;
-use ckd_track::{Geometry, SlotFault, read_slot};
+use ckd_track::{SlotFault, read_slot};
 use counted_io::{Counted, WriteFault, write_flushed};
 use std::alloc::Global;
 use std::io::Write;
 use text_lines::put_decimal;
+
+// A check of tracks: where it is shown how far it has come, and how many tracks can't be read.
+#[derive(Drop)]
+struct CheckedTracks<'a, P> {
+    progress: &'a mut P,
+    findings: u32,
+}
 
 /// Prints each track of a volume that can't be read, with why, and then how many there are, which it answers. Of a
 /// large volume it shows each cylinder. Nothing is shown while a line is written, nor behind the call.
@@ -44,7 +53,7 @@ pub fn check<V: SlotReader, W: Write, P: Progress>(
     let Ok(mut slot) = vec![in alloc; 0u8; volume.geometry().track_size as usize] else {
         return Err(VolumeFault::OutOfMemory);
     };
-    let checked = check_cylinders(volume, writer, progress, slot.as_mut_slice());
+    let checked = check_tracks(volume, writer, progress, slot.as_mut_slice());
     progress.clear();
     match checked {
         Ok(findings) => match write_number(writer, progress, findings) {
@@ -56,7 +65,7 @@ pub fn check<V: SlotReader, W: Write, P: Progress>(
 }
 
 // The lines of the tracks that can't be read, each of which is loaded into the slot; and how many they are.
-fn check_cylinders<V: SlotReader, W: Write, P: Progress>(
+fn check_tracks<V: SlotReader, W: Write, P: Progress>(
     volume: &mut V,
     writer: &mut Counted<W>,
     progress: &mut P,
@@ -70,73 +79,87 @@ fn check_cylinders<V: SlotReader, W: Write, P: Progress>(
     ensures volume { IsRead result (V.volume volume.old) (V.volume volume.new) (V.failures volume.old) (V.failures volume.new) }
 {
     let geometry = volume.geometry();
-    let mut findings: u32 = 0;
-    for cylinder in 0..geometry.cylinders {
-        show_cylinder(progress, geometry, cylinder);
-        findings += check_cylinder(volume, writer, progress, slot, cylinder)?;
-    }
-    Ok(findings)
-}
-
-// Shows the cylinder of a large volume.
-fn show_cylinder<P: Progress>(progress: &mut P, geometry: Geometry, cylinder: u16)
-    requires { cylinder < geometry.cylinders }
-{
-    if is_large(geometry) {
-        progress.show(Stage::Checking(cylinder + 1, geometry.cylinders));
+    let mut check = CheckedTracks {
+        progress,
+        findings: 0,
+    };
+    match each_track(&mut check, volume, writer, all_tracks(geometry), slot) {
+        Ok(()) => Ok(check.findings),
+        Err(fault) => Err(fault),
     }
 }
 
-// The lines of one cylinder's tracks that can't be read, each of which is loaded into the slot; and how many they are.
-fn check_cylinder<V: SlotReader, W: Write, P: Progress>(
-    volume: &mut V,
-    writer: &mut Counted<W>,
-    progress: &mut P,
-    slot: &mut [u8],
-    cylinder: u16,
-) -> Result<u32, VolumeFault>
-    requires exists { cylinder < (V.volume volume.old).geometry.cylinders }
-    requires size { length slot.old ≡ (V.volume volume.old).geometry.track_size }
-    ensures number { IfOk result (NumberOn cylinder (V.volume volume.old)) }
-    ensures few { IfOk result (λ n. n ≤ 20) }
-    ensures lines { PrintsText result (lines_on cylinder) (V.volume volume.old) (seen_by W.contents writer.old) (seen_by W.contents writer.new) }
-    ensures writes { CountsWrites result (seen_by W.contents writer.old) (seen_by W.contents writer.new) }
-    ensures memory { IfErr result (λ e. e ≢ VolumeFault.OutOfMemory) }
-    ensures volume { IsRead result (V.volume volume.old) (V.volume volume.new) (V.failures volume.old) (V.failures volume.new) }
-    ensures size { length slot.new ≡ length slot.old }
-{
-    let geometry = volume.geometry();
-    let mut findings: u32 = 0;
-    for head in 0..geometry.model.heads() {
-        let Ok(held) = volume.load(geometry.track_at(cylinder, head), slot) else {
-            return Err(VolumeFault::Store);
-        };
-        let address = PrintedAddress { cylinder, head };
-        match check_track(writer, progress, address, &slot[..held]) {
-            Ok(found) => findings += found,
-            Err(WriteFault) => return Err(VolumeFault::Write),
+impl<'a, P: Progress> EachTrack for CheckedTracks<'a, P> {
+    ghost use Rattle.std.specs.Prelude.{◌≡◌, refl};
+    ghost use Rattle.std.proofs.Common.{◌∙◌};
+    ghost use Rattle.dasd_volumes.specs.Checks.{finding_lines, findings_in_track, CountsFinding};
+
+    ghost text = { λ c track. finding_lines (findings_in_track track) };
+
+    ghost IsKnown = { λ c. Unit {0} };
+
+    ghost IsFor = { λ g c. Unit {0} };
+
+    ghost Notes = { λ before track now. CountsFinding before.findings track now.findings };
+
+    ghost Keeps = { λ before now. now.progress.ghost_name ≡ before.progress.ghost_name };
+
+    ghost failures = { λ c. 0 };
+
+    ghost WantsMemory = { ⊥ };
+
+    fn track<W: Write>(
+        &mut self,
+        writer: &mut Counted<W>,
+        track: VolumeTrack,
+        slot: &[u8],
+    ) -> Result<(), VolumeFault> {
+        show_cylinder(self.progress, track);
+        match check_track(writer, self.progress, track, slot) {
+            Ok(found) => {
+                self.findings = self.findings.saturating_add(found);
+                Ok(())
+            }
+            Err(WriteFault) => Err(VolumeFault::Write),
         }
     }
-    Ok(findings)
+
+    ghost still = { λ x. refl };
+
+    ghost kept = { λ a b c first next. next ∙ first };
+}
+
+// Shows the cylinder of a large volume, at its first track.
+fn show_cylinder<P: Progress>(progress: &mut P, track: VolumeTrack)
+    requires { IsTrack track }
+{
+    let VolumeTrack {
+        geometry,
+        cylinder,
+        head,
+    } = track;
+    if head == 0 && is_large(geometry) {
+        progress.show(Stage::Checking(cylinder + 1, geometry.cylinders));
+    }
 }
 
 // The line of a track that can't be read; and whether it is one.
 fn check_track<W: Write, P: Progress>(
     writer: &mut Counted<W>,
     progress: &mut P,
-    address: PrintedAddress,
+    track: VolumeTrack,
     slot: &[u8],
 ) -> Result<u32, WriteFault>
-    ensures number { IfOk result (λ n. n ≡ length (findings_at address.cylinder address.head (track_of slot.now))) }
-    ensures few { IfOk result (λ n. n ≤ 1) }
-    ensures lines { CountsFindings result (seen_by W.contents writer.old) (seen_by W.contents writer.new) (findings_at address.cylinder address.head
-        (track_of slot.now)) }
+    ensures number { IfOk result (λ n. n ≡ length (findings_at track.cylinder track.head (track_of slot.now))) }
+    ensures lines { CountsFindings result (seen_by W.contents writer.old) (seen_by W.contents writer.new)
+        (findings_at track.cylinder track.head (track_of slot.now)) }
 {
+    let VolumeTrack { cylinder, head, .. } = track;
     let Err(fault) = read_slot(slot) else {
         return Ok(0);
     };
     progress.clear();
-    write_finding(writer, progress, address, fault)?;
+    write_finding(writer, progress, PrintedAddress { cylinder, head }, fault)?;
     Ok(1)
 }
 

@@ -4,15 +4,20 @@
 
 mod checks;
 mod fault;
+mod forms;
 mod lists;
+mod objects;
 mod pieces;
 mod progress;
 mod reading;
 mod text;
+mod walks;
 
 pub use crate::checks::check;
 pub use crate::fault::VolumeFault;
-pub use crate::lists::list;
+pub use crate::forms::{Form, Style};
+pub use crate::lists::{Listing, list, list_part};
 pub use crate::progress::{Progress, Stage, is_large};
 pub use crate::reading::SlotReader;
 pub use crate::text::{Hexadecimal, PrintedAddress, Reason};
+pub use crate::walks::{EachTrack, Range, Tracks, VolumeTrack, all_tracks, each_track};

@@ -1,4 +1,4 @@
-//! Pieces of lines.
+//! Pieces of lines, in a fixed room.
 
 ghost use Rattle.std.specs.Prelude.{◌≡◌, ◌+◌, ◌≤◌, ◌++◌, length};
 ghost use Rattle.std.specs.Fmt.{decimal};
@@ -10,12 +10,12 @@ use ckd_track::SlotFault;
 use itoa::Buffer;
 use text_lines::put_hexadecimal;
 
-/// The bytes that a line has room for: more than any has.
-pub(crate) const LINE: usize = 96;
+/// The bytes that a line has room for, or a piece of one that has no path: more than any has.
+pub(crate) const LINE: usize = 128;
 
 /// Cylinder and head go to the end of the line, which has room for them.
 pub(crate) fn put_address(line: &mut ArrayString<LINE>, address: PrintedAddress)
-    requires { length line.old.bytes + 17 ≤ 96 }
+    requires { length line.old.bytes + 17 ≤ 128 }
     ensures text { line.new.bytes ≡ line.old.bytes ++ address_text address.cylinder address.head }
     ensures size { length line.new.bytes ≤ length line.old.bytes + 17 }
 {
@@ -26,7 +26,7 @@ pub(crate) fn put_address(line: &mut ArrayString<LINE>, address: PrintedAddress)
 
 /// Why a slot spells no track goes to the end of the line, which has room for it.
 pub(crate) fn put_fault(line: &mut ArrayString<LINE>, fault: SlotFault)
-    requires { length line.old.bytes + 39 ≤ 96 }
+    requires { length line.old.bytes + 39 ≤ 128 }
     ensures text { line.new.bytes ≡ line.old.bytes ++ fault_text fault }
     ensures size { length line.new.bytes ≤ length line.old.bytes + 39 }
 {
@@ -45,7 +45,7 @@ pub(crate) fn put_fault(line: &mut ArrayString<LINE>, fault: SlotFault)
 
 /// The count in decimal digits goes to the end of the line, which has room for the twenty that a count may have.
 pub(crate) fn put_count(line: &mut ArrayString<LINE>, count: usize)
-    requires { length line.old.bytes + 20 ≤ 96 }
+    requires { length line.old.bytes + 20 ≤ 128 }
     ensures text { line.new.bytes ≡ line.old.bytes ++ decimal count }
     ensures size { length line.new.bytes ≤ length line.old.bytes + 20 }
 {

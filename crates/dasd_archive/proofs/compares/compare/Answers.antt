@@ -3,9 +3,9 @@ use Rattle.counted_io.specs.Streams.{seen_by, Takes, TakesFront}
 use Rattle.counted_io.proofs.Written.{takes_more}
 use Rattle.dasd_volumes.proofs.Fronts.{front_behind}
 use Rattle.dasd_archive.specs.Compare.{lines_beside, number_line, volume_differences}
-use Rattle.dasd_archive.specs.Walks.{all_tracks}
+use Rattle.dasd_volumes.specs.Volumes.{all_tracks}
 use Rattle.dasd_archive.proofs.Counted.{all_counted, text_beside}
-use Rattle.dasd_archive.proofs.Printing.{front_before}
+use Rattle.dasd_volumes.proofs.Printing.{front_before}
 use Rattle.dasd_archive.proofs.compares.compare.Goals as goal
 
 -- a track was not compared to its end

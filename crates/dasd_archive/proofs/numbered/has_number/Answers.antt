@@ -1,5 +1,5 @@
 use Rattle.std.proofs.Common.{arith, slice_index}
-use Rattle.dasd_archive.specs.Dump.{holds}
+use Rattle.dasd_volumes.specs.Volumes.{holds}
 use Rattle.dasd_archive.proofs.Sought.{none_is}
 use Rattle.dasd_archive.proofs.numbered.has_number.Goals as goal
 

@@ -1,6 +1,6 @@
 use Rattle.std.proofs.Common.{ℕ, ◌≡◌, ◌<◌, false, slice_index}
 use Rattle.ckd_track.specs.Track.{record_in}
-use Rattle.dasd_archive.specs.Dump.{holds}
+use Rattle.dasd_volumes.specs.Volumes.{holds}
 use Rattle.dasd_archive.proofs.numbered.has_number.Given as goal
 
 -- none of the records so far has one of the numbers

@@ -4,8 +4,8 @@ use Rattle.counted_io.proofs.Written.{takes_more}
 use Rattle.dasd_volumes.proofs.Fronts.{front_behind}
 use Rattle.dasd_archive.specs.Reports.{finding_lines, tally_line}
 use Rattle.dasd_archive.specs.Strict.{strict_findings}
-use Rattle.dasd_archive.specs.Walks.{all_tracks}
-use Rattle.dasd_archive.proofs.Printing.{front_before}
+use Rattle.dasd_volumes.specs.Volumes.{all_tracks}
+use Rattle.dasd_volumes.proofs.Printing.{front_before}
 use Rattle.dasd_archive.proofs.Reported.{strict_counts, strict_lines}
 use Rattle.dasd_archive.proofs.strict.check_strict.Goals as goal
 

@@ -2,7 +2,7 @@ use Rattle.std.proofs.Common.{◌≡◌, ◌∙◌, Ok, Err, inl, inr, refl, sym
 use Rattle.std.proofs.lemmas.Bool.{false≢true}
 use Rattle.std.proofs.lemmas.Result.{err_from_is_err_and}
 use Rattle.counted_io.specs.Streams.{seen_by}
-use Rattle.dasd_archive.proofs.Printing.{none_printed}
+use Rattle.dasd_volumes.proofs.Printing.{none_printed}
 use Rattle.dasd_run.proofs.Writes.{none_written}
 use Rattle.dasd_run.proofs.archive.dump_opened.Goals.{else-names-via-then-names+in_ok-has_records+else-not-branch}
 use Rattle.dasd_run.proofs.archive.dump_opened.Goals.{else-names-via-else-names}

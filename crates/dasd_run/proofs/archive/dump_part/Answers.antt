@@ -1,7 +1,7 @@
 use Rattle.std.proofs.Common.{◌≡◌, ◌∙◌, ℕ, List, map, inr, ap, subst}
 use Rattle.counted_io.specs.Streams.{seen_by}
 use Rattle.dasd_archive.specs.Dump.{dump_text}
-use Rattle.dasd_archive.specs.declared.reports.Style.{Style}
+use Rattle.dasd_volumes.specs.declared.forms.Style.{Style}
 use Rattle.dasd_jobs.specs.Sources.{SourceFile, OpenedState, OpensPaths, volume_in}
 use Rattle.dasd_run.specs.Paths.{quoted_paths}
 use Rattle.dasd_run.specs.Printed.{style_of, paths_of, asked_part}

@@ -1,7 +1,7 @@
 use Rattle.std.proofs.Common.{◌∙◌, Err, inl, ap, subst, refl}
 use Rattle.std.proofs.lemmas.Result.{err_from_is_err_and}
 use Rattle.counted_io.specs.Streams.{seen_by, TakesFront}
-use Rattle.dasd_archive.specs.Listing.{list_text}
+use Rattle.dasd_volumes.specs.Listing.{list_text}
 use Rattle.dasd_run.specs.Printed.{asked_cylinders, HasCylinders}
 use Rattle.dasd_run.proofs.Writes.{memory_told}
 use Rattle.dasd_run.proofs.list.list_opened.Goals as goal

@@ -1,6 +1,6 @@
 use Rattle.std.proofs.Common.{◌≡◌, ◌∙◌, ℕ, List, Result, Ok, Err, map, inr, ap, subst}
 use Rattle.counted_io.specs.Streams.{Stream, seen_by}
-use Rattle.dasd_archive.specs.declared.reports.Style.{Style}
+use Rattle.dasd_volumes.specs.declared.forms.Style.{Style}
 use Rattle.dasd_jobs.specs.declared.lengths.Reach.{Reach}
 use Rattle.dasd_jobs.specs.Sources.{SourceFile, OpenedState, OpensPaths, volume_in}
 use Rattle.dasd_run.specs.Paths.{quoted_paths}

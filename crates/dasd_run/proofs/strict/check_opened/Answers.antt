@@ -3,7 +3,7 @@ use Rattle.std.proofs.lemmas.Result.{err_from_is_err_and}
 use Rattle.counted_io.specs.Streams.{seen_by}
 use Rattle.counted_io.proofs.Written.{takes_more}
 use Rattle.dasd_volumes.proofs.Fronts.{front_behind}
-use Rattle.dasd_archive.proofs.Printing.{front_before}
+use Rattle.dasd_volumes.proofs.Printing.{front_before}
 use Rattle.dasd_archive.specs.declared.reports.Tally.{Tally}
 use Rattle.dasd_run.specs.Strict.{found_in}
 use Rattle.dasd_run.proofs.Writes.{writes_told, writes_behind}

@@ -1,6 +1,6 @@
 use Rattle.std.proofs.Common.{◌≡◌, ◌∙◌, subst, append_assoc}
 use Rattle.counted_io.specs.Streams.{seen_by, WritesWhole}
-use Rattle.dasd_volumes.specs.Volumes.{finding_line}
+use Rattle.dasd_volumes.specs.Checks.{finding_line}
 use Rattle.dasd_volumes.proofs.checks.write_finding.Goals as goal
 
 pub returns : goal.returns

@@ -1,6 +1,6 @@
 use Rattle.std.proofs.Common.{◌≡◌, ◌∙◌, subst, append_assoc}
 use Rattle.counted_io.specs.Streams.{seen_by, WritesWhole}
-use Rattle.dasd_volumes.specs.Volumes.{number_line}
+use Rattle.dasd_volumes.specs.Checks.{number_line}
 use Rattle.dasd_volumes.proofs.checks.write_number.Goals as goal
 
 pub returns-clause-written : goal.returns-clause-written

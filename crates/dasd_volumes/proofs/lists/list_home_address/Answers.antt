@@ -7,7 +7,7 @@ pub returns : goal.returns
 returns g c = subst (λ t. WritesWhole c.write_whole.result (seen_by g.W.Write.contents c.args.writer.now)
     (seen_by g.W.Write.contents c.write_whole.new.writer) t) text c.write_whole.ensures
   where
-    line : c.push_str-4.new.self.bytes ≡ track_line c.args.geometry.model c.args.address.cylinder c.args.address.head c.args.track.now
+    line : c.push_str-4.new.self.bytes ≡ track_line c.args.track.geometry.model c.args.track.cylinder c.args.track.head c.args.view.now
     line =
         rw (
           c.push_str-4.ensures.bytes,
@@ -24,5 +24,5 @@ returns g c = subst (λ t. WritesWhole c.write_whole.result (seen_by g.W.Write.c
           c.used.ensures,
         ) (simp (append_assoc))
 
-    text : c.as_bytes.result.now ≡ track_line c.args.geometry.model c.args.address.cylinder c.args.address.head c.args.track.now
+    text : c.as_bytes.result.now ≡ track_line c.args.track.geometry.model c.args.track.cylinder c.args.track.head c.args.view.now
     text = c.as_bytes.ensures.value ∙ (c.deref.ensures.0 ∙ line)

@@ -9,7 +9,7 @@ pub returns : goal.returns
 returns g c = subst (λ t. WritesWhole c.write_whole.result (seen_by g.W.Write.contents c.args.writer.now)
     (seen_by g.W.Write.contents c.write_whole.new.writer) t) text c.write_whole.ensures
   where
-    line : c.push_str-4.new.self.bytes ≡ record_line (record_in c.args.track.now c.args.i)
+    line : c.push_str-4.new.self.bytes ≡ record_line (record_in c.args.view.now c.args.i)
     line =
         rw (
           c.push_str-4.ensures.bytes,
@@ -25,5 +25,5 @@ returns g c = subst (λ t. WritesWhole c.write_whole.result (seen_by g.W.Write.c
           c.data_of.ensures.bytes,
         ) (record_is _ _ _)
 
-    text : c.as_bytes.result.now ≡ record_line (record_in c.args.track.now c.args.i)
+    text : c.as_bytes.result.now ≡ record_line (record_in c.args.view.now c.args.i)
     text = c.as_bytes.ensures.value ∙ (c.deref.ensures.0 ∙ line)

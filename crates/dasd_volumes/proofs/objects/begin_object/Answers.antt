@@ -1,0 +1,38 @@
+use Rattle.std.proofs.Common.{◌≡◌, ◌∙◌, List, ℕ, [], ◌∷◌, ◌++◌, codes, subst}
+use Rattle.std.proofs.lemmas.Result.{err_from_is_err_and}
+use Rattle.std.specs.Fmt.{decimal}
+use Rattle.std.specs.List.{concat}
+use Rattle.counted_io.specs.Streams.{seen_by, WritesWhole}
+use Rattle.dasd_volumes.proofs.Together.{together_is}
+use Rattle.dasd_volumes.proofs.Printing.{then_whole, stopped_before}
+use Rattle.dasd_volumes.proofs.objects.begin_object.Goals as goal
+
+pub returns-in_err-write_path : goal.returns-in_err-write_path
+returns-in_err-write_path g c =
+    let p = err_from_is_err_and c.from_residual.result c.from_residual.ensures.1 in
+    let head = codes ",\"cylinder\":" ∷ decimal c.args.address.cylinder ∷ codes ",\"head\":" ∷ decimal c.args.address.head ∷ [] in
+    rw p.1 (stopped_before _ _ (codes "{\"path\":" ++ c.args.path.now) (concat head) c.in_err-write_path.ensures)
+
+pub returns : goal.returns
+returns g c =
+    then_whole c.write_whole.result _ _ _ (codes "{\"path\":" ++ c.args.path.now) (concat pieces) c.in_ok-write_path.ensures
+    (subst (λ t. WritesWhole c.write_whole.result (seen_by g.W.Write.contents c.write_path.new.writer)
+    (seen_by g.W.Write.contents c.write_whole.new.writer) t) text c.write_whole.ensures)
+  where
+    pieces : List (List ℕ)
+    pieces = codes ",\"cylinder\":" ∷ decimal c.args.address.cylinder ∷ codes ",\"head\":" ∷ decimal c.args.address.head ∷ []
+
+    line : c.put_decimal-2.new.line.bytes ≡ concat pieces
+    line =
+        rw (
+          c.put_decimal-2.ensures.text,
+          c.push_str-2.ensures.bytes,
+          c.put_decimal.ensures.text,
+          c.push_str.ensures.bytes,
+          c.new-line.ensures,
+          c.from.ensures,
+          c.from-2.ensures,
+        ) (together_is [] pieces)
+
+    text : c.as_bytes.result.now ≡ concat pieces
+    text = c.as_bytes.ensures.value ∙ (c.deref.ensures.0 ∙ line)
