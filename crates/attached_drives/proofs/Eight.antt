@@ -1,5 +1,5 @@
 -- Eight places, of which the first hold a drive each.
-use Rattle.std.proofs.Common.{◌≡◌, ◌≤◌, arith, ℕ, refl, List, [], ◌∷◌, map, length, Option, Some, None}
+use Rattle.std.proofs.Common.{◌≡◌, ◌≤◌, ◌∙◌, arith, ℕ, refl, ap, List, [], ◌∷◌, map, length, Option, Some, None}
 use Rattle.std.specs.Prelude.{option_map, slice_get}
 use Rattle.s360_laws.specs.declared.arm.Arm.{Arm}
 use Rattle.attached_drives.specs.Drives.{AttachedState, device_of}
@@ -21,8 +21,16 @@ all_places (a ∷ b ∷ c ∷ d ∷ e ∷ f ∷ g ∷ []) l = refl
 all_places (a ∷ b ∷ c ∷ d ∷ e ∷ f ∷ g ∷ h ∷ []) l = refl
 all_places (a ∷ b ∷ c ∷ d ∷ e ∷ f ∷ g ∷ h ∷ i ∷ us) l = absurd (omega (arith, l))
 
--- and two lists of eight are equal place by place; it names each place of both, with an equation for each two
-pub eight_places : {A : Type 0} {a b c d e f g h a' b' c' d' e' f' g' h' : A} → a ≡ a' → b ≡ b' → c ≡ c' → d ≡ d' → e ≡ e' → f ≡ f' → g ≡ g'
-    → h ≡ h'
-    → a ∷ b ∷ c ∷ d ∷ e ∷ f ∷ g ∷ h ∷ [] ≡ a' ∷ b' ∷ c' ∷ d' ∷ e' ∷ f' ∷ g' ∷ h' ∷ []
-eight_places p q r s t u v w = cc
+-- the places of two lists are equal, one by one
+abbrev pub AllSame : {A : Type 0} → (xs ys : List A) → Type 0
+AllSame [] [] = Unit {0}
+AllSame [] (y ∷ ys) = ⊥
+AllSame (x ∷ xs) [] = ⊥
+AllSame (x ∷ xs) (y ∷ ys) = (x ≡ y) × AllSame xs ys
+
+-- and so the lists are
+pub all_same : {A : Type 0} (xs ys : List A) → AllSame xs ys → xs ≡ ys
+all_same [] [] same = refl
+all_same [] (y ∷ ys) same = absurd same
+all_same (x ∷ xs) [] same = absurd same
+all_same (x ∷ xs) (y ∷ ys) same = ap (λ z. z ∷ xs) same.0 ∙ ap (λ zs. y ∷ zs) (all_same xs ys same.1)

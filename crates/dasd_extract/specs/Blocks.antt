@@ -13,8 +13,8 @@ use Rattle.data_sets.specs.declared.records.Piece.{Piece}
 use Rattle.data_sets.specs.Records.{next_record}
 use Rattle.data_sets.specs.Lines.{without_blanks}
 use Rattle.dasd_extract.specs.declared.stops.Cause.TheVariants.{EndOfFile, NotDirectory, NoRecord, LongBlock}
-use Rattle.dasd_extract.specs.declared.blocks.Form.{Form}
-use Rattle.dasd_extract.specs.declared.blocks.Form.TheVariants.{Raw, Text, Directory, Keyed}
+use Rattle.dasd_extract.specs.declared.blocks.ExtractedForm.{ExtractedForm}
+use Rattle.dasd_extract.specs.declared.blocks.ExtractedForm.TheVariants.{Raw, Text, Directory, Keyed}
 use Rattle.dasd_extract.specs.Written.{Written, nothing, these_bytes, stopped, behind}
 
 -- a character that controls a terminal or a file is no text: it is a replacement character, so that each record is one line
@@ -82,12 +82,12 @@ keyed_bytes r = 1 ∷ lengths r ++ (r.key_area ++ r.data_area)
 abbrev pub number_of : Record → ℕ
 number_of r = slice_index r.id 4
 
-abbrev pub form_written : Form → (track : ℕ) → Record → Written
+abbrev pub form_written : ExtractedForm → (track : ℕ) → Record → Written
 form_written Raw track r = these_bytes r.data_area
 form_written (Text l) track r = records_written l track (number_of r) r.data_area
 form_written Directory track r = directory_written track (number_of r) r.key_area r.data_area
 form_written Keyed track r = these_bytes (keyed_bytes r)
 
 -- a record without data is an end of file
-abbrev pub block_written : Form → (track : ℕ) → Record → Written
+abbrev pub block_written : ExtractedForm → (track : ℕ) → Record → Written
 block_written form track r = if length r.data_area == 0 then stopped track EndOfFile else form_written form track r

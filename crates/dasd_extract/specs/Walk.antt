@@ -18,7 +18,7 @@ use Rattle.dasd_extract.specs.declared.stops.Cause.{Cause}
 use Rattle.dasd_extract.specs.declared.stops.Cause.TheVariants.{PastExtents, Outside, BadExtent, NoTrack, NoAlternate, NotAlternate, Unreadable, NoBlock}
 use Rattle.dasd_extract.specs.declared.stops.Cause.TheVariants.{TooManyTracks}
 use Rattle.dasd_extract.specs.declared.stops.Stop.{Stop}
-use Rattle.dasd_extract.specs.declared.blocks.Form.{Form}
+use Rattle.dasd_extract.specs.declared.blocks.ExtractedForm.{ExtractedForm}
 use Rattle.dasd_extract.specs.declared.tracks.Part.{Part}
 use Rattle.dasd_extract.specs.declared.alternates.Holder.{Holder}
 use Rattle.dasd_extract.specs.declared.alternates.Holder.TheVariants.{Itself, Alternate, Nowhere}
@@ -31,15 +31,15 @@ abbrev pub first_block : (number : ℕ) → Track → Option ℕ
 first_block number t = if number == 0 then Some 1 else position (λ r. number_of r == number) t.records
 
 -- the blocks of a track from one on
-abbrev pub blocks_from : Form → (track : ℕ) → Track → (first : ℕ) → Written
+abbrev pub blocks_from : ExtractedForm → (track : ℕ) → Track → (first : ℕ) → Written
 blocks_from form track t first = until_stop (λ k. block_written form track (record_in t (first + k))) (length t.records - first)
 
-abbrev pub blocks_or_none : Form → (track number : ℕ) → Track → Option ℕ → Written
+abbrev pub blocks_or_none : ExtractedForm → (track number : ℕ) → Track → Option ℕ → Written
 blocks_or_none form track number t (Some first) = blocks_from form track t first
 blocks_or_none form track number t None = stopped track (NoBlock number)
 
 -- the blocks of a slot's track from that of a number on
-abbrev pub slot_written : Form → (track number : ℕ) → Result Track SlotFault → Written
+abbrev pub slot_written : ExtractedForm → (track number : ℕ) → Result Track SlotFault → Written
 slot_written form track number (Ok t) = blocks_or_none form track number t (first_block number t)
 slot_written form track number (Err fault) = stopped track (Unreadable fault)
 
@@ -48,27 +48,27 @@ abbrev pub track_on : (slots : List (List ℕ)) → (n : ℕ) → Result Track S
 track_on slots n = track_of (slice_index_or slots n [])
 
 -- the blocks of a track that holds those of a defective one; one that is no alternate is not read
-abbrev pub alternate_written : Form → (track number : ℕ) → Result Track SlotFault → Written
+abbrev pub alternate_written : ExtractedForm → (track number : ℕ) → Result Track SlotFault → Written
 alternate_written form track number held = if is_other held then stopped track NotAlternate else slot_written form track number held
 
 -- the blocks of a track, by where they are
-abbrev pub held_written : Form → (track number : ℕ) → (slots : List (List ℕ)) → (own : ℕ) → Holder → Written
+abbrev pub held_written : ExtractedForm → (track number : ℕ) → (slots : List (List ℕ)) → (own : ℕ) → Holder → Written
 held_written form track number slots own Itself = slot_written form track number (track_on slots own)
 held_written form track number slots own (Alternate n) = alternate_written form track number (track_on slots n)
 held_written form track number slots own Nowhere = stopped track NoAlternate
 
 -- the blocks of the volume's track n; those of a defective track are on its alternate
-abbrev pub found_written : Form → (track number : ℕ) → Geometry → (slots : List (List ℕ)) → (n : ℕ) → Written
+abbrev pub found_written : ExtractedForm → (track number : ℕ) → Geometry → (slots : List (List ℕ)) → (n : ℕ) → Written
 found_written form track number g slots n = held_written form track number slots n (holder_of g (track_on slots n))
 
 -- which blocks are written, and how
 pub record Wanted : Type 0 where
-  pub form : Form
+  pub form : ExtractedForm
   pub extents : List Extent
   pub start : RelativeAddress
   pub tracks : ℕ
 
-abbrev pub wanted : Form → List Extent → RelativeAddress → (tracks : ℕ) → Wanted
+abbrev pub wanted : ExtractedForm → List Extent → RelativeAddress → (tracks : ℕ) → Wanted
 wanted form extents start tracks = record { form = form; extents = extents; start = start; tracks = tracks }
 
 -- on the first track the blocks begin with that of the start's number, and on each other one with the first
@@ -79,7 +79,7 @@ number_on start i = if i == 0 then start.number else 0
 abbrev pub past_end : (i : ℕ) → Cause
 past_end i = if i == 0 then Outside else PastExtents
 
-abbrev pub place_written : Form → (track number i : ℕ) → Geometry → (slots : List (List ℕ)) → TrackPlace → Written
+abbrev pub place_written : ExtractedForm → (track number i : ℕ) → Geometry → (slots : List (List ℕ)) → TrackPlace → Written
 place_written form track number i g slots (place.Track n) =
     if nat_lt n (tracks_of g) then found_written form track number g slots n else stopped track NoTrack
 place_written form track number i g slots place.PastEnd = stopped track (past_end i)

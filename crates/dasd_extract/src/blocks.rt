@@ -26,7 +26,7 @@ const LENGTHS: usize = 5;
 
 /// How blocks are written.
 #[derive(Clone, Copy)]
-pub enum Form {
+pub enum ExtractedForm {
     /// Their data as it stands.
     Raw,
     /// Their records as lines of UTF-8, from EBCDIC (code page 037), each without the blanks at its end. A character that controls
@@ -176,7 +176,7 @@ pub(crate) fn number_of(view: &TrackView, i: usize) -> u8
 // Writes a block in its form.
 fn write_in_form<W: Write>(
     writer: &mut W,
-    form: Form,
+    form: ExtractedForm,
     track: u32,
     view: &TrackView,
     i: usize,
@@ -187,17 +187,17 @@ fn write_in_form<W: Write>(
     let block = view.data_of(i);
     let number = number_of(view, i);
     match form {
-        Form::Raw => write_raw(writer, block),
-        Form::Text(layout) => write_records(writer, layout, track, number, block),
-        Form::Directory => write_directory(writer, track, number, view.key_of(i), block),
-        Form::Keyed => write_keyed(writer, view, i),
+        ExtractedForm::Raw => write_raw(writer, block),
+        ExtractedForm::Text(layout) => write_records(writer, layout, track, number, block),
+        ExtractedForm::Directory => write_directory(writer, track, number, view.key_of(i), block),
+        ExtractedForm::Keyed => write_keyed(writer, view, i),
     }
 }
 
 /// Writes record `i` of a track, if it is no end of file.
 pub(crate) fn write_block<W: Write>(
     writer: &mut W,
-    form: Form,
+    form: ExtractedForm,
     track: u32,
     view: &TrackView,
     i: usize,

@@ -12,7 +12,7 @@ mod texts;
 mod tracks;
 mod walks;
 
-pub use crate::blocks::Form;
+pub use crate::blocks::ExtractedForm;
 pub use crate::members::{Members, directory_of, find_member, member_of, read_members};
 pub use crate::names::{data_set_name, member_name};
 pub use crate::raw::copy_tracks;

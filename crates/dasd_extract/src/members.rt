@@ -4,7 +4,7 @@ ghost use Rattle.std.specs.Prelude.{◌≡◌, ◌≢◌, find, bytes_eq, IfOk, 
 ghost use Rattle.dasd_volumes.specs.Reading.{IsRead};
 ghost use Rattle.dasd_extract.specs.Members.{MembersOf};
 
-use crate::blocks::Form;
+use crate::blocks::ExtractedForm;
 use crate::stops::Stop;
 use crate::walks::{Source, extract};
 use counted_io::Counted;
@@ -32,7 +32,7 @@ pub fn directory_of<'a>(extents: &'a [Extent]) -> Source<'a>
     ensures extents { result.extents.now ≡ extents.now }
     ensures start { result.start ≡ record { track = 0; number = 0 } }
     ensures tracks { result.tracks ≡ 512 }
-    ensures form { result.form ≡ Form.Directory }
+    ensures form { result.form ≡ ExtractedForm.Directory }
 {
     Source {
         extents,
@@ -41,12 +41,16 @@ pub fn directory_of<'a>(extents: &'a [Extent]) -> Source<'a>
             number: 0,
         },
         tracks: DIRECTORY_TRACKS,
-        form: Form::Directory,
+        form: ExtractedForm::Directory,
     }
 }
 
 /// The blocks of a member in a data set with these extents.
-pub fn member_of<'a>(extents: &'a [Extent], entry: DirectoryEntry, form: Form) -> Source<'a>
+pub fn member_of<'a>(
+    extents: &'a [Extent],
+    entry: DirectoryEntry,
+    form: ExtractedForm,
+) -> Source<'a>
     ensures extents { result.extents.now ≡ extents.now }
     ensures start { result.start ≡ entry.address }
     ensures tracks { result.tracks ≡ 65535 }

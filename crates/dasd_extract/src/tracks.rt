@@ -6,7 +6,7 @@ ghost use Rattle.dasd_extract.specs.Written.{Writes};
 ghost use Rattle.dasd_extract.specs.Blocks.{number_of};
 ghost use Rattle.dasd_extract.specs.Walk.{first_block, blocks_from, blocks_or_none, slot_written};
 
-use crate::blocks::{Form, number_of, write_block};
+use crate::blocks::{ExtractedForm, number_of, write_block};
 use crate::stops::{Cause, Stop, stop_at};
 use ckd_track::{TrackView, read_slot};
 use std::io;
@@ -15,7 +15,7 @@ use std::io::Write;
 /// What is written of a track: how, which track of the data set it is, and the number of its first block.
 #[derive(Clone, Copy)]
 pub(crate) struct Part {
-    pub(crate) form: Form,
+    pub(crate) form: ExtractedForm,
     pub(crate) track: u32,
     pub(crate) number: u8,
 }
@@ -45,7 +45,7 @@ fn first_block(view: &TrackView, number: u8) -> Option<usize>
 // Writes the blocks of a track from a record on.
 fn write_from<W: Write>(
     writer: &mut W,
-    form: Form,
+    form: ExtractedForm,
     track: u32,
     view: &TrackView,
     first: usize,

@@ -13,7 +13,7 @@ ghost use Rattle.dasd_extract.specs.Walk.{past_end, number_on, slot_written, fou
 ghost use Rattle.dasd_extract.specs.Walk.{PrintsAlternate, Reads};
 
 use crate::alternates::{Holder, holder_of, is_other};
-use crate::blocks::Form;
+use crate::blocks::ExtractedForm;
 use crate::stops::{Cause, Stop, stop_at, stop_behind};
 use crate::tracks::{Part, write_slot};
 use ckd_image::StoreFault;
@@ -34,7 +34,7 @@ pub struct Source<'a> {
     /// How many tracks are read at most; no data set has more than 65535.
     pub tracks: u16,
     /// How the blocks are written.
-    pub form: Form,
+    pub form: ExtractedForm,
 }
 
 // Why the extents have no track that is so many behind the first.

@@ -12,7 +12,7 @@ use Rattle.dasd_run.specs.declared.fault.ProgramFault.{ProgramFault}
 use Rattle.dasd_run.specs.declared.fault.ProgramFault.TheVariants as fault
 use Rattle.dasd_jobs.specs.Sources.{SourceFile}
 use Rattle.s360_assembler.specs.Files.{files_named}
-use Rattle.s360_assembler.specs.declared.files.LoadedFile.{LoadedFile}
+use Rattle.s360_assembler.specs.declared.files.LoadableFile.{LoadableFile}
 use Rattle.dasd_run.specs.Decks.{ReadsDeck, IsUnread}
 use Rattle.dasd_run.specs.Loads.{LoadsFiles, NotLoaded}
 use Rattle.dasd_run.specs.Outside.{Outside}
@@ -35,13 +35,13 @@ IsAssemblyFault fault.OutOfMemory path f = Unit {0}
 IsAssemblyFault told path f = ⊥
 
 -- Why a text with these files is not assembled: its own name is told, and the fault that the definitions find; or there is no memory.
-abbrev pub NotAssembled : ProgramFault → (path : Option (List ℕ)) → (loaded : List LoadedFile) → (text : List ℕ) → Type 0
+abbrev pub NotAssembled : ProgramFault → (path : Option (List ℕ)) → (loaded : List LoadableFile) → (text : List ℕ) → Type 0
 NotAssembled (fault.Assembly source f) path loaded text = (source.bytes.items ≡ source_name path) × (assembled loaded text ≡ Err f)
 NotAssembled fault.OutOfMemory path loaded text = Unit {0}
 NotAssembled f path loaded text = ⊥
 
 -- The deck of a text with these files is printed; or it is not assembled, and nothing is printed.
-abbrev pub PrintsDeck : Result Ending ProgramFault → (path : Option (List ℕ)) → (loaded : List LoadedFile) → (text : List ℕ)
+abbrev pub PrintsDeck : Result Ending ProgramFault → (path : Option (List ℕ)) → (loaded : List LoadableFile) → (text : List ℕ)
     → (before printed : Stream) → Type 0
 PrintsDeck result path loaded text before printed =
     ((deck : List ℕ) × (assembled loaded text ≡ Ok deck) × Tells result deck before printed)
@@ -49,7 +49,7 @@ PrintsDeck result path loaded text before printed =
 
 -- Why the files of a text are not loaded: the text is longer than a deck may be, and none was opened; or so it is told under its own name; or
 -- there is no memory.
-abbrev pub TellsNotLoaded : ProgramFault → (path : Option (List ℕ)) → (loaded : List LoadedFile) → (text : List ℕ) → Type 0
+abbrev pub TellsNotLoaded : ProgramFault → (path : Option (List ℕ)) → (loaded : List LoadableFile) → (text : List ℕ) → Type 0
 TellsNotLoaded (fault.Run run.Read) path loaded text = (1048576 < length text) × (loaded ≡ [])
 TellsNotLoaded (fault.Assembly source f) path loaded text = (source.bytes.items ≡ source_name path) × NotLoaded f loaded
 TellsNotLoaded fault.OutOfMemory path loaded text = Unit {0}
@@ -59,8 +59,8 @@ TellsNotLoaded f path loaded text = ⊥
 -- file was opened.
 abbrev pub AssemblesText : Printing
 AssemblesText result path text opened_before opened before printed =
-    ((loaded : List LoadedFile) × LoadsFiles (files_named text) loaded opened_before opened × PrintsDeck result path loaded text before printed)
-    ⊎ ((f : ProgramFault) × (number : ℕ) × (loaded : List LoadedFile) × (result ≡ Err f)
+    ((loaded : List LoadableFile) × LoadsFiles (files_named text) loaded opened_before opened × PrintsDeck result path loaded text before printed)
+    ⊎ ((f : ProgramFault) × (number : ℕ) × (loaded : List LoadableFile) × (result ≡ Err f)
     × LoadsFiles (take number (files_named text)) loaded opened_before opened × TellsNotLoaded f path loaded text × (printed ≡ before))
 
 -- the fault of a deck, as the program tells it

@@ -4,7 +4,7 @@ ghost use Rattle.std.specs.Prelude.{◌≡◌, map};
 ghost use Rattle.dasd_run.specs.Loads.{ReadsNamed, AddsLoaded, Loads};
 
 use dasd_jobs::{FileFault, ImageFiles};
-use s360_assembler::{AssemblyFault, LoadedFile};
+use s360_assembler::{AssemblyFault, LoadableFile};
 use std::alloc::Global;
 
 /// The most bytes that files may have together: a deck spells each by two digits, and has at most twice as many bytes.
@@ -15,7 +15,7 @@ fn read_named<F: ImageFiles>(
     alloc: Global,
     files: &mut F,
     name: &[u8],
-) -> Result<Option<LoadedFile>, AssemblyFault>
+) -> Result<Option<LoadableFile>, AssemblyFault>
     ensures kept { F.written files.new ≡ F.written files.old }
     ensures reads { ReadsNamed result name.now (F.opened files.old) (F.opened files.new) }
 {
@@ -26,7 +26,7 @@ fn read_named<F: ImageFiles>(
         return Ok(None);
     };
     match files.read(alloc, path, MOST_BYTES + 1) {
-        Ok(bytes) => Ok(Some(LoadedFile { name: copy, bytes })),
+        Ok(bytes) => Ok(Some(LoadableFile { name: copy, bytes })),
         Err(FileFault::OutOfMemory) => Err(AssemblyFault::OutOfMemory),
         Err(_) => Ok(None),
     }
@@ -34,9 +34,9 @@ fn read_named<F: ImageFiles>(
 
 // Adds a file, if there is one, and answers how many bytes more may be loaded.
 fn add_loaded(
-    loaded: &mut Vec<LoadedFile>,
+    loaded: &mut Vec<LoadableFile>,
     left: usize,
-    file: Option<LoadedFile>,
+    file: Option<LoadableFile>,
 ) -> Result<usize, AssemblyFault>
     ensures { AddsLoaded result file left loaded.old.items loaded.new.items }
 {
@@ -62,7 +62,7 @@ pub(crate) fn load_files<F: ImageFiles>(
     alloc: Global,
     files: &mut F,
     names: &[Vec<u8>],
-) -> Result<Vec<LoadedFile>, AssemblyFault>
+) -> Result<Vec<LoadableFile>, AssemblyFault>
     ensures kept { F.written files.new ≡ F.written files.old }
     ensures loads { Loads result (map (λ name. name.items) names.now) (F.opened files.old) (F.opened files.new) }
 {

@@ -11,7 +11,7 @@ use crate::host::Host;
 use crate::loads::load_files;
 use counted_io::Counted;
 use dasd_jobs::{ImageFiles, Progress, Traces};
-use s360_assembler::{AssemblyFault, LoadedFile, assemble, files_named};
+use s360_assembler::{AssemblyFault, LoadableFile, assemble, files_named};
 use s360_deck::RunFault;
 use s360_disassembler::{DisassemblyFault, disassemble};
 use std::alloc::Global;
@@ -52,7 +52,7 @@ fn print_deck<W: Write>(
     alloc: Global,
     writer: &mut Counted<W>,
     path: Option<&str>,
-    loaded: &[LoadedFile],
+    loaded: &[LoadableFile],
     text: &[u8],
 ) -> Result<Ending, ProgramFault>
     ensures { PrintsDeck result (option_map (λ path. path.now) path.entry) loaded.now text.now

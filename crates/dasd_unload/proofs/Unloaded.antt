@@ -21,7 +21,7 @@ use Rattle.volume_contents.specs.declared.reading.Contents.{Contents}
 use Rattle.volume_contents.specs.declared.findings.Finding.{Finding}
 use Rattle.volume_contents.specs.Contents.{IsContents, contents_of}
 use Rattle.volume_contents.specs.Sets.{DataSetOf, is_data_set, extents_behind, behind_block}
-use Rattle.dasd_extract.specs.declared.blocks.Form.{Form}
+use Rattle.dasd_extract.specs.declared.blocks.ExtractedForm.{ExtractedForm}
 use Rattle.dasd_extract.specs.declared.members.Members.{Members}
 use Rattle.dasd_extract.specs.declared.stops.Stop.{Stop}
 use Rattle.dasd_extract.specs.Members.{MembersOf, directory}
@@ -158,7 +158,7 @@ table_stopped f v p blocks a b s t sets =
     (λ u. Describe (described blocks u.volume.geometry u.slots) ∷ []) a a b s s t t (nothing v p (λ u. table_steps u blocks) a s) sets
 
 -- The steps of a directory.
-module _ (v : KnownVolume) (p : Plan) (d : DataSetBlock) (extents : List Extent) (form : Form) (m : Members)
+module _ (v : KnownVolume) (p : Plan) (d : DataSetBlock) (extents : List Extent) (form : ExtractedForm) (m : Members)
     (is : MembersOf extents v m) where
   abbrev told_texts : List (List ℕ)
   told_texts = directory_texts m.fault ++ end_texts (Some m.stop)
@@ -210,13 +210,14 @@ module _ (v : KnownVolume) (p : Plan) (d : DataSetBlock) (extents : List Extent)
 
 -- The steps of a data set: its form, and whether it has members.
 module _ (r : Result0) (v : KnownVolume) (p : Plan) (d : DataSetBlock) (extents : List Extent) (a b : Outcome) (s t : Tally) where
-  pub of_form : (form : Option Form) → form_of d p.block_form ≡ form → DoesOfVolume r v p (λ u. steps_of_form u d extents form) a b s t
+  pub of_form : (form : Option ExtractedForm) → form_of d p.block_form ≡ form
+      → DoesOfVolume r v p (λ u. steps_of_form u d extents form) a b s t
       → DoesOfVolume r v p (λ u. steps_of_form u d extents (form_of d u.plan.block_form)) a b s t
   of_form form is this =
       same r v p (λ u. steps_of_form u d extents form) (λ u. steps_of_form u d extents (form_of d u.plan.block_form)) a b s t
       (λ slots known. ap (steps_of_form (unloading v slots p) d extents) (sym is)) this
 
-  pub of_kind : (form : Form) (is : Bool) → is_partitioned d ≡ is
+  pub of_kind : (form : ExtractedForm) (is : Bool) → is_partitioned d ≡ is
       → DoesOfVolume r v p (λ u. if is then partitioned_steps u d extents form else Unload (file_name d.name None)
       (wanted form extents beginning 65535) d ∷ []) a b s t
       → DoesOfVolume r v p (λ u. steps_of_form u d extents (Some form)) a b s t
@@ -237,7 +238,7 @@ module _ (v : KnownVolume) (p : Plan) (d : DataSetBlock) (extents : List Extent)
   abbrev told_first : Unloading → List Step
   told_first u = Tell (file_name d.name None) (chain_texts fault) ∷ []
 
-  pub set_done : (r : Result0) (form : Option Form) (c : Outcome) (w : Tally)
+  pub set_done : (r : Result0) (form : Option ExtractedForm) (c : Outcome) (w : Tally)
       → TellsText {A = Unit {0}} (Ok tt) (flat_map (line_text p.json) (finding_lines (file_name d.name None) (chain_texts fault))) a b
       → t ≡ fold count_line s (finding_lines (file_name d.name None) (chain_texts fault)) → form_of d p.block_form ≡ form
       → DoesOfVolume r v p (λ u. steps_of_form u d extents form) (outcome files b) c t w

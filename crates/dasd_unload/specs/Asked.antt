@@ -16,8 +16,8 @@ use Rattle.dasd_volumes.specs.Reading.{KnownVolume}
 use Rattle.volume_contents.specs.Contents.{contents_of}
 use Rattle.volume_contents.specs.Sets.{FoundOf}
 use Rattle.volume_contents.specs.declared.sets.DataSet.{DataSet}
-use Rattle.dasd_extract.specs.declared.blocks.Form.{Form}
-use Rattle.dasd_extract.specs.declared.blocks.Form.TheVariants.{Raw, Text, Keyed}
+use Rattle.dasd_extract.specs.declared.blocks.ExtractedForm.{ExtractedForm}
+use Rattle.dasd_extract.specs.declared.blocks.ExtractedForm.TheVariants.{Raw, Text, Keyed}
 use Rattle.dasd_extract.specs.declared.members.Members.{Members}
 use Rattle.dasd_extract.specs.declared.stops.Stop.{Stop}
 use Rattle.dasd_extract.specs.Members.{MembersOf}
@@ -33,7 +33,7 @@ use Rattle.dasd_unload.specs.Parts.{is_partitioned, end_of}
 use Rattle.dasd_unload.specs.Unloads.{Outcome, CountsPrinted, is_of_job}
 
 -- blocks are written as they stand, with their lengths, or as lines, if the format of the data set is of some records
-abbrev pub form_of : DataSetBlock → BlockForm → Option Form
+abbrev pub form_of : DataSetBlock → BlockForm → Option ExtractedForm
 form_of d by.Raw = Some Raw
 form_of d by.WithLengths = Some Keyed
 form_of d by.Text = option_map (λ form. Text (layout form 0)) (records.form_of d.format d.record_length)
@@ -42,16 +42,16 @@ form_of d by.Text = option_map (λ form. Text (layout form 0)) (records.form_of 
 abbrev pub attributes_of : DataSetBlock → RecordAttributes
 attributes_of d = record { format = d.format; record_length = d.record_length; block_length = d.block_length }
 
-abbrev pub or_no_format : Option Form → Result Form AttributeFault
+abbrev pub or_no_format : Option ExtractedForm → Result ExtractedForm AttributeFault
 or_no_format (Some form) = Ok form
 or_no_format None = Err NoFormat
 
-abbrev pub as_lines : Result Layout AttributeFault → Result Form AttributeFault
+abbrev pub as_lines : Result Layout AttributeFault → Result ExtractedForm AttributeFault
 as_lines (Ok l) = Ok (Text l)
 as_lines (Err f) = Err f
 
 -- lines are of the label's format; or of the one that is given, if it contradicts nothing
-abbrev pub form_asked : DataSetBlock → BlockForm → (given : Option RecordAttributes) → Result Form AttributeFault
+abbrev pub form_asked : DataSetBlock → BlockForm → (given : Option RecordAttributes) → Result ExtractedForm AttributeFault
 form_asked d block_form None = or_no_format (form_of d block_form)
 form_asked d by.Text (Some given) = as_lines (layout_given (attributes_of d) given)
 form_asked d by.Raw (Some given) = Ok Raw

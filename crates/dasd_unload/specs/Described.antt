@@ -18,7 +18,7 @@ use Rattle.volume_contents.specs.declared.blocks.Block as table
 use Rattle.volume_contents.specs.Sets.{is_data_set, extents_behind}
 use Rattle.dasd_extract.specs.Walk.{Wanted, wanted, source_written}
 use Rattle.dasd_extract.specs.Members.{directory}
-use Rattle.dasd_extract.specs.declared.blocks.Form.TheVariants.{Keyed}
+use Rattle.dasd_extract.specs.declared.blocks.ExtractedForm.TheVariants.{Keyed}
 use Rattle.set_forms.specs.declared.forms.SetForm.{SetForm}
 use Rattle.set_forms.specs.declared.forms.EntryForm.{EntryForm}
 use Rattle.set_forms.specs.declared.forms.Note.{Note}

@@ -13,7 +13,7 @@ use Rattle.volume_contents.specs.declared.blocks.Block.{Block}
 use Rattle.volume_contents.specs.declared.chains.ChainFault.{ChainFault}
 use Rattle.volume_contents.specs.Contents.{Said, contents_of}
 use Rattle.volume_contents.specs.Sets.{is_data_set, extents_behind, behind_block}
-use Rattle.dasd_extract.specs.declared.blocks.Form.{Form}
+use Rattle.dasd_extract.specs.declared.blocks.ExtractedForm.{ExtractedForm}
 use Rattle.dasd_extract.specs.Written.{Written}
 use Rattle.dasd_extract.specs.Walk.{Wanted, wanted, source_written}
 use Rattle.dasd_extract.specs.Members.{directory}
@@ -63,25 +63,25 @@ pub data Step : Type 0 where
   Tell : (name : List ℕ) → (texts : List (List ℕ)) → Step
   Describe : (text : List ℕ) → Step
 
-abbrev pub member_step : DataSetBlock → List Extent → Form → DirectoryEntry → Step
+abbrev pub member_step : DataSetBlock → List Extent → ExtractedForm → DirectoryEntry → Step
 member_step d extents form e = Unload (file_name d.name (Some e.name)) (wanted form extents e.address 65535) d
 
 -- what is wrong with a directory, by what was read of it, is told, and then each of its members is unloaded
-abbrev pub directory_steps : DataSetBlock → List Extent → Form → (directory : Written) → List Step
+abbrev pub directory_steps : DataSetBlock → List Extent → ExtractedForm → (directory : Written) → List Step
 directory_steps d extents form w =
     Tell (file_name d.name None) (directory_texts (entries_of w.bytes).fault ++ end_texts w.stop) ∷ map (member_step d extents form)
     (entries_of w.bytes).entries
 
-abbrev pub partitioned_steps : Unloading → DataSetBlock → List Extent → Form → List Step
+abbrev pub partitioned_steps : Unloading → DataSetBlock → List Extent → ExtractedForm → List Step
 partitioned_steps u d extents form = directory_steps d extents form (source_written (directory extents) u.volume.geometry u.slots)
 
 -- a data set without members is unloaded, or the members of one that has some
-abbrev pub steps_in_form : Unloading → DataSetBlock → List Extent → Form → List Step
+abbrev pub steps_in_form : Unloading → DataSetBlock → List Extent → ExtractedForm → List Step
 steps_in_form u d extents form =
     if is_partitioned d then partitioned_steps u d extents form else Unload (file_name d.name None) (wanted form extents beginning 65535) d ∷ []
 
 -- none is, where its format has no records that could be lines
-abbrev pub steps_of_form : Unloading → DataSetBlock → List Extent → Option Form → List Step
+abbrev pub steps_of_form : Unloading → DataSetBlock → List Extent → Option ExtractedForm → List Step
 steps_of_form u d extents (Some form) = steps_in_form u d extents form
 steps_of_form u d extents None = Tell (file_name d.name None) (codes "its format is of no records" ∷ []) ∷ []
 

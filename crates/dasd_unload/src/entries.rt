@@ -12,7 +12,7 @@ use crate::forms::{
 };
 use arrayvec::ArrayVec;
 use counted_io::Counted;
-use dasd_extract::{Form, Source, extract};
+use dasd_extract::{ExtractedForm, Source, extract};
 use dasd_jobs::SlotReader;
 use data_sets::{DirectoryEntry, DirectoryStep, directory_step, read_directory};
 use set_forms::{EntryForm, FormLine, Note, write_form};
@@ -65,7 +65,7 @@ fn read_keyed<V: SlotReader>(
         extents: library.extents,
         start,
         tracks: u16::MAX,
-        form: Form::Keyed,
+        form: ExtractedForm::Keyed,
     };
     read_blocks(library.alloc, volume, source)
 }

@@ -13,7 +13,7 @@ use crate::fault::{NO_MEMORY, UnloadFault, of_reading, of_volume};
 use crate::parts::{End, end_of, is_partitioned, is_whole};
 use counted_io::{Counted, WriteFault, flush_all};
 use dasd_extract::{
-    Form, Source, Stop, data_set_name, extract, find_member, member_name, read_members,
+    ExtractedForm, Source, Stop, data_set_name, extract, find_member, member_name, read_members,
 };
 use dasd_jobs::{ImageFiles, JobFault, SlotReader, begin_file, put_file};
 use data_sets::{DirectoryEntry, record_form};
@@ -59,7 +59,7 @@ pub struct WantedSet<'a> {
 #[derive(Drop)]
 struct FoundBlocks {
     set: DataSet,
-    form: Form,
+    form: ExtractedForm,
     start: RelativeAddress,
 }
 
@@ -190,16 +190,16 @@ pub(crate) fn find_set<V: SlotReader>(
 }
 
 /// How the blocks of a data set are written; none where they are to be lines, and its format is of no records.
-pub(crate) fn form_of(block: &DataSetBlock, block_form: BlockForm) -> Option<Form>
+pub(crate) fn form_of(block: &DataSetBlock, block_form: BlockForm) -> Option<ExtractedForm>
     ensures { result ≡ form_of block.now block_form }
 {
     match block_form {
-        BlockForm::Raw => Some(Form::Raw),
-        BlockForm::WithLengths => Some(Form::Keyed),
+        BlockForm::Raw => Some(ExtractedForm::Raw),
+        BlockForm::WithLengths => Some(ExtractedForm::Keyed),
         BlockForm::Text => {
             let form = record_form(block.format, block.record_length)?;
             let layout = Layout { form, longest: 0 };
-            Some(Form::Text(layout))
+            Some(ExtractedForm::Text(layout))
         }
     }
 }
@@ -220,24 +220,24 @@ fn form_asked(
     block: &DataSetBlock,
     block_form: BlockForm,
     given: Option<RecordAttributes>,
-) -> Result<Form, AttributeFault>
+) -> Result<ExtractedForm, AttributeFault>
     ensures { result ≡ form_asked block.now block_form given }
 {
     let Some(given) = given else {
         return form_of(block, block_form).ok_or(AttributeFault::NoFormat);
     };
     match block_form {
-        BlockForm::Raw => Ok(Form::Raw),
-        BlockForm::WithLengths => Ok(Form::Keyed),
+        BlockForm::Raw => Ok(ExtractedForm::Raw),
+        BlockForm::WithLengths => Ok(ExtractedForm::Keyed),
         BlockForm::Text => match layout_given(attributes_of(block), given) {
-            Ok(layout) => Ok(Form::Text(layout)),
+            Ok(layout) => Ok(ExtractedForm::Text(layout)),
             Err(fault) => Err(fault),
         },
     }
 }
 
 /// All blocks of a data set with these extents.
-pub(crate) fn whole<'a>(extents: &'a [Extent], form: Form) -> Source<'a>
+pub(crate) fn whole<'a>(extents: &'a [Extent], form: ExtractedForm) -> Source<'a>
     ensures extents { result.extents.now ≡ extents.now }
     ensures start { result.start ≡ beginning }
     ensures tracks { result.tracks ≡ 65535 }

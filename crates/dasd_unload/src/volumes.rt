@@ -18,7 +18,7 @@ use crate::report::{Named, Report, Wrong};
 use crate::sets::{BlockForm, form_of, unload_to, whole};
 use crate::texts::{describe, put_text};
 use counted_io::Counted;
-use dasd_extract::{Form, Source, member_of, read_members};
+use dasd_extract::{ExtractedForm, Source, member_of, read_members};
 use dasd_jobs::{ImageFiles, JobFault, SlotReader, open_volume};
 use set_forms::FILE_NAME;
 use std::alloc::Global;
@@ -76,7 +76,7 @@ struct Listed<'a> {
 struct Opened<'a> {
     target: Target<'a>,
     set: &'a DataSet,
-    form: Form,
+    form: ExtractedForm,
 }
 
 /// What is unloaded, where it goes, the name of its file, and the label of its data set.

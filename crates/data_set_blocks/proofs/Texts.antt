@@ -7,7 +7,7 @@ use Rattle.ckd_track.specs.declared.model.DriveModel.{DriveModel}
 use Rattle.record_tracks.specs.Records.{Areas}
 use Rattle.record_tracks.specs.ReadBack.{IsWrittenAs, keyed_text}
 use Rattle.record_tracks.proofs.Forms.{as_data, as_keyed}
-use Rattle.dasd_extract.specs.declared.blocks.Form.TheVariants.{Raw}
+use Rattle.dasd_extract.specs.declared.blocks.ExtractedForm.TheVariants.{Raw}
 use Rattle.data_sets.specs.Records.{number_at}
 use Rattle.data_set_blocks.specs.declared.blocks.Cut.{Cut}
 use Rattle.data_set_blocks.specs.declared.blocks.Cut.TheVariants.{Length, Described, WithLengths}

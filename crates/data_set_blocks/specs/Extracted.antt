@@ -4,8 +4,8 @@ use Rattle.ckd_track.specs.declared.model.DriveModel.{DriveModel}
 use Rattle.ckd_track.specs.declared.geometries.Geometry.{Geometry}
 use Rattle.volume_labels.specs.declared.fields.Extent.{Extent}
 use Rattle.volume_labels.specs.declared.fields.RelativeAddress.{RelativeAddress}
-use Rattle.dasd_extract.specs.declared.blocks.Form.{Form}
-use Rattle.dasd_extract.specs.declared.blocks.Form.TheVariants.{Raw, Keyed}
+use Rattle.dasd_extract.specs.declared.blocks.ExtractedForm.{ExtractedForm}
+use Rattle.dasd_extract.specs.declared.blocks.ExtractedForm.TheVariants.{Raw, Keyed}
 use Rattle.dasd_extract.specs.Walk.{wanted, source_written}
 use Rattle.record_tracks.specs.Records.{Areas}
 use Rattle.record_tracks.specs.Tracks.{Takes}
@@ -19,7 +19,7 @@ abbrev pub first_block : RelativeAddress
 first_block = record { track = 0; number = 0 }
 
 -- how the reader writes blocks as a file has them that is cut so: as they stand, or with their lengths and keys
-abbrev pub form_of : Cut → Form
+abbrev pub form_of : Cut → ExtractedForm
 form_of (Length size) = Raw
 form_of Described = Raw
 form_of WithLengths = Keyed
@@ -28,7 +28,7 @@ form_of WithLengths = Keyed
 -- it ends with the end of file on the last of the tracks.
 abbrev pub IsReadAs : DriveModel → Cut → (bytes : List ℕ) → Type 0
 IsReadAs model cut bytes =
-    (form : Form) (text : Areas → List ℕ) (tracks : ℕ) (g : Geometry) (extents : List Extent) (slots : List (List ℕ)) (most : ℕ)
+    (form : ExtractedForm) (text : Areas → List ℕ) (tracks : ℕ) (g : Geometry) (extents : List Extent) (slots : List (List ℕ)) (most : ℕ)
     → All (IsWrittenAs form text) (block_areas cut bytes) → Takes model (areas_of cut bytes) tracks
     → g.model ≡ model → tracks ≤ most → IsLoaded g extents slots (areas_of cut bytes) tracks
     → source_written (wanted form extents first_block most) g slots ≡ ended_by_file (flat_map text (block_areas cut bytes)) (tracks - 1)

@@ -6,7 +6,7 @@ use Rattle.ckd_track.specs.declared.geometries.Geometry.{Geometry}
 use Rattle.volume_labels.specs.declared.fields.Extent.{Extent}
 use Rattle.volume_labels.specs.declared.fields.RelativeAddress.{RelativeAddress}
 use Rattle.dasd_volumes.specs.Reading.{KnownVolume}
-use Rattle.dasd_extract.specs.declared.blocks.Form.TheVariants.{Keyed}
+use Rattle.dasd_extract.specs.declared.blocks.ExtractedForm.TheVariants.{Keyed}
 use Rattle.dasd_extract.specs.Walk.{Wanted, wanted, source_written}
 use Rattle.library_contents.specs.declared.directories.PlacedEntry.{PlacedEntry}
 use Rattle.library_contents.specs.declared.members.Members.{Members}

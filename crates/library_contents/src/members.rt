@@ -6,7 +6,7 @@ ghost use Rattle.dasd_volumes.specs.Reading.{IsRead};
 ghost use Rattle.library_contents.specs.Members.{same_address, WholeFrom, AreRead, AddsMember, IsNumbered};
 
 use crate::blocks::read_whole;
-use dasd_extract::{Form, Source};
+use dasd_extract::{ExtractedForm, Source};
 use dasd_volumes::{SlotReader, VolumeFault};
 use std::alloc::{AllocError, Global};
 use volume_labels::{Extent, RelativeAddress};
@@ -36,7 +36,7 @@ pub(crate) fn read_from<V: SlotReader>(
         extents,
         start,
         tracks: MOST_TRACKS,
-        form: Form::Keyed,
+        form: ExtractedForm::Keyed,
     };
     read_whole(alloc, volume, source)
 }

@@ -13,7 +13,7 @@ use Rattle.library_members.specs.declared.report.Report.{Report}
 use Rattle.data_sets.specs.Names.{safe_name_of}
 use Rattle.volume_labels.specs.declared.fields.Extent.{Extent}
 use Rattle.dasd_volumes.specs.Reading.{KnownVolume}
-use Rattle.dasd_extract.specs.declared.blocks.Form.TheVariants.{Raw}
+use Rattle.dasd_extract.specs.declared.blocks.ExtractedForm.TheVariants.{Raw}
 use Rattle.dasd_extract.specs.declared.stops.Stop.{Stop}
 use Rattle.dasd_extract.specs.Members.{directory}
 use Rattle.dasd_extract.specs.Walk.{wanted, source_written}

@@ -7,7 +7,7 @@ use Rattle.data_sets.specs.declared.directories.DirectoryStep.{DirectoryStep}
 use Rattle.data_sets.specs.declared.directories.DirectoryStep.TheVariants.{Entry, Skip, End, Fault}
 use Rattle.data_sets.specs.Directories.{step_at}
 use Rattle.data_sets.specs.Names.{safe_name_of}
-use Rattle.dasd_extract.specs.declared.blocks.Form.TheVariants.{Raw}
+use Rattle.dasd_extract.specs.declared.blocks.ExtractedForm.TheVariants.{Raw}
 use Rattle.dasd_extract.specs.Members.{directory}
 use Rattle.dasd_extract.specs.Walk.{wanted, source_written}
 use Rattle.dasd_extract.specs.Written.{Written}

@@ -122,7 +122,7 @@ fn list_member<V: SlotReader>(
     ensures volume { IsRead result (V.volume volume.old) (V.volume volume.new) (V.failures volume.old) (V.failures volume.new) }
 {
     let Member { entry, user } = member;
-    let wanted = member_of(library.extents, entry, source::Form::Raw);
+    let wanted = member_of(library.extents, entry, source::ExtractedForm::Raw);
     let blocks = match read_blocks(alloc, volume, wanted) {
         Ok(blocks) => blocks,
         Err(fault) => return Err(fault),

@@ -10,7 +10,7 @@ use Rattle.std.proofs.lemmas.List.Elements.{All-nil, All-cons, All-head, All-tai
 use Rattle.ckd_track.specs.declared.model.DriveModel.{DriveModel}
 use Rattle.ckd_track.specs.declared.model.DriveModel.TheVariants.{D2311, D2314}
 use Rattle.ckd_track.specs.Charges.{key_overhead_of}
-use Rattle.dasd_extract.specs.declared.blocks.Form.TheVariants as form
+use Rattle.dasd_extract.specs.declared.blocks.ExtractedForm.TheVariants as form
 use Rattle.library_records.specs.declared.libraries.NewMember.{NewMember}
 use Rattle.record_tracks.specs.Records.{Areas, end_of_file, GoesOn}
 use Rattle.record_tracks.specs.ReadBack.{IsWritten, IsPart}

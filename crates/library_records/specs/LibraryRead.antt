@@ -6,7 +6,7 @@ use Rattle.volume_labels.specs.declared.fields.Extent.{Extent}
 use Rattle.volume_labels.specs.declared.fields.RelativeAddress.{RelativeAddress}
 use Rattle.volume_labels.specs.Fields.{relative_address_at}
 use Rattle.data_sets.specs.Directories.{entries_of}
-use Rattle.dasd_extract.specs.declared.blocks.Form.{Form}
+use Rattle.dasd_extract.specs.declared.blocks.ExtractedForm.{ExtractedForm}
 use Rattle.dasd_extract.specs.declared.stops.Cause.TheVariants.{EndOfFile}
 use Rattle.dasd_extract.specs.Written.{Written, stop_at}
 use Rattle.dasd_extract.specs.Walk.{wanted, source_written}
@@ -47,7 +47,7 @@ IsDirectoryRead model bytes members =
 -- by the end of file behind the member. Where k is the number of the blocks, that is the end of file alone.
 abbrev pub AreMembersRead : DriveModel → (bytes : List ℕ) → List NewMember → Type 0
 AreMembersRead model bytes members =
-    (form : Form) (text : Areas → List ℕ) (member k : ℕ) → member < length members → k ≤ length (blocks_of_member members member)
+    (form : ExtractedForm) (text : Areas → List ℕ) (member k : ℕ) → member < length members → k ≤ length (blocks_of_member members member)
     → (g : Geometry) (extents : List Extent) (slots : List (List ℕ)) → HasRecords model (library_areas bytes members) g extents slots
     → let blocks = blocks_of_member members member in
     let address = λ (i : ℕ). address_of model (library_areas bytes members) (first_record (length bytes / 264) members member + i) in
@@ -63,7 +63,7 @@ own_areas model l = library_areas (directory_bytes model l) l.members.now
 -- file behind the member, wherever the tracks of the library are on a volume, in one extent or in several.
 abbrev pub IsReadFrom : DriveModel → NewLibrary → (address : RelativeAddress) → (member k : ℕ) → Type 0
 IsReadFrom model l address member k =
-    (form : Form) (text : Areas → List ℕ) (g : Geometry) (extents : List Extent) (slots : List (List ℕ)) (most : ℕ)
+    (form : ExtractedForm) (text : Areas → List ℕ) (g : Geometry) (extents : List Extent) (slots : List (List ℕ)) (most : ℕ)
     → HasRecords model (own_areas model l) g extents slots
     → let blocks = blocks_of_member l.members.now member in
     let end = (block_address model l member (length blocks)).track in

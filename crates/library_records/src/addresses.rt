@@ -9,7 +9,7 @@ ghost use Rattle.library_records.specs.Placed.{AreRecords, ArePlaced};
 use crate::faults::LibraryFault;
 use crate::libraries::{NewLibrary, NewMember};
 use ckd_track::DriveModel;
-use record_tracks::{NewRecord, Place, place_of};
+use record_tracks::{NewRecord, RecordPlace, place_of};
 use volume_labels::RelativeAddress;
 
 /// How many tracks an address can say.
@@ -70,7 +70,7 @@ pub(crate) fn block_address(placed: Placed, member: usize, block: usize) -> Rela
 {
     let records = placed.records;
     let number = number_of(records.len(), placed.library.members, member, block);
-    let Place { track, number } = place_of(placed.model, records, number);
+    let RecordPlace { track, number } = place_of(placed.model, records, number);
     RelativeAddress {
         track: track as u16,
         number,

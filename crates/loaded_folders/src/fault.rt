@@ -2,7 +2,7 @@
 
 use dasd_jobs::JobFault;
 use loaded_sets::LoadRefusal;
-use set_forms::LineFault;
+use set_forms::FormLineFault;
 use thiserror::Error;
 
 /// Why an entry of a directory leads nowhere.
@@ -24,7 +24,7 @@ pub enum FolderFault {
     TooLong,
     /// The line of this number of the text, from 1 on, is wrong.
     #[error("data_sets.txt: line {0}: {1}")]
-    Line(usize, LineFault),
+    Line(usize, FormLineFault),
     /// The file of this name can't be read from the folder.
     #[error("{0}: read fault")]
     NoFile(String),

@@ -9,7 +9,7 @@ use Rattle.ckd_track.specs.declared.geometries.Geometry.{Geometry}
 use Rattle.ckd_track.specs.Model.{capacity_of}
 use Rattle.data_sets.specs.declared.records.RecordForm.{RecordForm}
 use Rattle.data_sets.specs.declared.records.RecordForm.TheVariants.{Fixed}
-use Rattle.dasd_extract.specs.declared.blocks.Form.TheVariants.{Text}
+use Rattle.dasd_extract.specs.declared.blocks.ExtractedForm.TheVariants.{Text}
 use Rattle.dasd_extract.specs.Walk.{wanted, source_written}
 use Rattle.data_set_blocks.specs.declared.blocks.Cut.{Cut}
 use Rattle.data_set_blocks.specs.declared.blocks.Cut.TheVariants.{Length}

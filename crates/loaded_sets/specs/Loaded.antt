@@ -1,8 +1,8 @@
 -- A volume with a data set that was put onto it from a file.
 use Rattle.std.specs.Prelude.{◌≡◌, ◌⊎◌, ℕ, ◌-◌, ◌≤◌, List, length, Ok, Err}
 use Rattle.ckd_track.specs.declared.geometries.Geometry.{Geometry}
-use Rattle.dasd_extract.specs.declared.blocks.Form.{Form}
-use Rattle.dasd_extract.specs.declared.blocks.Form.TheVariants as form
+use Rattle.dasd_extract.specs.declared.blocks.ExtractedForm.{ExtractedForm}
+use Rattle.dasd_extract.specs.declared.blocks.ExtractedForm.TheVariants as form
 use Rattle.dasd_extract.specs.Walk.{wanted, source_written}
 use Rattle.data_set_blocks.specs.Blocks.{areas_of, block_areas}
 use Rattle.data_set_blocks.specs.Extracted.{first_block, form_of}
@@ -35,7 +35,7 @@ pub record IsSetOf (set : LoadedSet) (b : FileBlocks) (p : PlacedSet) : Type 0 w
 
 -- What is extracted of the data set of a format 1 block, in a form of the reader's: all of these bytes, and then an end of file on the last
 -- of its tracks.
-abbrev pub IsExtracted : Form → Geometry → (slots : List (List ℕ)) → Block → (bytes : List ℕ) → (tracks : ℕ) → Type 0
+abbrev pub IsExtracted : ExtractedForm → Geometry → (slots : List (List ℕ)) → Block → (bytes : List ℕ) → (tracks : ℕ) → Type 0
 IsExtracted f g slots b bytes tracks =
     (most : ℕ) → tracks ≤ most
     → source_written (wanted f (extents_behind (contents_of g slots).blocks b) first_block most) g slots ≡ ended_by_file bytes (tracks - 1)

@@ -10,7 +10,7 @@ use Rattle.std.proofs.lemmas.List.Sums.{position_or_len_is}
 use Rattle.ckd_track.specs.declared.geometries.Geometry.{Geometry}
 use Rattle.ckd_track.specs.Track.{Record, record_in, no_record}
 use Rattle.dasd_extract.specs.declared.stops.Cause.TheVariants.{EndOfFile}
-use Rattle.dasd_extract.specs.declared.blocks.Form.{Form}
+use Rattle.dasd_extract.specs.declared.blocks.ExtractedForm.{ExtractedForm}
 use Rattle.dasd_extract.specs.Written.{Written, these_bytes, stopped, stop_at, and_then, until_stop}
 use Rattle.dasd_extract.specs.Blocks.{block_written, number_of}
 use Rattle.dasd_extract.specs.Walk.{blocks_from, first_block}
@@ -22,7 +22,7 @@ use Rattle.record_tracks.proofs.Fitting.{fits_on}
 use Rattle.record_tracks.proofs.Spelled.{record_of, length-records_of}
 
 -- What is written of one record: its text; of an end of file nothing, and that is the end.
-one_written : (f : Form) (text : Areas → List ℕ) (track number : ℕ) (id : List ℕ) (a : Areas) → IsWrittenAs f text a
+one_written : (f : ExtractedForm) (text : Areas → List ℕ) (track number : ℕ) (id : List ℕ) (a : Areas) → IsWrittenAs f text a
     → block_written f track (record_with id number a) ≡ these_bytes (text a)
 one_written f text track number id a is =
     let some = is.some in
@@ -30,7 +30,7 @@ one_written f text track number id a is =
     rw e (is.written track number id)
 
 -- Records one after another, each with its number.
-module _ (f : Form) (text : Areas → List ℕ) (track first : ℕ) (id : List ℕ) (what : ℕ → Written) (xs : List Areas)
+module _ (f : ExtractedForm) (text : Areas → List ℕ) (track first : ℕ) (id : List ℕ) (what : ℕ → Written) (xs : List Areas)
     (each : (k : ℕ) → k < length xs → what k ≡ block_written f track (record_with id (first + k) (get_or xs k end_of_file))) where
   -- the first of them
   pub walked : (n : ℕ) → n ≤ length xs → ((k : ℕ) → k < n → IsWrittenAs f text (get_or xs k end_of_file))
@@ -80,7 +80,7 @@ module _ (f : Form) (text : Areas → List ℕ) (track first : ℕ) (id : List �
       ∙ stays_for what (n + 1) (length xs - (n + 1)) (stop_at track EndOfFile) (ap (λ (w : Written). w.stop) here) ∙ here
 
 -- The records of a track from one of them on.
-module _ (f : Form) (track : ℕ) (g : Geometry) (n : ℕ) (left : List Areas) (o : ℕ) where
+module _ (f : ExtractedForm) (track : ℕ) (g : Geometry) (n : ℕ) (left : List Areas) (o : ℕ) where
   abbrev pub placed : List Areas
   placed = take (fitting_on g.model left) left
 

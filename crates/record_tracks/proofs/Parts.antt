@@ -10,7 +10,7 @@ use Rattle.ckd_track.specs.declared.geometries.Geometry.{Geometry}
 use Rattle.ckd_track.specs.declared.model.DriveModel.{DriveModel}
 use Rattle.volume_labels.specs.declared.fields.Extent.{Extent}
 use Rattle.dasd_extract.specs.declared.stops.Cause.TheVariants.{EndOfFile}
-use Rattle.dasd_extract.specs.declared.blocks.Form.{Form}
+use Rattle.dasd_extract.specs.declared.blocks.ExtractedForm.{ExtractedForm}
 use Rattle.dasd_extract.specs.Written.{Written, these_bytes, stop_at, and_then, until_stop}
 use Rattle.dasd_extract.specs.Walk.{source_written, too_many}
 use Rattle.dasd_extract.proofs.Endings.{until_none, until_one_more, ended_stays, stays_for}
@@ -31,7 +31,8 @@ two_parts n m part =
 texts-append : (text : Areas → List ℕ) (ys zs : List Areas) → flat_map text ys ++ flat_map text zs ≡ flat_map text (ys ++ zs)
 texts-append text ys zs = sym (flat_map-append text ys zs)
 
-module _ (f : Form) (text : Areas → List ℕ) (g : Geometry) (extents : List Extent) (slots : List (List ℕ)) (most : ℕ) (areas : List Areas)
+module _ (f : ExtractedForm) (text : Areas → List ℕ) (g : Geometry) (extents : List Extent) (slots : List (List ℕ)) (most : ℕ)
+    (areas : List Areas)
     (track number last : ℕ) (each : All (GoesOn g.model) areas) (loaded : IsLoaded g extents slots areas (last + 1))
     (part behind : List Areas) (first its_number : ℕ) (are : All (IsWrittenAs f text) part)
     (is : drop first areas ≡ part ++ (end_of_file ∷ behind)) (size : length areas ≡ first + length part + 1 + length behind)

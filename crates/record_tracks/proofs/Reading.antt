@@ -13,7 +13,7 @@ use Rattle.volume_labels.specs.declared.fields.Extent.{Extent}
 use Rattle.data_sets.specs.declared.addresses.TrackPlace.{TrackPlace}
 use Rattle.data_sets.specs.declared.addresses.TrackPlace.TheVariants as place
 use Rattle.data_sets.specs.Addresses as addresses
-use Rattle.dasd_extract.specs.declared.blocks.Form.{Form}
+use Rattle.dasd_extract.specs.declared.blocks.ExtractedForm.{ExtractedForm}
 use Rattle.dasd_extract.specs.Written.{Written, these_bytes, told_behind, until_stop}
 use Rattle.dasd_extract.specs.Blocks.{block_written}
 use Rattle.dasd_extract.specs.Walk.{blocks_or_none, first_block, slot_written, place_written, place_read_from, track_on}
@@ -49,13 +49,14 @@ left_shrinks model areas i (suc d) =
     )
 
 -- A loaded track, found over the extents: it is read from itself.
-pub record Known (f : Form) (g : Geometry) (slots : List (List ℕ)) (i : ℕ) (left : List Areas) (there : TrackPlace) : Type 0 where
+pub record Known (f : ExtractedForm) (g : Geometry) (slots : List (List ℕ)) (i : ℕ) (left : List Areas) (there : TrackPlace) : Type 0 where
   pub n : ℕ
   pub written : (number j : ℕ) → place_written f i number j g slots there
       ≡ blocks_or_none f i number (loaded_track g n left) (first_block number (loaded_track g n left))
   pub itself : place_read_from g slots there ≡ 0
 
-known_at : (f : Form) (g : Geometry) (slots : List (List ℕ)) (i : ℕ) (left : List Areas) (there : TrackPlace) → All (GoesOn g.model) left
+known_at : (f : ExtractedForm) (g : Geometry) (slots : List (List ℕ)) (i : ℕ) (left : List Areas) (there : TrackPlace)
+    → All (GoesOn g.model) left
     → IsLoadedAt g slots left there → Known f g slots i left there
 known_at f g slots i left place.PastEnd each loaded = absurd loaded
 known_at f g slots i left place.BadExtent each loaded = absurd loaded
@@ -69,7 +70,7 @@ known_at f g slots i left (place.Track n) each loaded =
     }
 
 -- From the place of a part on.
-module _ (f : Form) (g : Geometry) (extents : List Extent) (slots : List (List ℕ)) (most : ℕ) (areas : List Areas)
+module _ (f : ExtractedForm) (g : Geometry) (extents : List Extent) (slots : List (List ℕ)) (most : ℕ) (areas : List Areas)
     (track number last : ℕ) (each : All (GoesOn g.model) areas) (loaded : IsLoaded g extents slots areas (last + 1)) where
   abbrev pub source : Wanted
   source = wanted f extents (record { track = track; number = number }) most

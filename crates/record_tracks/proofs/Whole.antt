@@ -5,7 +5,7 @@ use Rattle.std.proofs.Common.{arith, All, length-append, length-drop, drop-drop}
 use Rattle.ckd_track.specs.declared.model.DriveModel.{DriveModel}
 use Rattle.ckd_track.specs.declared.geometries.Geometry.{Geometry}
 use Rattle.volume_labels.specs.declared.fields.Extent.{Extent}
-use Rattle.dasd_extract.specs.declared.blocks.Form.{Form}
+use Rattle.dasd_extract.specs.declared.blocks.ExtractedForm.{ExtractedForm}
 use Rattle.dasd_extract.specs.Walk.{wanted, source_written}
 use Rattle.record_tracks.specs.Records.{Areas, GoesOn, end_of_file}
 use Rattle.record_tracks.specs.Tracks.{fitting_on, left_behind, StandsAt, Takes}
@@ -76,7 +76,7 @@ module _ (model : DriveModel) (part : List Areas) (tracks : ℕ) (each : All (Go
   long : length part + 1 ≡ length all
   long = omega (arith, length-append part (end_of_file ∷ []))
 
-  pub whole_read : (form : Form) (text : Areas → List ℕ) (g : Geometry) (extents : List Extent) (slots : List (List ℕ)) (most : ℕ)
+  pub whole_read : (form : ExtractedForm) (text : Areas → List ℕ) (g : Geometry) (extents : List Extent) (slots : List (List ℕ)) (most : ℕ)
       → All (IsWrittenAs form text) part → g.model ≡ model → tracks ≤ most → IsLoaded g extents slots all tracks
       → source_written (wanted form extents (record { track = 0; number = 0 }) most) g slots
       ≡ ended_by_file (flat_map text part) (tracks - 1)

@@ -9,8 +9,8 @@ use Rattle.data_sets.specs.declared.addresses.TrackPlace.{TrackPlace}
 use Rattle.data_sets.specs.declared.addresses.TrackPlace.TheVariants as place
 use Rattle.data_sets.specs.Addresses as addresses
 use Rattle.dasd_extract.specs.declared.stops.Cause.TheVariants.{EndOfFile}
-use Rattle.dasd_extract.specs.declared.blocks.Form.{Form}
-use Rattle.dasd_extract.specs.declared.blocks.Form.TheVariants as form
+use Rattle.dasd_extract.specs.declared.blocks.ExtractedForm.{ExtractedForm}
+use Rattle.dasd_extract.specs.declared.blocks.ExtractedForm.TheVariants as form
 use Rattle.dasd_extract.specs.Written.{Written, these_bytes, stop_at}
 use Rattle.dasd_extract.specs.Blocks.{form_written, keyed_bytes}
 use Rattle.dasd_extract.specs.Walk.{wanted, source_written}
@@ -29,7 +29,7 @@ IsLoaded g extents slots areas tracks =
     (i : ℕ) → i < tracks → IsLoadedAt g slots (left_behind g.model areas i) (addresses.track_of (heads_of g.model) extents i)
 
 -- A record that has data, so that it is no end of file, and of which the reader writes this text, wherever it stands, and goes on behind it.
-pub record IsWrittenAs (form : Form) (text : Areas → List ℕ) (a : Areas) : Type 0 where
+pub record IsWrittenAs (form : ExtractedForm) (text : Areas → List ℕ) (a : Areas) : Type 0 where
   pub some : 1 ≤ length a.data_area
   pub written : (track number : ℕ) (id : List ℕ) → form_written form track (record_with id number a) ≡ these_bytes (text a)
 
@@ -39,7 +39,7 @@ keyed_text a = keyed_bytes (record_with [] 0 a)
 
 -- A record of which the reader writes the data as they stand: any that has some, and as a block of a directory one with a key of 8 bytes
 -- and 256 bytes of data.
-abbrev pub IsWritten : Form → Areas → Type 0
+abbrev pub IsWritten : ExtractedForm → Areas → Type 0
 IsWritten form.Raw a = 1 ≤ length a.data_area
 IsWritten form.Directory a = (length a.key_area ≡ 8) × (length a.data_area ≡ 256)
 IsWritten (form.Text l) a = ⊥
@@ -69,7 +69,7 @@ IsAskedBy number asked = (asked ≡ number) ⊎ ((asked ≡ 0) × (number ≡ 1)
 -- its track.
 abbrev pub IsReadBack : DriveModel → (areas : List Areas) → Type 0
 IsReadBack model areas =
-    (form : Form) (text : Areas → List ℕ) (part : List Areas) (first track number asked last its_number : ℕ)
+    (form : ExtractedForm) (text : Areas → List ℕ) (part : List Areas) (first track number asked last its_number : ℕ)
     → IsPart areas part first → All (IsWrittenAs form text) part
     → StandsAt model areas first track number → IsAskedBy number asked → StandsAt model areas (first + length part) last its_number
     → (g : Geometry) (extents : List Extent) (slots : List (List ℕ)) (most : ℕ) → g.model ≡ model → last < track + most
@@ -77,7 +77,7 @@ IsReadBack model areas =
     → source_written (wanted form extents (record { track = track; number = asked }) most) g slots ≡ ended_by_file (flat_map text part) last
 
 -- So where the data are written as they stand, that is all data of the part and nothing else.
-abbrev pub IsReadAsData : Form → DriveModel → (areas : List Areas) → Type 0
+abbrev pub IsReadAsData : ExtractedForm → DriveModel → (areas : List Areas) → Type 0
 IsReadAsData f model areas =
     (part : List Areas) (first track number asked last its_number : ℕ) → IsPart areas part first → All (IsWritten f) part
     → StandsAt model areas first track number → IsAskedBy number asked → StandsAt model areas (first + length part) last its_number

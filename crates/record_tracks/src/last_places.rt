@@ -5,7 +5,7 @@ ghost use Rattle.record_tracks.specs.Records.{all_areas, RecordGoesOn, balance_b
 ghost use Rattle.record_tracks.specs.Tracks.{left_behind, StandsAt};
 
 use crate::records::{NewRecord, balance_behind};
-use crate::tracks::{Place, place_of};
+use crate::tracks::{RecordPlace, place_of};
 use ckd_track::DriveModel;
 
 /// Where the last of some records stands, and what is left behind it: what the label of a data set says of its last block.
@@ -36,7 +36,7 @@ pub fn last_place(model: DriveModel, records: &[NewRecord], count: usize) -> Las
             balance: balance_behind(model, &[]),
         };
     }
-    let Place { track, number } = place_of(model, records, count - 1);
+    let RecordPlace { track, number } = place_of(model, records, count - 1);
     let first = count - usize::from(number);
     LastPlace {
         track,

@@ -9,4 +9,4 @@ mod tracks;
 pub use crate::last_places::{LastPlace, last_place};
 pub use crate::records::{NewRecord, goes_on};
 pub use crate::slots::load_track;
-pub use crate::tracks::{Place, place_of, tracks_needed};
+pub use crate::tracks::{RecordPlace, place_of, tracks_needed};

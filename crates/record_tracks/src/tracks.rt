@@ -1,7 +1,7 @@
 //! How many records a track has room for, and on which track each of them stands.
 
 ghost use Rattle.std.specs.Prelude.{◌≡◌, ◌≤◌, ◌+◌, ◌<◌, drop, length, All};
-ghost use Rattle.dasd_extract.specs.declared.blocks.Form.{Form};
+ghost use Rattle.dasd_extract.specs.declared.blocks.ExtractedForm.{ExtractedForm};
 ghost use Rattle.record_tracks.specs.Records.{all_areas, RecordGoesOn};
 ghost use Rattle.record_tracks.specs.Tracks.{fitting_on, Takes, StandsAt};
 ghost use Rattle.record_tracks.specs.ReadBack.{IsReadBack, IsReadAsData};
@@ -11,7 +11,7 @@ use ckd_track::DriveModel;
 
 /// Where a record stands.
 #[derive(Clone, Copy)]
-pub struct Place {
+pub struct RecordPlace {
     /// Its track, the first being 0.
     pub track: usize,
     /// Its number on the track, the first being 1.
@@ -43,7 +43,7 @@ pub fn tracks_needed(model: DriveModel, blocks: &[NewRecord]) -> usize
     requires each { All (RecordGoesOn model) blocks.now }
     ensures tracks { Takes model (all_areas blocks.now) result }
     ensures read { IsReadBack model (all_areas blocks.now) }
-    ensures stored { (form : Form) → IsReadAsData form model (all_areas blocks.now) }
+    ensures stored { (form : ExtractedForm) → IsReadAsData form model (all_areas blocks.now) }
 {
     let mut next = 0;
     let mut tracks = 0;
@@ -55,7 +55,7 @@ pub fn tracks_needed(model: DriveModel, blocks: &[NewRecord]) -> usize
 }
 
 /// Where a record stands: on which of the tracks, and with which number.
-pub fn place_of(model: DriveModel, blocks: &[NewRecord], number: usize) -> Place
+pub fn place_of(model: DriveModel, blocks: &[NewRecord], number: usize) -> RecordPlace
     requires each { All (RecordGoesOn model) blocks.now }
     requires number { number < length blocks.now }
     ensures { StandsAt model (all_areas blocks.now) number result.track result.number }
@@ -68,7 +68,7 @@ pub fn place_of(model: DriveModel, blocks: &[NewRecord], number: usize) -> Place
         behind += fitting(model, blocks, next);
         track += 1;
     }
-    Place {
+    RecordPlace {
         track,
         number: (number + 1 - next) as u8,
     }

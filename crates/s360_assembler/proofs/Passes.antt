@@ -5,7 +5,7 @@ use Rattle.s360_assembler.specs.declared.fault.AssemblyFault.{AssemblyFault}
 use Rattle.s360_assembler.specs.declared.fault.AssemblyFault.TheVariants as fault
 use Rattle.s360_assembler.specs.declared.fault.Cause.TheVariants as cause
 use Rattle.s360_assembler.specs.declared.fault.Mistake.{Mistake}
-use Rattle.s360_assembler.specs.declared.files.LoadedFile.{LoadedFile}
+use Rattle.s360_assembler.specs.declared.files.LoadableFile.{LoadableFile}
 use Rattle.s360_assembler.specs.declared.symbols.Symbol.{Symbol}
 use Rattle.s360_assembler.specs.Symbols.{noted}
 use Rattle.s360_assembler.specs.Parts.{DeckState}
@@ -17,7 +17,7 @@ told_memory number m is = rw is refl
 
 -- The first pass.
 
-module _ (files : List LoadedFile) where
+module _ (files : List LoadableFile) where
   first_noted : (symbols : List Symbol) (here number : ℕ) (text line behind : List ℕ) (all : Result (List Symbol) AssemblyFault)
       → lines_of text ≡ line ∷ lines_of behind → symbols_behind files symbols here number (lines_of text) ≡ all
       → on_line number (noted files symbols here (without_return line))
@@ -44,7 +44,7 @@ module _ (files : List LoadedFile) where
 
 -- The second pass.
 
-module _ (files : List LoadedFile) (symbols : List Symbol) where
+module _ (files : List LoadableFile) (symbols : List Symbol) where
   first_written : (d : DeckState) (here number : ℕ) (text line behind : List ℕ)
       (all : Result (List ℕ) AssemblyFault)
       → lines_of text ≡ line ∷ lines_of behind → deck_behind files symbols d here number (lines_of text) ≡ all

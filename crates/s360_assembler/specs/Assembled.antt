@@ -7,7 +7,7 @@ use Rattle.s360_assembler.specs.declared.fault.AssemblyFault.TheVariants as faul
 use Rattle.s360_assembler.specs.declared.fault.Cause.{Cause}
 use Rattle.s360_assembler.specs.declared.fault.Cause.TheVariants as cause
 use Rattle.s360_assembler.specs.declared.fault.Mistake.{Mistake}
-use Rattle.s360_assembler.specs.declared.files.LoadedFile.{LoadedFile}
+use Rattle.s360_assembler.specs.declared.files.LoadableFile.{LoadableFile}
 use Rattle.s360_assembler.specs.declared.fields.Quoting.TheVariants.{Outside}
 use Rattle.s360_assembler.specs.declared.symbols.Symbol.{Symbol}
 use Rattle.s360_assembler.specs.Fields.{raised, operands_at}
@@ -33,7 +33,7 @@ on_line line (Err m) behind = Err (told line m)
 -- The first pass: symbols.
 
 -- the symbols behind these lines, whose first one is at this location
-abbrev pub symbols_behind : List LoadedFile → List Symbol → (here number : ℕ) → List (List ℕ) → Result (List Symbol) AssemblyFault
+abbrev pub symbols_behind : List LoadableFile → List Symbol → (here number : ℕ) → List (List ℕ) → Result (List Symbol) AssemblyFault
 symbols_behind files symbols here number [] = Ok symbols
 symbols_behind files symbols here number (text ∷ lines) =
     on_line number (noted files symbols here (without_return text)) (λ more. symbols_behind files more.0 more.1 (number + 1) lines)
@@ -45,7 +45,7 @@ abbrev pub in_length : DeckState → Result DeckState Cause
 in_length d = if nat_lt 1048576 (length d.text) then Err cause.TooLong else Ok d
 
 -- what a line makes of a deck, and the location behind it
-abbrev pub written : List LoadedFile → List Symbol → DeckState → (here : ℕ) → (line : List ℕ) → Result (DeckState × ℕ) Mistake
+abbrev pub written : List LoadableFile → List Symbol → DeckState → (here : ℕ) → (line : List ℕ) → Result (DeckState × ℕ) Mistake
 written files symbols d here line =
     and_then (statement_of files line) (λ s.
     and_then (at_byte (operands_at line) (location_behind symbols here s)) (λ next.
@@ -53,12 +53,12 @@ written files symbols d here line =
     Ok (more, next))))
 
 -- a line was written so; where memory ran out, this says nothing
-abbrev pub Writes : Result ℕ Mistake → List LoadedFile → List Symbol → (before now : DeckState) → (here : ℕ) → (line : List ℕ) → Type 0
+abbrev pub Writes : Result ℕ Mistake → List LoadableFile → List Symbol → (before now : DeckState) → (here : ℕ) → (line : List ℕ) → Type 0
 Writes (Ok next) files symbols before now here line = written files symbols before here line ≡ Ok (now, next)
 Writes (Err m) files symbols before now here line = (m.cause ≡ cause.OutOfMemory) ⊎ (written files symbols before here line ≡ Err m)
 
 -- the deck's text behind these lines, whose first one is at this location
-abbrev pub deck_behind : List LoadedFile → List Symbol → DeckState → (here number : ℕ) → List (List ℕ) → Result (List ℕ) AssemblyFault
+abbrev pub deck_behind : List LoadableFile → List Symbol → DeckState → (here number : ℕ) → List (List ℕ) → Result (List ℕ) AssemblyFault
 deck_behind files symbols d here number [] = Ok (closed d).text
 deck_behind files symbols d here number (text ∷ lines) =
     on_line number (written files symbols d here (without_return text)) (λ more. deck_behind files symbols more.0 more.1 (number + 1) lines)
@@ -70,7 +70,7 @@ abbrev pub new_deck : DeckState
 new_deck = record { text = []; stored = 0; next = 0 }
 
 -- the deck of these lines, where their symbols are known; or the fault of these
-abbrev pub on_symbols : List LoadedFile → List (List ℕ) → Result (List Symbol) AssemblyFault → Result (List ℕ) AssemblyFault
+abbrev pub on_symbols : List LoadableFile → List (List ℕ) → Result (List Symbol) AssemblyFault → Result (List ℕ) AssemblyFault
 on_symbols files lines (Ok symbols) = deck_behind files symbols new_deck 0 1 lines
 on_symbols files lines (Err f) = Err f
 
@@ -80,11 +80,11 @@ of_deck_length (Ok deck) = if nat_lt 1048576 (length deck) then Err fault.TooLon
 of_deck_length (Err f) = Err f
 
 -- the deck of these lines
-abbrev pub assembled_lines : List LoadedFile → List (List ℕ) → Result (List ℕ) AssemblyFault
+abbrev pub assembled_lines : List LoadableFile → List (List ℕ) → Result (List ℕ) AssemblyFault
 assembled_lines files lines = of_deck_length (on_symbols files lines (symbols_behind files [] 0 1 lines))
 
 -- The deck of a text and of the files that it may load: the first fault of its symbols, or else the first fault of its deck, or the deck.
-abbrev pub assembled : List LoadedFile → (text : List ℕ) → Result (List ℕ) AssemblyFault
+abbrev pub assembled : List LoadableFile → (text : List ℕ) → Result (List ℕ) AssemblyFault
 assembled files text = assembled_lines files (lines_of (raised Outside text))
 
 -- A text was assembled so. Where memory ran out, this says nothing.

@@ -4,7 +4,7 @@ use Rattle.std.specs.Prelude.{option_and_then, position, codes, if◌then◌else
 use Rattle.std.specs.Str.{bytes_eq}
 use Rattle.s360_deck.specs.Deck.{lines_of, without_return}
 use Rattle.s360_assembler.specs.declared.fields.Quoting.TheVariants.{Outside}
-use Rattle.s360_assembler.specs.declared.files.LoadedFile.{LoadedFile}
+use Rattle.s360_assembler.specs.declared.files.LoadableFile.{LoadableFile}
 use Rattle.s360_assembler.specs.Fields.{is_apostrophe, raised, operation_of, operands_of}
 use Rattle.s360_assembler.specs.Constants.{letter_and_text}
 
@@ -41,14 +41,14 @@ files_named text = names_behind [] (lines_of (raised Outside text))
 -- Files that are given.
 
 -- a file has this name
-abbrev pub has_name : (name : List ℕ) → LoadedFile → Bool
+abbrev pub has_name : (name : List ℕ) → LoadableFile → Bool
 has_name name f = bytes_eq f.name.items name
 
 -- what a file holds, if there is one
-abbrev pub held : Option LoadedFile → List ℕ
+abbrev pub held : Option LoadableFile → List ℕ
 held None = []
 held (Some f) = f.bytes.items
 
 -- what the file at this place holds
-abbrev pub bytes_at : List LoadedFile → (place : ℕ) → List ℕ
+abbrev pub bytes_at : List LoadableFile → (place : ℕ) → List ℕ
 bytes_at files place = held (slice_get files place)

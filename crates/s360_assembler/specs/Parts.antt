@@ -5,14 +5,14 @@ use Rattle.byteorder.specs.Endian.{big_bytes}
 use Rattle.text_lines.specs.Text.{hexadecimal, bytes_text}
 use Rattle.s360_deck.specs.Deck.{events_of}
 use Rattle.s360_assembler.specs.declared.deck.Deck.{Deck}
-use Rattle.s360_assembler.specs.declared.files.LoadedFile.{LoadedFile}
+use Rattle.s360_assembler.specs.declared.files.LoadableFile.{LoadableFile}
 use Rattle.s360_assembler.specs.declared.fault.Cause.{Cause}
 use Rattle.s360_assembler.specs.declared.fault.Cause.TheVariants as cause
 use Rattle.s360_assembler.specs.declared.statements.Statement.{Statement}
 use Rattle.s360_assembler.specs.declared.statements.Statement.TheVariants.{Origin, Constant, Pointer, Word, Load, Event, EventAt}
 use Rattle.s360_assembler.specs.declared.symbols.Symbol.{Symbol}
-use Rattle.s360_assembler.specs.declared.parts.Part.{Part}
-use Rattle.s360_assembler.specs.declared.parts.Part.TheVariants as part
+use Rattle.s360_assembler.specs.declared.parts.DeckPart.{DeckPart}
+use Rattle.s360_assembler.specs.declared.parts.DeckPart.TheVariants as part
 use Rattle.s360_assembler.specs.Fields.{operation_of, operation_at, remark_of}
 use Rattle.s360_assembler.specs.Files.{bytes_at}
 use Rattle.s360_assembler.specs.Symbols.{value_of, place_of}
@@ -72,7 +72,7 @@ with_line d line = record { text = (closed d).text ++ line ++ 10 ∷ []; stored 
 
 -- What a statement makes of a deck: an event stands there as it is written, from its name on, and an address of this language in
 -- six hexadecimal digits; an origin ends the STORE before; a file puts its bytes into storage; and so does all else that has some.
-abbrev pub part_of : List Symbol → (here : ℕ) → (line : List ℕ) → Statement → Result Part Cause
+abbrev pub part_of : List Symbol → (here : ℕ) → (line : List ℕ) → Statement → Result DeckPart Cause
 part_of symbols here line Event = Ok (part.Line (record { items = drop (operation_at line) line }))
 part_of symbols here line (EventAt address) =
     on_value (value_of symbols here address) (λ value. Ok (part.Line (record {
@@ -88,7 +88,7 @@ abbrev pub with_event : DeckState → List ℕ → Result DeckState Cause
 with_event d line = if is_ok (events_of line) then Ok (with_line d line) else Err cause.Event
 
 -- what a statement makes of a deck more
-abbrev pub with_part : List LoadedFile → DeckState → Part → Result DeckState Cause
+abbrev pub with_part : List LoadableFile → DeckState → DeckPart → Result DeckState Cause
 with_part files d (part.Line line) = with_event d line.items
 with_part files d part.End = Ok (closed d)
 with_part files d (part.Bytes at bytes) = Ok (with_bytes d at bytes.items)

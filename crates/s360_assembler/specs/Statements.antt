@@ -8,7 +8,7 @@ use Rattle.s360_deck.specs.Digits.{storage_address_of}
 use Rattle.s360_deck.specs.declared.spelling.EventName.{EventName}
 use Rattle.s360_deck.specs.declared.spelling.EventName.TheVariants as name
 use Rattle.s360_assembler.specs.declared.fault.Cause.{Cause}
-use Rattle.s360_assembler.specs.declared.files.LoadedFile.{LoadedFile}
+use Rattle.s360_assembler.specs.declared.files.LoadableFile.{LoadableFile}
 use Rattle.s360_assembler.specs.declared.fault.Cause.TheVariants as cause
 use Rattle.s360_assembler.specs.declared.fault.Mistake.{Mistake}
 use Rattle.s360_assembler.specs.declared.statements.Statement.{Statement}
@@ -89,7 +89,7 @@ abbrev pub origin_statement : (at : ℕ) → List ℕ → Result Statement Mista
 origin_statement at text = on_operand at cause.Address (address_of text) (λ address. Ok (statement.Origin address))
 
 -- the bytes of the file of this name, which is one of those that are given
-abbrev pub load_statement : List LoadedFile → (at : ℕ) → List ℕ → Result Statement Mistake
+abbrev pub load_statement : List LoadableFile → (at : ℕ) → List ℕ → Result Statement Mistake
 load_statement files at text =
     on_operand at cause.FileName (file_name_of text) (λ name.
     on_operand at cause.Unread (position (has_name name) files) (λ place.
@@ -119,7 +119,7 @@ command_statement None operation_at at text = mistake operation_at cause.Operati
 command_statement (Some code) operation_at at text = word_statement code at text
 
 -- a line whose operation is no event's name
-abbrev pub storage_statement : List LoadedFile → (operation : List ℕ) → (operation_at at : ℕ) → List ℕ → Result Statement Mistake
+abbrev pub storage_statement : List LoadableFile → (operation : List ℕ) → (operation_at at : ℕ) → List ℕ → Result Statement Mistake
 storage_statement files operation operation_at at text =
     if bytes_eq operation (codes "DC") then constant_statement at text
     else (if bytes_eq operation (codes "DS") then area_statement at text
@@ -129,7 +129,7 @@ storage_statement files operation operation_at at text =
     else command_statement (code_named operation) operation_at at text))))
 
 -- an event, if the operation is the name of one; or else what stands in storage
-abbrev pub named_statement : List LoadedFile → Option EventName → (operation : List ℕ) → (operation_at at : ℕ) → List ℕ → Result Statement Mistake
+abbrev pub named_statement : List LoadableFile → Option EventName → (operation : List ℕ) → (operation_at at : ℕ) → List ℕ → Result Statement Mistake
 named_statement files (Some n) operation operation_at at text = event_statement n at text
 named_statement files None operation operation_at at text = storage_statement files operation operation_at at text
 
@@ -144,7 +144,7 @@ says_nothing line =
     || (length (label_of line) == 0 && (length (operation_of line) == 0 || is_comment (operation_of line)))
 
 -- What a line says, where these files may be loaded; or what is wrong with it: it is too long, or its operation or an operand is.
-abbrev pub statement_of : List LoadedFile → (line : List ℕ) → Result Statement Mistake
+abbrev pub statement_of : List LoadableFile → (line : List ℕ) → Result Statement Mistake
 statement_of files line =
     if nat_lt 512 (length line) then mistake 0 cause.LongLine
     else (if says_nothing line then Ok statement.Nothing

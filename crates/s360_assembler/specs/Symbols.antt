@@ -7,7 +7,7 @@ use Rattle.s360_assembler.specs.declared.fault.Cause.TheVariants as cause
 use Rattle.s360_assembler.specs.declared.constants.Boundary.{Boundary}
 use Rattle.s360_assembler.specs.declared.constants.Boundary.TheVariants.{Byte, Fullword, Doubleword}
 use Rattle.s360_assembler.specs.declared.fault.Mistake.{Mistake}
-use Rattle.s360_assembler.specs.declared.files.LoadedFile.{LoadedFile}
+use Rattle.s360_assembler.specs.declared.files.LoadableFile.{LoadableFile}
 use Rattle.s360_assembler.specs.declared.numbers.Address.{Address}
 use Rattle.s360_assembler.specs.declared.numbers.Base.{Base}
 use Rattle.s360_assembler.specs.declared.numbers.Base.TheVariants as base
@@ -103,7 +103,7 @@ and_then (Ok value) behind = behind value
 and_then (Err m) behind = Err m
 
 -- the symbols behind a line that stands at this location, and the location behind it
-abbrev pub noted : List LoadedFile → List Symbol → (here : ℕ) → (line : List ℕ) → Result (List Symbol × ℕ) Mistake
+abbrev pub noted : List LoadableFile → List Symbol → (here : ℕ) → (line : List ℕ) → Result (List Symbol × ℕ) Mistake
 noted files symbols here line =
     and_then (statement_of files line) (λ s.
     and_then (at_byte 0 (defined symbols (label_in line) (place_of here s))) (λ more.
@@ -111,6 +111,6 @@ noted files symbols here line =
     Ok (more, next))))
 
 -- a line was noted so; where memory ran out, this says nothing
-abbrev pub Notes : Result ℕ Mistake → List LoadedFile → (before now : List Symbol) → (here : ℕ) → (line : List ℕ) → Type 0
+abbrev pub Notes : Result ℕ Mistake → List LoadableFile → (before now : List Symbol) → (here : ℕ) → (line : List ℕ) → Type 0
 Notes (Ok next) files before now here line = noted files before here line ≡ Ok (now, next)
 Notes (Err m) files before now here line = (m.cause ≡ cause.OutOfMemory) ⊎ (noted files before here line ≡ Err m)

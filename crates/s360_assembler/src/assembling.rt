@@ -8,7 +8,7 @@ ghost use Rattle.s360_assembler.specs.Assembled.{told, symbols_behind, deck_behi
 use crate::deck::{Deck, add_part, close};
 use crate::fault::{AssemblyFault, Cause, Mistake};
 use crate::fields::{fields_of, raised};
-use crate::files::LoadedFile;
+use crate::files::LoadableFile;
 use crate::parts::part_of;
 use crate::statements::statement_of;
 use crate::symbols::{Symbol, location_behind, note_line};
@@ -21,7 +21,7 @@ const DECK_LENGTH: usize = 1_048_576;
 /// What the second pass knows: the files that may be loaded, and the symbols.
 #[derive(Clone, Copy)]
 struct Known<'a> {
-    files: &'a [LoadedFile],
+    files: &'a [LoadableFile],
     symbols: &'a [Symbol],
 }
 
@@ -39,7 +39,7 @@ fn told(number: usize, mistake: Mistake) -> AssemblyFault
 // The symbols of a text's lines.
 fn symbols_of(
     alloc: Global,
-    files: &[LoadedFile],
+    files: &[LoadableFile],
     text: &[u8],
 ) -> Result<Vec<Symbol>, AssemblyFault>
     ensures { HasSymbols (symbols_behind files.now [] 0 1 (lines_of text.now)) result }
@@ -130,7 +130,11 @@ fn deck_of(alloc: Global, known: &Known, text: &[u8]) -> Result<Vec<u8>, Assembl
 ///
 /// The first faulty line of the first pass, which looks for labels; or else of the second, which makes the deck: with its column and
 /// what is wrong. Or the deck gets more bytes than a deck may have; or there is no memory.
-pub fn assemble(alloc: Global, files: &[LoadedFile], text: &[u8]) -> Result<Vec<u8>, AssemblyFault>
+pub fn assemble(
+    alloc: Global,
+    files: &[LoadableFile],
+    text: &[u8],
+) -> Result<Vec<u8>, AssemblyFault>
     ensures { IsAssembled (assembled files.now text.now) result }
 {
     let Ok(capitals) = raised(alloc, text) else {

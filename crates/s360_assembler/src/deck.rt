@@ -6,8 +6,8 @@ ghost use Rattle.s360_deck.specs.Deck.{events_of};
 ghost use Rattle.s360_assembler.specs.Parts.{closed, with_bytes, with_pieces, with_file, with_event, with_part, seen, Makes};
 
 use crate::fault::Cause;
-use crate::files::{LoadedFile, bytes_at};
-use crate::parts::Part;
+use crate::files::{LoadableFile, bytes_at};
+use crate::parts::DeckPart;
 use arrayvec::{ArrayString, ArrayVec};
 use s360_deck::{DeckFault, parse};
 use std::alloc::Global;
@@ -173,16 +173,16 @@ fn add_line(alloc: Global, deck: &mut Deck, line: &[u8]) -> Result<(), Cause>
 /// The line of an event is none of a deck; or a file goes past the end of the largest storage; or there is no memory.
 pub(crate) fn add_part(
     alloc: Global,
-    files: &[LoadedFile],
+    files: &[LoadableFile],
     deck: &mut Deck,
-    part: Part,
+    part: DeckPart,
 ) -> Result<(), Cause>
     ensures { Makes result (with_part files.now (seen deck.old) part) (seen deck.new) }
 {
     match part {
-        Part::Line(line) => add_line(alloc, deck, line.as_slice()),
-        Part::End => close(deck),
-        Part::Bytes(at, bytes) => add_bytes(deck, at, bytes.as_slice()),
-        Part::File(at, file) => add_file(deck, at, bytes_at(files, file)),
+        DeckPart::Line(line) => add_line(alloc, deck, line.as_slice()),
+        DeckPart::End => close(deck),
+        DeckPart::Bytes(at, bytes) => add_bytes(deck, at, bytes.as_slice()),
+        DeckPart::File(at, file) => add_file(deck, at, bytes_at(files, file)),
     }
 }

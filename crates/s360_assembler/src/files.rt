@@ -13,7 +13,7 @@ const LINE_LENGTH: usize = 512;
 
 /// A file that a text may load.
 #[derive(Drop)]
-pub struct LoadedFile {
+pub struct LoadableFile {
     /// Its name.
     pub name: Vec<u8>,
     /// What it holds.
@@ -81,18 +81,18 @@ pub fn files_named(alloc: Global, text: &[u8]) -> Result<Vec<Vec<u8>>, AllocErro
 }
 
 /// The place of the first of these files that has a name.
-pub(crate) fn place_named(files: &[LoadedFile], name: &[u8]) -> Option<usize>
+pub(crate) fn place_named(files: &[LoadableFile], name: &[u8]) -> Option<usize>
     ensures { result ≡ position (has_name name.now) files.now }
 {
     files.iter().position(
-        |file: &LoadedFile| -> bool
+        |file: &LoadableFile| -> bool
             ensures { result ≡ has_name name.entry.now file.now }
         { file.name.as_slice() == name },
     )
 }
 
 /// What the file at a place holds.
-pub(crate) fn bytes_at(files: &[LoadedFile], place: usize) -> &[u8]
+pub(crate) fn bytes_at(files: &[LoadableFile], place: usize) -> &[u8]
     ensures { result.now ≡ bytes_at files.now place }
 {
     match files.get(place) {

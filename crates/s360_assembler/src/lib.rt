@@ -14,5 +14,5 @@ mod symbols;
 
 pub use crate::assembling::assemble;
 pub use crate::fault::{AssemblyFault, Cause};
-pub use crate::files::{LoadedFile, files_named};
+pub use crate::files::{LoadableFile, files_named};
 pub use crate::parts::word_bytes;

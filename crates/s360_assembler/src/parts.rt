@@ -19,7 +19,7 @@ use text_lines::put_hexadecimal;
 
 /// What a statement makes of a deck.
 #[derive(Drop)]
-pub enum Part {
+pub enum DeckPart {
     /// The line of an event.
     Line(ArrayVec<u8, 1088>),
     /// No bytes follow those of the `STORE` before.
@@ -116,7 +116,7 @@ pub(crate) fn part_of(
     here: u32,
     line: &[u8],
     statement: Statement,
-) -> Result<Part, Cause>
+) -> Result<DeckPart, Cause>
     requires inside { here ≤ 16777216 }
     requires short { length line.now ≤ 512 }
     ensures { result ≡ part_of symbols.now here line.now statement }
@@ -128,16 +128,16 @@ pub(crate) fn part_of(
             event
                 .try_extend_from_slice(&line[fields_of(line).operation_at..])
                 .unwrap();
-            Ok(Part::Line(event))
+            Ok(DeckPart::Line(event))
         }
         Statement::EventAt(address) => match value_of(symbols, here, &address) {
-            Ok(value) => Ok(Part::Line(line_with_address(line, value))),
+            Ok(value) => Ok(DeckPart::Line(line_with_address(line, value))),
             Err(cause) => Err(cause),
         },
-        Statement::Origin(_) => Ok(Part::End),
-        Statement::Load(file, _) => Ok(Part::File(here, file)),
+        Statement::Origin(_) => Ok(DeckPart::End),
+        Statement::Load(file, _) => Ok(DeckPart::File(here, file)),
         stored => match stored_of(symbols, place, stored) {
-            Ok(bytes) => Ok(Part::Bytes(place, bytes)),
+            Ok(bytes) => Ok(DeckPart::Bytes(place, bytes)),
             Err(cause) => Err(cause),
         },
     }

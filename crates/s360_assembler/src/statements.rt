@@ -11,7 +11,7 @@ ghost use Rattle.s360_deck.specs.Deck.{name_of, is_comment};
 use crate::constants::{Boundary, area_of, boundary_of_unit, constant_of, unit_of};
 use crate::fault::{Cause, Mistake};
 use crate::fields::{Fields, fields_of, position_of};
-use crate::files::{LoadedFile, bytes_at, file_name_of, place_named};
+use crate::files::{LoadableFile, bytes_at, file_name_of, place_named};
 use crate::numbers::{Address, address_of, flags_of, number_to};
 use arrayvec::ArrayVec;
 use s360_deck::{EventName, event_name, number};
@@ -176,7 +176,7 @@ fn origin_statement(at: usize, text: &[u8]) -> Result<Statement, Mistake>
 }
 
 // The bytes of the file of this name.
-fn load_statement(files: &[LoadedFile], at: usize, text: &[u8]) -> Result<Statement, Mistake>
+fn load_statement(files: &[LoadableFile], at: usize, text: &[u8]) -> Result<Statement, Mistake>
     requires { at ≤ 512 }
     ensures { result ≡ load_statement files.now at text.now }
 {
@@ -205,7 +205,7 @@ fn event_statement(name: EventName, at: usize, text: &[u8]) -> Result<Statement,
 }
 
 // What an operation says of its operands.
-fn named_statement(files: &[LoadedFile], fields: &Fields) -> Result<Statement, Mistake>
+fn named_statement(files: &[LoadableFile], fields: &Fields) -> Result<Statement, Mistake>
     requires place { fields.now.operands_at ≤ 512 }
     requires operation { fields.now.operation_at ≤ 512 }
     requires short { length fields.now.operands.now ≤ 512 }
@@ -219,7 +219,7 @@ fn named_statement(files: &[LoadedFile], fields: &Fields) -> Result<Statement, M
 }
 
 // What an operation says of its operands that is no event.
-fn storage_statement(files: &[LoadedFile], fields: &Fields) -> Result<Statement, Mistake>
+fn storage_statement(files: &[LoadableFile], fields: &Fields) -> Result<Statement, Mistake>
     requires place { fields.now.operands_at ≤ 512 }
     requires operation { fields.now.operation_at ≤ 512 }
     requires short { length fields.now.operands.now ≤ 512 }
@@ -283,7 +283,7 @@ pub(crate) fn label_in(line: &[u8]) -> &[u8]
 /// # Errors
 ///
 /// It is too long, has no such operation, or an operand is wrong.
-pub(crate) fn statement_of(files: &[LoadedFile], line: &[u8]) -> Result<Statement, Mistake>
+pub(crate) fn statement_of(files: &[LoadableFile], line: &[u8]) -> Result<Statement, Mistake>
     ensures value { result ≡ statement_of files.now line.now }
     ensures short { OnOk result (length line.now ≤ 512) }
 {

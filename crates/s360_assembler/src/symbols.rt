@@ -8,7 +8,7 @@ ghost use Rattle.s360_assembler.specs.Symbols.{location_behind, Defines, Notes};
 use crate::constants::Boundary;
 use crate::fault::{Cause, Mistake};
 use crate::fields::fields_of;
-use crate::files::LoadedFile;
+use crate::files::LoadableFile;
 use crate::numbers::{Address, Base, is_symbol, padded};
 use crate::statements::{Statement, label_in, statement_of};
 
@@ -174,7 +174,7 @@ fn define(symbols: &mut Vec<Symbol>, label: &[u8], address: u32) -> Result<(), C
 ///
 /// The line is wrong, its label is defined already, it goes past the end of the largest storage, or there is no memory.
 pub(crate) fn note_line(
-    files: &[LoadedFile],
+    files: &[LoadableFile],
     symbols: &mut Vec<Symbol>,
     here: u32,
     line: &[u8],

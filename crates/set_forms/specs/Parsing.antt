@@ -12,8 +12,8 @@ use Rattle.set_forms.specs.declared.forms.Note.{Note}
 use Rattle.set_forms.specs.declared.forms.Note.TheVariants.{Block, Address}
 use Rattle.set_forms.specs.declared.forms.FormLine.{FormLine}
 use Rattle.set_forms.specs.declared.forms.FormLine.TheVariants.{Set, Entry}
-use Rattle.set_forms.specs.declared.fault.LineFault.{LineFault}
-use Rattle.set_forms.specs.declared.fault.LineFault.TheVariants as fault
+use Rattle.set_forms.specs.declared.fault.FormLineFault.{FormLineFault}
+use Rattle.set_forms.specs.declared.fault.FormLineFault.TheVariants as fault
 use Rattle.set_forms.specs.declared.fault.TextFault.{TextFault}
 use Rattle.set_forms.specs.declared.fault.TextFault.TheVariants.{OutOfMemory, Line}
 use Rattle.set_forms.specs.Numbers.{number_of, byte_of, bytes_of, three_of, day_of}
@@ -22,25 +22,25 @@ use Rattle.set_forms.specs.Words.{organisation_of, format_of}
 use Rattle.set_forms.specs.Forms.{is_partitioned}
 
 -- what is read on of a word that says something; one that says nothing is wrong in this way
-abbrev pub read_on : {A B : Type 0} → LineFault → Option A → (A → Result B LineFault) → Result B LineFault
+abbrev pub read_on : {A B : Type 0} → FormLineFault → Option A → (A → Result B FormLineFault) → Result B FormLineFault
 read_on f None next = Err f
 read_on f (Some x) next = next x
 
 -- The words of a data set's line.
 
 -- a partitioned one, and no other, says how long its directory is
-abbrev pub directory_read : (is_partitioned : Bool) → List (List ℕ) → Result (Option ℕ) LineFault
+abbrev pub directory_read : (is_partitioned : Bool) → List (List ℕ) → Result (Option ℕ) FormLineFault
 directory_read false [] = Ok None
 directory_read true (word ∷ blocks ∷ []) =
     if bytes_eq word (codes "directory") then read_on fault.Directory (number_of 65535 blocks) (λ n. Ok (Some n)) else Err fault.Directory
 directory_read is_partitioned words = Err fault.Directory
 
 -- how long its directory is, if all else is read
-abbrev pub with_directory : SetForm → Result (Option ℕ) LineFault → Result SetForm LineFault
+abbrev pub with_directory : SetForm → Result (Option ℕ) FormLineFault → Result SetForm FormLineFault
 with_directory s (Ok directory) = Ok (record s { directory = directory })
 with_directory s (Err f) = Err f
 
-abbrev pub set_read : List (List ℕ) → Result SetForm LineFault
+abbrev pub set_read : List (List ℕ) → Result SetForm FormLineFault
 set_read (kind ∷ name ∷ organisation ∷ format ∷ record_length ∷ block_length ∷ key_length ∷ created ∷ expires ∷ directory) =
     if not (bytes_eq kind (codes "set")) then Err fault.Kind
     else read_on fault.Name (name_of 44 name)
@@ -86,29 +86,29 @@ note_of word =
     (length word - 1)))
 
 -- at most three notes, and before the user data
-abbrev pub note_added : EntryForm → Option Note → Result EntryForm LineFault
+abbrev pub note_added : EntryForm → Option Note → Result EntryForm FormLineFault
 note_added e None = Err fault.Note
 note_added e (Some note) =
     if nat_le 3 (length e.notes.items) || nat_lt 0 (length e.user.items) then Err fault.Note
     else Ok (record e { notes = record { items = e.notes.items ++ note ∷ [] } })
 
 -- user data in one word, of whole halfwords, and with four bytes for each note at most 62 bytes
-abbrev pub user_added : EntryForm → Option (List ℕ) → Result EntryForm LineFault
+abbrev pub user_added : EntryForm → Option (List ℕ) → Result EntryForm FormLineFault
 user_added e None = Err fault.UserData
 user_added e (Some bytes) =
     if nat_lt 0 (length e.user.items) || (not (length bytes % 2 == 0) || nat_lt 62 (4 * length e.notes.items + length bytes))
     then Err fault.UserData
     else Ok (record e { user = record { items = bytes } })
 
-abbrev pub added : EntryForm → (word : List ℕ) → Result EntryForm LineFault
+abbrev pub added : EntryForm → (word : List ℕ) → Result EntryForm FormLineFault
 added e word = if is_note word then note_added e (note_of word) else user_added e (if nat_lt 124 (length word) then None else bytes_of word)
 
 -- the first word that is wrong ends it
-abbrev pub and_behind : Result EntryForm LineFault → (EntryForm → Result EntryForm LineFault) → Result EntryForm LineFault
+abbrev pub and_behind : Result EntryForm FormLineFault → (EntryForm → Result EntryForm FormLineFault) → Result EntryForm FormLineFault
 and_behind (Ok e) next = next e
 and_behind (Err f) next = Err f
 
-abbrev pub entry_behind : EntryForm → List (List ℕ) → Result EntryForm LineFault
+abbrev pub entry_behind : EntryForm → List (List ℕ) → Result EntryForm FormLineFault
 entry_behind e [] = Ok e
 entry_behind e (word ∷ words) = and_behind (added e word) (λ more. entry_behind more words)
 
@@ -116,17 +116,17 @@ entry_behind e (word ∷ words) = and_behind (added e word) (λ more. entry_behi
 abbrev pub entry_of : (name : List ℕ) → (member : Option (List ℕ)) → EntryForm
 entry_of name member = record { name = name; member = member; notes = record { items = [] }; user = record { items = [] } }
 
-abbrev pub member_read : List (List ℕ) → Result EntryForm LineFault
+abbrev pub member_read : List (List ℕ) → Result EntryForm FormLineFault
 member_read [] = Err fault.Words
 member_read (name ∷ words) = read_on fault.Name (name_of 8 name) (λ n. entry_behind (entry_of n None) words)
 
-abbrev pub alias_read : List (List ℕ) → Result EntryForm LineFault
+abbrev pub alias_read : List (List ℕ) → Result EntryForm FormLineFault
 alias_read (name ∷ member ∷ words) =
     read_on fault.Name (name_of 8 name) (λ n. read_on fault.Name (name_of 8 member) (λ m. entry_behind (entry_of n (Some m)) words))
 alias_read words = Err fault.Words
 
 -- what is left of an entry: it is this, or it is wrong
-abbrev pub left_by : {A : Type 0} → Result A LineFault → EntryForm → Result EntryForm LineFault
+abbrev pub left_by : {A : Type 0} → Result A FormLineFault → EntryForm → Result EntryForm FormLineFault
 left_by (Ok _) e = Ok e
 left_by (Err f) e = Err f
 
@@ -145,15 +145,15 @@ is_comment [] = false
 is_comment (c ∷ word) = c == 35
 
 -- a line of a data set, or of an entry
-abbrev pub a_set : Result SetForm LineFault → Result (Option FormLine) LineFault
+abbrev pub a_set : Result SetForm FormLineFault → Result (Option FormLine) FormLineFault
 a_set (Ok s) = Ok (Some (Set s))
 a_set (Err f) = Err f
 
-abbrev pub an_entry : Result EntryForm LineFault → Result (Option FormLine) LineFault
+abbrev pub an_entry : Result EntryForm FormLineFault → Result (Option FormLine) FormLineFault
 an_entry (Ok e) = Ok (Some (Entry e))
 an_entry (Err f) = Err f
 
-abbrev pub words_read : List (List ℕ) → Result (Option FormLine) LineFault
+abbrev pub words_read : List (List ℕ) → Result (Option FormLine) FormLineFault
 words_read [] = Ok None
 words_read (first ∷ words) =
     if is_comment first then Ok None
@@ -162,7 +162,7 @@ words_read (first ∷ words) =
     else (if bytes_eq first (codes "alias") then an_entry (alias_read words)
     else Err fault.Kind)))
 
-abbrev pub line_read : List ℕ → Result (Option FormLine) LineFault
+abbrev pub line_read : List ℕ → Result (Option FormLine) FormLineFault
 line_read line = words_read (words_of line)
 
 -- Texts.
@@ -178,13 +178,13 @@ fits forms (Set s) = true
 fits forms (Entry e) = may_have_entry (slice_get forms (length forms - 1))
 
 -- the forms of the lines so far, with that of one line more, if it has one
-abbrev pub line_added : List FormLine → Result (Option FormLine) LineFault → Result (List FormLine) LineFault
+abbrev pub line_added : List FormLine → Result (Option FormLine) FormLineFault → Result (List FormLine) FormLineFault
 line_added forms (Err f) = Err f
 line_added forms (Ok None) = Ok forms
 line_added forms (Ok (Some form)) = if fits forms form then Ok (forms ++ form ∷ []) else Err fault.NoDirectory
 
 -- the first line that is wrong ends it
-abbrev pub on_line : (number : ℕ) → Result (List FormLine) LineFault → (List FormLine → Result (List FormLine) TextFault)
+abbrev pub on_line : (number : ℕ) → Result (List FormLine) FormLineFault → (List FormLine → Result (List FormLine) TextFault)
     → Result (List FormLine) TextFault
 on_line number (Ok forms) next = next forms
 on_line number (Err f) next = Err (Line number f)
@@ -204,7 +204,7 @@ abbrev pub parsed : List ℕ → Result (List FormLine) TextFault
 parsed text = forms_behind [] 1 (lines_of text)
 
 -- A line was added so. Where memory ran out, this says nothing.
-abbrev pub IsAdded : {A : Type 0} → (number : ℕ) → (all : Result (List FormLine) LineFault) → Result A TextFault
+abbrev pub IsAdded : {A : Type 0} → (number : ℕ) → (all : Result (List FormLine) FormLineFault) → Result A TextFault
     → (forms : List FormLine) → Type 0
 IsAdded number all (Ok _) forms = all ≡ Ok forms
 IsAdded number all (Err OutOfMemory) forms = Unit {0}

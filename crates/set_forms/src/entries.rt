@@ -6,7 +6,7 @@ ghost use Rattle.std.specs.Io.KnownBytes.{Appends};
 ghost use Rattle.set_forms.specs.Forms.{note_text, spaced, names_text, user_words, user_data_text, named_entry_line, closed};
 ghost use Rattle.set_forms.specs.Parsing.{is_note, note_of, note_at, note_added, user_added, added, entry_behind, entry_of, member_read, alias_read, left_by};
 
-use crate::fault::LineFault;
+use crate::fault::FormLineFault;
 use crate::forms::{EntryForm, Note};
 use crate::names::member_name;
 use crate::numbers::{byte_of, bytes_of, number, three_of};
@@ -162,51 +162,54 @@ fn note_of(word: &[u8]) -> Option<Note>
 }
 
 // A note more, where one may stand.
-fn add_note(entry: &mut EntryForm, note: Option<Note>) -> Result<(), LineFault>
+fn add_note(entry: &mut EntryForm, note: Option<Note>) -> Result<(), FormLineFault>
     ensures { left_by result entry.new ≡ note_added entry.old note }
 {
     let Some(note) = note else {
-        return Err(LineFault::Note);
+        return Err(FormLineFault::Note);
     };
     if entry.notes.len() >= NOTES || entry.user.len() > 0 {
-        return Err(LineFault::Note);
+        return Err(FormLineFault::Note);
     }
     entry.notes.push(note);
     Ok(())
 }
 
 // User data, where they may stand.
-fn add_user(entry: &mut EntryForm, user: Option<ArrayVec<u8, USER_DATA>>) -> Result<(), LineFault>
+fn add_user(
+    entry: &mut EntryForm,
+    user: Option<ArrayVec<u8, USER_DATA>>,
+) -> Result<(), FormLineFault>
     ensures { left_by result entry.new ≡ user_added entry.old (option_map (λ v. v.items) user) }
 {
     let Some(user) = user else {
-        return Err(LineFault::UserData);
+        return Err(FormLineFault::UserData);
     };
     if entry.user.len() > 0
         || user.len() % 2 != 0
         || 4 * entry.notes.len() + user.len() > USER_DATA
     {
-        return Err(LineFault::UserData);
+        return Err(FormLineFault::UserData);
     }
     entry.user = user;
     Ok(())
 }
 
 // What a word says of an entry's user data.
-fn add(entry: &mut EntryForm, word: &[u8]) -> Result<(), LineFault>
+fn add(entry: &mut EntryForm, word: &[u8]) -> Result<(), FormLineFault>
     ensures { left_by result entry.new ≡ added entry.old word.now }
 {
     if is_note(word) {
         return add_note(entry, note_of(word));
     }
     if word.len() > DIGITS {
-        return Err(LineFault::UserData);
+        return Err(FormLineFault::UserData);
     }
     add_user(entry, bytes_of(word))
 }
 
 // What words say of the user data of an entry.
-fn with_words(entry: EntryForm, words: &[&[u8]]) -> Result<EntryForm, LineFault>
+fn with_words(entry: EntryForm, words: &[&[u8]]) -> Result<EntryForm, FormLineFault>
     ensures { result ≡ entry_behind entry (map (λ w. w.now) words.now) }
 {
     let mut entry = entry;
@@ -229,24 +232,24 @@ fn entry_of(name: [u8; 8], member: Option<[u8; 8]>) -> EntryForm
 }
 
 /// What the words of a member's line say, behind the first one.
-pub(crate) fn read_member(words: &[&[u8]]) -> Result<EntryForm, LineFault>
+pub(crate) fn read_member(words: &[&[u8]]) -> Result<EntryForm, FormLineFault>
     ensures { result ≡ member_read (map (λ w. w.now) words.now) }
 {
     let [name, words @ ..] = words else {
-        return Err(LineFault::Words);
+        return Err(FormLineFault::Words);
     };
-    let name = member_name(name).ok_or(LineFault::Name)?;
+    let name = member_name(name).ok_or(FormLineFault::Name)?;
     with_words(entry_of(name, None), words)
 }
 
 /// What the words of the line of another name say, behind the first one.
-pub(crate) fn read_alias(words: &[&[u8]]) -> Result<EntryForm, LineFault>
+pub(crate) fn read_alias(words: &[&[u8]]) -> Result<EntryForm, FormLineFault>
     ensures { result ≡ alias_read (map (λ w. w.now) words.now) }
 {
     let [name, member, words @ ..] = words else {
-        return Err(LineFault::Words);
+        return Err(FormLineFault::Words);
     };
-    let name = member_name(name).ok_or(LineFault::Name)?;
-    let member = member_name(member).ok_or(LineFault::Name)?;
+    let name = member_name(name).ok_or(FormLineFault::Name)?;
+    let member = member_name(member).ok_or(FormLineFault::Name)?;
     with_words(entry_of(name, Some(member)), words)
 }

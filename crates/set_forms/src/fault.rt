@@ -4,7 +4,7 @@ use thiserror::Error;
 
 /// What is wrong with a line.
 #[derive(Clone, Copy, Debug, PartialEq, Eq, Error)]
-pub enum LineFault {
+pub enum FormLineFault {
     /// Its first words say none of the three things that a line may be of.
     #[error("a line begins with `data set`, `member` or `alias`, or is a comment behind #")]
     Kind,
@@ -54,5 +54,5 @@ pub enum TextFault {
     OutOfMemory,
     /// What is wrong with the line of this number, the first being 1.
     #[error("line {0}: {1}")]
-    Line(usize, LineFault),
+    Line(usize, FormLineFault),
 }

@@ -13,7 +13,7 @@ mod parsing;
 mod sets;
 mod words;
 
-pub use crate::fault::{LineFault, TextFault};
+pub use crate::fault::{FormLineFault, TextFault};
 pub use crate::forms::{EntryForm, FormLine, Note, SetForm, is_partitioned};
 pub use crate::lines::write_form;
 pub use crate::parsing::parse;

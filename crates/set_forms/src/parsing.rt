@@ -6,7 +6,7 @@ ghost use Rattle.set_forms.specs.Parsing.{is_blank, words_of, is_comment, words_
 ghost use Rattle.set_forms.specs.Parsing.{line_added, lines_of, parsed, IsAdded, IsParsed};
 
 use crate::entries::{read_alias, read_member};
-use crate::fault::{LineFault, TextFault};
+use crate::fault::{FormLineFault, TextFault};
 use crate::forms::FormLine;
 use crate::sets::read_set;
 use std::alloc::{AllocError, Global};
@@ -61,7 +61,7 @@ fn add_form(forms: &mut Vec<FormLine>, number: usize, form: FormLine) -> Result<
     ensures { IsAdded number (line_added forms.old.items (Ok (Some form))) result forms.new.items }
 {
     if !fits(forms.as_slice(), &form) {
-        return Err(TextFault::Line(number, LineFault::NoDirectory));
+        return Err(TextFault::Line(number, FormLineFault::NoDirectory));
     }
     match forms.push(form) {
         Ok(()) => Ok(()),
@@ -107,7 +107,7 @@ fn is_blank(character: u8) -> bool
 }
 
 // The form that words say, if they say one.
-fn read_words(words: &[&[u8]]) -> Result<Option<FormLine>, LineFault>
+fn read_words(words: &[&[u8]]) -> Result<Option<FormLine>, FormLineFault>
     ensures { result ≡ words_read (map (λ w. w.now) words.now) }
 {
     let [first, words @ ..] = words else {
@@ -120,7 +120,7 @@ fn read_words(words: &[&[u8]]) -> Result<Option<FormLine>, LineFault>
         b"data" => Ok(Some(FormLine::Set(read_set(words)?))),
         b"member" => Ok(Some(FormLine::Entry(read_member(words)?))),
         b"alias" => Ok(Some(FormLine::Entry(read_alias(words)?))),
-        _ => Err(LineFault::Kind),
+        _ => Err(FormLineFault::Kind),
     }
 }
 

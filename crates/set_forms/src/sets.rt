@@ -5,7 +5,7 @@ ghost use Rattle.std.specs.Io.KnownBytes.{Appends};
 ghost use Rattle.set_forms.specs.Forms.{closed, directory_words, start_text, lengths_text, days_text, named_set_line};
 ghost use Rattle.set_forms.specs.Parsing.{directory_read, set_read};
 
-use crate::fault::LineFault;
+use crate::fault::FormLineFault;
 use crate::forms::{SetForm, is_partitioned};
 use crate::names::data_set_name;
 use crate::numbers::{day_of, day_word, number};
@@ -66,7 +66,7 @@ fn write_directory<W: Write>(writer: &mut W, directory: Option<u16>) -> io::Resu
 }
 
 // The length of a directory, which partitioned data sets have alone.
-fn read_directory(is_partitioned: bool, words: &[&[u8]]) -> Result<Option<u16>, LineFault>
+fn read_directory(is_partitioned: bool, words: &[&[u8]]) -> Result<Option<u16>, FormLineFault>
     ensures { result ≡ directory_read is_partitioned (map (λ w. w.now) words.now) }
 {
     match words {
@@ -74,15 +74,15 @@ fn read_directory(is_partitioned: bool, words: &[&[u8]]) -> Result<Option<u16>, 
         [word, blocks] if is_partitioned && word == &&b"directory"[..] => {
             match number(blocks, 65535) {
                 Some(blocks) => Ok(Some(blocks as u16)),
-                None => Err(LineFault::Directory),
+                None => Err(FormLineFault::Directory),
             }
         }
-        _ => Err(LineFault::Directory),
+        _ => Err(FormLineFault::Directory),
     }
 }
 
 /// What the words of a data set's line say, behind the first one.
-pub(crate) fn read_set(words: &[&[u8]]) -> Result<SetForm, LineFault>
+pub(crate) fn read_set(words: &[&[u8]]) -> Result<SetForm, FormLineFault>
     ensures { result ≡ set_read (map (λ w. w.now) words.now) }
 {
     let [
@@ -98,19 +98,19 @@ pub(crate) fn read_set(words: &[&[u8]]) -> Result<SetForm, LineFault>
         directory @ ..,
     ] = words
     else {
-        return Err(LineFault::Words);
+        return Err(FormLineFault::Words);
     };
     if kind != &&b"set"[..] {
-        return Err(LineFault::Kind);
+        return Err(FormLineFault::Kind);
     }
-    let name = data_set_name(name).ok_or(LineFault::Name)?;
-    let organisation = organisation_of(organisation).ok_or(LineFault::Organisation)?;
-    let format = format_of(format).ok_or(LineFault::Format)?;
-    let record_length = number(records, 65535).ok_or(LineFault::RecordLength)? as u16;
-    let block_length = number(blocks, 65535).ok_or(LineFault::BlockLength)? as u16;
-    let key_length = number(keys, 255).ok_or(LineFault::KeyLength)? as u8;
-    let created = day_of(created).ok_or(LineFault::Day)?;
-    let expires = day_of(expires).ok_or(LineFault::Day)?;
+    let name = data_set_name(name).ok_or(FormLineFault::Name)?;
+    let organisation = organisation_of(organisation).ok_or(FormLineFault::Organisation)?;
+    let format = format_of(format).ok_or(FormLineFault::Format)?;
+    let record_length = number(records, 65535).ok_or(FormLineFault::RecordLength)? as u16;
+    let block_length = number(blocks, 65535).ok_or(FormLineFault::BlockLength)? as u16;
+    let key_length = number(keys, 255).ok_or(FormLineFault::KeyLength)? as u8;
+    let created = day_of(created).ok_or(FormLineFault::Day)?;
+    let expires = day_of(expires).ok_or(FormLineFault::Day)?;
     let directory = read_directory(is_partitioned(organisation), directory)?;
     Ok(SetForm {
         name,

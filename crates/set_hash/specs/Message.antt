@@ -9,7 +9,7 @@ use Rattle.volume_labels.specs.declared.blocks.DataSetBlock.{DataSetBlock}
 use Rattle.data_sets.specs.declared.directories.DirectoryEntry.{DirectoryEntry}
 use Rattle.data_sets.specs.Directories.{Found, entries_of}
 use Rattle.dasd_volumes.specs.Reading.{KnownVolume}
-use Rattle.dasd_extract.specs.declared.blocks.Form.TheVariants.{Keyed}
+use Rattle.dasd_extract.specs.declared.blocks.ExtractedForm.TheVariants.{Keyed}
 use Rattle.dasd_extract.specs.declared.members.Members.{Members}
 use Rattle.dasd_extract.specs.declared.stops.Cause.{Cause}
 use Rattle.dasd_extract.specs.declared.stops.Cause.TheVariants.{EndOfFile, EndBehindAlternates}

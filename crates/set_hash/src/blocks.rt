@@ -6,7 +6,7 @@ ghost use Rattle.dasd_volumes.specs.Reading.{IsRead};
 ghost use Rattle.set_hash.specs.Message.{is_end_of_file, ending, IsHashOfBlocks};
 
 use counted_io::Counted;
-use dasd_extract::{Cause, Form, Source, extract};
+use dasd_extract::{Cause, ExtractedForm, Source, extract};
 use dasd_volumes::{SlotReader, VolumeFault};
 use std::alloc::Global;
 use volume_hash::Message;
@@ -47,7 +47,7 @@ pub(crate) fn hash_blocks<V: SlotReader>(
         extents,
         start,
         tracks: MOST_TRACKS,
-        form: Form::Keyed,
+        form: ExtractedForm::Keyed,
     };
     let mut message = Counted::new(begun(b"blocks"));
     let stop = match extract(alloc, volume, &mut message, source) {

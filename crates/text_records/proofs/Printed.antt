@@ -10,7 +10,7 @@ use Rattle.std.proofs.lemmas.List.Elements.{All-map}
 use Rattle.ckd_track.specs.declared.model.DriveModel.{DriveModel}
 use Rattle.data_sets.specs.declared.records.RecordForm.TheVariants.{Fixed}
 use Rattle.record_formats.specs.Layouts.{is_longer}
-use Rattle.dasd_extract.specs.declared.blocks.Form.TheVariants.{Text}
+use Rattle.dasd_extract.specs.declared.blocks.ExtractedForm.TheVariants.{Text}
 use Rattle.dasd_extract.specs.declared.stops.Cause.TheVariants.{LongBlock}
 use Rattle.dasd_extract.specs.Written.{Written, these_bytes, stopped}
 use Rattle.dasd_extract.specs.Blocks.{number_of, lines_written, records_written, form_written}

@@ -5,7 +5,7 @@ use Rattle.ckd_track.specs.Model.{capacity_of}
 use Rattle.volume_labels.specs.declared.fields.Extent.{Extent}
 use Rattle.data_sets.specs.declared.records.RecordForm.TheVariants.{Fixed}
 use Rattle.record_formats.specs.declared.layouts.Layout.{Layout}
-use Rattle.dasd_extract.specs.declared.blocks.Form.TheVariants.{Text}
+use Rattle.dasd_extract.specs.declared.blocks.ExtractedForm.TheVariants.{Text}
 use Rattle.dasd_extract.specs.Walk.{wanted, source_written}
 use Rattle.data_set_blocks.specs.declared.blocks.Cut.TheVariants.{Length}
 use Rattle.record_tracks.specs.Tracks.{Takes}

@@ -1,7 +1,7 @@
 use Rattle.std.proofs.Common.{◌∙◌, ◌+◌, List, take, sym, subst, arith}
 use Rattle.std.proofs.lemmas.Result.{err_from_is_err_and}
 use Rattle.dasd_jobs.specs.Sources.{SourceFile}
-use Rattle.s360_assembler.specs.declared.files.LoadedFile.{LoadedFile}
+use Rattle.s360_assembler.specs.declared.files.LoadableFile.{LoadableFile}
 use Rattle.dasd_run.specs.Loads.{LoadsFiles, with_loaded}
 use Rattle.dasd_run.proofs.Loading.{names_in, next_file, first_of, more_loaded, not_loaded, no_memory}
 use Rattle.dasd_run.proofs.loads.load_files.Goals as goal
@@ -54,7 +54,7 @@ loop-i-preserved g c =
     c.loop-i.invariant.loads (rw c.as_slice.ensures.value at c.in_ok-file.ensures.reads) in
     record {
       kept = c.in_ok-file.ensures.kept ∙ c.loop-i.invariant.kept;
-      loads = subst (λ (l : List LoadedFile). LoadsFiles (names_in (take (i + 1) names)) l before now) (sym c.in_ok-left.ensures.0) next;
+      loads = subst (λ (l : List LoadableFile). LoadsFiles (names_in (take (i + 1) names)) l before now) (sym c.in_ok-left.ensures.0) next;
       total =
           rw c.in_ok-left.ensures.0 (omega (arith, c.in_ok-left.ensures.1, c.loop-i.invariant.total, more_loaded loaded file));
     }
