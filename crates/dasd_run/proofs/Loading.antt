@@ -15,8 +15,8 @@ abbrev pub names_in : List (Vec ℕ) → List (List ℕ)
 names_in names = map (λ n. n.items) names
 
 -- one file more is read
-read_more : (names : List (List ℕ)) (loaded : List LoadableFile) (name : List ℕ) (file : LoadableFile) (before between now : List SourceFile
-    read_more : (names : List (List ℕ)) (loaded : List LoadableFile) (name : List ℕ) (file : LoadableFile) (before between now : List SourceFile)
+read_more : (names : List (List ℕ)) (loaded : List LoadableFile) (name : List ℕ) (file : LoadableFile)
+    (before between now : List SourceFile)
     → LoadsFiles names loaded before between → file.name.items ≡ name → ReadsFront name 524289 file.bytes.items between now
     → LoadsFiles (names ++ name ∷ []) (loaded ++ file ∷ []) before now
 read_more [] loaded name file before between now so_far named read =
