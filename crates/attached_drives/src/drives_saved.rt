@@ -3,7 +3,7 @@
 ghost use Rattle.std.specs.Prelude.{◌≡◌, map, true, option_map, slice_get};
 ghost use Rattle.attached_drives.specs.Drives.{AllRest, device_of};
 ghost use Rattle.attached_drives.specs.DriveCalls.{MayBeBack, PutsBackAt};
-ghost use Rattle.attached_drives.specs.Saved.{are_saved, drives_back, drives_saved, has_track_of, have_tracks, saved_drive};
+ghost use Rattle.attached_drives.specs.Saved.{are_saved, drives_back, drives_saved, entry, has_track_of, have_tracks, saved_drive};
 ghost use Rattle.attached_drives.specs.Slots.{present};
 
 use crate::attached_drive::AttachedDrive;
