@@ -14,6 +14,7 @@ use Rattle.dasd_volumes.specs.declared.fault.VolumeFault.{VolumeFault}
 use Rattle.dasd_volumes.specs.Reading.{KnownVolume}
 use Rattle.dasd_volumes.specs.Volumes.{of_each}
 use Rattle.dasd_archive.specs.Printed.{PrintsBytes}
+use Rattle.dasd_archive.specs.Styles.{in_style}
 use Rattle.dasd_archive.specs.Walks.{ReadTrack, slot_at, tracks_in, all_tracks, text_in}
 use Rattle.dasd_archive.specs.declared.reports.Style.{Style}
 use Rattle.dasd_archive.specs.declared.reports.Style.TheVariants.{Text, Json}
@@ -35,12 +36,25 @@ difference_text (FirstUnreadable fault) = concat (codes "unreadable in the first
 difference_text (SecondUnreadable fault) = concat (codes "unreadable in the second: " ∷ fault_text fault ∷ [])
 difference_text (Unreadable at) = concat (codes "unreadable in both, bytes from " ∷ decimal at ∷ codes " on" ∷ [])
 
--- the line of a difference of a track of the volumes at two paths
-abbrev pub difference_line : Style → (path other : List ℕ) → (cylinder head : ℕ) → Difference → List ℕ
-difference_line Text path other cylinder head d = concat (address_text cylinder head ∷ codes " " ∷ difference_text d ∷ line_feed ∷ [])
-difference_line Json path other cylinder head d = concat (
-    codes "{\"path\":" ∷ path ∷ codes ",\"other\":" ∷ other ∷ codes ",\"cylinder\":" ∷ decimal cylinder ∷ codes ",\"head\":" ∷ decimal head
-    ∷ codes ",\"text\":\"" ∷ difference_text d ∷ codes "\"}" ∷ line_feed ∷ [])
+-- a track of two volumes that is compared: how its differences are written, with the paths of both volumes, whether they are written at
+-- all, and where it is
+pub record ComparedTrack : Type 0 where
+  pub style : Style
+  pub path : List ℕ
+  pub other : List ℕ
+  pub lists : Bool
+  pub cylinder : ℕ
+  pub head : ℕ
+
+-- the line of a difference of a track
+abbrev pub difference_line : ComparedTrack → Difference → List ℕ
+difference_line t d = in_style t.style (concat (address_text t.cylinder t.head ∷ codes " " ∷ difference_text d ∷ line_feed ∷ []))
+    (concat (codes "{\"path\":" ∷ t.path ∷ codes ",\"other\":" ∷ t.other ∷ codes ",\"cylinder\":" ∷ decimal t.cylinder ∷ codes ",\"head\":"
+    ∷ decimal t.head ∷ codes ",\"text\":\"" ∷ difference_text d ∷ codes "\"}" ∷ line_feed ∷ []))
+
+-- the lines of several
+abbrev pub difference_lines : ComparedTrack → List Difference → List ℕ
+difference_lines t ds = flat_map (difference_line t) ds
 
 -- What differs of two tracks.
 
@@ -85,9 +99,8 @@ differences_in slot other_slot =
 -- Volumes.
 
 -- the lines of a track's differences, or none where only tracks are counted
-abbrev pub track_lines : Style → (path other : List ℕ) → (lists : Bool) → (cylinder head : ℕ) → (slot other_slot : List ℕ) → List ℕ
-track_lines style path other lists cylinder head slot other_slot =
-    if lists then flat_map (difference_line style path other cylinder head) (differences_in slot other_slot) else []
+abbrev pub track_lines : ComparedTrack → (slot other_slot : List ℕ) → List ℕ
+track_lines t slot other_slot = if t.lists then difference_lines t (differences_in slot other_slot) else []
 
 -- one where the slots differ
 abbrev pub changed : (slot other_slot : List ℕ) → List Bool
@@ -95,8 +108,14 @@ changed slot other_slot = if bytes_eq slot other_slot then [] else true ∷ []
 
 -- a track, and the slots of the volume that it is compared with
 abbrev pub lines_beside : Style → (path other : List ℕ) → (lists : Bool) → (other_slots : List (List ℕ)) → ReadTrack → List ℕ
-lines_beside style path other lists other_slots t =
-    track_lines style path other lists t.track.cylinder t.track.head t.slot (slot_at t.track.geometry other_slots t.track.cylinder t.track.head)
+lines_beside style path other lists other_slots t = track_lines (record {
+  style = style;
+  path = path;
+  other = other;
+  lists = lists;
+  cylinder = t.track.cylinder;
+  head = t.track.head;
+}) t.slot (slot_at t.track.geometry other_slots t.track.cylinder t.track.head)
 
 abbrev pub changed_beside : (other_slots : List (List ℕ)) → ReadTrack → List Bool
 changed_beside other_slots t = changed t.slot (slot_at t.track.geometry other_slots t.track.cylinder t.track.head)

@@ -7,4 +7,5 @@ pub mod Numbered
 pub mod Printed
 pub mod Reports
 pub mod Strict
+pub mod Styles
 pub mod Walks

@@ -13,7 +13,7 @@ use Rattle.dasd_volumes.specs.Volumes.{of_each}
 use Rattle.dasd_archive.specs.declared.reports.Style.{Style}
 use Rattle.dasd_archive.specs.declared.reports.Style.TheVariants.{Text, Json}
 use Rattle.dasd_archive.specs.declared.dumps.Range.{Range}
-use Rattle.dasd_archive.specs.Dump.{place_text, unreadable_line}
+use Rattle.dasd_archive.specs.Dump.{place_text, unreadable_object}
 use Rattle.dasd_archive.specs.declared.walks.Tracks.{Tracks}
 use Rattle.dasd_archive.specs.Walks.{ReadTrack, all_heads, text_in}
 
@@ -58,7 +58,7 @@ track_object path model cylinder head t =
 abbrev pub track_part : Style → (path : List ℕ) → DriveModel → (cylinder head : ℕ) → Result Track SlotFault → List ℕ
 track_part Text path model cylinder head seen = track_lines model cylinder head seen
 track_part Json path model cylinder head (Ok t) = track_object path model cylinder head t
-track_part Json path model cylinder head (Err fault) = unreadable_line Json path cylinder head fault
+track_part Json path model cylinder head (Err fault) = unreadable_object path cylinder head fault
 
 -- a track has a record behind its first one, or can't be read
 abbrev pub is_used : Result Track SlotFault → Bool

@@ -1,12 +1,11 @@
 //! Two tracks are compared.
 
 ghost use Rattle.std.specs.Prelude.{◌≡◌, ◌<◌, ◌≤◌, ◌+◌, [], ◌∷◌, ◌==◌, IsOk, Ok, length, drop, min, bytes_eq, IfOk, OnOk, if◌then◌else◌};
-ghost use Rattle.std.specs.List.{flat_map};
 ghost use Rattle.std.specs.Io.KnownBytes.{Appends};
 ghost use Rattle.ckd_track.specs.Track.{track_of, track_in, record_in};
 ghost use Rattle.ckd_track.specs.Changes.{end_offset};
 ghost use Rattle.dasd_volumes.specs.Volumes.{of_each};
-ghost use Rattle.dasd_archive.specs.Compare.{difference_line, where_not, same_length, record_differences, rest_differences, readable_differences};
+ghost use Rattle.dasd_archive.specs.Compare.{difference_line, difference_lines, where_not, same_length, record_differences, rest_differences, readable_differences};
 ghost use Rattle.dasd_archive.specs.Compare.{differences_of, track_lines, changed};
 
 use crate::compares::Comparison;
@@ -17,12 +16,28 @@ use ckd_track::{TrackView, end_offset_of, read_slot};
 use dasd_volumes::PrintedAddress;
 use std::io;
 use std::io::Write;
+use std::marker::Model;
 
 /// How the lines of two tracks are written, and where both stand.
-#[derive(Clone, Copy)]
+#[derive(Drop)]
 pub(crate) struct DifferenceForm<'a> {
     pub(crate) form: Comparison<'a>,
     pub(crate) address: PrintedAddress,
+}
+
+impl<'a> Model for DifferenceForm<'a> {
+    ghost use Rattle.dasd_archive.specs.Compare.{ComparedTrack};
+
+    ghost Value = { ComparedTrack };
+
+    ghost view = { λ f. record {
+      style = f.form.style;
+      path = f.form.path.now;
+      other = f.form.other.now;
+      lists = f.form.lists;
+      cylinder = f.address.cylinder;
+      head = f.address.head;
+    } };
 }
 
 // A slot, and the track that it spells.
@@ -42,8 +57,7 @@ pub(crate) fn compare_track<W: Write>(
     ensures number { IfOk result (λ n. n ≡ length (changed slot.now other_slot.now)) }
     ensures few { IfOk result (λ n. n ≤ 1) }
     ensures lines { OnOk result (Appends (W.contents writer.old) (W.contents writer.new)
-        (track_lines lines.now.form.style lines.now.form.path.now lines.now.form.other.now lines.now.form.lists lines.now.address.cylinder
-        lines.now.address.head slot.now other_slot.now)) }
+        (track_lines lines.now slot.now other_slot.now)) }
 {
     if slot == other_slot {
         return Ok(0);
@@ -60,8 +74,7 @@ fn write_listed<W: Write>(
     other_slot: &[u8],
 ) -> io::Result<()>
     ensures { OnOk result (Appends (W.contents writer.old) (W.contents writer.new)
-        (if lines.now.form.lists then flat_map (difference_line lines.now.form.style lines.now.form.path.now lines.now.form.other.now lines.now.address.cylinder
-        lines.now.address.head)
+        (if lines.now.lists then difference_lines lines.now
         (differences_of slot.now other_slot.now (track_of slot.now) (track_of other_slot.now)) else [])) }
 {
     if lines.form.lists {
@@ -79,8 +92,7 @@ fn write_differences<W: Write>(
     other_slot: &[u8],
 ) -> io::Result<()>
     ensures { OnOk result (Appends (W.contents writer.old) (W.contents writer.new)
-        (flat_map (difference_line lines.now.form.style lines.now.form.path.now lines.now.form.other.now lines.now.address.cylinder lines.now.address.head)
-        (differences_of slot.now other_slot.now (track_of slot.now) (track_of other_slot.now)))) }
+        (difference_lines lines.now (differences_of slot.now other_slot.now (track_of slot.now) (track_of other_slot.now)))) }
 {
     match read_slot(slot) {
         Ok(track) => match read_slot(other_slot) {
@@ -111,8 +123,7 @@ fn write_difference<W: Write>(
     difference: Difference,
 ) -> io::Result<()>
     ensures { OnOk result (Appends (W.contents writer.old) (W.contents writer.new)
-        (flat_map (difference_line lines.now.form.style lines.now.form.path.now lines.now.form.other.now lines.now.address.cylinder lines.now.address.head)
-        (difference ∷ []))) }
+        (difference_lines lines.now (difference ∷ []))) }
 {
     write_line(writer, lines, difference)
 }
@@ -124,7 +135,7 @@ fn write_line<W: Write>(
     difference: Difference,
 ) -> io::Result<()>
     ensures { OnOk result (Appends (W.contents writer.old) (W.contents writer.new)
-        (difference_line lines.now.form.style lines.now.form.path.now lines.now.form.other.now lines.now.address.cylinder lines.now.address.head difference)) }
+        (difference_line lines.now difference)) }
 {
     let path = lines.form.path;
     let other = lines.form.other;
@@ -147,8 +158,7 @@ fn write_unless<W: Write>(
     difference: Difference,
 ) -> io::Result<()>
     ensures { OnOk result (Appends (W.contents writer.old) (W.contents writer.new)
-        (flat_map (difference_line lines.now.form.style lines.now.form.path.now lines.now.form.other.now lines.now.address.cylinder lines.now.address.head)
-        (where_not is_same difference))) }
+        (difference_lines lines.now (where_not is_same difference))) }
 {
     if is_same {
         Ok(())
@@ -180,8 +190,7 @@ fn compare_readable<W: Write>(
     requires first { track_of one.now.slot.now ≡ Ok one.now.track }
     requires second { track_of other.now.slot.now ≡ Ok other.now.track }
     ensures { OnOk result (Appends (W.contents writer.old) (W.contents writer.new)
-        (flat_map (difference_line lines.now.form.style lines.now.form.path.now lines.now.form.other.now lines.now.address.cylinder lines.now.address.head)
-        (readable_differences one.now.slot.now other.now.slot.now one.now.track other.now.track))) }
+        (difference_lines lines.now (readable_differences one.now.slot.now other.now.slot.now one.now.track other.now.track))) }
 {
     compare_home_addresses(writer, lines, &one.track, &other.track)?;
     compare_numbers(writer, lines, &one.track, &other.track)?;
@@ -197,8 +206,7 @@ fn compare_home_addresses<W: Write>(
     other: &TrackView,
 ) -> io::Result<()>
     ensures { OnOk result (Appends (W.contents writer.old) (W.contents writer.new)
-        (flat_map (difference_line lines.now.form.style lines.now.form.path.now lines.now.form.other.now lines.now.address.cylinder lines.now.address.head)
-        (where_not (bytes_eq one.now.home_address other.now.home_address) (Difference.HomeAddress one.now.home_address other.now.home_address)))) }
+        (difference_lines lines.now (where_not (bytes_eq one.now.home_address other.now.home_address) (Difference.HomeAddress one.now.home_address other.now.home_address)))) }
 {
     let first = one.ha();
     let second = other.ha();
@@ -214,8 +222,7 @@ fn compare_numbers<W: Write>(
     other: &TrackView,
 ) -> io::Result<()>
     ensures { OnOk result (Appends (W.contents writer.old) (W.contents writer.new)
-        (flat_map (difference_line lines.now.form.style lines.now.form.path.now lines.now.form.other.now lines.now.address.cylinder lines.now.address.head)
-        (where_not (length one.now.records == length other.now.records) (Difference.Records (length one.now.records) (length other.now.records))))) }
+        (difference_lines lines.now (where_not (length one.now.records == length other.now.records) (Difference.Records (length one.now.records) (length other.now.records))))) }
 {
     let first = one.len();
     let second = other.len();
@@ -238,8 +245,7 @@ fn compare_records<W: Write>(
     other: &TrackView,
 ) -> io::Result<()>
     ensures { OnOk result (Appends (W.contents writer.old) (W.contents writer.new)
-        (flat_map (difference_line lines.now.form.style lines.now.form.path.now lines.now.form.other.now lines.now.address.cylinder lines.now.address.head)
-        (of_each (λ i. record_differences i (record_in one.now i) (record_in other.now i)) (min (length one.now.records) (length other.now.records))))) }
+        (difference_lines lines.now (of_each (λ i. record_differences i (record_in one.now i) (record_in other.now i)) (min (length one.now.records) (length other.now.records))))) }
 {
     for i in 0..one.len().min(other.len()) {
         compare_record(writer, lines, one, other, i)?;
@@ -258,8 +264,7 @@ fn compare_record<W: Write>(
     requires first { i < length one.now.records }
     requires second { i < length other.now.records }
     ensures { OnOk result (Appends (W.contents writer.old) (W.contents writer.new)
-        (flat_map (difference_line lines.now.form.style lines.now.form.path.now lines.now.form.other.now lines.now.address.cylinder lines.now.address.head)
-        (record_differences i (record_in one.now i) (record_in other.now i)))) }
+        (difference_lines lines.now (record_differences i (record_in one.now i) (record_in other.now i)))) }
 {
     compare_identifiers(writer, lines, one, other, i)?;
     compare_keys(writer, lines, one, other, i)?;
@@ -277,8 +282,7 @@ fn compare_identifiers<W: Write>(
     requires first { i < length one.now.records }
     requires second { i < length other.now.records }
     ensures { OnOk result (Appends (W.contents writer.old) (W.contents writer.new)
-        (flat_map (difference_line lines.now.form.style lines.now.form.path.now lines.now.form.other.now lines.now.address.cylinder lines.now.address.head)
-        (where_not (bytes_eq (record_in one.now i).id (record_in other.now i).id) (Difference.Identifier i (record_in one.now i).id
+        (difference_lines lines.now (where_not (bytes_eq (record_in one.now i).id (record_in other.now i).id) (Difference.Identifier i (record_in one.now i).id
         (record_in other.now i).id)))) }
 {
     let first = identifier(one, i);
@@ -298,8 +302,7 @@ fn compare_keys<W: Write>(
     requires first { i < length one.now.records }
     requires second { i < length other.now.records }
     ensures { OnOk result (Appends (W.contents writer.old) (W.contents writer.new)
-        (flat_map (difference_line lines.now.form.style lines.now.form.path.now lines.now.form.other.now lines.now.address.cylinder lines.now.address.head)
-        (where_not (bytes_eq (record_in one.now i).key_area (record_in other.now i).key_area)
+        (difference_lines lines.now (where_not (bytes_eq (record_in one.now i).key_area (record_in other.now i).key_area)
         (Difference.Key i (same_length (record_in one.now i).key_area (record_in other.now i).key_area))))) }
 {
     let first = one.key_of(i);
@@ -319,8 +322,7 @@ fn compare_contents<W: Write>(
     requires first { i < length one.now.records }
     requires second { i < length other.now.records }
     ensures { OnOk result (Appends (W.contents writer.old) (W.contents writer.new)
-        (flat_map (difference_line lines.now.form.style lines.now.form.path.now lines.now.form.other.now lines.now.address.cylinder lines.now.address.head)
-        (where_not (bytes_eq (record_in one.now i).data_area (record_in other.now i).data_area)
+        (difference_lines lines.now (where_not (bytes_eq (record_in one.now i).data_area (record_in other.now i).data_area)
         (Difference.Contents i (same_length (record_in one.now i).data_area (record_in other.now i).data_area))))) }
 {
     let first = one.data_of(i);
@@ -345,8 +347,7 @@ fn compare_rests<W: Write>(
     other: &[u8],
 ) -> io::Result<()>
     ensures { OnOk result (Appends (W.contents writer.old) (W.contents writer.new)
-        (flat_map (difference_line lines.now.form.style lines.now.form.path.now lines.now.form.other.now lines.now.address.cylinder lines.now.address.head)
-        (rest_differences one.now other.now))) }
+        (difference_lines lines.now (rest_differences one.now other.now))) }
 {
     let same = same_length(one, other);
     let shorter = one.len().min(other.len());

@@ -231,8 +231,7 @@ fn print_track<W: Write>(
     ensures number { IfOk result (λ n. n ≡ length (changed slot.now (take held room.old.slot.items))) }
     ensures few { IfOk result (λ n. n ≤ 1) }
     ensures lines { PrintsBytes result
-        (track_lines form.now.form.style form.now.form.path.now form.now.form.other.now form.now.form.lists form.now.address.cylinder form.now.address.head
-        slot.now (take held room.old.slot.items))
+        (track_lines form.now slot.now (take held room.old.slot.items))
         (seen_by W.contents writer.old) (seen_by W.contents writer.new) }
     ensures writes { CountsWrites result (seen_by W.contents writer.old) (seen_by W.contents writer.new) }
     ensures fault { IfErr result (λ e. e ≢ VolumeFault.Store) }

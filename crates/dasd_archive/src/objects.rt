@@ -5,8 +5,7 @@ ghost use Rattle.std.specs.Fmt.{decimal};
 ghost use Rattle.std.specs.List.{concat};
 ghost use Rattle.counted_io.specs.Streams.{seen_by, WritesWhole};
 ghost use Rattle.dasd_volumes.specs.Volumes.{of_each};
-ghost use Rattle.dasd_archive.specs.declared.reports.Style.{Style};
-ghost use Rattle.dasd_archive.specs.Dump.{place_text, unreadable_line};
+ghost use Rattle.dasd_archive.specs.Dump.{place_text, unreadable_object};
 ghost use Rattle.dasd_archive.specs.Listing.{volume_object, comma_before, listed_record, whole_text, track_object};
 
 use crate::lists::model_number;
@@ -74,7 +73,7 @@ pub(crate) fn list_unreadable_object<W: Write>(
     fault: SlotFault,
 ) -> Result<(), WriteFault>
     ensures { WritesWhole result (seen_by W.contents writer.old) (seen_by W.contents writer.new)
-        (unreadable_line Style.Json path.now address.cylinder address.head fault) }
+        (unreadable_object path.now address.cylinder address.head fault) }
 {
     begin_object(writer, path, address)?;
     let mut line: ArrayString<LINE> = ArrayString::new();

@@ -9,8 +9,7 @@ use Rattle.dasd_archive.proofs.compared.compare_readable.Goals as goal
 
 pub returns : goal.returns
 returns g c =
-    let line = difference_line c.args.lines.now.form.style c.args.lines.now.form.path.now c.args.lines.now.form.other.now
-    c.args.lines.now.address.cylinder c.args.lines.now.address.head in
+    let line = difference_line c.args.lines.now in
     let a = c.args.one.now.track in
     let b = c.args.other.now.track in
     let addresses = where_not (bytes_eq a.home_address b.home_address) (HomeAddress a.home_address b.home_address) in

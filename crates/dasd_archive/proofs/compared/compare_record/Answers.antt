@@ -7,8 +7,7 @@ use Rattle.dasd_archive.proofs.compared.compare_record.Goals as goal
 
 pub returns : goal.returns
 returns g c =
-    let line = difference_line c.args.lines.now.form.style c.args.lines.now.form.path.now c.args.lines.now.form.other.now
-    c.args.lines.now.address.cylinder c.args.lines.now.address.head in
+    let line = difference_line c.args.lines.now in
     let i = c.args.i in
     let a = record_in c.args.one.now i in
     let b = record_in c.args.other.now i in
