@@ -1,12 +1,12 @@
 //! A comparison of two volumes.
 
-ghost use Rattle.std.specs.Prelude.{◌≡◌, ◌≢◌, ◌<◌, ◌≤◌, length, take, OnOk, IfOk, IfErr};
+ghost use Rattle.std.specs.Prelude.{◌≡◌, ◌≢◌, ◌+◌, ◌<◌, ◌≤◌, length, take, OnOk, IfOk, IfErr};
 ghost use Rattle.std.specs.Io.KnownBytes.{Appends};
 ghost use Rattle.counted_io.specs.Streams.{seen_by, IsFlushed};
 ghost use Rattle.ckd_image.specs.Store.{Counts};
 ghost use Rattle.ckd_track.specs.Geometry.{track_at};
 ghost use Rattle.dasd_volumes.specs.Printing.{CountsWrites};
-ghost use Rattle.dasd_volumes.specs.Reading.{IsSlotOf};
+ghost use Rattle.dasd_volumes.specs.Reading.{IsRead, IsSlotOf};
 ghost use Rattle.dasd_archive.specs.Printed.{PrintsBytes};
 ghost use Rattle.dasd_archive.specs.Compare.{track_lines, changed, changed_in, number_line, compare_text};
 ghost use Rattle.dasd_archive.specs.Compare.{PrintsBoth, NumberOfBoth};
@@ -59,8 +59,9 @@ struct ComparedTracks<'a, U> {
 ///
 /// # Errors
 ///
-/// There is no memory for two slots or for the lines of a track; a read of a volume failed; or a write failed, or the last flush, and
-/// exactly then it is a write fault. What was printed are the first bytes of the text.
+/// There is no memory for two slots or for the lines of a track; a read of one of the volumes failed, and exactly then it is a fault of
+/// the store; or a write failed, or the last flush, and exactly then it is a write fault. What was printed are the first bytes of the
+/// text, also before a read that failed.
 pub fn compare<V: SlotReader, U: SlotReader, W: Write>(
     alloc: Global,
     one: &mut V,
@@ -73,7 +74,8 @@ pub fn compare<V: SlotReader, U: SlotReader, W: Write>(
     ensures lines { PrintsBoth result (compare_text form.entry.style form.entry.path.now form.entry.other.now form.entry.lists)
         (V.volume one.old) (U.volume other.old) (seen_by W.contents writer.old) (seen_by W.contents writer.new) }
     ensures writes { CountsWrites result (seen_by W.contents writer.old) (seen_by W.contents writer.new) }
-    ensures kept { V.volume one.new ≡ V.volume one.old }
+    ensures volume { IsRead result (V.volume one.old) (V.volume one.new)
+        (V.failures one.old + U.failures other.old) (V.failures one.new + U.failures other.new) }
     ensures other_kept { U.volume other.new ≡ U.volume other.old }
     ensures flushed { OnOk result (IsFlushed (seen_by W.contents writer.new)) }
 {
@@ -114,6 +116,7 @@ fn print_number<W: Write>(
     ensures lines { PrintsBytes result (number_line form.now.style form.now.path.now form.now.other.now differing)
         (seen_by W.contents writer.old) (seen_by W.contents writer.new) }
     ensures writes { CountsWrites result (seen_by W.contents writer.old) (seen_by W.contents writer.new) }
+    ensures fault { IfErr result (λ e. e ≢ VolumeFault.Store) }
     ensures flushed { OnOk result (IsFlushed (seen_by W.contents writer.new)) }
 {
     lines.clear();
