@@ -20,14 +20,14 @@ use Rattle.ckd_position.specs.declared.areas.RecordPart.{RecordPart}
 use Rattle.ckd_position.specs.declared.extents.AreaBytes.{AreaBytes}
 use Rattle.ckd_position.specs.declared.extents.AreaBytes.TheVariants as extent
 use Rattle.ckd_position.specs.Contents.{Sighted, bytes_of, record_on, records_on, is_readable}
-use Rattle.ckd_slot.specs.Buffer.{Lies, Tabled, IsRead, IsBuffer, HasBytes, StandsThere, home_address_place, record_place}
+use Rattle.ckd_slot.specs.Buffer.{Lies, Tabled, IsRead, IsIndexed, IsBuffer, HasBytes, StandsThere, home_address_place, record_place}
 
 take_five : (slot ha : List ℕ) → take 5 slot ≡ ha → take 4 (drop 1 slot) ≡ drop 1 ha
 take_five [] ha e = rw (← e) refl
 take_five (x ∷ slot) ha e = rw (← e) refl
 
 pub home_lies : (slot : List ℕ) (t : Track) (e : AreaBytes) → Spells slot t
-  → Lies slot (home_address_place e) (bytes_of e (Ok t) HomeAddress)
+    → Lies slot (home_address_place e) (bytes_of e (Ok t) HomeAddress)
 home_lies slot t extent.HomeAddress s = let h = home_is slot t s in
     record { within = omega (arith, ap length h, length-take 5 slot, s.home_address); size = s.home_address; here = h }
 home_lies slot t extent.CylinderAndHead s = let h = home_is slot t s in
@@ -84,10 +84,14 @@ pub record Reads (slot : List ℕ) : Type 0 where
   pub read : track_of slot ≡ Ok (track_in slot)
   pub spells : Spells slot (track_in slot)
 
+pub reads_indexed : {slot offsets : List ℕ} {records : Option ℕ} → IsIndexed slot offsets records → is_readable (track_of slot) ≡ true
+    → Reads slot
+reads_indexed {slot} {offsets} {records = Some n} x e = record { read = x.read.read; spells = x.read.spells }
+reads_indexed {slot} {offsets} {records = None} x e = absurd (let no : is_readable (track_of slot) ≡ false = x.read in cc)
+
 pub reads : {slot offsets : List ℕ} {records : Option ℕ} {zeros_from : ℕ} {charged : Charged}
     → IsBuffer slot offsets records zeros_from charged → is_readable (track_of slot) ≡ true → Reads slot
-reads {slot} {offsets} {records = Some n} x e = record { read = x.indexed.read.read; spells = x.indexed.read.spells }
-reads {slot} {offsets} {records = None} x e = absurd (let no : is_readable (track_of slot) ≡ false = x.indexed.read in cc)
+reads x e = reads_indexed x.indexed e
 
 pub home_window : {slot : List ℕ} (e : AreaBytes) → Reads slot → Lies slot (home_address_place e) (bytes_of e (track_of slot) HomeAddress)
 home_window {slot} e r =
@@ -117,7 +121,7 @@ lies_nowhere : (slot bytes : List ℕ) → bytes ≡ [] → Lies slot (record { 
 lies_nowhere slot bytes e = rw e (record { within = omega arith; size = refl; here = refl })
 
 pub no_window : (slot : List ℕ) (e : AreaBytes) (part : RecordPart) (i : ℕ) → StandsThere slot i None
-  → HasBytes e (track_of slot) (Of part i)
+    → HasBytes e (track_of slot) (Of part i)
     → Lies slot (record { start = 0; len = 0 }) (bytes_of e (track_of slot) (Of part i))
 no_window slot extent.Count part i le on = absurd (omega (arith, le, on))
 no_window slot extent.CountKeyAndData part i le on = absurd (omega (arith, le, on))

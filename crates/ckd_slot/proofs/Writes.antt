@@ -33,7 +33,7 @@ use Rattle.ckd_slot.specs.declared.charges.Charged.{Charged}
 use Rattle.ckd_position.specs.declared.extents.AreaBytes.{AreaBytes}
 use Rattle.ckd_position.specs.declared.extents.AreaBytes.TheVariants as extent
 use Rattle.ckd_slot.specs.declared.windows.Window.{Window}
-use Rattle.ckd_slot.proofs.AreaPlaces.{Reads, reads, parts_there, how_many}
+use Rattle.ckd_slot.proofs.AreaPlaces.{Reads, reads_indexed, parts_there, how_many}
 use Rattle.ckd_slot.proofs.Lengths.{lengths_of}
 use Rattle.ckd_slot.proofs.Begun.{zeros_first}
 
@@ -399,7 +399,7 @@ padded_replaces extent.KeyAndData r b u le = (let n = length r.key_area + length
 padded_replaces e r b u le = absurd u
 
 pub padded_changes : (e : AreaBytes) (part : RecordPart) (i : ℕ) (t : Track) (b : List ℕ) → IsUpdate e
-  → length b ≤ update_length e (record_in t i)
+    → length b ≤ update_length e (record_in t i)
     → with_record_changed (replaced e (padded b (update_length e (record_in t i)))) (Of part i) t ≡ with_record_changed (replaced e b)
     (Of part i) t
 padded_changes e part i t b u le = ap (λ (x : Record). let y : Track = record t { records = set t.records i x } in
@@ -430,14 +430,13 @@ pub record Made (slot : List ℕ) (number : ℕ) (count : List ℕ) (w : Window)
   pub few : 13 + 8 * number ≤ length slot
   pub size : length slot < 2 ^ 32
 
--- a new record in a buffer; it names each field that the buffer keeps beside its slot, and the record by its parts
-pub made_by : {slot offsets : List ℕ} {records : Option ℕ} {zeros_from : ℕ} {charged : Charged} {bytes : List ℕ} (number : ℕ)
-    (count : List ℕ) (w : Window)
-    → IsBuffer slot offsets records zeros_from charged → is_readable (track_of slot) ≡ true → AreBytes count → length count ≡ 8
+-- a new record in a slot with its table
+pub made_by : {slot offsets : List ℕ} {records : Option ℕ} {bytes : List ℕ} (number : ℕ) (count : List ℕ) (w : Window)
+    → IsIndexed slot offsets records → is_readable (track_of slot) ≡ true → AreBytes count → length count ≡ 8
     → CanMake (length slot) (track_of slot) number count w bytes → Made slot number count w
 made_by {slot} number count w x r bytes eight can =
     let k : Fitting slot number (area_before number) count = record {
-      spells = (reads x r).spells;
+      spells = (reads_indexed x r).spells;
       bytes = bytes;
       eight = eight;
       no_mark = can.no_end_mark;
@@ -457,7 +456,7 @@ made_by {slot} number count w x r bytes eight can =
       room = omega (arith, start, len, format_room k);
       few =
           omega (arith, can.there, few);
-      size = x.indexed.size;
+      size = x.size;
     }
 
 -- the records that are kept are the first ones, so many of them
