@@ -185,7 +185,7 @@ MEASURES = (
     Measure("parameters of a function", 5, 1),
     Measure("lines of a function's body", 40, 0),
     Measure("lines of a file", 500, 0),
-    Measure("functions of a crate", 100, 5),
+    Measure("functions of a crate", 100, 3),
     Measure("columns of a clause", 160, 0),
     Measure("columns of a line of a proof", 140, 0),
     Measure("binders of a lemma", 12, 20),

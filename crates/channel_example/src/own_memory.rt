@@ -8,7 +8,7 @@ use crate::volumes::new_volume;
 use anyhow::Result;
 use ckd_image::MemoryStore;
 use s360_channel::Selector;
-use s360_program::lent::{Lent, LentFault};
+use s360_storage::{Lent, LentFault};
 use s360_words::Csw;
 use std::alloc::Global;
 

@@ -2,7 +2,7 @@
 
 use crate::told::ToldMoment;
 use s360_events::{Answer, Condition, Event, Status};
-use s360_program::main_storage::MainStorage;
+use s360_storage::MainStorage;
 use s360_words::{CSW_ADDRESS, Csw};
 
 /// What happens at a moment.

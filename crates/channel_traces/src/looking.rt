@@ -10,7 +10,7 @@ use crate::told::ToldMoment;
 use ckd_image::ImageStore;
 use s360_channel::DriveView;
 use s360_channels::Selectors;
-use s360_program::main_storage::MainStorage;
+use s360_storage::MainStorage;
 use s360_trace::Moment;
 use trace_lines::{KeptTrace, Shown, Trace, Work, ending_of};
 use trace_words::{ROOM, Text};

@@ -146,7 +146,7 @@ overwritten_whole _ _ e = absurd (omega (arith, e))
 
 pub record SaveLost (d : Parts) (left : List ℕ) (new : DriveState) : Type 0 where
   pub held : d.job.cache.held ≡ Some (own_track d.job)
-  pub written : d.mark ≡ WrittenArea
+  pub written : d.mark ≡ Written
   pub whole : overwritten (own_slot d.job) 0 left ≡ left
   pub fault : fault_met (state_of d) new ≡ Some (SaveFails left)
 

@@ -82,7 +82,7 @@ pub format_bytes : (t : Sighted) (after : Option Area) (b : List ℕ) (i : ℕ) 
 format_bytes t after b i e eight = ap (update_length extent.KeyAndData) (record_last t after b i eight e) ∙ length-record b [] (omega arith)
 
 pub format_written : (t : Sighted) (after : Option Area) (b m : List ℕ) (part : RecordPart) (i : ℕ) → length b ≡ 8
-  → i ≡ length (kept t after)
+    → i ≡ length (kept t after)
     → length m ≤ body_length b
     → with_record_changed
     (replaced extent.KeyAndData (padded (drop 8 (b ++ m)) (update_length extent.KeyAndData (record_in (formatted t after b) i))))

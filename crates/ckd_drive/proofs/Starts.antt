@@ -126,7 +126,7 @@ module _ (old : HalfDone) (was : Mark) (x : Stands (parts_of old was stage.Idle)
 
 -- the answer goes by the stage
 begun_work : (x : AfterBegin) (d : DriveState) (s : DriveStage) (h : HalfDone) → is_idle d.work ≡ true
-  → work_of s h ≡ (after_begun x d).work
+    → work_of s h ≡ (after_begun x d).work
     → begun_at s ≡ answer_of_begin x
 begun_work (Rejected t) d s h idle e = rw (idle_stage s h (ap is_idle e ∙ idle)) refl
 begun_work (Immediate t motion) d stage.Ended h idle e = refl

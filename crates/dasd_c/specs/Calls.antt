@@ -4,7 +4,7 @@ use Rattle.s360_words.specs.Storage.{Storage, Change, KeyOf, is_size}
 use Rattle.s360_words.specs.declared.words.Csw.{Csw}
 use Rattle.s360_laws.specs.Events as machine
 use Rattle.s360_laws.specs.Machine.{part_of}
-use Rattle.s360_program.specs.Lent.{IsStorage}
+use Rattle.s360_storage.specs.Lent.{IsStorage}
 use Rattle.s360_channel.specs.Channel.{ChannelState}
 use Rattle.s360_channel.specs.Views.{key_in}
 use Rattle.s360_channels.specs.Asked.{TestsAt, is_attached}

@@ -9,7 +9,7 @@ use Rattle.s360_channel.specs.Shares.{with_storage}
 use Rattle.s360_channel.specs.Packs.{runs_at}
 use Rattle.s360_channel.specs.Views.{view_of}
 use Rattle.s360_channels.specs.Asked.{drive_at, image_at}
-use Rattle.s360_channel.specs.declared.view.DriveView.{DriveView}
+use Rattle.attached_drives.specs.declared.view.DriveView.{DriveView}
 use Rattle.s360_channel.specs.declared.view.RunOn.{RunOn}
 use Rattle.s360_channel.specs.declared.view.SubchannelView.{SubchannelView}
 use Rattle.s360_channel.specs.declared.view.SubchannelView.TheVariants.{Working}

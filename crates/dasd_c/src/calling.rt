@@ -2,8 +2,8 @@
 //! and what was held is put back.
 
 ghost use Rattle.std.specs.Prelude.{◌≡◌, ℕ, ℤ, IfSome, None, length};
-ghost use Rattle.s360_program.specs.Advances.{KeepsStorage};
-ghost use Rattle.s360_program.specs.Lent.{IsStorage, lent};
+ghost use Rattle.s360_storage.specs.Kept.{KeepsStorage};
+ghost use Rattle.s360_storage.specs.Lent.{IsStorage, lent};
 ghost use Rattle.s360_channels.specs.Channels.{ChannelsState};
 ghost use Rattle.s360_channels.specs.Selectors.{across};
 ghost use Rattle.dasd_c.specs.Calls.{Calls, CallsLent, OverLent, Own, RefusesMemory};
@@ -13,8 +13,7 @@ use crate::tell::{BAD_BLOCKS, BAD_SIZE, NO_STORAGE, NOTHING_HELD, OTHER_SIZE};
 use dasd_files::VolumeFile;
 use dasd_subsystem::Subsystem;
 use s360_channels::Selectors;
-use s360_program::lent::{Lent, LentFault};
-use s360_program::main_storage::MainStorage;
+use s360_storage::{Lent, LentFault, MainStorage};
 use std::alloc::Global;
 
 /// A call that wants main storage: what C gives it, and what it tells C beside its number.

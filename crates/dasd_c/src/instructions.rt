@@ -3,7 +3,7 @@
 
 ghost use Rattle.std.specs.Prelude.{◌≡◌, ◌/◌, ◌<◌, ◌^◌, pos, length};
 ghost use Rattle.s360_words.specs.Storage.{Storage as StorageState};
-ghost use Rattle.s360_program.specs.Lent.{lent};
+ghost use Rattle.s360_storage.specs.Lent.{lent};
 ghost use Rattle.s360_laws.specs.Events as machine;
 ghost use Rattle.s360_laws.specs.declared.condition.ConditionCode.TheVariants.{Three};
 ghost use Rattle.s360_channels.specs.Selectors.{across};
@@ -14,7 +14,7 @@ use crate::handle::{Handle, put, take};
 use crate::tell::{NOTHING_HELD, of_csw, of_status, of_test};
 use dasd_files::VolumeFile;
 use s360_channels::Selectors;
-use s360_program::main_storage::MainStorage;
+use s360_storage::MainStorage;
 use std::alloc::Global;
 
 /// Start I/O.

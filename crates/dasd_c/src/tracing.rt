@@ -1,7 +1,7 @@
 //! A trace of one channel, by looks: before a start, behind each unit, behind each call. Between two of them its caller keeps it.
 
 ghost use Rattle.std.specs.Prelude.{◌≡◌, pos};
-ghost use Rattle.s360_program.specs.Lent.{lent};
+ghost use Rattle.s360_storage.specs.Lent.{lent};
 ghost use Rattle.dasd_c.specs.Calls.{Calls, CallsLent};
 ghost use Rattle.dasd_c.specs.declared.tracing.Trace.{Trace as TraceState};
 ghost use Rattle.dasd_c.specs.Tracing.{LooksFor};
@@ -12,7 +12,7 @@ use crate::tell::{DONE, of_look};
 use channel_traces::{KeptTrace, ToldMoment, look};
 use dasd_files::VolumeFile;
 use s360_channels::Selectors;
-use s360_program::main_storage::MainStorage;
+use s360_storage::MainStorage;
 use std::alloc::Global;
 
 /// A trace of one channel: where its lines go, how many bytes of them the last look has told, and what is kept until the next look. With

@@ -2,8 +2,8 @@
 
 ghost use Rattle.std.specs.Prelude.{◌≡◌, ◌/◌, ℕ, false, length, pos};
 ghost use Rattle.s360_words.specs.Storage.{Storage as StorageState};
-ghost use Rattle.s360_program.specs.Advances.{KeepsStorage};
-ghost use Rattle.s360_program.specs.Lent.{lent};
+ghost use Rattle.s360_storage.specs.Kept.{KeepsStorage};
+ghost use Rattle.s360_storage.specs.Lent.{lent};
 ghost use Rattle.s360_laws.specs.Events as machine;
 ghost use Rattle.s360_channels.specs.Channels.{OnChannel};
 ghost use Rattle.s360_channels.specs.Selectors.{across};
@@ -19,7 +19,7 @@ use dasd_files::VolumeFile;
 use dasd_subsystem::seen;
 use s360_channel::RunOn;
 use s360_channels::Selectors;
-use s360_program::main_storage::MainStorage;
+use s360_storage::MainStorage;
 use std::alloc::Global;
 
 /// What came of a run: how many units were done, and the subchannel behind them.

@@ -1,7 +1,7 @@
 //! Units of a channel program until something happens for which an emulator waits.
 
 ghost use Rattle.std.specs.Prelude.{◌≡◌, ℕ, List, pos};
-ghost use Rattle.s360_program.specs.Lent.{lent};
+ghost use Rattle.s360_storage.specs.Lent.{lent};
 ghost use Rattle.dasd_c.specs.Calls.{Calls, CallsLent};
 ghost use Rattle.dasd_c.specs.Until.{RunsUntilBits};
 
@@ -12,7 +12,7 @@ use crate::tell::{BAD_UNTIL, DONE, NO_CHANNEL};
 use dasd_files::VolumeFile;
 use dasd_subsystem::{Until, Wanted, run_until};
 use s360_channels::Selectors;
-use s360_program::main_storage::MainStorage;
+use s360_storage::MainStorage;
 use std::alloc::Global;
 
 /// Units that C asks for.

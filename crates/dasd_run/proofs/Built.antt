@@ -6,7 +6,8 @@ use Rattle.std.proofs.Math.Seq.{take-suc, drop-cons}
 use Rattle.std.proofs.lemmas.Bool.Decides.{nat_tests}
 use Rattle.s360_words.specs.Storage.{is_size}
 use Rattle.s360_channel.specs.Attaches.{RefusedAs}
-use Rattle.s360_channel.specs.Channel.{ChannelState, AttachedState, is_at}
+use Rattle.s360_channel.specs.Channel.{ChannelState}
+use Rattle.attached_drives.specs.Drives.{AttachedState, is_at}
 use Rattle.s360_channel.specs.declared.faults.AttachFault.{AttachFault}
 use Rattle.s360_channel.specs.declared.faults.AttachFault.TheVariants.{UnitTaken, Full, OutOfMemory}
 use Rattle.dasd_words.specs.declared.volumes.Volume.{Volume}

@@ -4,7 +4,8 @@ use Rattle.ckd_track.specs.Geometry.{new_geometry}
 use Rattle.ckd_image.specs.Layout.{image_length}
 use Rattle.ckd_image.specs.Image.{ImageState, HoldsImage, new_image}
 use Rattle.s360_words.specs.Storage.{is_size, cleared}
-use Rattle.s360_channel.specs.Channel.{ChannelState, AttachedState, new_attached}
+use Rattle.s360_channel.specs.Channel.{ChannelState}
+use Rattle.attached_drives.specs.Drives.{AttachedState, new_attached}
 use Rattle.s360_channel.specs.declared.subchannel.Subchannel.TheVariants.{Idle}
 use Rattle.dasd_words.specs.declared.volumes.Volume.{Volume}
 use Rattle.dasd_words.specs.declared.volumes.VolumeSource.{VolumeSource}

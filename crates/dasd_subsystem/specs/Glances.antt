@@ -13,7 +13,7 @@ use Rattle.s360_channel.specs.Channel.{ChannelState, StandsFor}
 use Rattle.s360_channel.specs.Shares.{with_storage}
 use Rattle.s360_channel.specs.Views.{subchannel_seen}
 use Rattle.s360_channel.specs.Watched.{ShowsProgram, ShowsDriveAtWork}
-use Rattle.s360_channel.specs.declared.view.DriveView.{DriveView}
+use Rattle.attached_drives.specs.declared.view.DriveView.{DriveView}
 use Rattle.s360_channel.specs.declared.view.SubchannelView.{SubchannelView}
 use Rattle.s360_channel.specs.declared.view.SubchannelView.TheVariants.{Working, Pending}
 use Rattle.s360_channel.specs.declared.view.Watched.{Watched}

@@ -2,7 +2,7 @@
 
 ghost use Rattle.std.specs.Prelude.{◌≡◌, None, length, option_map};
 ghost use Rattle.s360_words.specs.Storage.{Storage as StorageState};
-ghost use Rattle.s360_program.specs.Advances.{KeepsStorage};
+ghost use Rattle.s360_storage.specs.Kept.{KeepsStorage};
 ghost use Rattle.s360_channels.specs.Channels.{OnChannel, channel_at};
 ghost use Rattle.s360_channels.specs.Selectors.{across};
 ghost use Rattle.dasd_subsystem.specs.Glances.{SeesAt, SeesWorkAt, UnitTo, asks, changes_cylinder, changes_track, crossed, cylinder_in};
@@ -16,8 +16,8 @@ use ckd_drive::{Drive, Phase};
 use ckd_image::ImageStore;
 use s360_channel::{DriveView, SubchannelView, Watched};
 use s360_channels::Selectors;
-use s360_program::main_storage::MainStorage;
 use s360_program::view::AtWork;
+use s360_storage::MainStorage;
 use s360_words::UnitStatus;
 
 /// What is seen of a channel between two units.

@@ -1,7 +1,7 @@
 //! Units of a channel program until something happens for which its caller waits, and what they came to.
 
 ghost use Rattle.std.specs.Prelude.{◌≡◌, ◌+◌, ◌<◌, ◌≤◌, None, length};
-ghost use Rattle.s360_program.specs.Advances.{KeepsStorage};
+ghost use Rattle.s360_storage.specs.Kept.{KeepsStorage};
 ghost use Rattle.s360_channels.specs.Channels.{OnChannel};
 ghost use Rattle.s360_channels.specs.Selectors.{across};
 ghost use Rattle.dasd_subsystem.specs.Shown.{numbers_of};
@@ -16,7 +16,7 @@ use crate::watched::place_of;
 use ckd_image::ImageStore;
 use s360_channel::SubchannelView;
 use s360_channels::Selectors;
-use s360_program::main_storage::MainStorage;
+use s360_storage::MainStorage;
 
 /// What a caller waits for, and what of it happened in a unit.
 #[derive(Clone, Copy)]

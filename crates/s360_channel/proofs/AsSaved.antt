@@ -8,15 +8,17 @@ use Rattle.s360_words.specs.declared.words.Csw.{Csw}
 use Rattle.s360_laws.specs.Machine.{Device, Machine, device_at}
 use Rattle.s360_laws.specs.Soundness.{AreDistinct, arm_owes, device_owes}
 use Rattle.s360_laws.specs.declared.arm.Arm.{Arm}
-use Rattle.s360_channel.specs.Channel.{AttachedState, ChannelState, Shows, StandsFor, is_at}
-use Rattle.s360_channel.specs.DriveCalls.{DriveIs, MayRestore, RestoresAt}
+use Rattle.s360_channel.specs.Channel.{ChannelState, Shows, StandsFor}
+use Rattle.attached_drives.specs.Drives.{AttachedState, is_at}
+use Rattle.attached_drives.specs.DriveCalls.{DriveIs, MayRestore, RestoresAt}
 use Rattle.s360_channel.specs.Packs.{IsFree}
-use Rattle.s360_channel.specs.Restores.{RestoresDrive, as_saved, attached_as_saved, has_saved_track}
+use Rattle.s360_channel.specs.Restores.{RestoresDrive, as_saved, has_saved_track}
+use Rattle.attached_drives.specs.Saved.{attached_as_saved}
 use Rattle.s360_channel.specs.Restores.{is_available, is_owed, with_pending, with_saved}
-use Rattle.s360_channel.specs.declared.restoring.SavedDrive.{SavedDrive}
+use Rattle.attached_drives.specs.declared.drives_saved.SavedDrive.{SavedDrive}
 use Rattle.s360_channel.specs.declared.subchannel.Subchannel.TheVariants.{Idle, Pending}
 use Rattle.s360_channel.proofs.Removing.{attached, device_there, is_free, rests_there, stands_changed}
-use Rattle.s360_channel.proofs.Places.{arm_there, devices, found_at, found_by, inside, none_found}
+use Rattle.attached_drives.proofs.Places.{arm_there, devices, found_at, found_by, inside, none_found}
 
 -- A drive that was free is as it was saved.
 

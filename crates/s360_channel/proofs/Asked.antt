@@ -25,13 +25,14 @@ use Rattle.s360_laws.specs.Soundness.{AreDistinct}
 use Rattle.s360_laws.proofs.FindDevices.{different}
 use Rattle.s360_laws.proofs.LedgerLists.{stays_sound}
 use Rattle.s360_channel.specs.Calls.{DoesQuietly}
-use Rattle.s360_channel.specs.Channel.{AttachedState, ChannelState, StandsFor, IsChannel, Shows, device_of, is_at, WorksFor}
+use Rattle.s360_channel.specs.Channel.{ChannelState, StandsFor, IsChannel, Shows, WorksFor}
+use Rattle.attached_drives.specs.Drives.{AttachedState, device_of, is_at}
 use Rattle.s360_channel.specs.declared.subchannel.Subchannel.{Subchannel}
 use Rattle.s360_channel.specs.declared.subchannel.Subchannel.TheVariants.{Idle, Working, Pending}
-use Rattle.s360_channel.specs.DriveCalls.{DriveIs, ArmChanges}
+use Rattle.attached_drives.specs.DriveCalls.{DriveIs, ArmChanges}
 use Rattle.s360_channel.specs.Nexts.{ShowsNext, of_parts, idle_machine, DoesAt, DoesIdle, DoesOn, TakesProgram, storage_told}
 use Rattle.s360_channel.proofs.Changing.{seen_by, distinct_drives, SeenBy, device_seen, shows_armed}
-use Rattle.s360_channel.proofs.Places.{FoundAt, found_by, none_found, rests_at, arm_there, inside, map_same}
+use Rattle.attached_drives.proofs.Places.{FoundAt, found_by, none_found, rests_at, arm_there, inside, map_same}
 use Rattle.s360_channel.proofs.Quiet.{images}
 use Rattle.s360_channel.proofs.Works.{seen_there}
 

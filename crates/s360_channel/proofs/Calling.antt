@@ -32,16 +32,17 @@ use Rattle.s360_events.specs.declared.conditions.Condition.{Condition}
 use Rattle.s360_events.specs.declared.conditions.Status.{Status}
 use Rattle.s360_events.specs.Seen.{condition_seen, status_seen}
 use Rattle.s360_channel.specs.Calls.{Does, IsMet, Reports, CallsAtMost}
-use Rattle.s360_channel.specs.Channel.{ChannelState, AttachedState, WorksFor, StandsFor, AllRest, device_of, machine_of, Shows, is_at}
+use Rattle.s360_channel.specs.Channel.{ChannelState, WorksFor, StandsFor, machine_of, Shows}
+use Rattle.attached_drives.specs.Drives.{AttachedState, AllRest, device_of, is_at}
 use Rattle.s360_channel.specs.declared.subchannel.Subchannel.{Subchannel}
 use Rattle.s360_channel.specs.declared.subchannel.Subchannel.TheVariants.{Idle, Pending, Working}
-use Rattle.s360_channel.specs.DriveCalls.{at_rest_attached, DriveChanges, DriveIs, AdvancesAt, CutsAt}
+use Rattle.attached_drives.specs.DriveCalls.{at_rest_attached, DriveChanges, DriveIs, AdvancesAt, CutsAt}
 use Rattle.s360_channel.specs.Ends.{arm_told, IsOver, MayBeCut, CutsProgram, LosesProgram, halted_idle, storage_halted}
 use Rattle.s360_channel.proofs.Changing.{seen_by}
 use Rattle.s360_channel.proofs.Stepping.{with_drive, with_both, channel_with, same_failures, one_failure, few_drives, does_this, fault_told}
 use Rattle.s360_channel.proofs.Stepping.{met_in, over, over_machine, over_rest, over_fault, calls_at_most, failures_told, cut_calls}
 use Rattle.s360_channel.proofs.Stepping.{runs_of, goes_on_does, ends_does}
-use Rattle.s360_channel.proofs.Places.{devices, all_of_others, inside, get_set, set_twice, both_found}
+use Rattle.attached_drives.proofs.Places.{devices, all_of_others, inside, get_set, set_twice, both_found}
 use Rattle.s360_channel.proofs.Quiet.{images, none_fails, quiet_does, calls_then_none, none_calls, nothing_does}
 use Rattle.s360_channel.proofs.Works.{subchannel_of, channel_of, seen_there, storage_seen}
 

@@ -21,13 +21,15 @@ use Rattle.s360_laws.specs.Machine as machine
 use Rattle.s360_laws.specs.Soundness.{AreDistinct, IsRunning, IsSound, IsSoundIn, device_owes}
 use Rattle.s360_laws.proofs.FindDevices.{Keeps, set_drive, found_map, keeps_one, set_arm, different}
 use Rattle.s360_channel.specs.Attaches.{NotRefused}
-use Rattle.s360_channel.specs.Channel.{AllRest, AttachedState, ChannelState, OthersRest, WorksFor, machine_of, Shows, device_of, is_at}
-use Rattle.s360_channel.specs.Channel.{StandsFor, new_attached, attached}
+use Rattle.s360_channel.specs.Channel.{ChannelState, WorksFor, machine_of, Shows}
+use Rattle.attached_drives.specs.Drives.{AllRest, AttachedState, OthersRest, device_of, is_at}
+use Rattle.s360_channel.specs.Channel.{StandsFor, attached}
+use Rattle.attached_drives.specs.Drives.{new_attached}
 use Rattle.s360_channel.specs.declared.subchannel.Subchannel.{Subchannel}
 use Rattle.s360_channel.specs.declared.subchannel.Subchannel.TheVariants.{Idle, Working, Pending}
 use Rattle.s360_channel.specs.Packs.{pends_for, runs_at, volume_in}
-use Rattle.s360_channel.proofs.Places.{changes, devices, all_set, devices_set, distinct_before, get_other, get_set, inside, others_put}
-use Rattle.s360_channel.proofs.Places.{rests_at, all_push, false_is_true, is_found, none_found, none_is_some, others_push, same_number}
+use Rattle.attached_drives.proofs.Places.{changes, devices, all_set, devices_set, distinct_before, get_other, get_set, inside, others_put}
+use Rattle.attached_drives.proofs.Places.{rests_at, all_push, false_is_true, is_found, none_found, none_is_some, others_push, same_number}
 
 -- Drives that change between two units, and the devices of the machine, which change with them.
 

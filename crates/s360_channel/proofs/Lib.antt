@@ -1,4 +1,3 @@
-pub mod Places
 pub mod Works
 pub mod Kept
 pub mod Shown
@@ -14,11 +13,6 @@ pub mod AllAnswered
 pub mod PartLengths
 pub mod Removing
 pub mod AsSaved
-pub mod Backs
 pub mod Saved
 pub mod Returning
-pub mod Images
-pub mod Fronts
-pub mod Slots
 pub mod Selecting
-pub mod Copies

@@ -10,7 +10,8 @@ use Rattle.s360_events.specs.Seen.{event_seen, answer_seen}
 use Rattle.s360_events.specs.declared.answers.Answer as deck_answer
 use Rattle.s360_events.specs.declared.events.Event as deck_event
 use Rattle.s360_channel.specs.Calls.{CallsAtMost, Does, IsMet, Reports, most_calls}
-use Rattle.s360_channel.specs.Channel.{AttachedState, ChannelState, StandsFor, failures_of}
+use Rattle.s360_channel.specs.Channel.{ChannelState, StandsFor, failures_of}
+use Rattle.attached_drives.specs.Drives.{AttachedState}
 use Rattle.s360_channel.specs.Lists.{AllMet, Follows, AllReported, faults_in}
 
 -- What these events did at a channel, without what follows from it.

@@ -9,7 +9,8 @@ use Rattle.s360_laws.specs.Events.{Event, Answer}
 use Rattle.s360_laws.specs.Machine.{Machine, react}
 use Rattle.s360_laws.proofs.Headlines.{headline}
 use Rattle.s360_channel.specs.Calls.{DoesQuietly, Does, CallsAtMost, CallsNoStore}
-use Rattle.s360_channel.specs.Channel.{ChannelState, AttachedState, StandsFor, failures_of, store_calls_of}
+use Rattle.s360_channel.specs.Channel.{ChannelState, StandsFor, failures_of, store_calls_of}
+use Rattle.attached_drives.specs.Drives.{AttachedState}
 
 abbrev pub images : List AttachedState → List ImageState
 images us = map (λ (u : AttachedState). u.drive.image) us

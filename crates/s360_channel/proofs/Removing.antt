@@ -18,20 +18,22 @@ use Rattle.s360_laws.specs.Machine.{Device, Machine, device_at, with_device}
 use Rattle.s360_laws.specs.Machine as machine
 use Rattle.s360_laws.specs.Soundness.{AreDistinct}
 use Rattle.s360_laws.proofs.FindDevices.{Keeps, different, found_map, keeps_one, set_drive, distinct_map}
-use Rattle.s360_channel.specs.Channel.{AttachedState, ChannelState, AllRest, OthersRest, Shows, StandsFor, WorksFor, device_of, is_at}
-use Rattle.s360_channel.specs.Channel.{new_attached}
+use Rattle.s360_channel.specs.Channel.{ChannelState, Shows, StandsFor, WorksFor}
+use Rattle.attached_drives.specs.Drives.{AttachedState, AllRest, OthersRest, device_of, is_at}
+use Rattle.attached_drives.specs.Drives.{new_attached}
 use Rattle.s360_channel.specs.declared.faults.DetachFault.{DetachFault}
 use Rattle.s360_channel.specs.declared.faults.DetachFault.TheVariants.{NoDrive, ProgramRuns, EndingPends, DeviceEndOwed}
 use Rattle.s360_channel.specs.declared.subchannel.Subchannel.{Subchannel}
 use Rattle.s360_channel.specs.declared.subchannel.Subchannel.TheVariants.{Idle, Working, Pending}
-use Rattle.s360_channel.specs.DriveCalls.{DriveIs, Removes, ExchangesPack, MayExchange}
+use Rattle.attached_drives.specs.DriveCalls.{DriveIs, Removes, ExchangesPack, MayExchange}
 use Rattle.s360_channel.specs.Packs.{Detaches, IsFree, GivesBack, is_at_rest, moved_up, pends_for, runs_at, waits_for, why_of, why_stays}
-use Rattle.s360_channel.specs.Packs.{without_device, without_place, works_at, Exchanges, fits_at, fits_drive, is_same_model, volume_in}
+use Rattle.s360_channel.specs.Packs.{without_device, without_place, works_at, Exchanges, fits_at, volume_in}
+use Rattle.attached_drives.specs.Drives.{fits_drive, is_same_model}
 use Rattle.s360_channel.specs.Packs.{with_pack}
 use Rattle.s360_channel.proofs.Changing.{SeenBy, seen_by, distinct_drives, device_seen, new_rests, rests_changed, sound_with, volume_given}
 use Rattle.s360_channel.proofs.Changing.{works_changed, changes_apart}
-use Rattle.s360_channel.proofs.Places.{arm_there, changes, devices, false_is_true, found_at, found_by, inside, is_other, none_found}
-use Rattle.s360_channel.proofs.Places.{none_is_some, place_at, rests_at, same_number, all_set, devices_set, get_other, others_put}
+use Rattle.attached_drives.proofs.Places.{arm_there, changes, devices, false_is_true, found_at, found_by, inside, is_other, none_found}
+use Rattle.attached_drives.proofs.Places.{none_is_some, place_at, rests_at, same_number, all_set, devices_set, get_other, others_put}
 use Rattle.s360_channel.proofs.Works.{devices_of, subchannel_of}
 
 -- A channel without one of its drives.

@@ -11,13 +11,14 @@ use Rattle.s360_laws.specs.Soundness.{AreDistinct}
 use Rattle.s360_laws.proofs.FindDevices.{different}
 use Rattle.s360_channel.specs.Channel.{Shows, StandsFor}
 use Rattle.s360_channel.specs.Returns.{AreMountedAs, IsMountedAs, machine_saved, pending_in}
-use Rattle.s360_channel.specs.Saves.{device_back, drives_saved, entry, machine_back, machine_subchannel, saved_drive, saved_of}
+use Rattle.s360_channel.specs.Saves.{device_back, machine_back, machine_subchannel, saved_of}
+use Rattle.attached_drives.specs.Saved.{drives_saved, entry, saved_drive}
 use Rattle.s360_channel.specs.Selector.{SelectorState, over}
-use Rattle.s360_channel.specs.declared.restoring.SavedDrive.{SavedDrive}
+use Rattle.attached_drives.specs.declared.drives_saved.SavedDrive.{SavedDrive}
 use Rattle.s360_channel.specs.declared.saving.SavedChannel.{SavedChannel}
 use Rattle.s360_channel.specs.declared.subchannel.Subchannel.{Subchannel}
 use Rattle.s360_channel.specs.declared.subchannel.Subchannel.TheVariants.{Idle, Working, Pending}
-use Rattle.s360_channel.proofs.Places.{inside, none_is_some}
+use Rattle.attached_drives.proofs.Places.{inside, none_is_some}
 use Rattle.s360_channel.proofs.Works.{subchannel_of}
 
 abbrev with_drives : Machine → Option (ℕ × Csw) → SavedChannel

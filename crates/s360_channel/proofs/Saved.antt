@@ -15,18 +15,21 @@ use Rattle.s360_program.specs.Advances.{Rests}
 use Rattle.s360_laws.specs.declared.arm.Arm.{Arm}
 use Rattle.s360_laws.specs.declared.arm.Arm.TheVariants.{AtRest, InMotion, Arrived}
 use Rattle.s360_laws.proofs.FindDevices.{Keeps, distinct_map, found_map}
-use Rattle.s360_channel.specs.Channel.{AllRest, AttachedState, ChannelState, Shows, StandsFor, device_of, is_at, machine_of}
-use Rattle.s360_channel.specs.Saves.{are_same_drives, device_back, drive_back, drives_back}
-use Rattle.s360_channel.specs.Saves.{entry, have_tracks, is_ending, is_ending_of, is_working}
+use Rattle.s360_channel.specs.Channel.{ChannelState, Shows, StandsFor, machine_of}
+use Rattle.attached_drives.specs.Drives.{AllRest, AttachedState, device_of, is_at}
+use Rattle.s360_channel.specs.Saves.{are_same_drives, device_back}
+use Rattle.attached_drives.specs.Saved.{drive_back, drives_back}
+use Rattle.s360_channel.specs.Saves.{is_ending, is_ending_of, is_working}
+use Rattle.attached_drives.specs.Saved.{entry, have_tracks}
 use Rattle.s360_channel.specs.Saves.{machine_back, may_pend, owes, put_back, subchannel_back, why_not_back}
 use Rattle.s360_channel.specs.Selector.{IsSelector, SelectorState, over}
 use Rattle.s360_channel.specs.declared.faults.SavedFault.{SavedFault}
 use Rattle.s360_channel.specs.declared.faults.SavedFault.TheVariants.{ProgramRuns, OtherDrives, NoSuchTrack, NotOwed}
-use Rattle.s360_channel.specs.declared.restoring.SavedDrive.{SavedDrive}
+use Rattle.attached_drives.specs.declared.drives_saved.SavedDrive.{SavedDrive}
 use Rattle.s360_channel.specs.declared.saving.SavedChannel.{SavedChannel}
 use Rattle.s360_channel.specs.declared.subchannel.Subchannel.{Subchannel}
 use Rattle.s360_channel.specs.declared.subchannel.Subchannel.TheVariants.{Idle, Working, Pending}
-use Rattle.s360_channel.proofs.Places.{devices, false_is_true, found_by}
+use Rattle.attached_drives.proofs.Places.{devices, false_is_true, found_by}
 use Rattle.s360_channel.proofs.Selecting.{still_over}
 use mathlib.Core.Bool.{beq}
 

@@ -1,7 +1,7 @@
 -- A selector over each storage that it is lent.
 use Rattle.std.proofs.Common.{◌≡◌, ℕ, ◌/◌, refl, sym, ap, ◌∙◌, length, true, None}
 use Rattle.s360_words.specs.Storage.{Storage, is_size}
-use Rattle.s360_program.specs.Advances.{KeepsStorage}
+use Rattle.s360_storage.specs.Kept.{KeepsStorage}
 use Rattle.s360_laws.specs.Events.{Event, Answer}
 use Rattle.s360_laws.specs.Machine.{Machine, react}
 use Rattle.s360_channel.specs.Calls.{Does, DoesQuietly, CallsAtMost}

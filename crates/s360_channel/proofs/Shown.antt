@@ -24,20 +24,22 @@ use Rattle.s360_laws.specs.Machine.{Machine, Device, asked_by, device_at, has_ar
 use Rattle.s360_laws.specs.Machine.{lowest}
 use Rattle.s360_laws.specs.Soundness.{IsSound}
 use Rattle.s360_laws.proofs.FindDevices.{set_drive, Has, different, has_found}
-use Rattle.s360_channel.specs.Channel.{ChannelState, Shows, StandsFor, WorksFor, AttachedState, device_of, is_at}
+use Rattle.s360_channel.specs.Channel.{ChannelState, Shows, StandsFor, WorksFor}
+use Rattle.attached_drives.specs.Drives.{AttachedState, device_of, is_at}
 use Rattle.s360_channel.specs.declared.subchannel.Subchannel.{Subchannel}
 use Rattle.s360_channel.specs.declared.subchannel.Subchannel.TheVariants.{Idle, Working, Pending}
 use Rattle.s360_channel.specs.declared.subchannel.Subchannel.TheVariants as code
-use Rattle.s360_channel.specs.declared.view.DriveView.{DriveView}
+use Rattle.attached_drives.specs.declared.view.DriveView.{DriveView}
 use Rattle.s360_channel.specs.declared.view.SubchannelView.{SubchannelView}
 use Rattle.s360_channel.specs.declared.view.SubchannelView.TheVariants as shown
 use Rattle.s360_channel.specs.declared.view.View.{View}
 use Rattle.s360_channel.specs.Packs.{runs_at, volume_in}
-use Rattle.s360_channel.specs.Views.{subchannel_seen, drives_seen, view_of, ShowsDrive, ShowsVolume, drive_seen, interrupts}
+use Rattle.s360_channel.specs.Views.{subchannel_seen, view_of, ShowsDrive, ShowsVolume, interrupts}
+use Rattle.attached_drives.specs.Shown.{drives_seen, drive_seen}
 use Rattle.s360_channel.specs.Views.{is_interruption, attached_in, attached_with}
 use Rattle.s360_channel.specs.Watched.{StandsInPhase, SeesProgram, SeesDrive, command_in, moved_in}
 use Rattle.s360_channel.proofs.Changing.{volume_given}
-use Rattle.s360_channel.proofs.Places.{inside, devices, found_by, none_found}
+use Rattle.attached_drives.proofs.Places.{inside, devices, found_by, none_found}
 use Rattle.s360_channel.proofs.Removing.{IsAttached, rests_there, same_runs, working_device}
 use Rattle.s360_channel.proofs.Works.{seen_there, subchannel_of, devices_of, by_phase, device_there}
 
@@ -110,28 +112,6 @@ pub place_there : (c : ChannelState) (m : Machine) (place : ℕ) (r : RunningSta
 place_there c m place r h e = let w = subst (Shows c m) e h.shows in slice_get_within c.drives place w.attached w.is_there
 
 -- The places of the drives.
-
-abbrev pub shown_at : List AttachedState → ℕ → Option (ℕ × Arm)
-shown_at us place = option_map (λ (u : AttachedState). (u.device, u.arm)) (slice_get us place)
-
-pub all_places : (us : List AttachedState) → length us ≤ 8 → shown_at us 0 ∷ shown_at us 1 ∷ shown_at us 2 ∷ shown_at us 3 ∷ shown_at us 4
-    ∷ shown_at us 5 ∷ shown_at us 6 ∷ shown_at us 7 ∷ [] ≡ drives_seen (map device_of us)
-all_places [] l = refl
-all_places (a ∷ []) l = refl
-all_places (a ∷ b ∷ []) l = refl
-all_places (a ∷ b ∷ c ∷ []) l = refl
-all_places (a ∷ b ∷ c ∷ d ∷ []) l = refl
-all_places (a ∷ b ∷ c ∷ d ∷ e ∷ []) l = refl
-all_places (a ∷ b ∷ c ∷ d ∷ e ∷ f ∷ []) l = refl
-all_places (a ∷ b ∷ c ∷ d ∷ e ∷ f ∷ g ∷ []) l = refl
-all_places (a ∷ b ∷ c ∷ d ∷ e ∷ f ∷ g ∷ h ∷ []) l = refl
-all_places (a ∷ b ∷ c ∷ d ∷ e ∷ f ∷ g ∷ h ∷ i ∷ us) l = absurd (omega (arith, l))
-
--- and two lists of eight are equal place by place; it names each place of both, with an equation for each two
-pub eight_places : {A : Type 0} {a b c d e f g h a' b' c' d' e' f' g' h' : A} → a ≡ a' → b ≡ b' → c ≡ c' → d ≡ d' → e ≡ e' → f ≡ f' → g ≡ g'
-    → h ≡ h'
-    → a ∷ b ∷ c ∷ d ∷ e ∷ f ∷ g ∷ h ∷ [] ≡ a' ∷ b' ∷ c' ∷ d' ∷ e' ∷ f' ∷ g' ∷ h' ∷ []
-eight_places p q r s t u v w = cc
 
 -- What is shown of a drive is what the machine has of it.
 

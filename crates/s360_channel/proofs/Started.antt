@@ -33,13 +33,14 @@ use Rattle.s360_events.specs.declared.conditions.Condition.{Condition}
 use Rattle.s360_events.specs.declared.conditions.Condition.TheVariants.{Stored}
 use Rattle.s360_events.specs.declared.conditions.Status.{Status}
 use Rattle.s360_events.specs.Seen.{condition_seen, status_seen, csw_seen}
-use Rattle.s360_channel.specs.Channel.{AttachedState, AllRest, OthersRest, machine_of, device_of, Shows, is_at}
+use Rattle.s360_channel.specs.Channel.{machine_of, Shows}
+use Rattle.attached_drives.specs.Drives.{AttachedState, AllRest, OthersRest, device_of, is_at}
 use Rattle.s360_channel.specs.declared.subchannel.Subchannel.{Subchannel}
 use Rattle.s360_channel.specs.declared.subchannel.Subchannel.TheVariants.{Idle, Working}
-use Rattle.s360_channel.specs.DriveCalls.{DriveChanges, ArmChanges, Starts}
+use Rattle.attached_drives.specs.DriveCalls.{DriveChanges, ArmChanges, Starts}
 use Rattle.s360_channel.specs.Nexts.{ShowsNext, of_parts, idle_machine}
-use Rattle.s360_channel.proofs.Places.{changes, devices, devices_set, get_set, set_same, set_twice, all_set, others_of_all, others_set}
-use Rattle.s360_channel.proofs.Places.{map_same, inside, FoundAt, arm_there, found_by, none_found, none_is_some, rests_at}
+use Rattle.attached_drives.proofs.Places.{changes, devices, devices_set, get_set, set_same, set_twice, all_set, others_of_all, others_set}
+use Rattle.attached_drives.proofs.Places.{map_same, inside, FoundAt, arm_there, found_by, none_found, none_is_some, rests_at}
 
 -- What a start leaves at an available channel.
 

@@ -30,12 +30,13 @@ use Rattle.s360_laws.proofs.FindDevices.{found_map, keeps_one, set_both, set_dri
 use Rattle.s360_laws.proofs.LedgerLists.{stays, sound_parts}
 use Rattle.s360_laws.proofs.NoFaultTold.{no_fault_none_told}
 use Rattle.s360_channel.specs.Calls.{CallsAtMost, Does, IsMet, Reports}
-use Rattle.s360_channel.specs.Channel.{ChannelState, AttachedState, Shows, StandsFor, WorksFor, device_of, machine_of, AllRest, failures_of}
+use Rattle.s360_channel.specs.Channel.{ChannelState, Shows, StandsFor, WorksFor, machine_of, failures_of}
+use Rattle.attached_drives.specs.Drives.{AttachedState, device_of, AllRest}
 use Rattle.s360_channel.specs.declared.subchannel.Subchannel.{Subchannel}
 use Rattle.s360_channel.specs.declared.subchannel.Subchannel.TheVariants.{Pending, Working}
 use Rattle.s360_channel.specs.Ends.{arm_told}
-use Rattle.s360_channel.proofs.Places.{map_same, sum_set, all_of_others, devices, changes, devices_set, changes_twice, same_number, get_set}
-use Rattle.s360_channel.proofs.Places.{others_set}
+use Rattle.attached_drives.proofs.Places.{map_same, sum_set, all_of_others, devices, changes, devices_set, changes_twice}
+use Rattle.attached_drives.proofs.Places.{same_number, get_set, others_set}
 use Rattle.s360_channel.proofs.Works.{channel_of, devices_of, distinct_drives, device_there, subchannel_of, run_at}
 
 -- Drives in which the drive and the arm of one of them changed, and a program that is over there.

@@ -20,8 +20,9 @@ use Rattle.s360_laws.specs.Machine as machine
 use Rattle.s360_laws.specs.Machine.{Machine, device_at, run_of, start_of, storage_of}
 use Rattle.s360_laws.specs.Soundness.{AreDistinct, IsSound}
 use Rattle.s360_laws.proofs.FindDevices.{found_map, keeps_one, set_drive}
-use Rattle.s360_channel.specs.Channel.{ChannelState, WorksFor, device_of}
-use Rattle.s360_channel.proofs.Places.{distinct_before, found_at}
+use Rattle.s360_channel.specs.Channel.{ChannelState, WorksFor}
+use Rattle.attached_drives.specs.Drives.{device_of}
+use Rattle.attached_drives.proofs.Places.{distinct_before, found_at}
 
 -- The machine of a running program.
 

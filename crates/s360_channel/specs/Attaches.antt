@@ -1,6 +1,7 @@
 -- When a drive is not attached, in this order: there is one with its address; there are eight; there is no memory.
 use Rattle.std.specs.Prelude.{◌≡◌, ◌==◌, ℕ, length, Bool, true, false, is_some, position}
-use Rattle.s360_channel.specs.Channel.{ChannelState, is_at}
+use Rattle.s360_channel.specs.Channel.{ChannelState}
+use Rattle.attached_drives.specs.Drives.{is_at}
 use Rattle.s360_channel.specs.declared.faults.AttachFault.{AttachFault}
 use Rattle.s360_channel.specs.declared.faults.AttachFault.TheVariants.{UnitTaken, Full, OutOfMemory}
 

@@ -16,12 +16,6 @@ use Rattle.s360_laws.specs.declared.arm.Arm.TheVariants.{AtRest}
 use Rattle.s360_channel.specs.declared.subchannel.Subchannel.{Subchannel}
 use Rattle.s360_channel.specs.declared.subchannel.Subchannel.TheVariants.{Idle, Working, Pending}
 
--- an attached drive: the low byte of its address, its arm, and the drive
-pub record AttachedState : Type 0 where
-  pub device : ℕ
-  pub arm : Arm
-  pub drive : DriveState
-
 -- The drives are in the order in which they were attached. Where a program works the subchannel names its drive by the place
 -- in this order.
 pub record ChannelState : Type 0 where
@@ -30,24 +24,9 @@ pub record ChannelState : Type 0 where
   pub subchannel : Subchannel
   pub drives : List AttachedState
 
--- An attached drive between two programs is a device of the machine.
-abbrev pub device_of : AttachedState → Device
-device_of u = record { device = u.device; arm = u.arm; drive = drive_of u.drive.state }
-
 -- the machine that is read off a channel, but for a program that runs
 abbrev pub machine_of : ChannelState → machine.Subchannel → Machine
 machine_of c s = record { channel = c.number; storage = c.storage; subchannel = s; devices = map device_of c.drives }
-
--- no command is open in these drives, and no written track waits to be saved
-abbrev pub AllRest : List AttachedState → Type 0
-AllRest [] = Unit {0}
-AllRest (u ∷ us) = Rests u.drive × AllRest us
-
--- in all but the one at a place
-abbrev pub OthersRest : (place : ℕ) → List AttachedState → Type 0
-OthersRest place [] = Unit {0}
-OthersRest zero (u ∷ us) = AllRest us
-OthersRest (suc place) (u ∷ us) = Rests u.drive × OthersRest place us
 
 -- A program that was accepted with this storage and this drive runs at the drive at a place: storage and that drive
 -- are by now where its run over a script has brought them.
@@ -80,10 +59,6 @@ pub record IsChannel (c : ChannelState) : Type 0 where
   pub machine : Machine
   pub stands : StandsFor c machine
 
--- A drive that is attached is free, at cylinder 0, head 0, with zero sense bytes.
-abbrev pub new_attached : (device : ℕ) → ImageState → AttachedState
-new_attached device image = record { device = device; arm = AtRest; drive = new_drive image }
-
 -- the machine with one device more, behind the others
 abbrev pub attached : (device : ℕ) → ImageState → Machine → Machine
 attached device image m = record m {
@@ -93,10 +68,6 @@ attached device image m = record m {
     drive = first_drive (record { geometry = image.geometry; slots = image.slots });
   } ∷ [];
 }
-
--- the place of the drive with an address, in the order in which they were attached
-abbrev pub is_at : (device : ℕ) → AttachedState → Bool
-is_at device u = u.device == device
 
 -- What the images count, all together.
 abbrev pub failures_of : ChannelState → ℕ

@@ -9,8 +9,8 @@ use Rattle.s360_laws.specs.declared.arm.Arm.TheVariants.{AtRest, InMotion}
 use Rattle.s360_events.specs.declared.conditions.Status.{Status}
 use Rattle.s360_events.specs.declared.conditions.Condition.{Condition}
 use Rattle.s360_events.specs.declared.conditions.Condition.TheVariants.{Stored, Three}
-use Rattle.s360_channel.specs.Channel.{AttachedState}
-use Rattle.s360_channel.specs.DriveCalls.{DriveChanges, DriveIs, CutsAt}
+use Rattle.attached_drives.specs.Drives.{AttachedState}
+use Rattle.attached_drives.specs.DriveCalls.{DriveChanges, DriveIs, CutsAt}
 use Rattle.s360_channel.specs.declared.subchannel.Subchannel.{Subchannel}
 use Rattle.s360_channel.specs.declared.subchannel.Subchannel.TheVariants.{Working, Pending}
 

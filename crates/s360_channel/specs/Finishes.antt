@@ -5,11 +5,8 @@ use Rattle.s360_words.specs.Storage.{Storage}
 use Rattle.s360_laws.specs.Events.{Reset, WasReset}
 use Rattle.s360_laws.specs.Machine.{Machine}
 use Rattle.s360_channel.specs.Calls.{Does, CallsAtMost}
-use Rattle.s360_channel.specs.Channel.{ChannelState, AttachedState}
-
--- each drive's address and image, in their order, and no more
-abbrev pub images_of : List AttachedState → List (Option (ℕ × ImageState))
-images_of drives = map (λ u. Some (u.device, u.drive.image)) drives ++ replicate (8 - length drives) None
+use Rattle.s360_channel.specs.Channel.{ChannelState}
+use Rattle.attached_drives.specs.Drives.{AttachedState}
 
 -- The channel is reset first; then all is given back, each image with the slots of its drive's volume.
 pub record Finishes (m : Machine) (old : ChannelState) (storage : Storage) (images : List (Option (ℕ × ImageState)))

@@ -2,9 +2,7 @@ pub mod Channel
 pub mod Calls
 pub mod Lists
 pub mod Views
-pub mod DriveCalls
 pub mod Packs
-pub mod Slots
 pub mod Shares
 pub mod Finishes
 pub mod Attaches

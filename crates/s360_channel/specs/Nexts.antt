@@ -10,7 +10,8 @@ use Rattle.s360_laws.specs.Events.{Answer}
 use Rattle.s360_laws.specs.Machine as machine
 use Rattle.s360_laws.specs.Machine.{Machine}
 use Rattle.s360_laws.specs.Soundness.{AreDistinct}
-use Rattle.s360_channel.specs.Channel.{ChannelState, AttachedState, Shows, AllRest, machine_of, device_of}
+use Rattle.s360_channel.specs.Channel.{ChannelState, Shows, machine_of}
+use Rattle.attached_drives.specs.Drives.{AttachedState, AllRest, device_of}
 use Rattle.s360_channel.specs.declared.subchannel.Subchannel.{Subchannel}
 use Rattle.s360_channel.specs.declared.subchannel.Subchannel.TheVariants.{Idle}
 

@@ -11,7 +11,8 @@ use Rattle.s360_laws.specs.Machine as machine
 use Rattle.s360_laws.specs.Machine.{Machine, Device, device_at, with_device}
 use Rattle.s360_laws.specs.declared.arm.Arm.{Arm}
 use Rattle.s360_laws.specs.declared.arm.Arm.TheVariants.{AtRest}
-use Rattle.s360_channel.specs.Channel.{ChannelState, StandsFor, AttachedState, new_attached}
+use Rattle.s360_channel.specs.Channel.{ChannelState, StandsFor}
+use Rattle.attached_drives.specs.Drives.{AttachedState, new_attached}
 use Rattle.s360_channel.specs.declared.faults.DetachFault.{DetachFault}
 use Rattle.s360_channel.specs.declared.faults.DetachFault.TheVariants.{NoDrive, ProgramRuns, EndingPends, DeviceEndOwed}
 use Rattle.s360_channel.specs.declared.faults.ExchangeFault.{ExchangeFault}
@@ -103,16 +104,6 @@ pub record Detaches (device : ℕ) (m : Machine) (image : ImageState) (old new :
   pub gives_back : GivesBack device image m
 
 -- Packs that are changed.
-
--- two drives are of one model
-abbrev pub is_same_model : DriveModel → DriveModel → Bool
-is_same_model D2311 D2311 = true
-is_same_model D2314 D2314 = true
-is_same_model a b = false
-
--- a pack fits a drive that has held one of this geometry: it is of the same model, and its slots are as large
-abbrev pub fits_drive : Geometry → Geometry → Bool
-fits_drive held other = is_same_model held.model other.model && (held.track_size == other.track_size)
 
 -- the same of a machine's device, if there is one with this address
 abbrev pub fits_at : (device : ℕ) → ImageState → Machine → Option Bool

@@ -7,9 +7,10 @@ use Rattle.s360_runs.specs.Status.{tells}
 use Rattle.s360_laws.specs.Machine as machine
 use Rattle.s360_laws.specs.Machine.{Machine, Device, device_at, with_device, with_subchannel}
 use Rattle.s360_laws.specs.Soundness.{device_owes}
-use Rattle.s360_channel.specs.Channel.{ChannelState, AttachedState, StandsFor}
+use Rattle.s360_channel.specs.Channel.{ChannelState, StandsFor}
+use Rattle.attached_drives.specs.Drives.{AttachedState}
 use Rattle.s360_channel.specs.Packs.{IsFree, why_stays}
-use Rattle.s360_channel.specs.declared.restoring.SavedDrive.{SavedDrive}
+use Rattle.attached_drives.specs.declared.drives_saved.SavedDrive.{SavedDrive}
 use Rattle.s360_channel.specs.declared.faults.RestoreFault.{RestoreFault}
 use Rattle.s360_channel.specs.declared.faults.RestoreFault.TheVariants.{Held, NoSuchTrack}
 use Rattle.s360_channel.specs.declared.faults.PendingFault.{PendingFault}
@@ -29,11 +30,6 @@ with_saved device saved m = with_device device (as_saved saved) m
 abbrev pub has_saved_track : (device : ℕ) → SavedDrive → Machine → Option Bool
 has_saved_track device saved m =
     option_map (λ d. has_track d.drive.volume.geometry saved.cylinder saved.head) (device_at m device)
-
--- an attached drive as it was saved
-abbrev pub attached_as_saved : SavedDrive → AttachedState → AttachedState
-attached_as_saved saved u =
-    record u { arm = saved.arm; drive = restored saved.cylinder saved.head saved.sense u.drive }
 
 -- A drive is as it was saved: it was free, and its volume has the track; the machine has all that it had, but this device as it was saved.
 pub record RestoresDrive (device : ℕ) (saved : SavedDrive) (m : Machine) (old new : ChannelState) : Type 0 where

@@ -4,7 +4,8 @@ use Rattle.s360_words.specs.declared.words.Csw.{Csw}
 use Rattle.s360_laws.specs.Machine as machine
 use Rattle.s360_laws.specs.Machine.{Device, Machine}
 use Rattle.s360_laws.specs.Soundness.{AreDistinct}
-use Rattle.s360_channel.specs.Saves.{drives_saved, machine_back}
+use Rattle.s360_channel.specs.Saves.{machine_back}
+use Rattle.attached_drives.specs.Saved.{drives_saved}
 use Rattle.s360_channel.specs.declared.saving.SavedChannel.{SavedChannel}
 
 -- the channel status word that pends and its device, if one does; nothing is saved while a program runs

@@ -11,10 +11,11 @@ use Rattle.s360_laws.specs.Machine.{Device, Machine}
 use Rattle.s360_laws.specs.Soundness.{arm_owes}
 use Rattle.s360_laws.specs.declared.arm.Arm.{Arm}
 use Rattle.s360_laws.specs.declared.arm.Arm.TheVariants.{AtRest, InMotion, Arrived}
-use Rattle.s360_channel.specs.Channel.{AttachedState, device_of, is_at}
-use Rattle.s360_channel.specs.Restores.{as_saved, attached_as_saved}
+use Rattle.attached_drives.specs.Drives.{AttachedState, device_of, is_at}
+use Rattle.s360_channel.specs.Restores.{as_saved}
+use Rattle.attached_drives.specs.Saved.{attached_as_saved}
 use Rattle.s360_channel.specs.Selector.{SelectorState}
-use Rattle.s360_channel.specs.declared.restoring.SavedDrive.{SavedDrive}
+use Rattle.attached_drives.specs.declared.drives_saved.SavedDrive.{SavedDrive}
 use Rattle.s360_channel.specs.declared.saving.SavedChannel.{SavedChannel}
 use Rattle.s360_channel.specs.declared.faults.SavedFault.{SavedFault}
 use Rattle.s360_channel.specs.declared.faults.SavedFault.TheVariants.{ProgramRuns, OtherDrives, NoSuchTrack, NotOwed}
@@ -22,14 +23,6 @@ use Rattle.s360_channel.specs.declared.subchannel.Subchannel.{Subchannel}
 use Rattle.s360_channel.specs.declared.subchannel.Subchannel.TheVariants.{Idle, Working, Pending}
 
 -- What is saved.
-
--- a device: its arm, where it stands, the head that is selected, and its sense bytes
-abbrev pub saved_drive : Device → SavedDrive
-saved_drive d = record { arm = d.arm; cylinder = d.drive.cylinder; head = d.drive.head; sense = d.drive.sense }
-
--- the devices in the order of attachment, with the low bytes of their addresses, in eight places
-abbrev pub drives_saved : List Device → List (Option (ℕ × SavedDrive))
-drives_saved ds = map (λ d. Some (d.device, saved_drive d)) ds ++ replicate (8 - length ds) None
 
 -- the channel status word that pends and its device, if one does; nothing is saved while a program runs
 abbrev pub pending_saved : Subchannel → Option (Option (ℕ × Csw))
@@ -42,21 +35,6 @@ abbrev pub saved_of : SelectorState → Option SavedChannel
 saved_of c = option_map (λ pending. record { pending = pending; drives = drives_saved (map device_of c.drives) }) (pending_saved c.subchannel)
 
 -- What is put back.
-
--- what was saved of the drive with an address: the first that has it
-abbrev pub entry : (device : ℕ) → List (Option (ℕ × SavedDrive)) → Option SavedDrive
-entry device [] = None
-entry device (None ∷ entries) = entry device entries
-entry device (Some e ∷ entries) = if e.0 == device then Some e.1 else entry device entries
-
--- an attached drive is as it was saved
-abbrev pub drive_back : Option SavedDrive → AttachedState → AttachedState
-drive_back None u = u
-drive_back (Some saved) u = attached_as_saved saved u
-
--- so is each by its own address
-abbrev pub drives_back : List (Option (ℕ × SavedDrive)) → List AttachedState → List AttachedState
-drives_back entries us = map (λ u. drive_back (entry u.device entries) u) us
 
 -- the subchannel: available, or this word pends
 abbrev pub subchannel_back : Option (ℕ × Csw) → Subchannel
@@ -93,24 +71,9 @@ abbrev pub is_working : Subchannel → Bool
 is_working (Working place r) = true
 is_working s = false
 
--- each drive was saved
-abbrev pub are_saved : List (Option (ℕ × SavedDrive)) → List AttachedState → Bool
-are_saved entries [] = true
-are_saved entries (u ∷ us) = is_some (entry u.device entries) && are_saved entries us
-
 -- the drives are those that were saved: each of them was, and there are as many
 abbrev pub are_same_drives : List (Option (ℕ × SavedDrive)) → List AttachedState → Bool
 are_same_drives entries us = (length (filter is_some entries) == length us) && are_saved entries us
-
--- a volume has the track where a drive was saved
-abbrev pub has_track_of : Option SavedDrive → Geometry → Bool
-has_track_of None g = false
-has_track_of (Some saved) g = has_track g saved.cylinder saved.head
-
--- so have all
-abbrev pub have_tracks : List (Option (ℕ × SavedDrive)) → List AttachedState → Bool
-have_tracks entries [] = true
-have_tracks entries (u ∷ us) = has_track_of (entry u.device entries) u.drive.state.volume.geometry && have_tracks entries us
 
 -- whether an arm owes a device end
 abbrev pub owes : Arm → Bool

@@ -1,7 +1,8 @@
 -- A channel without a storage of its own, which is lent one for each call.
 use Rattle.std.specs.Prelude.{◌≡◌, ℕ, ◌/◌, length, List}
 use Rattle.s360_words.specs.Storage.{Storage}
-use Rattle.s360_channel.specs.Channel.{ChannelState, AttachedState, IsChannel}
+use Rattle.s360_channel.specs.Channel.{ChannelState, IsChannel}
+use Rattle.attached_drives.specs.Drives.{AttachedState}
 use Rattle.s360_channel.specs.Nexts.{of_parts}
 use Rattle.s360_channel.specs.declared.subchannel.Subchannel.{Subchannel}
 

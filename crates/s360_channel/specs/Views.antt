@@ -8,29 +8,18 @@ use Rattle.ckd_sense.specs.SenseBytes.{sense_bytes}
 use Rattle.s360_laws.specs.Machine as machine
 use Rattle.s360_laws.specs.Machine.{Machine, Device, asked_by, device_at, react, run_of}
 use Rattle.s360_laws.specs.declared.arm.Arm.{Arm}
-use Rattle.s360_channel.specs.Channel.{AttachedState, is_at}
+use Rattle.attached_drives.specs.Drives.{AttachedState, is_at}
 use Rattle.s360_channel.specs.Packs.{runs_at, volume_in}
 use Rattle.s360_channel.specs.declared.view.SubchannelView.{SubchannelView}
 use Rattle.s360_channel.specs.declared.view.SubchannelView.TheVariants.{Idle, Working, Pending}
 use Rattle.s360_channel.specs.declared.view.View.{View}
-use Rattle.s360_channel.specs.declared.view.DriveView.{DriveView}
+use Rattle.attached_drives.specs.declared.view.DriveView.{DriveView}
 
 -- the subchannel as it is shown: whether a program-controlled interruption is asked for, and the word that pends
 abbrev pub subchannel_seen : Machine → machine.Subchannel → SubchannelView
 subchannel_seen m machine.Idle = Idle
 subchannel_seen m (machine.Working device script) = Working device (is_some (asked_by (run_of m device script)))
 subchannel_seen m (machine.Pending device csw) = Pending device csw
-
--- what is known of a drive without a channel program
-abbrev pub drive_seen : Device → DriveView
-drive_seen d = record {
-  model = d.drive.volume.geometry.model;
-  cylinders = d.drive.volume.geometry.cylinders;
-  arm = d.arm;
-  cylinder = d.drive.cylinder;
-  head = d.drive.head;
-  sense = sense_bytes d.drive.sense;
-}
 
 -- the drive with this address, if there is one
 abbrev pub attached_in : Option ℕ → List AttachedState → Option AttachedState
@@ -63,10 +52,6 @@ is_interruption answer = false
 -- the machine's answer to an interruption is one that is taken
 abbrev pub interrupts : Machine → Bool
 interrupts m = is_interruption (react Interrupt None m).0
-
--- addresses and arms of the drives, in their order, in eight places
-abbrev pub drives_seen : List Device → List (Option (ℕ × Arm))
-drives_seen ds = map (λ d. Some (d.device, d.arm)) ds ++ replicate (8 - length ds) None
 
 -- all that a machine shows of itself
 abbrev pub view_of : Machine → View

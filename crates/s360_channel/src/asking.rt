@@ -2,14 +2,16 @@
 
 ghost use Rattle.std.specs.Prelude.{◌≡◌, ℕ, length, OnOk, OnErr, option_map};
 ghost use Rattle.s360_laws.specs.Machine.{Machine, storage_of};
-ghost use Rattle.s360_channel.specs.Channel.{StandsFor, device_of};
+ghost use Rattle.s360_channel.specs.Channel.{StandsFor};
+ghost use Rattle.attached_drives.specs.Drives.{device_of};
 ghost use Rattle.s360_channel.specs.Calls.{CallsNoStore};
 ghost use Rattle.s360_channel.specs.Shares.{FindsAnother, finding, with_storage};
-ghost use Rattle.s360_channel.specs.Views.{ShowsDrive, ShowsVolume, drive_seen, interrupts, key_in, attached_with};
+ghost use Rattle.s360_channel.specs.Views.{ShowsDrive, ShowsVolume, interrupts, key_in, attached_with};
+ghost use Rattle.attached_drives.specs.Shown.{drive_seen};
 
 use crate::channel::Channel;
 use crate::faults::OtherSize;
-use crate::view::DriveView;
+use attached_drives::DriveView;
 use ckd_image::{Image, ImageStore};
 use s360_words::Storage;
 use std::mem;

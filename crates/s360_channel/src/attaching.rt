@@ -2,7 +2,8 @@
 
 ghost use Rattle.std.specs.Prelude.{◌≡◌, ◌++◌, ◌∷◌, [], IfErr, OnOk, OnErr};
 ghost use Rattle.s360_laws.specs.Machine.{Machine};
-ghost use Rattle.s360_channel.specs.Channel.{StandsFor, new_attached, attached};
+ghost use Rattle.s360_channel.specs.Channel.{StandsFor, attached};
+ghost use Rattle.attached_drives.specs.Drives.{new_attached};
 ghost use Rattle.s360_channel.specs.Attaches.{RefusedAs, NotRefused};
 
 use crate::channel::Channel;

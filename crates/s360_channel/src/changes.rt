@@ -3,7 +3,8 @@
 ghost use Rattle.std.specs.Prelude.{◌≡◌, ◌++◌, ◌∷◌, [], IfOk, IfErr, OnOk, OnErr};
 ghost use Rattle.s360_words.specs.Storage.{Storage as StorageState};
 ghost use Rattle.s360_laws.specs.Machine.{Machine};
-ghost use Rattle.s360_channel.specs.Channel.{StandsFor, new_attached, attached};
+ghost use Rattle.s360_channel.specs.Channel.{StandsFor, attached};
+ghost use Rattle.attached_drives.specs.Drives.{new_attached};
 ghost use Rattle.s360_channel.specs.Attaches.{RefusedAs, NotRefused};
 ghost use Rattle.s360_channel.specs.Packs.{Detaches, Exchanges, IsFree, WhyHeld, moved_up, waits_for, why_stays, works_at};
 ghost use Rattle.s360_channel.specs.Selector.{KeepsSelector, over};

@@ -2,24 +2,25 @@
 
 ghost use Rattle.std.specs.Prelude.{◌≡◌, ◌<◌, ◌+◌, ◌*◌, length, is_some, position, option_map};
 ghost use Rattle.s360_words.specs.Storage.{Storage as StorageState};
-ghost use Rattle.s360_program.specs.Advances.{KeepsStorage};
+ghost use Rattle.s360_storage.specs.Kept.{KeepsStorage};
 ghost use Rattle.s360_laws.specs.Events as machine;
 ghost use Rattle.s360_laws.specs.Machine.{Machine};
 ghost use Rattle.s360_events.specs.Seen.{answer_seen};
 ghost use Rattle.s360_events.specs.declared.answers.Answer.TheVariants as answer;
-ghost use Rattle.s360_channel.specs.Channel.{AllRest, StandsFor, is_at};
+ghost use Rattle.s360_channel.specs.Channel.{StandsFor};
+ghost use Rattle.attached_drives.specs.Drives.{AllRest, is_at};
 ghost use Rattle.s360_channel.specs.Calls.{Does, CallsAtMost};
 ghost use Rattle.s360_channel.specs.Ends.{IsOver, MayBeCut, CutsProgram, LosesProgram, halted_idle, storage_halted};
 ghost use Rattle.s360_channel.specs.Selector.{KeepsSelector, over};
 
 use crate::channel::Reset;
-use crate::drives::Drives;
 use crate::selector::Selector;
 use crate::subchannel::Subchannel;
+use attached_drives::Drives;
 use ckd_image::ImageStore;
 use s360_events::{Condition, Status};
 use s360_laws::arm::Arm;
-use s360_program::main_storage::MainStorage;
+use s360_storage::MainStorage;
 use s360_words::{ChannelStatus, Csw, UnitStatus};
 use std::mem;
 

@@ -5,21 +5,21 @@ ghost use Rattle.s360_words.specs.Storage.{Storage as StorageState, changed, csw
 ghost use Rattle.s360_laws.specs.Events as machine;
 ghost use Rattle.s360_laws.specs.Machine.{Machine, interrupt_device, lowest, has_arrived};
 ghost use Rattle.s360_channel.specs.declared.subchannel.Subchannel.TheVariants.{Idle};
-ghost use Rattle.s360_program.specs.Advances.{KeepsStorage};
+ghost use Rattle.s360_storage.specs.Kept.{KeepsStorage};
 ghost use Rattle.s360_channel.specs.Channel.{StandsFor};
 ghost use Rattle.s360_channel.specs.Calls.{DoesQuietly, CallsNoStore};
 ghost use Rattle.s360_channel.specs.Nexts.{DoesOn, TakesProgram};
 ghost use Rattle.s360_channel.specs.Selector.{KeepsSelector, over};
 
-use crate::drives::Drives;
 use crate::selector::Selector;
 use crate::subchannel::Subchannel;
 use crate::testing::csw_of_unit;
+use attached_drives::Drives;
 use ckd_image::ImageStore;
 use s360_laws::arm::Arm;
 use s360_program::laws::{stands_after_change, stands_after_interruption};
-use s360_program::main_storage::MainStorage;
 use s360_program::program::Running;
+use s360_storage::MainStorage;
 use s360_words::{Csw, UnitStatus};
 
 impl<S: ImageStore> Selector<S> {

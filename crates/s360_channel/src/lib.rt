@@ -3,13 +3,10 @@
 #![tactic(auto)]
 
 mod asking;
-mod attached_drive;
 mod attaching;
 mod changes;
 mod channel;
 mod copying;
-mod drives;
-mod drives_saved;
 mod driving;
 mod ending;
 mod events_at;
@@ -37,7 +34,7 @@ pub use crate::faults::{
     AttachFault, DetachFault, ExchangeFault, NewFault, OtherSize, OutsideStorage, PendingFault,
     RestoreFault, SavedFault,
 };
-pub use crate::restoring::SavedDrive;
 pub use crate::saving::{SavedChannel, what_was_saved_comes_back};
 pub use crate::selector::Selector;
-pub use crate::view::{DriveView, RunOn, SubchannelView, View, Watched};
+pub use crate::view::{RunOn, SubchannelView, View, Watched};
+pub use attached_drives::{DriveView, SavedDrive};

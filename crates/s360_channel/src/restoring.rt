@@ -14,23 +14,10 @@ use crate::faults::{PendingFault, RestoreFault};
 use crate::saving::is_ending;
 use crate::selector::Selector;
 use crate::subchannel::Subchannel;
+use attached_drives::SavedDrive;
 use ckd_image::ImageStore;
-use ckd_sense::Sense;
 use s360_laws::arm::Arm;
 use s360_words::Csw;
-
-/// What a drive is between two programs, beside its volume.
-#[derive(Clone, Copy, PartialEq, Eq)]
-pub struct SavedDrive {
-    /// What its arm does.
-    pub arm: Arm,
-    /// The cylinder where the arm is, or where it goes while it is in motion.
-    pub cylinder: u16,
-    /// The head.
-    pub head: u16,
-    /// The sense bytes.
-    pub sense: Sense,
-}
 
 impl<S: ImageStore> Selector<S> {
     /// Puts the drive with this low byte of an address where it was as it was saved, as `Channel::restore_drive`.

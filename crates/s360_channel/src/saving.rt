@@ -5,14 +5,14 @@ ghost use Rattle.s360_words.specs.Storage.{Storage as StorageState};
 ghost use Rattle.s360_laws.specs.Machine.{Machine};
 ghost use Rattle.s360_channel.specs.Channel.{StandsFor};
 ghost use Rattle.s360_channel.specs.Returns.{WhatWasSavedComesBack, machine_saved};
-ghost use Rattle.s360_channel.specs.Saves.{entry, is_ending, is_ending_of, machine_back, may_pend, owes, put_back, saved_of, subchannel_back, why_not_back};
+ghost use Rattle.s360_channel.specs.Saves.{is_ending, is_ending_of, machine_back, may_pend, owes, put_back, saved_of, subchannel_back, why_not_back};
+ghost use Rattle.attached_drives.specs.Saved.{entry};
 ghost use Rattle.s360_channel.specs.Selector.{KeepsSelector, over};
 
-use crate::drives::Drives;
 use crate::faults::SavedFault;
-use crate::restoring::SavedDrive;
 use crate::selector::Selector;
 use crate::subchannel::Subchannel;
+use attached_drives::{Drives, SavedDrive, entry};
 use ckd_image::ImageStore;
 use s360_laws::arm::Arm;
 use s360_words::{Csw, UnitStatus};
@@ -73,10 +73,10 @@ impl<S: ImageStore> Selector<S> {
         if let Subchannel::Working(_, _) = &self.subchannel {
             return Some(SavedFault::ProgramRuns);
         }
-        if saved.count() != self.drives.len() || !self.drives.are_saved(saved) {
+        if saved.count() != self.drives.len() || !self.drives.are_saved(&saved.drives) {
             return Some(SavedFault::OtherDrives);
         }
-        if !self.drives.have_tracks(saved) {
+        if !self.drives.have_tracks(&saved.drives) {
             return Some(SavedFault::NoSuchTrack);
         }
         if !may_pend(&self.drives, saved) {
@@ -94,7 +94,7 @@ impl<S: ImageStore> Selector<S> {
             → StandsFor (over self.new s) (machine_back saved.now m) }
         ensures same { KeepsSelector self.old self.new }
     {
-        self.drives.put_back(saved);
+        self.drives.put_back(&saved.drives);
         self.subchannel = subchannel_back(saved.pending);
     }
 }
@@ -106,19 +106,6 @@ fn subchannel_back(pending: Option<(u8, Csw)>) -> Subchannel
     match pending {
         None => Subchannel::Idle,
         Some((device, csw)) => Subchannel::Pending(device, csw),
-    }
-}
-
-// The first of these entries for a drive with this address.
-fn entry(device: u8, entries: &[Option<(u8, SavedDrive)>]) -> Option<SavedDrive>
-    ensures { result ≡ entry device entries.now }
-{
-    let [first, others @ ..] = entries else {
-        return None;
-    };
-    match first {
-        Some((at, saved)) if *at == device => Some(*saved),
-        _ => entry(device, others),
     }
 }
 

@@ -2,15 +2,15 @@
 
 ghost use Rattle.std.specs.Prelude.{◌≡◌, ◌<◌, ◌↔◌, [], length, map, IsOk, IfOk};
 ghost use Rattle.s360_channel.specs.declared.subchannel.Subchannel.TheVariants.{Idle};
-ghost use Rattle.s360_channel.specs.Channel.{AllRest};
-ghost use Rattle.s360_channel.specs.Finishes.{images_of};
+ghost use Rattle.attached_drives.specs.Drives.{AllRest};
+ghost use Rattle.attached_drives.specs.Drives.{images_of};
 ghost use Rattle.s360_channel.specs.Selector.{IsOver};
 
-use crate::drives::Drives;
 use crate::faults::NewFault;
 use crate::subchannel::Subchannel;
+use attached_drives::Drives;
 use ckd_image::{Image, ImageStore};
-use s360_program::main_storage::MainStorage;
+use s360_storage::MainStorage;
 use std::marker::Model;
 
 /// A selector channel with its drives, to which storage is lent for each call that needs it. It asks of its caller that the

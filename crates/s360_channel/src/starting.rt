@@ -11,23 +11,25 @@ ghost use Rattle.s360_laws.specs.declared.arm.Arm.TheVariants.{InMotion, AtRest}
 ghost use Rattle.s360_events.specs.Seen.{condition_seen, status_seen, answer_seen};
 ghost use Rattle.s360_events.specs.declared.answers.Answer.TheVariants as answer;
 ghost use Rattle.s360_events.specs.declared.conditions.Condition.TheVariants.{Stored};
-ghost use Rattle.s360_program.specs.Advances.{Rests, KeepsStorage};
-ghost use Rattle.s360_channel.specs.Channel.{StandsFor, device_of};
+ghost use Rattle.s360_program.specs.Advances.{Rests};
+ghost use Rattle.s360_storage.specs.Kept.{KeepsStorage};
+ghost use Rattle.s360_channel.specs.Channel.{StandsFor};
+ghost use Rattle.attached_drives.specs.Drives.{device_of};
 ghost use Rattle.s360_channel.specs.Calls.{DoesQuietly, CallsNoStore};
 ghost use Rattle.s360_channel.specs.Nexts.{DoesAt};
 ghost use Rattle.s360_channel.specs.Selector.{KeepsSelector, over};
-ghost use Rattle.s360_channel.specs.DriveCalls.{DriveIs};
+ghost use Rattle.attached_drives.specs.DriveCalls.{DriveIs};
 ghost use Rattle.s360_channel.specs.declared.subchannel.Subchannel.TheVariants.{Idle};
 
-use crate::drives::Drives;
 use crate::selector::Selector;
 use crate::subchannel::Subchannel;
+use attached_drives::Drives;
 use ckd_image::ImageStore;
 use s360_events::{Condition, Status};
 use s360_laws::arm::Arm;
 use s360_program::laws::accepted_stands;
-use s360_program::main_storage::MainStorage;
 use s360_program::program::Start;
+use s360_storage::MainStorage;
 use s360_words::{ChannelStatus, UnitStatus};
 
 impl<S: ImageStore> Selector<S> {

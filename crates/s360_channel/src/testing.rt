@@ -7,20 +7,20 @@ ghost use Rattle.s360_laws.specs.Machine.{Machine, test_device, device_at, csw_o
 ghost use Rattle.s360_events.specs.Seen.{condition_seen, csw_seen, answer_seen};
 ghost use Rattle.s360_events.specs.declared.answers.Answer.TheVariants as answer;
 ghost use Rattle.s360_events.specs.declared.conditions.Condition.TheVariants.{Stored};
-ghost use Rattle.s360_program.specs.Advances.{KeepsStorage};
+ghost use Rattle.s360_storage.specs.Kept.{KeepsStorage};
 ghost use Rattle.s360_channel.specs.Channel.{StandsFor};
 ghost use Rattle.s360_channel.specs.Calls.{DoesQuietly, CallsNoStore};
 ghost use Rattle.s360_channel.specs.Nexts.{DoesIdle};
 ghost use Rattle.s360_channel.specs.Selector.{KeepsSelector, over};
 ghost use Rattle.s360_channel.specs.declared.subchannel.Subchannel.TheVariants.{Idle};
 
-use crate::drives::Drives;
 use crate::selector::Selector;
 use crate::subchannel::Subchannel;
+use attached_drives::Drives;
 use ckd_image::ImageStore;
 use s360_events::Condition;
 use s360_laws::arm::Arm;
-use s360_program::main_storage::MainStorage;
+use s360_storage::MainStorage;
 use s360_words::{ChannelStatus, Csw, UnitStatus};
 
 impl<S: ImageStore> Selector<S> {

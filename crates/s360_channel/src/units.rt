@@ -1,7 +1,7 @@
 //! Units of the program that runs.
 
 ghost use Rattle.std.specs.Prelude.{◌≡◌, ◌*◌, ◌≤◌, length};
-ghost use Rattle.s360_program.specs.Advances.{KeepsStorage};
+ghost use Rattle.s360_storage.specs.Kept.{KeepsStorage};
 ghost use Rattle.s360_laws.specs.Events as machine;
 ghost use Rattle.s360_laws.specs.Machine.{Machine};
 ghost use Rattle.s360_channel.specs.Channel.{StandsFor};
@@ -14,7 +14,7 @@ use crate::selector::Selector;
 use crate::subchannel::Subchannel;
 use crate::view::RunOn;
 use ckd_image::ImageStore;
-use s360_program::main_storage::MainStorage;
+use s360_storage::MainStorage;
 
 impl<S: ImageStore> Selector<S> {
     /// Lets the program that runs do so many units, over this storage, as `Channel::step`.

@@ -1,6 +1,5 @@
 //! What a channel shows of itself.
 
-use ckd_track::DriveModel;
 use s360_laws::arm::Arm;
 use s360_program::view::ProgramView;
 use s360_words::Csw;
@@ -24,23 +23,6 @@ pub struct View {
     pub subchannel: SubchannelView,
     /// The drives in the order in which they were attached: the low byte of each one's address, and its arm.
     pub drives: [Option<(u8, Arm)>; 8],
-}
-
-/// What is known of an attached drive without a channel program.
-#[derive(Clone, Copy, Debug, PartialEq, Eq)]
-pub struct DriveView {
-    /// The model.
-    pub model: DriveModel,
-    /// The cylinders of its volume.
-    pub cylinders: u16,
-    /// What its arm does between programs.
-    pub arm: Arm,
-    /// The cylinder where the arm is, or where it goes while it is in motion.
-    pub cylinder: u16,
-    /// The head.
-    pub head: u16,
-    /// The six sense bytes, which stay.
-    pub sense: [u8; 6],
 }
 
 /// What units of a program until its end, or up to a number, came to.

@@ -9,7 +9,7 @@ use Rattle.s360_events.specs.declared.conditions.Condition.TheVariants as code
 use Rattle.s360_laws.specs.Events.{StepBy, Stepped, Tch, WithCode}
 use Rattle.s360_laws.specs.Machine.{Machine, Subchannel, Idle, Pending, Working, react, step, test_channel}
 use Rattle.s360_laws.specs.declared.condition.ConditionCode.TheVariants.{Zero}
-use Rattle.s360_channel.proofs.Places.{none_is_some}
+use Rattle.attached_drives.proofs.Places.{none_is_some}
 use Rattle.s360_channel.proofs.Quiet.{none_calls, nothing_does}
 use Rattle.s360_channel.specs.Calls.{DoesQuietly}
 use Rattle.s360_channel.specs.Channel.{StandsFor}

@@ -6,7 +6,7 @@ use Rattle.s360_channel.specs.Saves.{put_back, why_not_back}
 use Rattle.s360_channel.specs.Selector.{SelectorState}
 use Rattle.s360_channel.specs.declared.saving.SavedChannel.{SavedChannel}
 use Rattle.s360_channel.specs.declared.faults.SavedFault.{SavedFault as WhyElsewhere}
-use Rattle.s360_channel.proofs.Places.{inside, none_is_some}
+use Rattle.attached_drives.proofs.Places.{inside, none_is_some}
 use Rattle.s360_channel.proofs.Saved.{selector_back}
 use Rattle.s360_channels.specs.Channels.{numbered}
 use Rattle.s360_channels.specs.Inside.{AllFit, Fits}

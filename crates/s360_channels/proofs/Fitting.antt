@@ -6,16 +6,17 @@ use Rattle.std.proofs.lemmas.List.{get_or_default, get_or_past, get_or-set_other
 use Rattle.std.specs.Prelude.{option_map, slice_index_or, slice_set}
 use Rattle.s360_words.specs.Storage.{Storage, cleared, is_size}
 use Rattle.ckd_image.specs.Image.{ImageState}
-use Rattle.s360_program.specs.Advances.{KeepsStorage}
+use Rattle.s360_storage.specs.Kept.{KeepsStorage}
 use Rattle.s360_laws.specs.Events.{Event, Answer}
 use Rattle.s360_laws.specs.Machine as machine
 use Rattle.s360_laws.specs.Machine.{Machine, react}
 use Rattle.s360_channel.specs.Calls.{Does, DoesQuietly}
 use Rattle.s360_channel.specs.Attaches.{NotRefused}
-use Rattle.s360_channel.specs.Channel.{AttachedState, ChannelState, IsChannel, StandsFor, new_attached}
+use Rattle.s360_channel.specs.Channel.{ChannelState, IsChannel, StandsFor}
+use Rattle.attached_drives.specs.Drives.{AttachedState, new_attached}
 use Rattle.s360_channel.specs.declared.subchannel.Subchannel.TheVariants.{Idle}
 use Rattle.s360_channel.specs.Selector.{IsSelector, KeepsSelector, SelectorState, over}
-use Rattle.s360_channel.proofs.Places.{inside, none_is_some}
+use Rattle.attached_drives.proofs.Places.{inside, none_is_some}
 use Rattle.s360_channel.proofs.Selecting.{is_over, still_over, still_selector}
 use Rattle.s360_channels.specs.Adding.{AttachesAt, AttachesTo}
 use Rattle.s360_channels.specs.Channels.{OnChannel, OnFound, channel_at, numbered}

@@ -12,7 +12,7 @@ use Rattle.s360_laws.specs.declared.arm.Arm.{Arm}
 use Rattle.s360_laws.specs.declared.arm.Arm.TheVariants.{InMotion, Arrived, AtRest}
 use Rattle.s360_laws.specs.declared.condition.ConditionCode.TheVariants.{Three}
 use Rattle.s360_channel.proofs.Changing.{seen_by}
-use Rattle.s360_channel.proofs.Places.{both_found, devices}
+use Rattle.attached_drives.proofs.Places.{both_found, devices}
 use Rattle.s360_channel.specs.Attaches.{is_taken}
 use Rattle.s360_channel.specs.Channel.{ChannelState, StandsFor}
 

@@ -4,7 +4,7 @@ use Rattle.std.proofs.lemmas.Bool.{ltb-true}
 use Rattle.std.specs.Prelude.{◌&&◌, nat_lt, not, option_map, slice_index_or}
 use Rattle.s360_words.specs.Storage.{Storage}
 use Rattle.s360_channel.specs.Selector.{SelectorState, over}
-use Rattle.s360_channel.proofs.Places.{none_is_some}
+use Rattle.attached_drives.proofs.Places.{none_is_some}
 use Rattle.s360_channels.specs.Asked.{InterruptsAt}
 use Rattle.s360_channels.specs.Channels.{channel_at, numbered}
 use Rattle.s360_channels.specs.Inside.{AllFit, NonePends, PendsAt}

@@ -13,7 +13,7 @@ use Rattle.s360_channel.specs.Channel.{ChannelState, StandsFor}
 use Rattle.s360_channel.specs.Selector.{SelectorState, over}
 use Rattle.s360_channel.specs.Shares.{IsAsLarge, all_stored, finding, keys_set, with_storage}
 use Rattle.s360_channel.proofs.Kept.{finds_another}
-use Rattle.s360_channel.proofs.Places.{inside, none_is_some}
+use Rattle.attached_drives.proofs.Places.{inside, none_is_some}
 use Rattle.s360_channel.proofs.Quiet.{quiet_does}
 use Rattle.s360_channels.specs.Channels.{Calls, ChannelsState, OnChannel, OnFound, channel_at, selector_at}
 use Rattle.s360_channels.specs.Several.{AllMade, AtChannel, ByProcessor, Call, Course, Happens, HeadlineOfEach, OwnCall, add_call, asked}

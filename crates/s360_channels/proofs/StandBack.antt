@@ -6,7 +6,7 @@ use Rattle.s360_laws.specs.Machine.{Machine}
 use Rattle.s360_channel.specs.Returns.{machine_saved}
 use Rattle.s360_channel.specs.Selector.{SelectorState}
 use Rattle.s360_channel.specs.declared.saving.SavedChannel.{SavedChannel}
-use Rattle.s360_channel.proofs.Places.{none_is_some}
+use Rattle.attached_drives.proofs.Places.{none_is_some}
 use Rattle.s360_channel.proofs.Returning.{saved_there}
 use Rattle.s360_channel.proofs.Saved.{clear, stands_back}
 use Rattle.s360_channels.specs.Channels.{numbered}

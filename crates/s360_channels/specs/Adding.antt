@@ -2,7 +2,8 @@
 use Rattle.std.specs.Prelude.{◌≡◌, ◌++◌, ◌∷◌, [], ℕ, List, Option, Some, None, Bool, true, false, is_some, nat_le, slice_index_or, slice_set}
 use Rattle.ckd_image.specs.Image.{ImageState}
 use Rattle.s360_channel.specs.Attaches as channel
-use Rattle.s360_channel.specs.Channel.{ChannelState, new_attached}
+use Rattle.s360_channel.specs.Channel.{ChannelState}
+use Rattle.attached_drives.specs.Drives.{new_attached}
 use Rattle.s360_channel.specs.Selector.{SelectorState, over}
 use Rattle.s360_channel.specs.declared.subchannel.Subchannel.TheVariants.{Idle}
 use Rattle.s360_channels.specs.Channels.{ChannelsState, selector_at}

@@ -9,12 +9,14 @@ use Rattle.s360_laws.specs.Machine.{Machine}
 use Rattle.s360_laws.specs.declared.condition.ConditionCode.TheVariants.{Three}
 use Rattle.s360_channel.specs.Attaches.{is_taken}
 use Rattle.s360_channel.specs.Calls.{DoesQuietly}
-use Rattle.s360_channel.specs.Channel.{ChannelState, StandsFor, device_of}
+use Rattle.s360_channel.specs.Channel.{ChannelState, StandsFor}
+use Rattle.attached_drives.specs.Drives.{device_of}
 use Rattle.s360_channel.specs.Shares.{with_storage}
-use Rattle.s360_channel.specs.Views.{attached_with, drive_seen, interrupts, view_of}
+use Rattle.s360_channel.specs.Views.{attached_with, interrupts, view_of}
+use Rattle.attached_drives.specs.Shown.{drive_seen}
 use Rattle.s360_channel.specs.Watched.{ShowsDriveAtWork, ShowsProgram}
 use Rattle.s360_channels.specs.Channels.{ChannelsState, channel_at}
-use Rattle.s360_channel.specs.declared.view.DriveView.{DriveView}
+use Rattle.attached_drives.specs.declared.view.DriveView.{DriveView}
 use Rattle.s360_channel.specs.declared.view.View.{View}
 use Rattle.s360_channel.specs.declared.view.Watched.{Watched}
 

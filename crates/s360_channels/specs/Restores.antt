@@ -6,7 +6,7 @@ use Rattle.s360_laws.specs.Machine.{Machine}
 use Rattle.s360_channel.specs.Channel.{ChannelState, StandsFor}
 use Rattle.s360_channel.specs.Restores.{RestoresDrive, WhyNotRestored, WhyNotPending, with_pending}
 use Rattle.s360_channel.specs.Shares.{with_storage}
-use Rattle.s360_channel.specs.declared.restoring.SavedDrive.{SavedDrive}
+use Rattle.attached_drives.specs.declared.drives_saved.SavedDrive.{SavedDrive}
 use Rattle.s360_channel.specs.declared.faults.RestoreFault.{RestoreFault as WhyElsewhere}
 use Rattle.s360_channel.specs.declared.faults.PendingFault.{PendingFault as WhyNone}
 use Rattle.s360_channels.specs.declared.faults.RestoreFault.{RestoreFault}

@@ -2,7 +2,7 @@
 
 ghost use Rattle.std.specs.Prelude.{◌≡◌, ◌/◌, false, length};
 ghost use Rattle.s360_words.specs.Storage.{Storage as StorageState};
-ghost use Rattle.s360_program.specs.Advances.{KeepsStorage};
+ghost use Rattle.s360_storage.specs.Kept.{KeepsStorage};
 ghost use Rattle.s360_laws.specs.Events as machine;
 ghost use Rattle.s360_events.specs.Seen.{answer_seen};
 ghost use Rattle.s360_events.specs.declared.answers.Answer.TheVariants as answer;
@@ -15,7 +15,7 @@ use crate::interrupting::still_quiet;
 use crate::selectors::Selectors;
 use ckd_image::ImageStore;
 use s360_events::{Condition, Status};
-use s360_program::main_storage::MainStorage;
+use s360_storage::MainStorage;
 use s360_words::Csw;
 
 impl<S: ImageStore> Selectors<S> {

@@ -2,7 +2,7 @@
 
 ghost use Rattle.std.specs.Prelude.{◌≡◌, None, length, true};
 ghost use Rattle.s360_words.specs.Storage.{Storage as StorageState};
-ghost use Rattle.s360_program.specs.Advances.{KeepsStorage};
+ghost use Rattle.s360_storage.specs.Kept.{KeepsStorage};
 ghost use Rattle.s360_laws.specs.Events as machine;
 ghost use Rattle.s360_channels.specs.Channels.{OnChannel, Quietly, numbered};
 ghost use Rattle.s360_channels.specs.Inside.{NonePends, PendsAt, PendsNot};
@@ -12,7 +12,7 @@ ghost use Rattle.s360_channels.specs.Selectors.{across};
 use crate::selectors::Selectors;
 use ckd_image::ImageStore;
 use s360_channel::Selector;
-use s360_program::main_storage::MainStorage;
+use s360_storage::MainStorage;
 use s360_words::Csw;
 
 impl<S: ImageStore> Selectors<S> {

@@ -5,7 +5,7 @@ ghost use Rattle.s360_channels.specs.Selectors.{AreOver};
 
 use ckd_image::ImageStore;
 use s360_channel::Selector;
-use s360_program::main_storage::MainStorage;
+use s360_storage::MainStorage;
 use std::marker::Model;
 
 /// Selector channels with the numbers 0 to 6, to which one main storage is lent for each call that needs it, as to a `Selector`.

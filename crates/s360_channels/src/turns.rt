@@ -3,7 +3,7 @@
 
 ghost use Rattle.std.specs.Prelude.{◌≡◌, ◌/◌, ℕ, None, Some, false, length, true};
 ghost use Rattle.s360_words.specs.Storage.{Storage as StorageState};
-ghost use Rattle.s360_program.specs.Advances.{KeepsStorage};
+ghost use Rattle.s360_storage.specs.Kept.{KeepsStorage};
 ghost use Rattle.s360_laws.specs.Events as machine;
 ghost use Rattle.s360_channel.specs.declared.view.SubchannelView.TheVariants.{Idle};
 ghost use Rattle.s360_channels.specs.Channels.{OnChannel, Quietly, ResetsTo, RunsTo};
@@ -15,7 +15,7 @@ use crate::selectors::Selectors;
 use ckd_image::ImageStore;
 use s360_channel::{Reset, RunOn};
 use s360_events::Condition;
-use s360_program::main_storage::MainStorage;
+use s360_storage::MainStorage;
 
 impl<S: ImageStore> Selectors<S> {
     /// Lets the program of the channel with this number do so many units, and answers how many it did: fewer where it ended, and 0

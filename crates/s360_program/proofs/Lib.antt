@@ -1,7 +1,6 @@
 pub mod Cases
 pub mod Ties
 pub mod Fetches
-pub mod Keeping
 pub mod MovingBytes
 pub mod Meeting
 pub mod Ends

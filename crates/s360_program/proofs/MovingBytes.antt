@@ -208,7 +208,7 @@ refuses s key at true e m = (refl, rw (some_below s.bytes at (grind (arith, nat_
 refuses s key at false e m = (refl, rw (slice_get_past s.bytes at (grind (arith, nat_tests))))
 
 pub gives_not : (seg : StorageArea) (s : Storage) (d : DriveState) (w : Work) → MovesBy d.state w → gives_now w ≡ true
-  → skips seg.ccw ≡ false
+    → skips seg.ccw ≡ false
     → may_store s seg.key seg.address ≡ false
     → MovesBytesBy seg (Err (refused (nat_lt seg.address (length s.bytes)))) s s d d w
 gives_not seg s d Idle f g k m = absurd f

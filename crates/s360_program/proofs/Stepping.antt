@@ -4,7 +4,7 @@ use Rattle.s360_words.specs.Storage.{Storage}
 use Rattle.ckd_drive.specs.Work.{DriveState, answer_of_look}
 use Rattle.ckd_drive.specs.declared.answers.Look.TheVariants as seen
 use Rattle.s360_runs.specs.Units.{unit}
-use Rattle.s360_program.specs.Advances.{KeepsStorage}
+use Rattle.s360_storage.specs.Kept.{KeepsStorage}
 use Rattle.s360_program.specs.Stands.{phase_in}
 use Rattle.s360_program.specs.Steps.{run_of, in_bytes, count_of, ComesBy, Fits, IsQuiet, IsStep, Looked, Steps}
 use Rattle.s360_program.specs.declared.run.Run.{Run}

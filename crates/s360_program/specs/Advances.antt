@@ -1,5 +1,5 @@
 -- What the calls of a running program come to: units of it, and its cut.
-use Rattle.std.specs.Prelude.{◌≡◌, ◌⊎◌, ℕ, ◌+◌, ◌<◌, ◌≤◌, [], ◌∷◌, ◌++◌, Bool, true, false, Option, Some, None, is_some, length}
+use Rattle.std.specs.Prelude.{◌≡◌, ◌⊎◌, ℕ, ◌+◌, ◌<◌, ◌≤◌, [], ◌∷◌, ◌++◌, Bool, true, false, Option, Some, None, is_some}
 use Rattle.s360_words.specs.Storage.{Storage}
 use Rattle.s360_words.specs.Words.{has}
 use Rattle.s360_words.specs.declared.flags.TheConstants.ChannelStatus.{INCORRECT_LENGTH}
@@ -82,11 +82,6 @@ Advances key before asked a r s old new = AdvancesTo key before asked a.done a.e
 abbrev pub RunsOn : (key : ℕ) → ProgramPhase → (asked : ℕ) → LongAdvance → RunningState → Storage → (old new : DriveState)
     → Type 0
 RunsOn key before asked a r s old new = AdvancesTo key before asked a.done a.ending r s old new
-
--- units put bytes into storage, and change neither its size nor its keys
-pub record KeepsStorage (before after : Storage) : Type 0 where
-  pub size : length after.bytes ≡ length before.bytes
-  pub keys : after.keys ≡ before.keys
 
 -- A cut.
 

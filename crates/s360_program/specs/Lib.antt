@@ -6,4 +6,3 @@ pub mod Starting
 pub mod Laws
 pub mod Steps
 pub mod Seen
-pub mod Lent

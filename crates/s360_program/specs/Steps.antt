@@ -25,7 +25,8 @@ use Rattle.s360_runs.specs.Status.{tells, no_channel_status, is_clear, stops_cha
 use Rattle.s360_runs.specs.Transfers.{Request, Transfer, next_bytes, storage_after, check_of}
 use Rattle.s360_runs.specs.Units.{ProgramPhase, Next, GoesOn, EndsIn, unit, walk, StandsIn}
 use Rattle.s360_runs.specs.Unsaved.{GainsNoCheck}
-use Rattle.s360_program.specs.Advances.{IsEnding, KeepsStorage, NeedNoStore, TellsFault, TellsNoFault}
+use Rattle.s360_program.specs.Advances.{IsEnding, NeedNoStore, TellsFault, TellsNoFault}
+use Rattle.s360_storage.specs.Kept.{KeepsStorage}
 use Rattle.s360_program.specs.Place.{place_of}
 use Rattle.s360_program.specs.Stands.{RunningState, LeftFits, Stands, Within, phase_in}
 use Rattle.s360_program.specs.declared.conditions.ChannelCondition.{ChannelCondition}

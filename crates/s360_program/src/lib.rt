@@ -5,8 +5,6 @@ mod conditions;
 mod copying;
 mod endings;
 pub mod laws;
-pub mod lent;
-pub mod main_storage;
 mod moving;
 mod place;
 pub mod program;

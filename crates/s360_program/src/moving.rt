@@ -5,14 +5,14 @@ ghost use Rattle.std.specs.Prelude.{IfSome, nat_lt, ◌≡◌, ◌+◌, true, fa
 ghost use Rattle.s360_words.specs.declared.words.Ccw.{Ccw};
 ghost use Rattle.s360_words.specs.Storage.{may_store};
 ghost use Rattle.ckd_drive.specs.Work.{left_of, gives_now, takes_now, given_now, passed_of, moved_on};
-ghost use Rattle.s360_program.specs.Advances.{KeepsStorage};
+ghost use Rattle.s360_storage.specs.Kept.{KeepsStorage};
 ghost use Rattle.s360_program.specs.Steps.{Flows, HasFound, LiesWithin, MovesBytes, refused};
 
 use crate::conditions::ChannelCondition;
-use crate::main_storage::MainStorage;
 use ckd_drive::{Drive, Look, Phase};
 use ckd_image::ImageStore;
 use ckd_track::COUNT_LENGTH;
+use s360_storage::MainStorage;
 use s360_words::Ccw;
 
 /// Whether a drive gives the bytes of a command, or takes them, and how many are left.

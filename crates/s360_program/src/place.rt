@@ -6,8 +6,8 @@ ghost use Rattle.s360_runs.specs.Places.{fetch, past_ccw, past_transfer, past_no
 ghost use Rattle.s360_runs.specs.Runs.{first_place};
 ghost use Rattle.s360_program.specs.Place.{place_of, fetched_of, FetchedWithin, modified_place};
 
-use crate::main_storage::MainStorage;
 use bitflags::Flags;
+use s360_storage::MainStorage;
 use s360_words::{Ccw, UnitStatus};
 
 /// The channel's place in a program.

@@ -7,13 +7,13 @@ ghost use Rattle.ckd_drive.specs.Work.{DriveState, CallsStore};
 ghost use Rattle.s360_runs.specs.Scripts.{TakesInterruption};
 ghost use Rattle.s360_runs.specs.Units.{standing_in, phase_past};
 ghost use Rattle.s360_runs.specs.Unsaved.{has_written};
-ghost use Rattle.s360_program.specs.Advances.{Rests, Advances, RunsOn, KeepsStorage, Cuts, CallsAtMost, NeedNoStore, TellsOf, CutTellsOf};
+ghost use Rattle.s360_program.specs.Advances.{Rests, Advances, RunsOn, Cuts, CallsAtMost, NeedNoStore, TellsOf, CutTellsOf};
+ghost use Rattle.s360_storage.specs.Kept.{KeepsStorage};
 ghost use Rattle.s360_program.specs.Stands.{Stands, phase_in};
 ghost use Rattle.s360_program.specs.Seen.{seen_in};
 ghost use Rattle.s360_program.specs.Starting.{IsFirst, StartsQuietly};
 
 use crate::conditions::csw_at;
-use crate::main_storage::MainStorage;
 use crate::place::{Fetched, Place};
 use crate::run::Run;
 use crate::starting::{First, first_command};
@@ -21,6 +21,7 @@ use crate::view::ProgramView;
 use ckd_command::DriveEnding;
 use ckd_drive::Drive;
 use ckd_image::ImageStore;
+use s360_storage::MainStorage;
 use s360_words::{Caw, ChannelStatus, Csw, UnitStatus};
 use std::marker::Model;
 

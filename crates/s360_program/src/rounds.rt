@@ -6,12 +6,12 @@ ghost use Rattle.s360_program.specs.Place.{place_of};
 ghost use Rattle.s360_program.specs.Steps.{Fits, GoesRound};
 ghost use Rattle.s360_runs.specs.Rounds.{LeadsBack};
 
-use crate::main_storage::MainStorage;
 use crate::place::{Fetched, Place};
 use crate::run::{Comes, Run};
 use ckd_drive::Drive;
 use ckd_image::ImageStore;
 use ckd_position::{Area, Position};
+use s360_storage::MainStorage;
 use s360_words::Ccw;
 
 // The word of a search at this place, if a transfer in channel behind it leads back to it.

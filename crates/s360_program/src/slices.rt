@@ -5,11 +5,11 @@ ghost use Rattle.std.specs.Prelude.{◌≡◌, true};
 ghost use Rattle.s360_program.specs.declared.run.Step.TheVariants as step;
 ghost use Rattle.s360_program.specs.Steps.{Fits, IsStep, AreOfRead};
 
-use crate::main_storage::MainStorage;
 use crate::moving::{admits_all, left_to_give};
 use crate::run::{Comes, Run};
 use ckd_drive::Drive;
 use ckd_image::ImageStore;
+use s360_storage::MainStorage;
 
 impl Run {
     /// Whether so many units are bytes of the read under way that are stored, each of them.

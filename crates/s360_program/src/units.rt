@@ -9,14 +9,14 @@ ghost use Rattle.s360_runs.specs.Units.{unit, next_chosen, Between, EndsIn, stan
 ghost use Rattle.s360_runs.specs.Unsaved.{has_written};
 ghost use Rattle.s360_words.specs.Storage.{Storage as StorageState};
 ghost use Rattle.ckd_drive.specs.Work.{is_idle, may_end, closed_of, left_of, passed_of, CallsStore};
-ghost use Rattle.s360_program.specs.Advances.{RunsOn, CallsAtMost, KeepsStorage, NeedNoStore, TellsOf};
+ghost use Rattle.s360_program.specs.Advances.{RunsOn, CallsAtMost, NeedNoStore, TellsOf};
+ghost use Rattle.s360_storage.specs.Kept.{KeepsStorage};
 ghost use Rattle.s360_program.specs.Stands.{phase_in, Within};
 ghost use Rattle.s360_program.specs.Steps.{run_of, in_bytes, count_of, Fits, IsQuiet, ComesBy, EndsBy, IsStep, Steps, FindsArea, has_moved, goes_on, point_at};
 ghost use Rattle.s360_program.specs.Steps.{request_at, status_of, condition_for, differs, needs_area, behind};
 
 use crate::conditions::{ChannelCondition, chains};
 use crate::endings::{end_program, told};
-use crate::main_storage::MainStorage;
 use crate::moving::{COUNT_AREA, StorageArea, flow_of, gives, move_bytes};
 use crate::place::Fetched;
 use crate::program::LongAdvance;
@@ -24,6 +24,7 @@ use crate::run::{Comes, Run, Step};
 use ckd_command::DriveEnding;
 use ckd_drive::{Begun, Drive, Look, Phase};
 use ckd_image::ImageStore;
+use s360_storage::MainStorage;
 use s360_words::{Ccw, Csw};
 
 impl Run {

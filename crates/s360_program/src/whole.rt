@@ -11,12 +11,12 @@ ghost use Rattle.s360_program.specs.Steps.{run_of, count_of, differs, Fits, IsSt
 
 use crate::conditions::{ChannelCondition, chains};
 use crate::endings::end_program;
-use crate::main_storage::MainStorage;
 use crate::moving::admits_all;
 use crate::run::{Comes, Run, Step};
 use crate::units::is_incorrect;
 use ckd_drive::{Drive, WholeRead};
 use ckd_image::ImageStore;
+use s360_storage::MainStorage;
 
 // The codes of Sense and of the commonest reads, and the bit beside them by which a read goes on at the next head.
 const SENSE: u8 = 0x04;

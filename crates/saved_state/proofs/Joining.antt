@@ -3,7 +3,7 @@ use Rattle.std.proofs.Common.{◌≡◌, ◌≤◌, ◌∙◌, ℕ, ap, arith, a
 use Rattle.std.proofs.Common.{Option, None}
 use Rattle.std.proofs.lemmas.List.{append-nil, length-take}
 use Rattle.std.specs.Prelude.{slice_index_or}
-use Rattle.s360_channel.specs.declared.restoring.SavedDrive.{SavedDrive}
+use Rattle.attached_drives.specs.declared.drives_saved.SavedDrive.{SavedDrive}
 use Rattle.s360_channel.specs.declared.saving.SavedChannel.{SavedChannel}
 use Rattle.saved_state.specs.Bytes.{channel_bytes, channels_bytes, drive_bytes, drives_bytes}
 

@@ -4,7 +4,7 @@ use Rattle.std.specs.Prelude.{Option, Some, None, option_map, Result, Ok, Err, i
 use Rattle.s360_words.specs.declared.words.Csw.{Csw}
 use Rattle.s360_laws.specs.declared.arm.Arm.{Arm}
 use Rattle.s360_laws.specs.declared.arm.Arm.TheVariants.{AtRest, InMotion, Arrived}
-use Rattle.s360_channel.specs.declared.restoring.SavedDrive.{SavedDrive}
+use Rattle.attached_drives.specs.declared.drives_saved.SavedDrive.{SavedDrive}
 use Rattle.s360_channel.specs.declared.saving.SavedChannel.{SavedChannel}
 use Rattle.saved_state.specs.Bytes.{bytes_of, checksum}
 use Rattle.saved_state.specs.declared.faults.BytesFault.{BytesFault}

@@ -2,8 +2,8 @@
 
 use crate::seen::Went;
 use s360_events::Event;
-use s360_program::main_storage::MainStorage;
 use s360_program::view::{AtWork, ProgramView};
+use s360_storage::MainStorage;
 use s360_trace::Moment;
 use s360_words::{Ccw, Csw};
 use trace_words::word_at;

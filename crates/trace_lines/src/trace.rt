@@ -7,8 +7,8 @@ use ckd_position::Area;
 use s360_channel::DriveView;
 use s360_deck::AnswerLine;
 use s360_events::{Answer, Condition, Event};
-use s360_program::main_storage::MainStorage;
 use s360_program::view::{AtWork, ProgramView};
+use s360_storage::MainStorage;
 use s360_trace::Moment;
 use s360_words::Ccw;
 use trace_words::{

@@ -1,5 +1,5 @@
 use Rattle.std.proofs.Common.{◌≡◌}
-use Rattle.s360_program.specs.Advances.{KeepsStorage}
+use Rattle.s360_storage.specs.Kept.{KeepsStorage}
 use Rattle.s360_channels.specs.Channels.{OnChannel}
 use Rattle.s360_channels.specs.Selectors.{across}
 use Rattle.dasd_subsystem.specs.Until.{AreFew}

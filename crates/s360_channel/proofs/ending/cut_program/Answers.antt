@@ -1,6 +1,6 @@
 use Rattle.std.proofs.Common.{sym, subst, ◌∙◌, arith}
 use Rattle.s360_channel.specs.Ends.{CutsProgram}
-use Rattle.s360_channel.specs.DriveCalls.{CutsAt}
+use Rattle.attached_drives.specs.DriveCalls.{CutsAt}
 use Rattle.s360_channel.proofs.Calling.{still_there}
 use Rattle.s360_channel.proofs.ending.cut_program.Goals as goal
 

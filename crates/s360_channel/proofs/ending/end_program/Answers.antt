@@ -1,9 +1,9 @@
 use Rattle.std.proofs.Common.{◌≡◌, sym, ap, ◌∙◌}
 use Rattle.std.specs.Prelude.{option_map, slice_set}
-use Rattle.s360_channel.specs.Channel.{AttachedState}
+use Rattle.attached_drives.specs.Drives.{AttachedState}
 use Rattle.s360_channel.specs.Ends.{arm_told}
 use Rattle.s360_channel.specs.declared.subchannel.Subchannel.TheVariants.{Pending}
-use Rattle.s360_channel.proofs.Places.{inside}
+use Rattle.attached_drives.proofs.Places.{inside}
 use Rattle.s360_channel.proofs.ending.end_program.Goals as goal
 use Rattle.s360_channel.proofs.ending.end_program.Goals.{then-motion, else-motion}
 

@@ -2,10 +2,10 @@ use Rattle.std.proofs.Common.{ℕ, ◌+◌, ◌*◌, sym, subst, ap, ◌∙◌, 
 use Rattle.std.proofs.lemmas.Option.{slice_get_within}
 use Rattle.std.specs.Prelude.{option_map}
 use Rattle.s360_program.specs.Stands.{Stands}
-use Rattle.s360_channel.specs.Channel.{AttachedState}
+use Rattle.attached_drives.specs.Drives.{AttachedState}
 use Rattle.s360_channel.specs.Ends.{LosesProgram}
-use Rattle.s360_channel.specs.DriveCalls.{DriveIs}
-use Rattle.s360_channel.proofs.Places.{inside}
+use Rattle.attached_drives.specs.DriveCalls.{DriveIs}
+use Rattle.attached_drives.proofs.Places.{inside}
 use Rattle.s360_channel.proofs.ending.lose_program.Goals as goal
 
 pub device-device-requires : goal.device-device-requires

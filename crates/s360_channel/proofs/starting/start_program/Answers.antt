@@ -1,7 +1,7 @@
 use Rattle.std.proofs.Common.{◌<◌, ◌∙◌, ap, length, arith}
 use Rattle.std.proofs.lemmas.Option.{slice_get_within}
 use Rattle.std.specs.Prelude.{slice_get}
-use Rattle.s360_channel.proofs.Places.{get_set}
+use Rattle.attached_drives.proofs.Places.{get_set}
 use Rattle.s360_channel.proofs.Started.{starts_bad, starts_rejected, starts_immediate, starts_accepted, started_images, armed_images}
 use Rattle.s360_channel.proofs.starting.start_program.Goals as goal
 

@@ -25,7 +25,7 @@ unwritten_by (Filled w u) h x e = absurd (let some : 0 < length h.passed = x.som
 unwritten_by _ h x e = (refl, refl)
 
 unwritten : (s : DriveStage) (h : HalfDone) → StageIs s h → passed_of (work_of s h) ≡ []
-  → (is_filled s h ≡ false) × (seen s h ≡ h.cache.slots)
+    → (is_filled s h ≡ false) × (seen s h ≡ h.cache.slots)
 unwritten Passing h x e = unwritten_by h.progress.place h x.placed e
 unwritten _ h x e = (refl, refl)
 

@@ -1,7 +1,7 @@
 use Rattle.std.proofs.Common.{◌≡◌, ◌*◌, refl, Bool, Option, Some, None, arith}
 use Rattle.s360_words.specs.declared.words.Csw.{Csw}
 use Rattle.s360_laws.specs.Events.{StepBy, Stepped}
-use Rattle.s360_channel.specs.DriveCalls.{AdvancesAt}
+use Rattle.attached_drives.specs.DriveCalls.{AdvancesAt}
 use Rattle.s360_channel.proofs.Calling.{there, still_there, no_step_does, step_goes_on, step_most, step_ends}
 use Rattle.s360_channel.proofs.Quiet.{none_calls}
 use Rattle.s360_channel.proofs.Selecting.{does_selector}

@@ -1,8 +1,9 @@
 use Rattle.std.proofs.Common.{◌∙◌, ap, sym, None}
 use Rattle.std.specs.Prelude.{option_map}
-use Rattle.s360_channel.specs.Channel.{AttachedState, device_of}
+use Rattle.attached_drives.specs.Drives.{AttachedState, device_of}
 use Rattle.s360_channel.specs.Nexts.{of_parts}
-use Rattle.s360_channel.specs.Views.{drive_seen, attached_in}
+use Rattle.s360_channel.specs.Views.{attached_in}
+use Rattle.attached_drives.specs.Shown.{drive_seen}
 use Rattle.s360_channel.proofs.Shown.{shows_drive}
 use Rattle.s360_channel.proofs.selector.Selector.drive.Goals as goal
 

@@ -1,6 +1,6 @@
 use Rattle.std.proofs.Common.{◌∙◌, ap, sym, None}
 use Rattle.std.specs.Prelude.{option_map}
-use Rattle.s360_channel.specs.Channel.{AttachedState}
+use Rattle.attached_drives.specs.Drives.{AttachedState}
 use Rattle.s360_channel.specs.Nexts.{of_parts}
 use Rattle.s360_channel.specs.Views.{attached_in}
 use Rattle.s360_channel.proofs.Shown.{lends_volume, shows_volume}

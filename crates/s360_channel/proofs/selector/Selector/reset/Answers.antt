@@ -1,6 +1,6 @@
 use Rattle.std.proofs.Common.{refl, subst, sym, arith}
 use Rattle.s360_laws.specs.Events.{Reset, WasReset}
-use Rattle.s360_channel.specs.Channel.{AllRest}
+use Rattle.attached_drives.specs.Drives.{AllRest}
 use Rattle.s360_channel.proofs.Calling.{cut_allowed, rest_all, resets, resets_to}
 use Rattle.s360_channel.proofs.Selecting.{does_selector, calls_over}
 use Rattle.s360_channel.proofs.selector.Selector.reset.Goals as goal

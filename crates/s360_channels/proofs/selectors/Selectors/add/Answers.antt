@@ -1,5 +1,5 @@
 use Rattle.std.proofs.Common.{◌<◌, subst, sym, false}
-use Rattle.s360_channel.proofs.Places.{inside}
+use Rattle.attached_drives.proofs.Places.{inside}
 use Rattle.s360_channels.specs.Inside.{Fits}
 use Rattle.s360_channels.proofs.Fitting.{fit_set, loud, new_fits}
 use Rattle.s360_channels.proofs.selectors.Selectors.add.Goals as goal

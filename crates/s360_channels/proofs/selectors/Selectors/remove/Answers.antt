@@ -1,5 +1,5 @@
 use Rattle.std.proofs.Common.{sym, ◌∙◌}
-use Rattle.s360_channel.proofs.Places.{none_is_some}
+use Rattle.attached_drives.proofs.Places.{none_is_some}
 use Rattle.s360_channels.proofs.Fitting.{fit_set, here, none_removed, removed_behind}
 use Rattle.s360_channels.proofs.selectors.Selectors.remove.Goals as goal
 

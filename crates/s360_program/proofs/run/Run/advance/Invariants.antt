@@ -3,7 +3,8 @@ use Rattle.ckd_command.specs.Drive.{drive_of}
 use Rattle.s360_runs.specs.Scripts.{units}
 use Rattle.s360_runs.specs.Units.{walk, StandsIn}
 use Rattle.s360_runs.specs.Unsaved.{GainsNoCheck}
-use Rattle.s360_program.specs.Advances.{KeepsStorage, CallsAtMost, NeedNoStore}
+use Rattle.s360_program.specs.Advances.{CallsAtMost, NeedNoStore}
+use Rattle.s360_storage.specs.Kept.{KeepsStorage}
 use Rattle.s360_program.specs.Stands.{phase_in}
 use Rattle.s360_program.specs.Steps.{run_of, Fits}
 use Rattle.s360_program.proofs.run.Run.advance.Given as goal

@@ -1,0 +1,5 @@
+pub mod Drives
+pub mod Slots
+pub mod DriveCalls
+pub mod Shown
+pub mod Saved

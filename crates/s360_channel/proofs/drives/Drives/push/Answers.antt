@@ -1,8 +1,0 @@
-use Rattle.s360_channel.proofs.Slots.{pushed}
-use Rattle.s360_channel.proofs.drives.Drives.push.Goals as goal
-
-pub invariant_of-self : goal.invariant_of-self
-invariant_of-self g c = (pushed _ _ c.self.invariant c.self.view_is c.requires c.push.ensures.items).0
-
-pub returns : goal.returns
-returns g c = (pushed _ _ c.self.invariant c.self.view_is c.requires c.push.ensures.items).1
