@@ -8,7 +8,7 @@ ghost use Rattle.ckd_track.specs.Geometry.{track_at};
 ghost use Rattle.dasd_volumes.specs.Printing.{CountsWrites};
 ghost use Rattle.dasd_volumes.specs.Reading.{IsRead, IsSlotOf};
 ghost use Rattle.dasd_archive.specs.Printed.{PrintsBytes};
-ghost use Rattle.dasd_archive.specs.Compare.{track_lines, changed, changed_in, number_line, compare_text};
+ghost use Rattle.dasd_archive.specs.Compare.{comparison_form, track_lines, changed, changed_in, number_line, compare_text};
 ghost use Rattle.dasd_archive.specs.Compare.{PrintsBoth, NumberOfBoth};
 ghost use Rattle.dasd_archive.specs.Walks.{IsTrack};
 
@@ -113,7 +113,7 @@ fn print_number<W: Write>(
     differing: u32,
     lines: &mut Vec<u8>,
 ) -> Result<(), VolumeFault>
-    ensures lines { PrintsBytes result (number_line form.now.style form.now.path.now form.now.other.now differing)
+    ensures lines { PrintsBytes result (number_line (comparison_form form.now) differing)
         (seen_by W.contents writer.old) (seen_by W.contents writer.new) }
     ensures writes { CountsWrites result (seen_by W.contents writer.old) (seen_by W.contents writer.new) }
     ensures fault { IfErr result (λ e. e ≢ VolumeFault.Store) }
@@ -129,7 +129,7 @@ fn print_number<W: Write>(
 // The last line.
 fn write_number<W: Write>(writer: &mut W, form: &Comparison, differing: u32) -> io::Result<()>
     ensures { OnOk result (Appends (W.contents writer.old) (W.contents writer.new)
-        (number_line form.now.style form.now.path.now form.now.other.now differing)) }
+        (number_line (comparison_form form.now) differing)) }
 {
     let path = form.path;
     let other = form.other;
@@ -148,10 +148,10 @@ fn write_number<W: Write>(writer: &mut W, form: &Comparison, differing: u32) -> 
 impl<'a, U: SlotReader> EachTrack for ComparedTracks<'a, U> {
     ghost use Rattle.std.specs.Prelude.{◌≡◌, List, ℕ, Some, length, refl};
     ghost use Rattle.std.proofs.Common.{◌∙◌};
-    ghost use Rattle.dasd_archive.specs.Compare.{lines_beside, known_slots};
+    ghost use Rattle.dasd_archive.specs.Compare.{comparison_form, lines_beside, known_slots};
     ghost use Rattle.dasd_archive.specs.Beside.{CountsTrack};
 
-    ghost text = { λ b. lines_beside b.form.style b.form.path.now b.form.other.now b.form.lists (known_slots (U.volume b.other.now).slots) };
+    ghost text = { λ b. lines_beside (comparison_form b.form) (known_slots (U.volume b.other.now).slots) };
 
     ghost IsKnown = { λ b. (slots : List (List ℕ)) × ((U.volume b.other.now).slots ≡ Some slots) };
 
