@@ -1,4 +1,5 @@
 pub mod Lined
+pub mod Together
 pub mod Prefixes
 pub mod Reported
 pub mod Columns

@@ -12,11 +12,11 @@ use Rattle.dasd_volumes.specs.Lines.{hexadecimal, bytes_text, address_text, reco
 use Rattle.dasd_volumes.specs.Listing.{place_text, unreadable_object}
 use Rattle.volume_labels.specs.Ebcdic.{shown}
 use Rattle.dasd_volumes.specs.declared.forms.Style.{Style}
-use Rattle.dasd_volumes.specs.declared.forms.Style.TheVariants.{Text, Json}
 use Rattle.dasd_volumes.specs.declared.walks.Range.{Range}
 use Rattle.dasd_archive.specs.declared.dumps.VolumePart.{VolumePart}
 use Rattle.dasd_volumes.specs.declared.walks.Tracks.{Tracks}
 use Rattle.dasd_volumes.specs.Volumes.{of_each, holds, ReadTrack, text_in}
+use Rattle.dasd_archive.specs.Styles.{in_style}
 
 -- Lines of bytes.
 
@@ -49,40 +49,44 @@ areas_text id key body = concat (
     codes ",\"identifier\":\"" ∷ bytes_text id ∷ codes "\",\"key\":\"" ∷ bytes_text key ∷ codes "\",\"data\":\"" ∷ bytes_text body ∷ codes "\"}" ∷ line_feed
     ∷ [])
 
+-- a track that is dumped: how its lines are written, with the path of its volume, and where it is
+pub record DumpedTrack : Type 0 where
+  pub style : Style
+  pub path : List ℕ
+  pub cylinder : ℕ
+  pub head : ℕ
+
 -- a record as an object
-abbrev pub object_text : (path : List ℕ) → (cylinder head : ℕ) → (id key body : List ℕ) → List ℕ
-object_text path cylinder head id key body = place_text path cylinder head ++ areas_text id key body
+abbrev pub object_text : DumpedTrack → (id key body : List ℕ) → List ℕ
+object_text t id key body = place_text t.path t.cylinder t.head ++ areas_text id key body
 
 -- a record: its identifier and lengths, its key and its data
-abbrev pub record_dump : Style → (path : List ℕ) → (cylinder head : ℕ) → Record → List ℕ
-record_dump Text path cylinder head r = record_line r ++ (rows_text (codes "K") r.key_area ++ rows_text (codes "D") r.data_area)
-record_dump Json path cylinder head r = object_text path cylinder head r.id r.key_area r.data_area
+abbrev pub record_dump : DumpedTrack → Record → List ℕ
+record_dump t r = in_style t.style (record_line r ++ (rows_text (codes "K") r.key_area ++ rows_text (codes "D") r.data_area))
+    (object_text t r.id r.key_area r.data_area)
 
 -- a record whose number is asked for
-abbrev pub record_text : Style → (path : List ℕ) → (cylinder head : ℕ) → Range → Record → List ℕ
-record_text style path cylinder head numbers r =
-    if holds numbers (slice_index r.id 4) then record_dump style path cylinder head r else []
+abbrev pub record_text : DumpedTrack → Range → Record → List ℕ
+record_text t numbers r = if holds numbers (slice_index r.id 4) then record_dump t r else []
 
 -- a track: its home address
-abbrev pub home_address_line : Style → (path : List ℕ) → (cylinder head : ℕ) → List ℕ → List ℕ
-home_address_line Text path cylinder head ha = concat (address_text cylinder head ∷ codes " HA " ∷ bytes_text ha ∷ line_feed ∷ [])
-home_address_line Json path cylinder head ha = concat (
-    codes "{\"path\":" ∷ path ∷ codes ",\"cylinder\":" ∷ decimal cylinder ∷ codes ",\"head\":" ∷ decimal head ∷ codes ",\"home_address\":\"" ∷ bytes_text ha
-    ∷ codes "\"}" ∷ line_feed ∷ [])
+abbrev pub home_address_line : DumpedTrack → List ℕ → List ℕ
+home_address_line t ha = in_style t.style (concat (address_text t.cylinder t.head ∷ codes " HA " ∷ bytes_text ha ∷ line_feed ∷ []))
+    (concat (codes "{\"path\":" ∷ t.path ∷ codes ",\"cylinder\":" ∷ decimal t.cylinder ∷ codes ",\"head\":" ∷ decimal t.head
+    ∷ codes ",\"home_address\":\"" ∷ bytes_text ha ∷ codes "\"}" ∷ line_feed ∷ []))
 
 -- one that can't be read
-abbrev pub unreadable_line : Style → (path : List ℕ) → (cylinder head : ℕ) → SlotFault → List ℕ
-unreadable_line Text path cylinder head fault = lines.unreadable_line cylinder head fault
-unreadable_line Json path cylinder head fault = unreadable_object path cylinder head fault
+abbrev pub unreadable_line : DumpedTrack → SlotFault → List ℕ
+unreadable_line t fault = in_style t.style (lines.unreadable_line t.cylinder t.head fault) (unreadable_object t.path t.cylinder t.head fault)
 
-abbrev pub track_dump : Style → (path : List ℕ) → (cylinder head : ℕ) → Range → Result Track SlotFault → List ℕ
-track_dump style path cylinder head numbers (Ok t) =
-    home_address_line style path cylinder head t.home_address ++ flat_map (record_text style path cylinder head numbers) t.records
-track_dump style path cylinder head numbers (Err fault) = unreadable_line style path cylinder head fault
+abbrev pub track_dump : DumpedTrack → Range → Result Track SlotFault → List ℕ
+track_dump t numbers (Ok track) = home_address_line t track.home_address ++ flat_map (record_text t numbers) track.records
+track_dump t numbers (Err fault) = unreadable_line t fault
 
 -- the lines of a track, by its slot
 abbrev pub dumped_text : Style → (path : List ℕ) → (numbers : Range) → ReadTrack → List ℕ
-dumped_text style path numbers t = track_dump style path t.track.cylinder t.track.head numbers (track_of t.slot)
+dumped_text style path numbers t =
+    track_dump (record { style = style; path = path; cylinder = t.track.cylinder; head = t.track.head }) numbers (track_of t.slot)
 
 -- the tracks of a part of a volume
 abbrev pub tracks_of_part : VolumePart → Tracks

@@ -5,3 +5,4 @@ pub mod Findings
 pub mod Numbered
 pub mod Reports
 pub mod Strict
+pub mod Styles

@@ -1,27 +1,34 @@
 //! Two tracks are compared.
 
-ghost use Rattle.std.specs.Prelude.{◌≡◌, ◌<◌, ◌≤◌, ◌+◌, [], ◌∷◌, ◌==◌, IsOk, Ok, length, drop, min, bytes_eq, IfOk, OnOk, if◌then◌else◌};
-ghost use Rattle.std.specs.List.{flat_map};
+ghost use Rattle.std.specs.Prelude.{◌≡◌, ◌<◌, ◌≤◌, ◌+◌, [], ◌∷◌, IsOk, Ok, length, drop, bytes_eq, IfOk, OnOk, if◌then◌else◌};
 ghost use Rattle.std.specs.Io.KnownBytes.{Appends};
 ghost use Rattle.ckd_track.specs.Track.{track_of, track_in, record_in};
 ghost use Rattle.ckd_track.specs.Changes.{end_offset};
-ghost use Rattle.dasd_volumes.specs.Volumes.{of_each};
-ghost use Rattle.dasd_archive.specs.Compare.{difference_line, where_not, same_length, record_differences, rest_differences, readable_differences};
-ghost use Rattle.dasd_archive.specs.Compare.{differences_of, track_lines, changed};
+ghost use Rattle.dasd_archive.specs.Compare.{difference_line, difference_lines, where_not, same_length, differences_of, track_lines, changed};
+ghost use Rattle.dasd_archive.specs.Compare.{record_differences, shared_differences, rest_differences, readable_differences};
 
 use crate::compares::Comparison;
 use crate::differences::Difference;
-use crate::tracks::{bytes_from, five, identifier, is_same};
+use crate::tracks::{bytes_from, five, identifier};
 use ckd_track::{TrackView, end_offset_of, read_slot};
 use dasd_volumes::{PrintedAddress, Style};
 use std::io;
 use std::io::Write;
+use std::marker::Model;
 
 /// How the lines of two tracks are written, and where both stand.
-#[derive(Clone, Copy)]
+#[derive(Drop)]
 pub(crate) struct DifferenceForm<'a> {
     pub(crate) form: Comparison<'a>,
     pub(crate) address: PrintedAddress,
+}
+
+impl<'a> Model for DifferenceForm<'a> {
+    ghost use Rattle.dasd_archive.specs.Compare.{ComparedTrack, comparison_form};
+
+    ghost Value = { ComparedTrack };
+
+    ghost view = { λ f. record { form = comparison_form f.form; cylinder = f.address.cylinder; head = f.address.head } };
 }
 
 // A slot, and the track that it spells.
@@ -41,8 +48,7 @@ pub(crate) fn compare_track<W: Write>(
     ensures number { IfOk result (λ n. n ≡ length (changed slot.now other_slot.now)) }
     ensures few { IfOk result (λ n. n ≤ 1) }
     ensures lines { OnOk result (Appends (W.contents writer.old) (W.contents writer.new)
-        (track_lines lines.now.form.style lines.now.form.path.now lines.now.form.other.now lines.now.form.lists lines.now.address.cylinder
-        lines.now.address.head slot.now other_slot.now)) }
+        (track_lines lines.now slot.now other_slot.now)) }
 {
     if slot == other_slot {
         return Ok(0);
@@ -59,8 +65,7 @@ fn write_listed<W: Write>(
     other_slot: &[u8],
 ) -> io::Result<()>
     ensures { OnOk result (Appends (W.contents writer.old) (W.contents writer.new)
-        (if lines.now.form.lists then flat_map (difference_line lines.now.form.style lines.now.form.path.now lines.now.form.other.now lines.now.address.cylinder
-        lines.now.address.head)
+        (if lines.now.form.lists then difference_lines lines.now
         (differences_of slot.now other_slot.now (track_of slot.now) (track_of other_slot.now)) else [])) }
 {
     if lines.form.lists {
@@ -78,8 +83,7 @@ fn write_differences<W: Write>(
     other_slot: &[u8],
 ) -> io::Result<()>
     ensures { OnOk result (Appends (W.contents writer.old) (W.contents writer.new)
-        (flat_map (difference_line lines.now.form.style lines.now.form.path.now lines.now.form.other.now lines.now.address.cylinder lines.now.address.head)
-        (differences_of slot.now other_slot.now (track_of slot.now) (track_of other_slot.now)))) }
+        (difference_lines lines.now (differences_of slot.now other_slot.now (track_of slot.now) (track_of other_slot.now)))) }
 {
     match read_slot(slot) {
         Ok(track) => match read_slot(other_slot) {
@@ -110,8 +114,7 @@ fn write_difference<W: Write>(
     difference: Difference,
 ) -> io::Result<()>
     ensures { OnOk result (Appends (W.contents writer.old) (W.contents writer.new)
-        (flat_map (difference_line lines.now.form.style lines.now.form.path.now lines.now.form.other.now lines.now.address.cylinder lines.now.address.head)
-        (difference ∷ []))) }
+        (difference_lines lines.now (difference ∷ []))) }
 {
     write_line(writer, lines, difference)
 }
@@ -123,7 +126,7 @@ fn write_line<W: Write>(
     difference: Difference,
 ) -> io::Result<()>
     ensures { OnOk result (Appends (W.contents writer.old) (W.contents writer.new)
-        (difference_line lines.now.form.style lines.now.form.path.now lines.now.form.other.now lines.now.address.cylinder lines.now.address.head difference)) }
+        (difference_line lines.now difference)) }
 {
     let path = lines.form.path;
     let other = lines.form.other;
@@ -146,14 +149,27 @@ fn write_unless<W: Write>(
     difference: Difference,
 ) -> io::Result<()>
     ensures { OnOk result (Appends (W.contents writer.old) (W.contents writer.new)
-        (flat_map (difference_line lines.now.form.style lines.now.form.path.now lines.now.form.other.now lines.now.address.cylinder lines.now.address.head)
-        (where_not is_same difference))) }
+        (difference_lines lines.now (where_not is_same difference))) }
 {
     if is_same {
         Ok(())
     } else {
         write_difference(writer, lines, difference)
     }
+}
+
+// The line of a difference, unless these bytes are the same.
+fn write_unless_equal<W: Write>(
+    writer: &mut W,
+    lines: &DifferenceForm,
+    one: &[u8],
+    other: &[u8],
+    difference: Difference,
+) -> io::Result<()>
+    ensures { OnOk result (Appends (W.contents writer.old) (W.contents writer.new)
+        (difference_lines lines.now (where_not (bytes_eq one.now other.now) difference))) }
+{
+    write_unless(writer, lines, one == other, difference)
 }
 
 // How many bytes from the first on are the same.
@@ -179,54 +195,16 @@ fn compare_readable<W: Write>(
     requires first { track_of one.now.slot.now ≡ Ok one.now.track }
     requires second { track_of other.now.slot.now ≡ Ok other.now.track }
     ensures { OnOk result (Appends (W.contents writer.old) (W.contents writer.new)
-        (flat_map (difference_line lines.now.form.style lines.now.form.path.now lines.now.form.other.now lines.now.address.cylinder lines.now.address.head)
-        (readable_differences one.now.slot.now other.now.slot.now one.now.track other.now.track))) }
+        (difference_lines lines.now (readable_differences one.now.slot.now other.now.slot.now one.now.track other.now.track))) }
 {
-    compare_home_addresses(writer, lines, &one.track, &other.track)?;
-    compare_numbers(writer, lines, &one.track, &other.track)?;
+    let (first, second) = (one.track.ha(), other.track.ha());
+    let difference = Difference::HomeAddress(five(first), five(second));
+    write_unless_equal(writer, lines, first, second, difference)?;
+    let (first, second) = (one.track.len(), other.track.len());
+    let difference = Difference::Records(first, second);
+    write_unless(writer, lines, first == second, difference)?;
     compare_records(writer, lines, &one.track, &other.track)?;
     compare_rests(writer, lines, rest_of(one.slot), rest_of(other.slot))
-}
-
-// The line of two home addresses that differ.
-fn compare_home_addresses<W: Write>(
-    writer: &mut W,
-    lines: &DifferenceForm,
-    one: &TrackView,
-    other: &TrackView,
-) -> io::Result<()>
-    ensures { OnOk result (Appends (W.contents writer.old) (W.contents writer.new)
-        (flat_map (difference_line lines.now.form.style lines.now.form.path.now lines.now.form.other.now lines.now.address.cylinder lines.now.address.head)
-        (where_not (bytes_eq one.now.home_address other.now.home_address) (Difference.HomeAddress one.now.home_address other.now.home_address)))) }
-{
-    let first = one.ha();
-    let second = other.ha();
-    let difference = Difference::HomeAddress(five(first), five(second));
-    write_unless(writer, lines, is_equal(first, second), difference)
-}
-
-// The line of two numbers of records that differ.
-fn compare_numbers<W: Write>(
-    writer: &mut W,
-    lines: &DifferenceForm,
-    one: &TrackView,
-    other: &TrackView,
-) -> io::Result<()>
-    ensures { OnOk result (Appends (W.contents writer.old) (W.contents writer.new)
-        (flat_map (difference_line lines.now.form.style lines.now.form.path.now lines.now.form.other.now lines.now.address.cylinder lines.now.address.head)
-        (where_not (length one.now.records == length other.now.records) (Difference.Records (length one.now.records) (length other.now.records))))) }
-{
-    let first = one.len();
-    let second = other.len();
-    let difference = Difference::Records(first, second);
-    write_unless(writer, lines, first == second, difference)
-}
-
-// Whether bytes are the same.
-fn is_equal(one: &[u8], other: &[u8]) -> bool
-    ensures { result ≡ bytes_eq one.now other.now }
-{
-    one == other
 }
 
 // The lines of the records that both tracks have.
@@ -237,8 +215,7 @@ fn compare_records<W: Write>(
     other: &TrackView,
 ) -> io::Result<()>
     ensures { OnOk result (Appends (W.contents writer.old) (W.contents writer.new)
-        (flat_map (difference_line lines.now.form.style lines.now.form.path.now lines.now.form.other.now lines.now.address.cylinder lines.now.address.head)
-        (of_each (λ i. record_differences i (record_in one.now i) (record_in other.now i)) (min (length one.now.records) (length other.now.records))))) }
+        (difference_lines lines.now (shared_differences one.now other.now))) }
 {
     for i in 0..one.len().min(other.len()) {
         compare_record(writer, lines, one, other, i)?;
@@ -257,75 +234,17 @@ fn compare_record<W: Write>(
     requires first { i < length one.now.records }
     requires second { i < length other.now.records }
     ensures { OnOk result (Appends (W.contents writer.old) (W.contents writer.new)
-        (flat_map (difference_line lines.now.form.style lines.now.form.path.now lines.now.form.other.now lines.now.address.cylinder lines.now.address.head)
-        (record_differences i (record_in one.now i) (record_in other.now i)))) }
+        (difference_lines lines.now (record_differences i (record_in one.now i) (record_in other.now i)))) }
 {
-    compare_identifiers(writer, lines, one, other, i)?;
-    compare_keys(writer, lines, one, other, i)?;
-    compare_contents(writer, lines, one, other, i)
-}
-
-// The line of two identifiers that differ.
-fn compare_identifiers<W: Write>(
-    writer: &mut W,
-    lines: &DifferenceForm,
-    one: &TrackView,
-    other: &TrackView,
-    i: usize,
-) -> io::Result<()>
-    requires first { i < length one.now.records }
-    requires second { i < length other.now.records }
-    ensures { OnOk result (Appends (W.contents writer.old) (W.contents writer.new)
-        (flat_map (difference_line lines.now.form.style lines.now.form.path.now lines.now.form.other.now lines.now.address.cylinder lines.now.address.head)
-        (where_not (bytes_eq (record_in one.now i).id (record_in other.now i).id) (Difference.Identifier i (record_in one.now i).id
-        (record_in other.now i).id)))) }
-{
-    let first = identifier(one, i);
-    let second = identifier(other, i);
+    let (first, second) = (identifier(one, i), identifier(other, i));
     let difference = Difference::Identifier(i, first, second);
-    write_unless(writer, lines, is_same(first, second), difference)
-}
-
-// The line of two keys that differ.
-fn compare_keys<W: Write>(
-    writer: &mut W,
-    lines: &DifferenceForm,
-    one: &TrackView,
-    other: &TrackView,
-    i: usize,
-) -> io::Result<()>
-    requires first { i < length one.now.records }
-    requires second { i < length other.now.records }
-    ensures { OnOk result (Appends (W.contents writer.old) (W.contents writer.new)
-        (flat_map (difference_line lines.now.form.style lines.now.form.path.now lines.now.form.other.now lines.now.address.cylinder lines.now.address.head)
-        (where_not (bytes_eq (record_in one.now i).key_area (record_in other.now i).key_area)
-        (Difference.Key i (same_length (record_in one.now i).key_area (record_in other.now i).key_area))))) }
-{
-    let first = one.key_of(i);
-    let second = other.key_of(i);
+    write_unless_equal(writer, lines, &first, &second, difference)?;
+    let (first, second) = (one.key_of(i), other.key_of(i));
     let difference = Difference::Key(i, same_length(first, second));
-    write_unless(writer, lines, is_equal(first, second), difference)
-}
-
-// The line of the data of two records that differ.
-fn compare_contents<W: Write>(
-    writer: &mut W,
-    lines: &DifferenceForm,
-    one: &TrackView,
-    other: &TrackView,
-    i: usize,
-) -> io::Result<()>
-    requires first { i < length one.now.records }
-    requires second { i < length other.now.records }
-    ensures { OnOk result (Appends (W.contents writer.old) (W.contents writer.new)
-        (flat_map (difference_line lines.now.form.style lines.now.form.path.now lines.now.form.other.now lines.now.address.cylinder lines.now.address.head)
-        (where_not (bytes_eq (record_in one.now i).data_area (record_in other.now i).data_area)
-        (Difference.Contents i (same_length (record_in one.now i).data_area (record_in other.now i).data_area))))) }
-{
-    let first = one.data_of(i);
-    let second = other.data_of(i);
+    write_unless_equal(writer, lines, first, second, difference)?;
+    let (first, second) = (one.data_of(i), other.data_of(i));
     let difference = Difference::Contents(i, same_length(first, second));
-    write_unless(writer, lines, is_equal(first, second), difference)
+    write_unless_equal(writer, lines, first, second, difference)
 }
 
 // What stands behind the end mark of a slot.
@@ -344,8 +263,7 @@ fn compare_rests<W: Write>(
     other: &[u8],
 ) -> io::Result<()>
     ensures { OnOk result (Appends (W.contents writer.old) (W.contents writer.new)
-        (flat_map (difference_line lines.now.form.style lines.now.form.path.now lines.now.form.other.now lines.now.address.cylinder lines.now.address.head)
-        (rest_differences one.now other.now))) }
+        (difference_lines lines.now (rest_differences one.now other.now))) }
 {
     let same = same_length(one, other);
     let shorter = one.len().min(other.len());

@@ -1,13 +1,13 @@
 //! A comparison of two volumes.
 
-ghost use Rattle.std.specs.Prelude.{◌≡◌, ◌≢◌, ◌<◌, ◌≤◌, length, take, OnOk, IfOk, IfErr};
+ghost use Rattle.std.specs.Prelude.{◌≡◌, ◌≢◌, ◌+◌, ◌<◌, ◌≤◌, length, take, OnOk, IfOk, IfErr};
 ghost use Rattle.std.specs.Io.KnownBytes.{Appends};
 ghost use Rattle.counted_io.specs.Streams.{seen_by, IsFlushed};
 ghost use Rattle.ckd_image.specs.Store.{Counts};
 ghost use Rattle.ckd_track.specs.Geometry.{track_at};
 ghost use Rattle.dasd_volumes.specs.Printing.{PrintsBytes, CountsWrites};
-ghost use Rattle.dasd_volumes.specs.Reading.{IsSlotOf};
-ghost use Rattle.dasd_archive.specs.Compare.{track_lines, changed, changed_in, number_line, compare_text};
+ghost use Rattle.dasd_volumes.specs.Reading.{IsRead, IsSlotOf};
+ghost use Rattle.dasd_archive.specs.Compare.{comparison_form, track_lines, changed, changed_in, number_line, compare_text};
 ghost use Rattle.dasd_archive.specs.Compare.{PrintsBoth, NumberOfBoth};
 ghost use Rattle.dasd_volumes.specs.Volumes.{IsTrack};
 
@@ -58,8 +58,9 @@ struct ComparedTracks<'a, U> {
 ///
 /// # Errors
 ///
-/// There is no memory for two slots or for the lines of a track; a read of a volume failed; or a write failed, or the last flush, and
-/// exactly then it is a write fault. What was printed are the first bytes of the text.
+/// There is no memory for two slots or for the lines of a track; a read of one of the volumes failed, and exactly then it is a fault of
+/// the store; or a write failed, or the last flush, and exactly then it is a write fault. What was printed are the first bytes of the
+/// text, also before a read that failed.
 pub fn compare<V: SlotReader, U: SlotReader, W: Write>(
     alloc: Global,
     one: &mut V,
@@ -72,7 +73,8 @@ pub fn compare<V: SlotReader, U: SlotReader, W: Write>(
     ensures lines { PrintsBoth result (compare_text form.entry.style form.entry.path.now form.entry.other.now form.entry.lists)
         (V.volume one.old) (U.volume other.old) (seen_by W.contents writer.old) (seen_by W.contents writer.new) }
     ensures writes { CountsWrites result (seen_by W.contents writer.old) (seen_by W.contents writer.new) }
-    ensures kept { V.volume one.new ≡ V.volume one.old }
+    ensures volume { IsRead result (V.volume one.old) (V.volume one.new)
+        (V.failures one.old + U.failures other.old) (V.failures one.new + U.failures other.new) }
     ensures other_kept { U.volume other.new ≡ U.volume other.old }
     ensures flushed { OnOk result (IsFlushed (seen_by W.contents writer.new)) }
 {
@@ -110,9 +112,10 @@ fn print_number<W: Write>(
     differing: u32,
     lines: &mut Vec<u8>,
 ) -> Result<(), VolumeFault>
-    ensures lines { PrintsBytes result (number_line form.now.style form.now.path.now form.now.other.now differing)
+    ensures lines { PrintsBytes result (number_line (comparison_form form.now) differing)
         (seen_by W.contents writer.old) (seen_by W.contents writer.new) }
     ensures writes { CountsWrites result (seen_by W.contents writer.old) (seen_by W.contents writer.new) }
+    ensures fault { IfErr result (λ e. e ≢ VolumeFault.Store) }
     ensures flushed { OnOk result (IsFlushed (seen_by W.contents writer.new)) }
 {
     lines.clear();
@@ -125,7 +128,7 @@ fn print_number<W: Write>(
 // The last line.
 fn write_number<W: Write>(writer: &mut W, form: &Comparison, differing: u32) -> io::Result<()>
     ensures { OnOk result (Appends (W.contents writer.old) (W.contents writer.new)
-        (number_line form.now.style form.now.path.now form.now.other.now differing)) }
+        (number_line (comparison_form form.now) differing)) }
 {
     let path = form.path;
     let other = form.other;
@@ -144,10 +147,10 @@ fn write_number<W: Write>(writer: &mut W, form: &Comparison, differing: u32) -> 
 impl<'a, U: SlotReader> EachTrack for ComparedTracks<'a, U> {
     ghost use Rattle.std.specs.Prelude.{◌≡◌, List, ℕ, Some, length, refl};
     ghost use Rattle.std.proofs.Common.{◌∙◌};
-    ghost use Rattle.dasd_archive.specs.Compare.{lines_beside, known_slots};
+    ghost use Rattle.dasd_archive.specs.Compare.{comparison_form, lines_beside, known_slots};
     ghost use Rattle.dasd_archive.specs.Beside.{CountsTrack};
 
-    ghost text = { λ b. lines_beside b.form.style b.form.path.now b.form.other.now b.form.lists (known_slots (U.volume b.other.now).slots) };
+    ghost text = { λ b. lines_beside (comparison_form b.form) (known_slots (U.volume b.other.now).slots) };
 
     ghost IsKnown = { λ b. (slots : List (List ℕ)) × ((U.volume b.other.now).slots ≡ Some slots) };
 
@@ -230,8 +233,7 @@ fn print_track<W: Write>(
     ensures number { IfOk result (λ n. n ≡ length (changed slot.now (take held room.old.slot.items))) }
     ensures few { IfOk result (λ n. n ≤ 1) }
     ensures lines { PrintsBytes result
-        (track_lines form.now.form.style form.now.form.path.now form.now.form.other.now form.now.form.lists form.now.address.cylinder form.now.address.head
-        slot.now (take held room.old.slot.items))
+        (track_lines form.now slot.now (take held room.old.slot.items))
         (seen_by W.contents writer.old) (seen_by W.contents writer.new) }
     ensures writes { CountsWrites result (seen_by W.contents writer.old) (seen_by W.contents writer.new) }
     ensures fault { IfErr result (λ e. e ≢ VolumeFault.Store) }

@@ -24,6 +24,7 @@ use dasd_volumes::{
 use std::alloc::Global;
 use std::io;
 use std::io::Write;
+use std::marker::Model;
 
 /// A part of a volume.
 #[derive(Clone, Copy)]
@@ -44,11 +45,24 @@ struct DumpedTracks<'a> {
     lines: Vec<u8>,
 }
 
-/// How the lines of a track are written, and where it stands.
-#[derive(Clone, Copy)]
-pub(crate) struct TrackForm<'a> {
-    pub(crate) form: Form<'a>,
-    pub(crate) address: PrintedAddress,
+// How the lines of a track are written, and where it stands.
+#[derive(Drop)]
+struct TrackForm<'a> {
+    form: Form<'a>,
+    address: PrintedAddress,
+}
+
+impl<'a> Model for TrackForm<'a> {
+    ghost use Rattle.dasd_archive.specs.Dump.{DumpedTrack};
+
+    ghost Value = { DumpedTrack };
+
+    ghost view = { λ f. record {
+      style = f.form.style;
+      path = f.form.path.now;
+      cylinder = f.address.cylinder;
+      head = f.address.head;
+    } };
 }
 
 /// Prints the home addresses and the records of a part of a volume, sixteen bytes of a key or of data to a line: the offset of
@@ -139,8 +153,7 @@ fn print_track<W: Write>(
     slot: &[u8],
     lines: &mut Vec<u8>,
 ) -> Result<(), VolumeFault>
-    ensures lines { PrintsBytes result
-        (track_dump form.now.form.style form.now.form.path.now form.now.address.cylinder form.now.address.head numbers (track_of slot.now))
+    ensures lines { PrintsBytes result (track_dump form.now numbers (track_of slot.now))
         (seen_by W.contents writer.old) (seen_by W.contents writer.new) }
     ensures writes { CountsWrites result (seen_by W.contents writer.old) (seen_by W.contents writer.new) }
     ensures fault { IfErr result (λ e. e ≢ VolumeFault.Store) }
@@ -160,8 +173,7 @@ fn dump_track<W: Write>(
     slot: &[u8],
 ) -> io::Result<()>
     ensures { OnOk result (Appends (W.contents writer.old) (W.contents writer.new)
-        (track_dump lines.now.form.style lines.now.form.path.now lines.now.address.cylinder lines.now.address.head
-        numbers (track_of slot.now))) }
+        (track_dump lines.now numbers (track_of slot.now))) }
 {
     match read_slot(slot) {
         Ok(track) => dump_readable(writer, lines, numbers, &track),
@@ -169,15 +181,10 @@ fn dump_track<W: Write>(
     }
 }
 
-/// The line of a track that can't be read.
-pub(crate) fn dump_unreadable<W: Write>(
-    writer: &mut W,
-    lines: &TrackForm,
-    fault: SlotFault,
-) -> io::Result<()>
+// The line of a track that can't be read.
+fn dump_unreadable<W: Write>(writer: &mut W, lines: &TrackForm, fault: SlotFault) -> io::Result<()>
     ensures { OnOk result (Appends (W.contents writer.old) (W.contents writer.new)
-        (unreadable_line lines.now.form.style lines.now.form.path.now lines.now.address.cylinder lines.now.address.head
-        fault)) }
+        (unreadable_line lines.now fault)) }
 {
     let path = lines.form.path;
     let address = lines.address;
@@ -200,10 +207,7 @@ fn dump_readable<W: Write>(
     track: &TrackView,
 ) -> io::Result<()>
     ensures { OnOk result (Appends (W.contents writer.old) (W.contents writer.new)
-        (home_address_line lines.now.form.style lines.now.form.path.now lines.now.address.cylinder
-        lines.now.address.head track.now.home_address
-        ++ flat_map (record_text lines.now.form.style lines.now.form.path.now lines.now.address.cylinder
-        lines.now.address.head numbers) track.now.records)) }
+        (home_address_line lines.now track.now.home_address ++ flat_map (record_text lines.now numbers) track.now.records)) }
 {
     dump_home_address(writer, lines, track)?;
     for i in 0..track.len() {
@@ -219,8 +223,7 @@ fn dump_home_address<W: Write>(
     track: &TrackView,
 ) -> io::Result<()>
     ensures { OnOk result (Appends (W.contents writer.old) (W.contents writer.new)
-        (home_address_line lines.now.form.style lines.now.form.path.now lines.now.address.cylinder
-        lines.now.address.head track.now.home_address)) }
+        (home_address_line lines.now track.now.home_address)) }
 {
     let path = lines.form.path;
     let address = lines.address;
@@ -253,8 +256,7 @@ fn dump_asked<W: Write>(
 ) -> io::Result<()>
     requires { i < length track.now.records }
     ensures { OnOk result (Appends (W.contents writer.old) (W.contents writer.new)
-        (record_text lines.now.form.style lines.now.form.path.now lines.now.address.cylinder lines.now.address.head
-        numbers (record_in track.now i))) }
+        (record_text lines.now numbers (record_in track.now i))) }
 {
     if numbers.contains(u16::from(number_of(track, i))) {
         dump_record(writer, lines, track, i)
@@ -272,8 +274,7 @@ fn dump_record<W: Write>(
 ) -> io::Result<()>
     requires { i < length track.now.records }
     ensures { OnOk result (Appends (W.contents writer.old) (W.contents writer.new)
-        (record_dump lines.now.form.style lines.now.form.path.now lines.now.address.cylinder lines.now.address.head
-        (record_in track.now i))) }
+        (record_dump lines.now (record_in track.now i))) }
 {
     match lines.form.style {
         Style::Text => {
@@ -294,8 +295,7 @@ fn dump_object<W: Write>(
 ) -> io::Result<()>
     requires { i < length track.now.records }
     ensures { OnOk result (Appends (W.contents writer.old) (W.contents writer.new)
-        (record_dump Style.Json lines.now.form.path.now lines.now.address.cylinder lines.now.address.head
-        (record_in track.now i))) }
+        (object_text lines.now (record_in track.now i).id (record_in track.now i).key_area (record_in track.now i).data_area)) }
 {
     let identifier = identifier(track, i);
     let areas = Areas {
@@ -303,7 +303,7 @@ fn dump_object<W: Write>(
         key: track.key_of(i),
         body: track.data_of(i),
     };
-    write_object(writer, lines.form.path, lines.address, &areas)
+    write_object(writer, lines, &areas)
 }
 
 // The identifier of a record, its key and its data.
@@ -315,29 +315,21 @@ struct Areas<'a> {
 }
 
 // An identifier, a key and data as an object.
-fn write_object<W: Write>(
-    writer: &mut W,
-    path: &str,
-    address: PrintedAddress,
-    areas: &Areas,
-) -> io::Result<()>
+fn write_object<W: Write>(writer: &mut W, lines: &TrackForm, areas: &Areas) -> io::Result<()>
     ensures { OnOk result (Appends (W.contents writer.old) (W.contents writer.new)
-        (object_text path.now address.cylinder address.head areas.now.identifier.now areas.now.key.now
-        areas.now.body.now)) }
+        (object_text lines.now areas.now.identifier.now areas.now.key.now areas.now.body.now)) }
 {
-    write_place(writer, path, address)?;
+    write_place(writer, lines)?;
     write_areas(writer, areas)
 }
 
-/// How an object of a track begins.
-pub(crate) fn write_place<W: Write>(
-    writer: &mut W,
-    path: &str,
-    address: PrintedAddress,
-) -> io::Result<()>
+// How an object of a track begins.
+fn write_place<W: Write>(writer: &mut W, lines: &TrackForm) -> io::Result<()>
     ensures { OnOk result (Appends (W.contents writer.old) (W.contents writer.new)
-        (place_text path.now address.cylinder address.head)) }
+        (place_text lines.now.path lines.now.cylinder lines.now.head)) }
 {
+    let path = lines.form.path;
+    let address = lines.address;
     let PrintedAddress { cylinder, head } = address;
     write!(
         writer,
@@ -359,8 +351,8 @@ fn write_areas<W: Write>(writer: &mut W, areas: &Areas) -> io::Result<()>
     )
 }
 
-/// The line of a record's identifier and lengths.
-pub(crate) fn dump_count<W: Write>(writer: &mut W, track: &TrackView, i: usize) -> io::Result<()>
+// The line of a record's identifier and lengths.
+fn dump_count<W: Write>(writer: &mut W, track: &TrackView, i: usize) -> io::Result<()>
     requires { i < length track.now.records }
     ensures { OnOk result (Appends (W.contents writer.old) (W.contents writer.new) (record_line (record_in track.now i))) }
 {

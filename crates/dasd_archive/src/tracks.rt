@@ -153,8 +153,8 @@ pub(crate) fn identifier(view: &TrackView, i: usize) -> [u8; 5]
     five(&view.count_of(i)[..5])
 }
 
-/// Whether two identifiers are the same.
-pub(crate) fn is_same(one: [u8; 5], other: [u8; 5]) -> bool
+// Whether two identifiers are the same.
+fn is_same(one: [u8; 5], other: [u8; 5]) -> bool
     ensures { result ≡ bytes_eq one other }
 {
     one[..] == other[..]

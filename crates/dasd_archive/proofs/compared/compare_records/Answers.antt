@@ -7,6 +7,4 @@ loop-i-init g c = no_lines _ _ _
 
 pub loop-i-preserved : goal.loop-i-preserved
 loop-i-preserved g c =
-    more_lines (difference_line c.args.lines.now.form.style c.args.lines.now.form.path.now c.args.lines.now.form.other.now
-    c.args.lines.now.address.cylinder c.args.lines.now.address.head)
-    _ _ _ _ c.loop-i.i c.loop-i.invariant c.in_ok-compare_record.ensures
+    more_lines (difference_line c.args.lines.now) _ _ _ _ c.loop-i.i c.loop-i.invariant c.in_ok-compare_record.ensures

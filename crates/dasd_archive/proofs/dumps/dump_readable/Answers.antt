@@ -5,11 +5,10 @@ use Rattle.dasd_archive.proofs.dumps.dump_readable.Goals as goal
 
 pub loop-i-preserved : goal.loop-i-preserved
 loop-i-preserved g c =
-    one_more_text _ _ _ (record_text c.args.lines.now.form.style c.args.lines.now.form.path.now c.args.lines.now.address.cylinder
-    c.args.lines.now.address.head c.args.numbers) _
-    c.args.track.now.records c.loop-i.i _ (search (rules, tests)) c.loop-i.invariant c.in_ok-dump_asked.ensures
+    one_more_text _ _ _ (record_text c.args.lines.now c.args.numbers) _ c.args.track.now.records c.loop-i.i _
+    (search (rules, tests)) c.loop-i.invariant c.in_ok-dump_asked.ensures
 
 pub returns : goal.returns
-returns g c = all_texts _ _ (record_text c.args.lines.now.form.style c.args.lines.now.form.path.now c.args.lines.now.address.cylinder
-    c.args.lines.now.address.head c.args.numbers) _
-    c.args.track.now.records c.loop-i.i (search (rules, tests)) c.loop-i.invariant
+returns g c =
+    all_texts _ _ (record_text c.args.lines.now c.args.numbers) _ c.args.track.now.records c.loop-i.i
+    (search (rules, tests)) c.loop-i.invariant

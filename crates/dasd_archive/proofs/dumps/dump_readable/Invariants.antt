@@ -7,6 +7,4 @@ use Rattle.dasd_archive.proofs.dumps.dump_readable.Given as goal
 -- the first line and those of the records so far are written
 abbrev pub invariant-loop-i : goal.invariant-loop-i
 invariant-loop-i g l = Appends (g.W.Write.contents l.fn.writer) (g.W.Write.contents l.writer)
-    (home_address_line l.lines.form.style l.lines.form.path.now l.lines.address.cylinder l.lines.address.head l.track.home_address
-    ++ flat_map (record_text l.lines.form.style l.lines.form.path.now l.lines.address.cylinder l.lines.address.head l.numbers)
-    (take l.i l.track.records))
+    (home_address_line l.lines l.track.home_address ++ flat_map (record_text l.lines l.numbers) (take l.i l.track.records))
