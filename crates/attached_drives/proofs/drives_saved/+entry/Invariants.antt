@@ -1,5 +1,5 @@
 use Rattle.std.proofs.Common.{length}
-use Rattle.s360_channel.proofs.saving.+entry.Given as goal
+use Rattle.attached_drives.proofs.drives_saved.+entry.Given as goal
 
 abbrev pub decreases-entry : goal.decreases-entry
 decreases-entry l = length l.entries.now
