@@ -7,16 +7,16 @@ pub device-requires : goal.device-requires
 device-requires g c = (omega arith, slice_get_within c.args.self.now c.args.place c.requires.attached c.requires.is_there)
 
 pub unreachable-requires : goal.unreachable-requires
-unreachable-requires g c = never_without c.args.saved.now.drives c.args.self.now c.args.place c.device.result c.device.ensures
+unreachable-requires g c = never_without c.args.saved.now c.args.self.now c.args.place c.device.result c.device.ensures
     c.in-None.ensures c.requires
 
 pub restore-requires : goal.restore-requires
 restore-requires g c = (
   omega arith,
-  may_be_restored c.args.saved.now.drives c.args.self.now c.args.place c.device.result c.in-Some.drive c.device.ensures c.in-Some.ensures
+  may_be_restored c.args.saved.now c.args.self.now c.args.place c.device.result c.in-Some.drive c.device.ensures c.in-Some.ensures
       c.requires,
 )
 
 pub returns : goal.returns
-returns g c = is_back c.args.saved.now.drives c.args.self.now c.restore.new.self c.args.place c.device.result c.in-Some.drive
+returns g c = is_back c.args.saved.now c.args.self.now c.restore.new.self c.args.place c.device.result c.in-Some.drive
     c.device.ensures c.in-Some.ensures c.restore.ensures
