@@ -77,6 +77,7 @@ class Profile:
     data_chain_at_once: bool = True
     length_not_with_check: bool = True
     no_pci_on_rejection: bool = True
+    device_ends_by_address: bool = True
     zeros_behind: bool = True
 
     def without(self, name: str) -> Profile:

@@ -36,7 +36,8 @@ class Machine:
     def __init__(self, channel: int, storage: int, volumes: Iterable[Tuple[int, Volume]], profile: Optional[Profile] = None,
                  by_itself: ByItself = ByItself()) -> None:
         self.number, self.storage = channel, Storage(storage)
-        self.units = {unit: Unit(volume, profile or Profile()) for unit, volume in volumes}
+        self.profile = profile or Profile()
+        self.units = {unit: Unit(volume, self.profile) for unit, volume in volumes}
         self.program: Optional[Program] = None
         self.working: Optional[int] = None
         self.pending: Optional[Tuple[int, Csw]] = None
@@ -186,7 +187,7 @@ class Machine:
         if self.pending:
             (unit, csw), self.pending = self.pending, None
             return self.interruption(unit, csw)
-        for address in sorted(self.units):
+        for address in sorted(self.units, reverse=not self.profile.device_ends_by_address):
             if self.units[address].arm == ARRIVED:
                 self.units[address].arm = FREE
                 return self.interruption(address, Csw(unit=DEVICE_END))

@@ -216,7 +216,7 @@ class RuleIndex(unittest.TestCase):
             ["- **units**: Units are counted", "  - Topic: *profile*, `units`", first, f"  - Function: {new}, {read}", "  - Vectors: 1: seek-by-units (seeks)"],
             [f"- {SENTENCE} has a sign.", manuals, first, f"  - Function: {read}", "  - Vectors: seek-outside (seeks); of [seek](#seeks)"],
             ["- **`all_end`**: Each word ends.", "  - Topic: none", f"  - Definition: {law[0]}", f"  - Function: {law[1]}", "  - Vectors: none"],
-            ["- **B**: Busy [seek](#seeks), [all_end](#laws)", "- **C**: cylinder [seek](#seeks)"],
+            ["- **B**", "  - Busy: [seek](#seeks), [all_end](#laws)", "- **C**", "  - cylinder: [seek](#seeks)"],
             ["- **seek**, 2: [seeks](../conformance/vectors/seeks.vectors): seek-outside, seek-by-units"],
         ):
             place = lines.index(entry[0])
@@ -231,6 +231,13 @@ class RuleIndex(unittest.TestCase):
     def test_definition_that_is_not_there(self) -> None:
         lines = [f"{row}: no definition low Word.word" for row in ("seek", "units", SENTENCE)]
         self.finds({"crates/low/specs/Word.antt": "abbrev pub number : Word\n"}, *lines)
+
+    def test_rows(self) -> None:
+        file, places = "rows/player/seeks.py", "tools/make/rule_places.txt"
+        more = RULES[places].replace("  worked  low worked.rt\n", f"  worked  low worked.rt\n  rows    {file}\n", 1)
+        self.assertNotEqual(more, RULES[places])
+        self.finds({places: more}, f"seek: no file {file}", f"docs/RULES.md: nothing at ../{file}")
+        self.finds({places: more, file: ""})
 
     def test_functions(self) -> None:
         places = "tools/make/rule_places.txt"

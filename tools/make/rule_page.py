@@ -12,9 +12,9 @@ Each rule of the [conformance suite](CONFORMANCE.md) and each of [the definition
 - its topic in the manual: *PoO* is *IBM System/360 Principles of Operation*, GA22-6821; *2841 and 2314* are the component descriptions
   GA26-5988 and GA26-3599; *profile* is a choice of this project, listed in [FORMAT.md](../conformance/FORMAT.md);
 - the definition that says it: crate, module and name. A comment above each definition says what it is;
-- the function that does it. Its contract says what it promises, and names the definition. Of a law it is also the function that states it;
+- the function that does it. Its contract says what it promises, by the definition or by one made of it. Of a law it is also the function that states it;
 - the vectors that pin it, with their files, three at most. [The last section](#the-vectors-of-each-rule) names all.
-  *By hand* names a file of vectors that were worked out by hand and are computed over the definitions alone.
+  *By hand* names a file of vectors that were worked out by hand and are computed over the definitions only, *rows* a file of tests of the program.
 
 To find a rule, look for a word in the list from A to Z, or go to the subject. `tools/make/rules.py` writes this page.
 
@@ -90,6 +90,8 @@ class Page:
         if row.worked:
             links = ", ".join(f"[`{crate}::{file.removesuffix('.rt')}`](../crates/{crate}/src/{file})" for crate, file in row.worked)
             parts.append(f"by hand: {links}")
+        if row.pinned_by:
+            parts.append("rows: " + ", ".join(f"[`{file}`](../{file})" for file in row.pinned_by))
         return "; ".join(parts) or "none"
 
     def entry(self, row: Row) -> str:
@@ -116,7 +118,7 @@ class Page:
         return "".join(lines)
 
     def words(self) -> str:
-        """The list of words from A to Z, each with the rows to look at. A topic and a word that differ in capitals alone are one."""
+        """The list of words from A to Z, each with the rows to look at. A topic and a word that differ only in capitals are one."""
         found: dict[str, tuple[str, dict[str, None]]] = {}
         for row in self.index.rows:
             sources = self.index.sources.get(row.name, []) if row.is_of_suite else []
@@ -126,8 +128,8 @@ class Page:
                 links[f"[{row.name or row.section}]({link_to(row.section)})"] = None
         lines = []
         for letter, words in groupby(sorted(found), lambda word: word[0].upper()):
-            entries = "; ".join(f"{found[word][0]} {', '.join(found[word][1])}" for word in words)
-            lines.append(f"- **{letter}**: {entries}\n")
+            lines.append(f"- **{letter}**\n")
+            lines += [f"  - {found[word][0]}: {', '.join(found[word][1])}\n" for word in words]
         return "".join(lines)
 
     def all_vectors(self) -> str:

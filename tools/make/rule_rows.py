@@ -66,6 +66,7 @@ class Row:
     defined: list[Place] = field(default_factory=list)
     done: list[Place] = field(default_factory=list)
     worked: list[tuple[str, str]] = field(default_factory=list)
+    pinned_by: list[str] = field(default_factory=list)
     rules: list[str] = field(default_factory=list)
     vectors: list[str] = field(default_factory=list)
 
@@ -197,6 +198,8 @@ class Index:
     def _read_field(self, row: Row, word: str, rest: str) -> None:
         if word == "words":
             row.words += rest.split("; ")
+        elif word == "rows":
+            row.pinned_by += rest.split()
         elif word in ("rules", "vectors"):
             (row.rules if word == "rules" else row.vectors).extend(rest.split())
         elif word in ("defined", "done", "worked"):

@@ -37,6 +37,9 @@ def wrong_places(index: Index, row: Row) -> Iterator[str]:
     for crate, file in row.worked:
         if not (tree.top / "crates" / crate / "src" / file).is_file():
             yield f"{row.title()}: no file crates/{crate}/src/{file}"
+    for file in row.pinned_by:
+        if not (tree.top / file).is_file():
+            yield f"{row.title()}: no file {file}"
     for name in row.rules:
         if name not in index.sources:
             yield f"{row.title()}: no rule {name} in rules.txt"

@@ -31,7 +31,7 @@ const LAST_RECORD: u16 = 255;
 /// `dasd check`, with the words of a strict one.
 pub(crate) static CHECK: CommandRow = CommandRow {
     name: "check",
-    about: "Prints the tracks of a volume that can't be read",
+    about: "Lists the unreadable tracks of a volume",
     usage: None,
     after_help: "Example: dasd check --strict work.ckd",
     args: &[
@@ -43,7 +43,7 @@ pub(crate) static CHECK: CommandRow = CommandRow {
         },
         ArgRow {
             id: "warnings",
-            help: "prints errors and warnings alone; notes are counted",
+            help: "prints only errors and warnings; notes are counted",
             kind: ArgKind::Flag,
         },
         AS_FAR,
@@ -82,7 +82,7 @@ pub(crate) static DUMP: CommandRow = CommandRow {
     args: &[
         ArgRow {
             id: DUMP_WORDS,
-            help: "the files of an image, and behind them numbers or ranges, such as 0-2 or 0x14; records by their numbers",
+            help: "the files of an image, and after them numbers or ranges, such as 0-2 or 0x14; records by their numbers",
             kind: WORDS,
         },
         AS_FAR,

@@ -22,7 +22,7 @@ const NO_FIELD: &str = "error: relabel takes --label, --owner or both\n";
 /// The option for files that don't keep their place.
 pub(crate) const REPLACE: ArgRow = ArgRow {
     id: "replace",
-    help: "puts a new file in the place of an image that was changed, and does not write over its bytes",
+    help: "replaces each changed image by a new file instead of overwriting it",
     kind: ArgKind::Flag,
 };
 
@@ -35,7 +35,7 @@ pub(crate) static RENAME: CommandRow = CommandRow {
     args: &[
         ArgRow {
             id: PATHS_AND_NAMES,
-            help: "the files of an image, and behind them the name of a data set and its new one",
+            help: "the files of an image, and after them the name of a data set and its new one",
             kind: WORDS,
         },
         REPLACE,
@@ -51,7 +51,7 @@ pub(crate) static DELETE: CommandRow = CommandRow {
     args: &[
         ArgRow {
             id: PATHS_AND_NAMES,
-            help: "the files of an image, and behind them the name of a data set",
+            help: "the files of an image, and after them the name of a data set",
             kind: WORDS,
         },
         REPLACE,

@@ -3,8 +3,8 @@
 /// The words of a deck, with their limits and answers; and how a line is written.
 pub const DECK_TABLE: &str = "\
 A deck is a text with an event a line, and each answer is a line:
-  SIO uuu             Start I/O                SIO uuu CC c, with CC 1 bytes 68 and 69 behind it
-  TIO uuu             Test I/O                 TIO uuu CC c, with CC 1 the channel status word behind it
+  SIO uuu             Start I/O                SIO uuu CC c; CC 1 is followed by storage bytes 68 and 69
+  TIO uuu             Test I/O                 TIO uuu CC c; CC 1 is followed by the channel status word
   HIO uuu             Halt I/O                 HIO uuu CC c, as SIO
   TCH                 Test Channel             TCH CC c
   STEP n              so many units of work    STEP done; n is 0 to 65535
@@ -17,9 +17,9 @@ A deck is a text with an event a line, and each answer is a line:
   SHOW aaaaaa n       bytes of storage         SHOW aaaaaa hex or OUTSIDE; n is 1 to 32
 uuu is the address of a device in three hexadecimal digits: the channel's number, and the UU of a VOLUME.
 aaaaaa is an address of storage in one to six hexadecimal digits. Letters may be small or capital.
-A line has at most 512 bytes and a deck 1,048,576. An empty line and one that begins with * are no events.
-An accepted program does its work by STEP and RUN alone. Each file of a volume that the deck changed is replaced at
-the end, whole, or stays as it was. `docs/DECKS.md` has eight decks.
+A line has at most 512 bytes and a deck 1,048,576. Empty lines and lines beginning with * are ignored.
+An accepted program does its work only by STEP and RUN. Each file of a volume that the deck changed is written over at
+the end, or with --replace replaced by a new one; one that can't be written stays as it was. `docs/DECKS.md` has eight decks.
 
 Example: dasd run 90=work.ckd 91=new:2311:5 < deck.txt";
 

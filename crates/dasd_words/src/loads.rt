@@ -45,7 +45,7 @@ pub(crate) static COMMAND: CommandRow = CommandRow {
     args: &[
         ArgRow {
             id: PATHS_AND_NAME,
-            help: "the files of an image, and behind them the name of the new data set; with --all no name",
+            help: "the files of an image, and after them the name of the new data set; with --all no name",
             kind: WORDS,
         },
         ArgRow {
@@ -72,13 +72,13 @@ pub(crate) static COMMAND: CommandRow = CommandRow {
         },
         ArgRow {
             id: "text",
-            help: "the file, or each of the folder, is text: each line is a record of F or FB, in EBCDIC with blanks behind it",
+            help: "the file, or each of the folder, is text: each line is a record of F or FB, in EBCDIC, filled with blanks",
             kind: ArgKind::FlagWithout(&["with-lengths"]),
         },
         WITH_LENGTHS,
         ArgRow {
             id: "record-format",
-            help: "the record format: F, V or U with letters of BSTAM behind it, as FB, VBS or FBA",
+            help: "the record format: F, V or U followed by any of B, S, T, A, M, as FB, VBS or FBA",
             kind: ArgKind::Valued(Value {
                 name: "FORMAT",
                 ..FILE

@@ -84,21 +84,21 @@ pub(crate) const JSON: ArgRow = ArgRow {
 /// The option for a volume whose last file is too short or too long.
 pub(crate) const AS_FAR: ArgRow = ArgRow {
     id: "as-far-as-it-goes",
-    help: "reads a volume also where its only or last file is too short or too long, and tells what it lacks",
+    help: "reads a volume even if its only or last file has the wrong length, and reports what is missing",
     kind: ArgKind::Flag,
 };
 
 /// The option for files that keep the blocks of a data set apart, and their keys.
 pub(crate) const WITH_LENGTHS: ArgRow = ArgRow {
     id: "with-lengths",
-    help: "each block stands in the file behind its lengths and its key: a byte 1, the length of the key in a byte, that of the data in two",
+    help: "each block is in the file after its lengths and its key: a byte 1, the length of the key in a byte, that of the data in two",
     kind: ArgKind::Flag,
 };
 
 /// The option of each command, and of the program itself, for more about a fault.
 pub(crate) const VERBOSE: ArgRow = ArgRow {
     id: "verbose",
-    help: "tells more of a fault, also where standard error is no terminal",
+    help: "gives more detail of a fault, even if standard error is not a terminal",
     kind: ArgKind::Flag,
 };
 

@@ -10,7 +10,7 @@ use std::alloc::Global;
 /// The option for a record format.
 pub(crate) const FORMAT: ArgRow = ArgRow {
     id: "record-format",
-    help: "with --text, the record format of a data set whose label has none: F, V or U with letters of BSTAM behind it, as FB or VBS",
+    help: "with --text, the record format of a data set whose label has none: F, V or U followed by any of B, S, T, A, M, as FB or VBS",
     kind: ArgKind::Valued(Value {
         name: "FORMAT",
         conflicts: &["all", "raw"],
@@ -32,7 +32,7 @@ pub(crate) const RECORD_LENGTH: ArgRow = ArgRow {
 /// The option for the length of blocks.
 pub(crate) const BLOCK_LENGTH: ArgRow = ArgRow {
     id: "block-length",
-    help: "with --record-format, the length of the longest block in bytes; one that is longer ends the data set, and is told",
+    help: "with --record-format, the length of the longest block in bytes; one that is longer ends the data set, and is reported",
     kind: ArgKind::Valued(Value {
         name: "BYTES",
         conflicts: &["all", "raw"],

@@ -59,12 +59,12 @@ pub(crate) static COMMAND: CommandRow = CommandRow {
         },
         ArgRow {
             id: "replace",
-            help: "puts a new file in the place of an image that was changed, and does not write over its bytes",
+            help: "replaces each changed image by a new file instead of overwriting it",
             kind: ArgKind::FlagWithout(&["no-save"]),
         },
         ArgRow {
             id: "trace",
-            help: "tells on standard error what each channel command word does",
+            help: "reports on standard error what each channel command word does",
             kind: ArgKind::Flag,
         },
         ArgRow {
@@ -77,7 +77,7 @@ pub(crate) static COMMAND: CommandRow = CommandRow {
         },
         ArgRow {
             id: "trace-only",
-            help: "traces those starts alone whose programs fail",
+            help: "traces only starts whose programs fail",
             kind: ArgKind::Valued(Value {
                 name: "WHICH",
                 parser: ValueParser::Names(&["failing"]),
@@ -86,7 +86,7 @@ pub(crate) static COMMAND: CommandRow = CommandRow {
         },
         ArgRow {
             id: "trace-last",
-            help: "writes the last lines of the trace alone, at most so many",
+            help: "writes only the last N lines of the trace",
             kind: ArgKind::Valued(Value { name: "N", ..FILE }),
         },
         ArgRow {
@@ -96,7 +96,7 @@ pub(crate) static COMMAND: CommandRow = CommandRow {
         },
         ArgRow {
             id: "trace-whole",
-            help: "traces each round of lines that comes again, and not how often it came",
+            help: "writes repeated lines in full instead of counting them",
             kind: ArgKind::Flag,
         },
         ArgRow {
