@@ -3,4 +3,4 @@ use Rattle.attached_drives.proofs.Backs.{front}
 use Rattle.attached_drives.proofs.drives.Drives.put_back.Given as goal
 
 abbrev pub invariant-loop-place : goal.invariant-loop-place
-invariant-loop-place g l = l.self ≡ front l.saved.now l.place l.fn.self
+invariant-loop-place g l = l.self ≡ front l.saved l.place l.fn.self
