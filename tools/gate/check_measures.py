@@ -126,9 +126,9 @@ DECLARED = re.compile(r"(?m)^((?:abbrev |pub )*)([^\s:=]+) : ((?:.*)(?:\n[ \t]+.
 
 
 def binders(kind: str) -> int:
-    """How many binders a type has, its premises counted."""
+    """How many binders a type has, its premises counted; that a number is less than another opens no bracket."""
     count = 0
-    for it in parts(kind.replace("→", "\0"), "\0")[:-1]:
+    for it in parts(kind.replace("→", "\0").replace("<", " "), "\0")[:-1]:
         names = re.findall(r"[({]([^():{}]+) : ", it) if it[0] in "({" else []
         count += sum(len(of.split()) for of in names) or 1
     return count
@@ -188,7 +188,7 @@ MEASURES = (
     Measure("functions of a crate", 100, 2),
     Measure("columns of a clause", 160, 0),
     Measure("columns of a line of a proof", 140, 0),
-    Measure("binders of a lemma", 12, 19),
+    Measure("binders of a lemma", 12, 35),
     Measure("definitions of the machine without a sentence", 0, 0),
 )
 
