@@ -3,4 +3,4 @@
 
 mod watching;
 
-pub use crate::watching::{Moment, Watcher, drive};
+pub use crate::watching::{Moment, Watcher, drive, watch_event};

@@ -8,7 +8,7 @@ ghost use Rattle.s360_events.specs.Answered.{AllAnswered, IsAnswered};
 ghost use Rattle.s360_channel.specs.Channel.{ChannelState, StandsFor};
 ghost use Rattle.s360_channel.specs.Lists.{Follows};
 ghost use Rattle.s360_trace.specs.Happens.{Happens};
-ghost use Rattle.s360_trace.specs.Looks.{Look, AllWatched, SeesUnits, SeesWithin, look_at};
+ghost use Rattle.s360_trace.specs.Looks.{Look, AllWatched, IsDone, IsWatched, SeesUnits, SeesWithin, look_at};
 
 use ckd_image::ImageStore;
 use s360_channel::{Channel, SubchannelView};
@@ -62,12 +62,27 @@ pub fn drive<S: ImageStore, W: Watcher>(
 {
     let mut answers = Vec::with_capacity(alloc, events.len())?;
     for event in events {
-        watcher.look(Moment::Before(event), channel);
-        let answer = react(channel, event, watcher);
-        watcher.look(Moment::Behind(event, &answer), channel);
-        push(&mut answers, answer);
+        push(&mut answers, watch_event(channel, event, watcher));
     }
     Ok(answers)
+}
+
+/// Does what an event asks, and answers it, as `Channel::react` does; the watcher looks before the event, behind each unit of a
+/// program, and behind the event. It takes no memory.
+pub fn watch_event<S: ImageStore, W: Watcher>(
+    channel: &mut Channel<S>,
+    event: &Event,
+    watcher: &mut W,
+) -> Answer
+    ensures happens { IsDone (event_seen event.now) (answer_seen result) channel.old channel.new }
+    ensures watched { (m : Machine) → StandsFor channel.old m
+        → IsWatched W.sees event.now result channel.old channel.new watcher.old watcher.new }
+    ensures answered { IsAnswered event.now result }
+{
+    watcher.look(Moment::Before(event), channel);
+    let answer = react(channel, event, watcher);
+    watcher.look(Moment::Behind(event, &answer), channel);
+    answer
 }
 
 // Does what an event asks, and answers it.

@@ -26,34 +26,25 @@ loop-event-preserved g c = record {
       c.loop-event.invariant.room c.push.ensures.capacity);
   answered =
       rw (c.push.ensures.items, take_more c.args.events.now c.loop-event.event-index c.event-item.result c.loop-event-test.true)
-      (all_answered_one_more _ _ _ _ c.loop-event.invariant.answered (subst (λ e. IsAnswered e c.react-answer.result) c.event-item.is
-      c.react-answer.ensures.answered));
+      (all_answered_one_more _ _ _ _ c.loop-event.invariant.answered (subst (λ e. IsAnswered e c.watch_event.result) c.event-item.is
+      c.watch_event.ensures.answered));
   driven = λ m stands.
       rw c.push.ensures.items
       (let drove = c.loop-event.invariant.driven m stands in
-      goes_on m c.args.events.now c.loop-event.event-index c.event-item.result c.loop-event.answers.items _ _ _ c.react-answer.result
+      goes_on m c.args.events.now c.loop-event.event-index c.event-item.result c.loop-event.answers.items _ _ _ c.watch_event.result
       c.loop-event-test.true
-      (λ now is. subst (λ e. Does (event_seen e) now (answer_seen c.react-answer.result) c.loop-event.channel c.react-answer.new.channel)
-      c.event-item.is (c.react-answer.ensures.happens now is).does)
-      (subst (λ e. CallsAtMost (most_calls (event_seen e) (answer_seen c.react-answer.result)) c.loop-event.channel
-      c.react-answer.new.channel) c.event-item.is (c.react-answer.ensures.happens _ drove.stands).calls)
+      (λ now is. subst (λ e. Does (event_seen e) now (answer_seen c.watch_event.result) c.loop-event.channel c.watch_event.new.channel)
+      c.event-item.is (c.watch_event.ensures.happens now is).does)
+      (subst (λ e. CallsAtMost (most_calls (event_seen e) (answer_seen c.watch_event.result)) c.loop-event.channel
+      c.watch_event.new.channel) c.event-item.is (c.watch_event.ensures.happens _ drove.stands).calls)
       drove);
   watched = λ m stands.
       let now = (c.loop-event.invariant.driven m stands).stands in
-      let new = c.react-answer.new in
-      let behind = c.look-in-loop-event.new.self in
+      let new = c.watch_event.new in
       rw (c.push.ensures.items, take_more c.args.events.now c.loop-event.event-index c.event-item.result c.loop-event-test.true)
       (watched_one_more g.W.Watcher.sees _ _ _ _ _ _
-      (subst (λ e. IsWatched g.W.Watcher.sees e c.react-answer.result c.loop-event.channel new.channel c.loop-event.watcher behind)
-      c.event-item.is
-      (record {
-        happens = λ now is. c.react-answer.ensures.happens now is;
-        begun = c.look.new.self;
-        before = c.look.ensures;
-        told = new.watcher;
-        within = c.react-answer.ensures.within _ now;
-        behind = c.look-in-loop-event.ensures;
-      }))
+      (subst (λ e. IsWatched g.W.Watcher.sees e c.watch_event.result c.loop-event.channel new.channel c.loop-event.watcher new.watcher)
+      c.event-item.is (c.watch_event.ensures.watched _ now))
       _ _ _ _ (c.loop-event.invariant.watched m stands));
 }
 
