@@ -1,6 +1,7 @@
 pub mod Answered
 pub mod CountedRan
 pub mod CountedWritten
+pub mod Happened
 pub mod Numbers
 pub mod Promised
 pub mod Ran
@@ -8,4 +9,5 @@ pub mod ReadWhole
 pub mod SerialParts
 pub mod TextLines
 pub mod Told
+pub mod WordCounts
 pub mod Written

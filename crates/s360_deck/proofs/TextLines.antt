@@ -1,13 +1,17 @@
 -- The lines of a text, taken off one after another.
-use Rattle.std.proofs.Common.{ℕ, ◌+◌, ◌<◌, ◌≡◌, ◌==◌, ◌⊎◌, inl, inr, List, [], ◌∷◌, Bool, true, false, Option, Result, Ok, Err, length}
-use Rattle.std.proofs.Common.{length-drop, refl, add-one, sym, arith}
+use Rattle.std.proofs.Common.{ℕ, ◌+◌, ◌<◌, ◌≤◌, ◌≡◌, ◌==◌, List, [], ◌∷◌, ◌++◌, Bool, true, false, Option, Some, None, Result, Ok, Err}
+use Rattle.std.proofs.Common.{length, append-nil, append_assoc, length-append, length-drop, refl, add-one, sym, ap, subst, map, arith, ◌∙◌}
+use mir.Val.{bool_byte}
+use Rattle.std.specs.Char.{to_ascii_uppercase}
+use Rattle.std.specs.Option.{is_some}
 use Rattle.std.proofs.Math.Numerals.{one-add}
 use Rattle.std.specs.List.{before_first, after_first, position_or_len}
 use Rattle.s360_events.specs.declared.events.Event.{Event}
 use Rattle.s360_deck.specs.declared.fault.DeckFault.{DeckFault}
+use Rattle.s360_deck.specs.declared.fault.DeckFault.TheVariants as told
 use Rattle.s360_deck.specs.declared.spelling.LineFault.{LineFault}
-use Rattle.s360_deck.specs.declared.spelling.LineFault.TheVariants.{TooLong, Unknown, Operand, OutOfMemory}
-use Rattle.s360_deck.specs.Deck.{lines_of, line_read, on_line, events_behind, appended, fault_at, IsRead}
+use Rattle.s360_deck.specs.Deck.{lines_of, line_read, on_line, events_behind, appended, fault_at, IsRead, events_of}
+use Rattle.s360_deck.specs.Deck.{events_in_lines, count_in}
 
 first_of : (byte : ℕ) (text : List ℕ) (v : Bool) → (byte == 10) ≡ v
     → lines_of (byte ∷ text) ≡ before_first (λ b. b == 10) (byte ∷ text) ∷ lines_of (after_first (λ b. b == 10) (byte ∷ text))
@@ -41,12 +45,11 @@ first_read events number text line behind all some first rest is = rw (first_lin
 pub next_read : (events : List Event) (event : Option Event) (number : ℕ) (text line behind : List ℕ) (all : Result (List Event) DeckFault)
     → 0 < length text
     → line ≡ before_first (λ b. b == 10) text → behind ≡ after_first (λ b. b == 10) text
-    → (Ok event ≡ line_read line) ⊎ (Ok event ≡ Err OutOfMemory)
+    → Ok event ≡ line_read line
     → events_behind events number (lines_of text) ≡ all
     → events_behind (appended events event) (number + 1) (lines_of behind) ≡ all
-next_read events event number text line behind all some first rest (inl e) is =
+next_read events event number text line behind all some first rest e is =
     rw (← e) at (first_read events number text line behind all some first rest is)
-next_read events event number text line behind all some first rest (inr e) is = absurd (cc)
 
 abbrev faulted : LineFault → Result (Option Event) LineFault
 faulted f = Err f
@@ -56,20 +59,65 @@ pub faulty_read : (events : List Event) (f : LineFault) (told : DeckFault) (numb
     (all : Result (List Event) DeckFault) → 0 < length text
     → line ≡ before_first (λ b. b == 10) text → behind ≡ after_first (λ b. b == 10) text
     → told ≡ fault_at number f
-    → (faulted f ≡ line_read line) ⊎ (faulted f ≡ faulted OutOfMemory)
+    → faulted f ≡ line_read line
     → events_behind events number (lines_of text) ≡ all
-    → IsRead all (Err told)
-faulty_read events f told number text line behind all some first rest is_told h is =
-    rw is_told (go f h)
-  where
-    read : (k : LineFault) → faulted k ≡ line_read line → all ≡ Err (fault_at number k)
-    read k e = sym (rw (← e) at (first_read events number text line behind all some first rest is))
+    → all ≡ Err told
+faulty_read events f told number text line behind all some first rest is_told e is =
+    rw is_told (sym (rw (← e) at (first_read events number text line behind all some first rest is)))
 
-    go : (k : LineFault) → (faulted k ≡ line_read line) ⊎ (faulted k ≡ faulted OutOfMemory) → IsRead all (Err (fault_at number k))
-    go OutOfMemory h = tt
-    go TooLong (inl e) = read TooLong e
-    go TooLong (inr e) = absurd (cc)
-    go Unknown (inl e) = read Unknown e
-    go Unknown (inr e) = absurd (cc)
-    go Operand (inl e) = read Operand e
-    go Operand (inr e) = absurd (cc)
+-- nothing more is told of a deck where its first faulty line is known
+pub is_read_faultily : (fault : DeckFault) (deck : Result (List Event) DeckFault) → deck ≡ Err fault → IsRead deck (Err fault)
+is_read_faultily told.OutOfMemory deck is = tt
+is_read_faultily (told.Unknown number) deck is = is
+is_read_faultily (told.Operand number) deck is = is
+is_read_faultily (told.LineTooLong number) deck is = is
+
+-- The events of lines, each by itself.
+
+abbrev Read : Type 0
+Read = Result (Option Event) LineFault
+
+one_line : (events : List Event) (number : ℕ) (text : List ℕ) (lines : List (List ℕ)) (all : List Event)
+    → ((behind : List Event) → events_behind behind (number + 1) lines ≡ Ok all → all ≡ behind ++ events_in_lines lines)
+    → (r : Read) → line_read text ≡ r → on_line number r (λ e. events_behind (appended events e) (number + 1) lines) ≡ Ok all
+    → all ≡ events ++ events_in_lines (text ∷ lines)
+one_line events number text lines all later (Ok None) e is = rw e (later events is)
+one_line events number text lines all later (Ok (Some event)) e is =
+    rw e (later (events ++ event ∷ []) is ∙ append_assoc events (event ∷ []) (events_in_lines lines))
+one_line events number text lines all later (Err f) e is = absurd (cc)
+
+-- the events of a deck are those that its lines spell, behind those so far
+pub spelled_alone : (events : List Event) (number : ℕ) (lines : List (List ℕ)) (all : List Event)
+    → events_behind events number lines ≡ Ok all → all ≡ events ++ events_in_lines lines
+spelled_alone events number [] all is = rw (append-nil events) (cc)
+spelled_alone events number (text ∷ lines) all is =
+    one_line events number text lines all (λ behind. spelled_alone behind (number + 1) lines all) (line_read text) refl is
+
+-- one line more, whose event is counted if it has one
+pub one_counted : (events : List Event) (event : Option Event) (count more : ℕ) → length events ≡ count → more ≡ bool_byte (is_some event)
+    → length (appended events event) ≡ count + more
+one_counted events None count more h is = omega (arith, h, is)
+one_counted events (Some event) count more h is = omega (arith, h, is, length-append events (event ∷ []))
+
+pub one_at_most : (event : Option Event) (more : ℕ) → more ≡ bool_byte (is_some event) → more ≤ 1
+one_at_most None more is = omega (arith, is)
+one_at_most (Some event) more is = omega (arith, is)
+
+-- a deck whose events were counted: no line is faulty
+is_deck : (lines : List (List ℕ)) (count : ℕ) (deck : Result (List Event) DeckFault) → events_behind [] 1 lines ≡ deck
+    → Ok count ≡ count_in deck
+    → (deck ≡ Ok (events_in_lines lines)) × (length (events_in_lines lines) ≡ count)
+is_deck lines count (Ok all) e is =
+    let same = spelled_alone [] 1 lines all e in
+    (ap Ok same, ap length (sym same) ∙ cc)
+is_deck lines count (Err f) e is = absurd (cc)
+
+pub is_counted_deck : (text capitals seen : List ℕ) (count : ℕ) → seen ≡ capitals → capitals ≡ map to_ascii_uppercase text
+    → Ok count ≡ count_in (events_behind [] 1 (lines_of seen))
+    → (events_of text ≡ Ok (events_in_lines (lines_of capitals))) × (length (events_in_lines (lines_of capitals)) ≡ count)
+is_counted_deck text capitals seen count is from counted =
+    let deck = is_deck (lines_of capitals) count _ refl
+    (subst (λ (t : List ℕ). Ok count ≡ count_in (events_behind [] 1 (lines_of t))) is counted) in (
+      subst (λ (t : List ℕ). events_behind [] 1 (lines_of t) ≡ Ok (events_in_lines (lines_of capitals))) from deck.0,
+      deck.1,
+    )

@@ -154,7 +154,6 @@ abbrev pub fault_at : ℕ → LineFault → DeckFault
 fault_at number line.TooLong = fault.LineTooLong number
 fault_at number line.Unknown = fault.Unknown number
 fault_at number line.Operand = fault.Operand number
-fault_at number line.OutOfMemory = fault.OutOfMemory
 
 -- the events so far, and that of one line more
 abbrev pub appended : List Event → Option Event → List Event
@@ -176,6 +175,20 @@ events_behind events number (text ∷ lines) =
 -- small letters are read as capitals
 abbrev pub events_of : List ℕ → Result (List Event) DeckFault
 events_of text = events_behind [] 1 (lines_of (map to_ascii_uppercase text))
+
+-- how many events a deck has; or its first line that is faulty
+abbrev pub count_in : Result (List Event) DeckFault → Result ℕ DeckFault
+count_in (Ok events) = Ok (length events)
+count_in (Err f) = Err f
+
+-- the event of a line that spells one
+abbrev pub event_in : Result (Option Event) LineFault → List Event
+event_in (Ok (Some e)) = e ∷ []
+event_in spelled = []
+
+-- the events that lines spell, each by itself: those of a deck, where no line is faulty
+abbrev pub events_in_lines : List (List ℕ) → List Event
+events_in_lines lines = flat_map (λ text. event_in (line_read text)) lines
 
 -- A deck was read so. Where memory ran out, this says nothing.
 abbrev pub IsRead : Result (List Event) DeckFault → Result (Vec Event) DeckFault → Type 0

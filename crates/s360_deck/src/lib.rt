@@ -5,15 +5,18 @@ mod counted_reading;
 mod counted_runs;
 mod counted_writing;
 mod digits;
+mod driving;
 mod fault;
 pub mod laws;
 mod lines;
 mod parsing;
+mod passes;
 mod reading;
 mod runs;
 mod serial_lists;
 mod spelling;
 mod texts;
+mod watched_driving;
 mod watched_runs;
 mod writing;
 

@@ -1,11 +1,11 @@
 //! The events of a deck, line by line.
 
-ghost use Rattle.std.specs.Prelude.{◌≡◌, ◌⊎◌, ◌==◌, ◌<◌, ◌∷◌, map, option_map, length, Err, IfOk, OnOk, IfErr};
+ghost use Rattle.std.specs.Prelude.{◌≡◌, ◌==◌, ◌<◌, ◌≤◌, ◌∷◌, [], map, option_map, length, OnOk, IfErr};
 ghost use Rattle.std.specs.List.{before_first, after_first, position};
 ghost use Rattle.s360_deck.specs.Digits.{stored_bytes_of};
 ghost use Rattle.s360_deck.specs.Deck.{lines_of, without_return, is_blank, is_empty, words_of, name_of, only, two_of, device_address_in, units_in};
 ghost use Rattle.s360_deck.specs.Deck.{run_units_in, joined, store_of, set_key_of, show_of, event_of, is_comment, words_read, line_read, fault_at, appended};
-ghost use Rattle.s360_deck.specs.Deck.{events_of, IsRead};
+ghost use Rattle.s360_deck.specs.Deck.{events_of, events_behind, IsRead};
 
 use crate::digits::{
     bytes_of_digits, count, device_address, run_units, show_count, storage_address, storage_key,
@@ -14,10 +14,16 @@ use crate::fault::DeckFault;
 use crate::spelling::{EventName, LineFault};
 use arrayvec::ArrayVec;
 use s360_events::Event;
-use std::alloc::{AllocError, Global};
+use std::alloc::Global;
 
 /// The most bytes of a line, without LF and a CR before it.
 const LINE_LENGTH: usize = 512;
+
+/// The most words of a line: each but the last has a space or a tab behind it.
+const MOST_WORDS: usize = 256;
+
+// The words of a line.
+pub(crate) type Words<'a> = ArrayVec<&'a [u8], MOST_WORDS>;
 
 /// How many units a run does at most whose line does not say it.
 const RUN_UNITS: u32 = 16_777_216;
@@ -33,15 +39,23 @@ const RUN_UNITS: u32 = 16_777_216;
 pub fn parse(alloc: Global, text: &[u8]) -> Result<Vec<Event>, DeckFault>
     ensures { IsRead (events_of text.now) result }
 {
-    let Ok(capitals) = text.to_ascii_uppercase(alloc) else {
-        return Err(DeckFault::OutOfMemory);
-    };
+    match text.to_ascii_uppercase(alloc) {
+        Ok(capitals) => parse_capitals(alloc, capitals.as_slice()),
+        Err(_) => Err(DeckFault::OutOfMemory),
+    }
+}
+
+// Reads a deck in capitals.
+fn parse_capitals<'a>(alloc: Global, text: &'a [u8]) -> Result<Vec<Event>, DeckFault>
+    ensures { IsRead (events_behind [] 1 (lines_of text.now)) result }
+{
     let mut events = Vec::new(alloc);
-    let mut rest = capitals.as_slice();
+    let mut words: Words<'a> = Words::new();
+    let mut rest = text;
     let mut number = 1;
     while !rest.is_empty() {
         let (line, behind) = split_at_line_feed(rest);
-        match read_line(alloc, line) {
+        match read_line(&mut words, line) {
             Ok(event) => append(&mut events, event)?,
             Err(fault) => return Err(told_on(fault, number)),
         }
@@ -63,14 +77,13 @@ fn append(events: &mut Vec<Event>, event: Option<Event>) -> Result<(), DeckFault
 }
 
 // The fault of a line, by its number.
-fn told_on(fault: LineFault, number: usize) -> DeckFault
+pub(crate) fn told_on(fault: LineFault, number: usize) -> DeckFault
     ensures { result ≡ fault_at number fault }
 {
     match fault {
         LineFault::TooLong => DeckFault::LineTooLong(number),
         LineFault::Unknown => DeckFault::Unknown(number),
         LineFault::Operand => DeckFault::Operand(number),
-        LineFault::OutOfMemory => DeckFault::OutOfMemory,
     }
 }
 
@@ -93,18 +106,19 @@ fn position_of_line_feed(text: &[u8]) -> Option<usize>
     text.iter().position(|b| *b == b'\n')
 }
 
-// The event that a line spells, if it spells one.
-fn read_line(alloc: Global, line: &[u8]) -> Result<Option<Event>, LineFault>
-    ensures { (result ≡ line_read line.now) ⊎ (result ≡ Err LineFault.OutOfMemory) }
+// The event that a line spells, if it spells one. It takes no memory: the line's words take the place of those of another.
+pub(crate) fn read_line<'a>(
+    words: &mut Words<'a>,
+    line: &'a [u8],
+) -> Result<Option<Event>, LineFault>
+    ensures { result ≡ line_read line.now }
 {
     let body = without_carriage_return(line);
     if body.len() > LINE_LENGTH {
         return Err(LineFault::TooLong);
     }
-    match words(alloc, body) {
-        Ok(words) => read_words(words.as_slice()),
-        Err(_) => Err(LineFault::OutOfMemory),
-    }
+    find_words(words, body);
+    read_words(words.as_slice())
 }
 
 /// A line without the carriage return at its end, if it has one.
@@ -117,27 +131,18 @@ pub fn without_carriage_return(line: &[u8]) -> &[u8]
     }
 }
 
-// The words of a line. Room is taken for all of them at once: `collect` would ask once more, for less, where it is refused.
-fn words(alloc: Global, line: &[u8]) -> Result<Vec<&[u8]>, AllocError>
-    ensures { IfOk result (λ v. map (λ w. w.now) v.items ≡ words_of line.now) }
+// The words of a line, in the place of those of another.
+fn find_words<'a>(words: &mut Words<'a>, line: &'a [u8])
+    requires { length line.now ≤ 512 }
+    ensures { map (λ w. w.now) words.new.items ≡ words_of line.now }
 {
-    let mut words = Vec::with_capacity(alloc, count_of_words(line))?;
+    words.clear();
     let found = line
         .split(|byte| *byte == b' ' || *byte == b'\t')
         .filter(|word| !word.is_empty());
     for word in found {
-        words.push(word).unwrap();
+        words.push(word);
     }
-    Ok(words)
-}
-
-// How many words a line has.
-fn count_of_words(line: &[u8]) -> usize
-    ensures { result ≡ length (words_of line.now) }
-{
-    line.split(|byte| *byte == b' ' || *byte == b'\t')
-        .filter(|word| !word.is_empty())
-        .count()
 }
 
 // The event that these words spell, if they spell one.

@@ -38,6 +38,4 @@ pub enum LineFault {
     Unknown,
     /// An operand is wrong, or there are too few or too many.
     Operand,
-    /// There is no memory for its words.
-    OutOfMemory,
 }

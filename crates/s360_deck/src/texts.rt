@@ -7,12 +7,13 @@ ghost use Rattle.s360_deck.specs.Runs.{StaysUnlessRun};
 ghost use Rattle.s360_deck.specs.Texts.{RunsText};
 
 use crate::counted_writing::write_counted;
+use crate::driving::drive_text;
 use crate::fault::{DeckFault, ReadFault};
 use crate::reading::DECK_LENGTH;
-use crate::runs::{RunFault, read_events};
+use crate::runs::RunFault;
 use ckd_image::ImageStore;
 use counted_io::{Counted, WriteFault};
-use s360_channel::{Channel, drive};
+use s360_channel::Channel;
 use std::alloc::Global;
 use std::io::Write;
 
@@ -37,9 +38,9 @@ pub fn run_text<W: Write, S: ImageStore>(
     if text.len() > DECK_LENGTH {
         return Err(RunFault::Read);
     }
-    let events = read_events(alloc, text)?;
-    let Ok(answers) = drive(alloc, channel, events.as_slice()) else {
-        return Err(RunFault::Deck(DeckFault::OutOfMemory));
+    let answers = match drive_text(alloc, channel, text) {
+        Ok(answers) => answers,
+        Err(fault) => return Err(RunFault::Deck(fault)),
     };
     match write_counted(writer, answers.as_slice()) {
         Ok(()) => Ok(()),

@@ -11,14 +11,14 @@ ghost use Rattle.s360_deck.specs.Watched.{WatchesRun, WatchesText};
 
 use crate::counted_reading::read_text;
 use crate::counted_writing::write_counted;
-use crate::fault::DeckFault;
 use crate::reading::DECK_LENGTH;
-use crate::runs::{RunFault, read_events};
+use crate::runs::RunFault;
 use crate::texts::of_read;
+use crate::watched_driving::drive_text_watched;
 use ckd_image::ImageStore;
 use counted_io::{Counted, WriteFault};
 use s360_channel::Channel;
-use s360_trace::{Watcher, drive};
+use s360_trace::Watcher;
 use std::alloc::Global;
 use std::io::{Read, Write};
 
@@ -75,9 +75,9 @@ pub fn run_text_watched<W: Write, S: ImageStore, V: Watcher>(
     if text.len() > DECK_LENGTH {
         return Err(RunFault::Read);
     }
-    let events = read_events(alloc, text)?;
-    let Ok(answers) = drive(alloc, channel, events.as_slice(), watcher) else {
-        return Err(RunFault::Deck(DeckFault::OutOfMemory));
+    let answers = match drive_text_watched(alloc, channel, text, watcher) {
+        Ok(answers) => answers,
+        Err(fault) => return Err(RunFault::Deck(fault)),
     };
     match write_counted(writer, answers.as_slice()) {
         Ok(()) => Ok(()),

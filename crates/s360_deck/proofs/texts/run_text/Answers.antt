@@ -1,19 +1,11 @@
 use Rattle.std.proofs.Common.{arith}
-use Rattle.std.proofs.lemmas.Result.{err_from_is_err_and}
 use Rattle.counted_io.specs.Streams.{seen_by}
-use Rattle.s360_deck.proofs.Ran.{same_stays}
+use Rattle.s360_deck.specs.declared.runs.RunFault.TheVariants.{Deck}
 use Rattle.s360_deck.proofs.CountedRan.{is_faulty}
 use Rattle.s360_deck.proofs.texts.run_text.Goals as goal
 
-pub returns-in_err-events-clause-runs : goal.returns-in_err-events-clause-runs
-returns-in_err-events-clause-runs g c =
-    let p = err_from_is_err_and c.from_residual.result c.from_residual.ensures.1 in
+pub returns-in-Err-clause-runs : goal.returns-in-Err-clause-runs
+returns-in-Err-clause-runs g c =
     let written = seen_by g.W.Write.contents c.args.writer.now in
-    rw (p.1, p.2) (is_faulty c.in_err-events.field-0.0 c.args.channel.now c.args.channel.now written written c.args.text.now
-    (omega arith) c.in_err-events.ensures)
-
-pub returns-in_err-events-clause-no_event : goal.returns-in_err-events-clause-no_event
-returns-in_err-events-clause-no_event g c = same_stays c.from_residual.result c.args.channel.now
-
-pub returns-in_err-events-clause-nothing_written : goal.returns-in_err-events-clause-nothing_written
-returns-in_err-events-clause-nothing_written g c = same_stays c.from_residual.result c.args.writer.now
+    is_faulty (Deck c.in-Err.fault) c.args.channel.now c.drive_text.new.channel written written c.args.text.now (omega arith)
+    c.in-Err.ensures.faulty

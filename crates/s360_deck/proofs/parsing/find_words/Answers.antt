@@ -2,11 +2,12 @@ use Rattle.std.proofs.Common.{rules, tests, not, arith, ap, length}
 use Rattle.std.proofs.lemmas.Iterator.Consumers.{YieldsList-end, YieldsList-turn, YieldsList-from_filter, YieldsList-at}
 use Rattle.std.proofs.lemmas.Iterator.Splits.{YieldsList-from_slice_split}
 use Rattle.s360_deck.specs.Deck.{is_blank, is_empty}
-use Rattle.s360_deck.proofs.parsing.words.Goals as goal
+use Rattle.s360_deck.proofs.WordCounts.{words_fit}
+use Rattle.s360_deck.proofs.parsing.find_words.Goals as goal
 
 pub returns : goal.returns
 returns c =
-    rw c.loop-word.invariant.words
+    rw c.loop-word.invariant
     (YieldsList-end
     (YieldsList-at c.into_iter-word-iterator.ensures.into_iter_gives
     (YieldsList-from_filter _ (λ word. not (is_empty word))
@@ -16,8 +17,8 @@ returns c =
     c.filter-found.ensures.closure (λ x b q k. search (rules, tests))))
     c.loop-word.yielded _ c.loop-word.yielded_by c.next.result c.next.new.self c.in-None.is c.next.ensures.steps).0
 
-pub unwrap-requires : goal.unwrap-requires
-unwrap-requires c =
+pub push-requires : goal.push-requires
+push-requires c =
     let turn = YieldsList-turn
     (YieldsList-at c.into_iter-word-iterator.ensures.into_iter_gives
     (YieldsList-from_filter _ (λ word. not (is_empty word))
@@ -26,9 +27,4 @@ unwrap-requires c =
     (λ x b q k. search (rules, tests))))
     c.filter-found.ensures.closure (λ x b q k. search (rules, tests))))
     c.loop-word.yielded _ c.loop-word.yielded_by c.next.result c.next.new.self c.in-Some.word c.in-Some.is c.next.ensures.steps in
-    c.push.ensures.succeeds (rw c.loop-word.words.ok.0 (omega (
-      arith,
-      turn.0,
-      c.loop-word.invariant.room,
-      ap length c.loop-word.invariant.words,
-    )))
+    omega (arith, turn.0, ap length c.loop-word.invariant, words_fit c.args.line.now c.requires)
