@@ -69,7 +69,9 @@ CALLS = {
     "run_watched": Call(FILES + CHANNEL, (*BUSY, "DECK TRACE"), AT_CHANNEL),
 }
 # what is called before it by the same line, and takes memory too
-WITHIN = {"drive": "parse", "serial": "drive", "run": "drive", "run_counted": "drive", "run_watched": "drive"}
+WITHIN = {"drive": "parse", "serial": "drive", "run": "drive"}
+# how many takings those tell at least that keep no list of events: for the text, for it in capitals, and for the answers
+LEAST = {"run_counted": 3, "run_watched": 3}
 
 
 def play(stage: Stage) -> list[list[str]]:
@@ -167,7 +169,7 @@ def takings_told(call: Call, plain: Stage) -> int:
 
 def refuse_call(name: str, stage: Stage) -> None:
     """Refuses each taking of a call: it has some of its own, and tells them."""
-    less = takings_told(CALLS[WITHIN[name]], stage) if name in WITHIN else 0
+    less = takings_told(CALLS[WITHIN[name]], stage) if name in WITHIN else LEAST.get(name, 1) - 1
     same("takings that %s tells: more than %d" % (name, less), True, takings_told(CALLS[name], stage) > less)
 
 
