@@ -3,21 +3,21 @@ use Rattle.std.specs.Prelude.{◌≡◌, ◌⊎◌, ℕ, ◌/◌, ◌%◌, ℤ, 
 use Rattle.s360_channels.specs.Channels.{ChannelsState, channel_at}
 use Rattle.dasd_subsystem.specs.Attaching.{Attaches, Detaches, NotAttached}
 use Rattle.dasd_subsystem.specs.declared.refusal.Refusal.TheVariants.{OutOfMemory}
-use Rattle.dasd_c.specs.declared.storing.Place.{Place}
+use Rattle.dasd_c.specs.declared.storing.StoragePlace.{StoragePlace}
 use Rattle.dasd_c.specs.Attaching.{DoneOrRefused, RefusesDetach, TellsWhy}
 use Rattle.dasd_c.specs.Codes.{in_use, no_file, nothing_held, refusal_code}
 
 -- A file of so many bytes is shown; or there is no such file, and nothing is;
-abbrev pub ShowsSpace : Option (List ℕ) → (code : ℤ) → (before shown : Place) → Type 0
+abbrev pub ShowsSpace : Option (List ℕ) → (code : ℤ) → (before shown : StoragePlace) → Type 0
 ShowsSpace (Some bytes) code before shown = (code ≡ pos 0) × (shown.len ≡ length bytes)
 ShowsSpace None code before shown = (code ≡ no_file) × (shown ≡ before)
 
 -- by its place among these,
-abbrev pub ShowsSpaceIn : (files : List (List ℕ)) → (place : ℕ) → (code : ℤ) → (before shown : Place) → Type 0
+abbrev pub ShowsSpaceIn : (files : List (List ℕ)) → (place : ℕ) → (code : ℤ) → (before shown : StoragePlace) → Type 0
 ShowsSpaceIn files place code before shown = ShowsSpace (slice_get files place) code before shown
 
 -- or none are held.
-abbrev pub ShowsSpaceOf : Option (List (List ℕ)) → (place : ℕ) → (code : ℤ) → (before shown : Place) → Type 0
+abbrev pub ShowsSpaceOf : Option (List (List ℕ)) → (place : ℕ) → (code : ℤ) → (before shown : StoragePlace) → Type 0
 ShowsSpaceOf (Some files) place code before shown = ShowsSpaceIn files place code before shown
 ShowsSpaceOf None place code before shown = (code ≡ nothing_held) × (shown ≡ before)
 

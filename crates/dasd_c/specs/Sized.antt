@@ -4,7 +4,7 @@ use Rattle.std.specs.List.{concat}
 use Rattle.std.specs.Int.{to_le_bytes, w16, w32, w64}
 use Rattle.dasd_subsystem.specs.declared.watched.ShownProgram.{ShownProgram}
 use Rattle.dasd_subsystem.specs.declared.watched.ShownRegisters.{ShownRegisters}
-use Rattle.dasd_subsystem.specs.declared.until.Progress.{Progress}
+use Rattle.dasd_subsystem.specs.declared.until.RunProgress.{RunProgress}
 
 -- as many of these bytes as there is room for, and zeros behind the last of them
 abbrev pub fitted : (room : ℕ) → (bytes : List ℕ) → List ℕ
@@ -24,7 +24,7 @@ registers_bytes r = concat (
     ∷ (r.area ∷ r.lap ∷ r.mask ∷ r.mask_set ∷ r.credit ∷ []) ∷ r.reserved ∷ replicate 6 0 ∷ [])
 
 -- those of what came of units
-abbrev pub progress_bytes : Progress → List ℕ
+abbrev pub progress_bytes : RunProgress → List ℕ
 progress_bytes p = concat (
     to_le_bytes w64 p.cylinders ∷ to_le_bytes w32 p.units ∷ to_le_bytes w32 p.bytes ∷ to_le_bytes w32 p.indexes
     ∷ to_le_bytes w32 p.stored ∷ to_le_bytes w32 p.low ∷ to_le_bytes w32 p.high

@@ -3,7 +3,7 @@ use Rattle.std.specs.Prelude.{◌≡◌, ℤ, pos, ℕ, List, length, Option, So
 use Rattle.s360_channel.specs.Channel.{ChannelState}
 use Rattle.s360_channels.specs.Channels.{ChannelsState, OnChannel}
 use Rattle.dasd_subsystem.specs.Until.{RunsUntil, until_of}
-use Rattle.dasd_subsystem.specs.declared.until.Progress.{Progress}
+use Rattle.dasd_subsystem.specs.declared.until.RunProgress.{RunProgress}
 use Rattle.dasd_subsystem.specs.declared.until.Until.{Until}
 use Rattle.dasd_subsystem.specs.declared.until.Wanted.{Wanted}
 use Rattle.dasd_c.specs.declared.until.UnitsWanted.{UnitsWanted}
@@ -12,7 +12,7 @@ use Rattle.dasd_c.specs.Sized.{fitted, progress_bytes}
 
 -- a channel's program runs until something happens, and C is told what came of it, as far as it has room
 pub record RunsUntilFor (wanted : Wanted) (code : ℤ) (before told : List ℕ) (old new : ChannelState) : Type 0 where
-  pub progress : Progress
+  pub progress : RunProgress
   pub done : code ≡ pos 0
   pub tells : told ≡ fitted (length before) (progress_bytes progress)
   pub runs : RunsUntil wanted progress old new

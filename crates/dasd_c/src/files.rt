@@ -14,7 +14,7 @@ ghost use Rattle.dasd_c.specs.declared.files.TheConstants.{FILES_HELD};
 use crate::files_slot::FilesSlot;
 use crate::handle::{Handle, moved, put, take};
 use crate::parts::Parts;
-use crate::storing::Place;
+use crate::storing::StoragePlace;
 use crate::tell::{DONE, IN_USE, NO_FILE, NO_MEMORY, NOTHING_HELD, of_detach, of_refusal};
 use dasd_subsystem::{Files, Subsystem};
 use std::alloc::Global;
@@ -96,7 +96,7 @@ pub extern "C" fn dasd_files_show(
     files: &mut FilesHandle,
     alloc: Global,
     file: u8,
-    shown: &mut Place,
+    shown: &mut StoragePlace,
 ) -> i32
     ensures shows { ShowsSpaceOf files.old.slot.held file result shown.old shown.new }
     ensures stays { files.new.slot.held ≡ files.old.slot.held }
@@ -109,14 +109,14 @@ pub extern "C" fn dasd_files_show(
     code
 }
 
-fn show(files: &Files, file: u8, shown: &mut Place) -> i32
+fn show(files: &Files, file: u8, shown: &mut StoragePlace) -> i32
     ensures { ShowsSpaceIn files.now file result shown.old shown.new }
 {
     match files.get(file as usize) {
         Some(file) => {
             let at = file.as_ptr() as *mut u8;
             let len = file.bytes().len();
-            *shown = Place { at, len };
+            *shown = StoragePlace { at, len };
             DONE
         }
         None => NO_FILE,

@@ -6,7 +6,7 @@ ghost use Rattle.arrayvec.specs.ArrayVec.{array_vec_len};
 ghost use Rattle.dasd_c.specs.Sized.{fitted, program_bytes, progress_bytes, registers_bytes};
 
 use arrayvec::ArrayVec;
-use dasd_subsystem::{Progress, ShownProgram, ShownRegisters};
+use dasd_subsystem::{RunProgress, ShownProgram, ShownRegisters};
 
 // The bytes of a struct, 40 at most.
 type Fields = ArrayVec<u8, 40>;
@@ -61,13 +61,13 @@ fn registers_bytes(registers: &ShownRegisters) -> Fields
 }
 
 /// Tells what came of units.
-pub(crate) fn tell_progress(told: &mut [u8], progress: &Progress)
+pub(crate) fn tell_progress(told: &mut [u8], progress: &RunProgress)
     ensures { told.new ≡ fitted (length told.old) (progress_bytes progress.now) }
 {
     fit(told, progress_bytes(progress).as_slice());
 }
 
-fn progress_bytes(progress: &Progress) -> Fields
+fn progress_bytes(progress: &RunProgress) -> Fields
     ensures { result.items ≡ progress_bytes progress.now }
 {
     let mut out = Fields::new();

@@ -128,14 +128,18 @@ fn key_of(storage: &Storage, at: u32) -> i32
 /// Where storage lies, and how many bytes it has.
 #[repr(C)]
 #[derive(Drop)]
-pub struct Place {
+pub struct StoragePlace {
     pub at: *mut u8,
     pub len: usize,
 }
 
 /// Shows where storage lies. Between two calls its bytes are C's to read and write: each change is one that the processor makes.
 #[unsafe(no_mangle)]
-pub extern "C" fn dasd_show_storage(handle: &mut Handle, alloc: Global, shown: &mut Place) -> i32
+pub extern "C" fn dasd_show_storage(
+    handle: &mut Handle,
+    alloc: Global,
+    shown: &mut StoragePlace,
+) -> i32
     ensures { Calls handle.old.slot.held handle.new.slot.held result (λ old new. (new ≡ old) ×
         ((result ≡ pos 0) × (shown.new.len ≡ length old.storage.bytes))) }
 {
@@ -147,7 +151,7 @@ pub extern "C" fn dasd_show_storage(handle: &mut Handle, alloc: Global, shown: &
     code
 }
 
-fn show_storage(subsystem: &mut Subsystem, shown: &mut Place) -> i32
+fn show_storage(subsystem: &mut Subsystem, shown: &mut StoragePlace) -> i32
     ensures { Own result (λ old new. (new ≡ old) × ((result ≡ pos 0) × (shown.new.len ≡ length old.storage.bytes)))
         subsystem.old subsystem.new }
 {
@@ -156,6 +160,6 @@ fn show_storage(subsystem: &mut Subsystem, shown: &mut Place) -> i32
     };
     let len = storage.size() as usize;
     let at = storage.as_mut_ptr();
-    *shown = Place { at, len };
+    *shown = StoragePlace { at, len };
     DONE
 }

@@ -9,7 +9,7 @@ use Rattle.dasd_subsystem.specs.Shown.{numbers_of}
 use Rattle.dasd_subsystem.specs.Watched.{place_of}
 use Rattle.dasd_subsystem.specs.declared.glances.Glance.{Glance}
 use Rattle.dasd_subsystem.specs.declared.until.Counts.{Counts}
-use Rattle.dasd_subsystem.specs.declared.until.Progress.{Progress}
+use Rattle.dasd_subsystem.specs.declared.until.RunProgress.{RunProgress}
 use Rattle.dasd_subsystem.specs.declared.until.Until.{Until}
 use Rattle.dasd_subsystem.specs.declared.until.Wanted.{Wanted}
 
@@ -119,7 +119,7 @@ HasEnded [] = ⊥
 HasEnded (last ∷ earlier) = runs last.subchannel ≡ false
 
 -- what is told: the counts, the subchannel behind the last unit, and what happened in that
-abbrev pub told_of : Counts → (subchannel : ℕ × ℕ × ℕ) → (stopped : Until) → Progress
+abbrev pub told_of : Counts → (subchannel : ℕ × ℕ × ℕ) → (stopped : Until) → RunProgress
 told_of c n stopped = record {
   cylinders = c.cylinders;
   units = c.units;
@@ -136,7 +136,7 @@ told_of c n stopped = record {
 }
 
 -- the same by the glances
-abbrev pub progress_of : Until → List Glance → Progress
+abbrev pub progress_of : Until → List Glance → RunProgress
 progress_of until [] = told_of no_counts (0, 0, 0) nothing
 progress_of until (last ∷ earlier) =
     told_of (came_to (last ∷ earlier)) (numbers_of last.subchannel) (last_happened until (last ∷ earlier))
@@ -149,7 +149,7 @@ pub record AreDone (glances : List Glance) (units : ℕ) (old new : ChannelState
 
 -- A program runs until something happens for which its caller waits, until it ends, or until so many units are done: no unit before the
 -- last is one to stop behind; and where it ends before, the last one is, or the program has ended.
-pub record RunsUntil (wanted : Wanted) (progress : Progress) (old new : ChannelState) : Type 0 where
+pub record RunsUntil (wanted : Wanted) (progress : RunProgress) (old new : ChannelState) : Type 0 where
   pub glances : List Glance
   pub done : AreDone glances progress.units old new
   pub most : progress.units ≤ wanted.units
@@ -158,7 +158,7 @@ pub record RunsUntil (wanted : Wanted) (progress : Progress) (old new : ChannelS
   pub told : progress ≡ progress_of wanted.until glances
 
 -- and what is answered of that channel
-abbrev pub UntilTo : Wanted → Option Progress → (old new : ChannelState) → Type 0
+abbrev pub UntilTo : Wanted → Option RunProgress → (old new : ChannelState) → Type 0
 UntilTo wanted None old new = ⊥
 UntilTo wanted (Some progress) old new = RunsUntil wanted progress old new
 

@@ -24,5 +24,5 @@ pub use crate::refusal::Refusal;
 pub use crate::saving::RestoreRefusal;
 pub use crate::shown::{ShownChannel, ShownDrive, seen};
 pub use crate::subsystem::Subsystem;
-pub use crate::until::{Counts, Progress, Until, Wanted, run_until};
+pub use crate::until::{Counts, RunProgress, Until, Wanted, run_until};
 pub use crate::watched::{ShownProgram, ShownRegisters};

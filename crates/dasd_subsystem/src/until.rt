@@ -153,7 +153,7 @@ impl Counts {
 /// What came of units: how many were done and what they came to, the subchannel behind them, and why they ended there.
 #[repr(C)]
 #[derive(Clone, Copy)]
-pub struct Progress {
+pub struct RunProgress {
     /// How many cylinders the arm crossed, in all its moves.
     pub cylinders: u64,
     /// How many units were done.
@@ -180,11 +180,11 @@ pub struct Progress {
     pub reserved: [u8; 4],
 }
 
-fn told(counts: &Counts, subchannel: SubchannelView, stopped: Until) -> Progress
+fn told(counts: &Counts, subchannel: SubchannelView, stopped: Until) -> RunProgress
     ensures { result ≡ told_of counts.now (numbers_of subchannel) stopped }
 {
     let (subchannel, device, asked) = seen(subchannel);
-    Progress {
+    RunProgress {
         cylinders: counts.cylinders,
         units: counts.units,
         bytes: counts.bytes,
@@ -217,7 +217,7 @@ pub fn run_until<S: ImageStore, M: MainStorage>(
     channels: &mut Selectors<S>,
     storage: &mut M,
     wanted: Wanted,
-) -> Option<Progress>
+) -> Option<RunProgress>
     requires size { length (M.holds storage.old).bytes ≡ channels.old.size }
     ensures does { OnChannel wanted.channel (UntilTo wanted result) (result ≡ None) (across channels.old (M.holds storage.old))
         (across channels.new (M.holds storage.new)) }

@@ -1,6 +1,6 @@
 use Rattle.std.proofs.Common.{◌≡◌, ◌∙◌, ◌+◌, ap, refl, rules, sym, Option, None}
 use Rattle.s360_channels.specs.Selectors.{across}
-use Rattle.dasd_subsystem.specs.declared.until.Progress.{Progress}
+use Rattle.dasd_subsystem.specs.declared.until.RunProgress.{RunProgress}
 use Rattle.dasd_subsystem.proofs.Seeing.{first_seen, none_seen, unit_more}
 use Rattle.dasd_subsystem.proofs.until.run_until.Goals as goal
 
@@ -8,7 +8,7 @@ use Rattle.dasd_subsystem.proofs.until.run_until.Goals as goal
 pub returns-in_default-clause-does : goal.returns-in_default-clause-does
 returns-in_default-clause-does g c =
     let s = g.M.MainStorage.holds c.args.storage.now in
-    none_seen c.args.wanted.channel c.args.wanted (◌≡◌ {A = Option Progress} None None) (across c.args.channels.now s)
+    none_seen c.args.wanted.channel c.args.wanted (◌≡◌ {A = Option RunProgress} None None) (across c.args.channels.now s)
     (c.in_default.ensures s) refl
 
 -- it is seen as it is
