@@ -13,6 +13,7 @@ use Rattle.s360_laws.specs.Machine.{Machine, Device, with_device, start_of}
 use Rattle.s360_laws.specs.Soundness.{IsSound}
 use Rattle.s360_laws.specs.declared.arm.Arm.{Arm}
 use Rattle.s360_laws.specs.declared.arm.Arm.TheVariants.{AtRest}
+use Rattle.attached_drives.specs.Drives.{AttachedState, device_of, AllRest, OthersRest}
 use Rattle.s360_channel.specs.declared.subchannel.Subchannel.{Subchannel}
 use Rattle.s360_channel.specs.declared.subchannel.Subchannel.TheVariants.{Idle, Working, Pending}
 

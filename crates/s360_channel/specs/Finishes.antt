@@ -6,7 +6,7 @@ use Rattle.s360_laws.specs.Events.{Reset, WasReset}
 use Rattle.s360_laws.specs.Machine.{Machine}
 use Rattle.s360_channel.specs.Calls.{Does, CallsAtMost}
 use Rattle.s360_channel.specs.Channel.{ChannelState}
-use Rattle.attached_drives.specs.Drives.{AttachedState}
+use Rattle.attached_drives.specs.Drives.{AttachedState, images_of}
 
 -- The channel is reset first; then all is given back, each image with the slots of its drive's volume.
 pub record Finishes (m : Machine) (old : ChannelState) (storage : Storage) (images : List (Option (ℕ × ImageState)))

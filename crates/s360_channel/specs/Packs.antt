@@ -12,7 +12,7 @@ use Rattle.s360_laws.specs.Machine.{Machine, Device, device_at, with_device}
 use Rattle.s360_laws.specs.declared.arm.Arm.{Arm}
 use Rattle.s360_laws.specs.declared.arm.Arm.TheVariants.{AtRest}
 use Rattle.s360_channel.specs.Channel.{ChannelState, StandsFor}
-use Rattle.attached_drives.specs.Drives.{AttachedState, new_attached}
+use Rattle.attached_drives.specs.Drives.{AttachedState, new_attached, fits_drive}
 use Rattle.s360_channel.specs.declared.faults.DetachFault.{DetachFault}
 use Rattle.s360_channel.specs.declared.faults.DetachFault.TheVariants.{NoDrive, ProgramRuns, EndingPends, DeviceEndOwed}
 use Rattle.s360_channel.specs.declared.faults.ExchangeFault.{ExchangeFault}

@@ -7,6 +7,7 @@ use Rattle.s360_runs.specs.Status.{tells}
 use Rattle.s360_laws.specs.Machine as machine
 use Rattle.s360_laws.specs.Machine.{Machine, Device, device_at, with_device, with_subchannel}
 use Rattle.s360_laws.specs.Soundness.{device_owes}
+use Rattle.attached_drives.specs.Saved.{attached_as_saved}
 use Rattle.s360_channel.specs.Channel.{ChannelState, StandsFor}
 use Rattle.attached_drives.specs.Drives.{AttachedState}
 use Rattle.s360_channel.specs.Packs.{IsFree, why_stays}

@@ -13,7 +13,7 @@ use Rattle.s360_laws.specs.declared.arm.Arm.{Arm}
 use Rattle.s360_laws.specs.declared.arm.Arm.TheVariants.{AtRest, InMotion, Arrived}
 use Rattle.attached_drives.specs.Drives.{AttachedState, device_of, is_at}
 use Rattle.s360_channel.specs.Restores.{as_saved}
-use Rattle.attached_drives.specs.Saved.{attached_as_saved}
+use Rattle.attached_drives.specs.Saved.{attached_as_saved, drives_saved, entry, drives_back, are_saved, have_tracks}
 use Rattle.s360_channel.specs.Selector.{SelectorState}
 use Rattle.attached_drives.specs.declared.drives_saved.SavedDrive.{SavedDrive}
 use Rattle.s360_channel.specs.declared.saving.SavedChannel.{SavedChannel}

@@ -9,6 +9,7 @@ use Rattle.s360_laws.specs.Machine as machine
 use Rattle.s360_laws.specs.Machine.{Machine, Device, asked_by, device_at, react, run_of}
 use Rattle.s360_laws.specs.declared.arm.Arm.{Arm}
 use Rattle.attached_drives.specs.Drives.{AttachedState, is_at}
+use Rattle.attached_drives.specs.Shown.{drive_seen, drives_seen}
 use Rattle.s360_channel.specs.Packs.{runs_at, volume_in}
 use Rattle.s360_channel.specs.declared.view.SubchannelView.{SubchannelView}
 use Rattle.s360_channel.specs.declared.view.SubchannelView.TheVariants.{Idle, Working, Pending}
