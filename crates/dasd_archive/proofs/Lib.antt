@@ -1,4 +1,3 @@
-pub mod Lined
 pub mod Together
 pub mod Prefixes
 pub mod Reported
