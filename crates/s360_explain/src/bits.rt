@@ -2,6 +2,7 @@
 
 ghost use Rattle.std.specs.Prelude.{◌≡◌};
 ghost use Rattle.s360_explain.specs.Bits.{bits_of, rows_of, IsNamed};
+ghost use Rattle.s360_explain.specs.Names.{bit_name, name_in, unit_names, channel_names, flag_names, sense_names};
 ghost use Rattle.s360_words.specs.Flags.{ccw_flags, unit_status_bits, channel_status_bits};
 ghost use Rattle.ckd_sense.specs.SenseBytes.{sense_bits};
 
@@ -41,7 +42,8 @@ pub(crate) fn named_bits<'a>(field: Field) -> &'a [u16]
 /// The name of a bit of a field, in small letters: that of the table of its field, with blanks and hyphens between its words; of
 /// a bit that has no name, `no name`.
 pub fn name_of(field: Field, bit: u16) -> &'static str
-    ensures { IsNamed (rows_of field) bit result.now }
+    ensures named { IsNamed (rows_of field) bit result.now }
+    ensures name { result.now ≡ bit_name field bit }
 {
     match field {
         Field::UnitStatus => unit_name(bit),
@@ -52,11 +54,12 @@ pub fn name_of(field: Field, bit: u16) -> &'static str
 }
 
 /// What is said in place of the name of a bit that has none.
-const NO_NAME: &str = "no name";
+pub(crate) const NO_NAME: &str = "no name";
 
 // 'Unit Status Conditions'.
 fn unit_name(bit: u16) -> &'static str
-    ensures { IsNamed unit_status_bits bit result.now }
+    ensures named { IsNamed unit_status_bits bit result.now }
+    ensures name { result.now ≡ name_in unit_names bit }
 {
     match bit {
         0x80 => "attention",
@@ -73,7 +76,8 @@ fn unit_name(bit: u16) -> &'static str
 
 // 'Channel Status Conditions'.
 fn channel_name(bit: u16) -> &'static str
-    ensures { IsNamed channel_status_bits bit result.now }
+    ensures named { IsNamed channel_status_bits bit result.now }
+    ensures name { result.now ≡ name_in channel_names bit }
 {
     match bit {
         0x80 => "program-controlled interruption",
@@ -90,7 +94,8 @@ fn channel_name(bit: u16) -> &'static str
 
 // 'Channel Command Word'.
 fn flag_name(bit: u16) -> &'static str
-    ensures { IsNamed ccw_flags bit result.now }
+    ensures named { IsNamed ccw_flags bit result.now }
+    ensures name { result.now ≡ name_in flag_names bit }
 {
     match bit {
         0x80 => "chain data",
@@ -104,7 +109,8 @@ fn flag_name(bit: u16) -> &'static str
 
 // Component descriptions, 'Sense'.
 fn sense_name(bit: u16) -> &'static str
-    ensures { IsNamed sense_bits bit result.now }
+    ensures named { IsNamed sense_bits bit result.now }
+    ensures name { result.now ≡ name_in sense_names bit }
 {
     match bit {
         0x8000 => "command reject",

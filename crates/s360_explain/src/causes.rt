@@ -2,6 +2,7 @@
 
 ghost use Rattle.std.specs.Prelude.{◌≡◌};
 ghost use Rattle.s360_explain.specs.Lines.{is_reported};
+ghost use Rattle.s360_explain.specs.Names.{cause_text};
 
 /// Whether these drives report sense bytes 0 and 1 so for a cause, or for none. Which bits go together is the project's profile.
 pub(crate) fn is_reported(sense: u16) -> bool
@@ -25,7 +26,9 @@ pub(crate) fn is_reported(sense: u16) -> bool
 
 /// What the drives report sense bytes 0 and 1 so for, in the words that a trace has too: the table of causes that the component
 /// descriptions give under 'Sense', with the project's profile of which bits go together.
-pub fn cause_text(sense: u16) -> &'static str {
+pub fn cause_text(sense: u16) -> &'static str
+    ensures { result.now ≡ cause_text sense }
+{
     match sense {
         0x0000 => "the last command but Sense ended without unit check",
         0x8000 =>

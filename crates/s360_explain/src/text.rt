@@ -1,10 +1,15 @@
 //! What bits and commands are for and what usually causes them, in a sentence each.
 
-use crate::bits::Field;
+ghost use Rattle.std.specs.Prelude.{◌≡◌};
+ghost use Rattle.s360_explain.specs.Names.{short_unit_names, name_in};
+
+use crate::bits::{Field, NO_NAME};
 use ckd_sense::Command;
 
-/// The short name of a bit of unit status.
-pub(crate) fn short_name(bit: u16) -> &'static str {
+/// The short name of a bit of unit status; of a bit that has none, `no name`.
+pub(crate) fn short_name(bit: u16) -> &'static str
+    ensures { result.now ≡ name_in short_unit_names bit }
+{
     match bit {
         0x80 => "ATTN",
         0x40 => "SM",
@@ -13,7 +18,8 @@ pub(crate) fn short_name(bit: u16) -> &'static str {
         0x08 => "CE",
         0x04 => "DE",
         0x02 => "UC",
-        _ => "UE",
+        0x01 => "UE",
+        _ => NO_NAME,
     }
 }
 
