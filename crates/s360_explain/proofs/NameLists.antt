@@ -1,5 +1,6 @@
 -- The names of one bit more in a line.
-use Rattle.std.proofs.Common.{◌≡◌, ◌∙◌, ℕ, ◌+◌, ◌<◌, ap, sym, refl, List, [], ◌∷◌, ◌++◌, Bool, true, false, not, cond, bit_and, take, length, get_or, append_assoc, append-nil}
+use Rattle.std.proofs.Common.{◌≡◌, ◌∙◌, ℕ, ◌+◌, ◌<◌, ap, sym, refl, List, [], ◌∷◌, ◌++◌, Bool, true, false, not, cond, bit_and}
+use Rattle.std.proofs.Common.{take, length, get_or, append_assoc, append-nil}
 use Rattle.std.proofs.lemmas.Bool.{ne_eqb}
 use Rattle.std.proofs.lemmas.List.Concat.{flat_map-append}
 use Rattle.std.proofs.lemmas.List.Elements.{filter_more}
@@ -38,4 +39,5 @@ pub one_on : (number : ℕ) (bits : List ℕ) (i : ℕ) → i < length bits → 
     → filter (has number) (take (i + 1) bits) ≡ filter (has number) (take i bits) ++ get_or bits i 0 ∷ []
 one_on number bits i inside on =
     filter_more (has number) bits i 0 inside
-    ∙ ap (λ b. filter (has number) (take i bits) ++ cond b (get_or bits i 0 ∷ []) []) (ap not (ne_eqb (bit_and number (get_or bits i 0)) 0 on))
+    ∙ ap (λ b. filter (has number) (take i bits) ++ cond b (get_or bits i 0 ∷ []) [])
+    (ap not (ne_eqb (bit_and number (get_or bits i 0)) 0 on))
