@@ -1,4 +1,3 @@
-pub mod Together
 pub mod Prefixes
 pub mod Reported
 pub mod Columns
