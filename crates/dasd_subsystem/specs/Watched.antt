@@ -4,8 +4,8 @@ use Rattle.s360_words.specs.declared.words.Ccw.{Ccw}
 use Rattle.ckd_position.specs.declared.areas.Position.{Position}
 use Rattle.ckd_position.specs.declared.areas.Position.TheVariants.{AtIndex, At}
 use Rattle.ckd_position.specs.declared.areas.Area.TheVariants.{HomeAddress, Of}
-use Rattle.ckd_position.specs.declared.areas.Part.{Part}
-use Rattle.ckd_position.specs.declared.areas.Part.TheVariants.{Count, Key, Data}
+use Rattle.ckd_position.specs.declared.areas.RecordPart.{RecordPart}
+use Rattle.ckd_position.specs.declared.areas.RecordPart.TheVariants.{Count, Key, Data}
 use Rattle.ckd_sense.specs.SenseBytes.{sense_bytes}
 use Rattle.ckd_sense.specs.declared.masks.FileMask.{FileMask}
 use Rattle.ckd_sense.specs.declared.masks.WritePermission.{WritePermission}
@@ -59,7 +59,7 @@ program_shown w = let p = w.program in let word = word_of p.at_work in record {
 }
 
 -- the area that passed last, none since the index being 0, and its record
-abbrev pub passed_part : Part → ℕ
+abbrev pub passed_part : RecordPart → ℕ
 passed_part Count = 2
 passed_part Key = 3
 passed_part Data = 4

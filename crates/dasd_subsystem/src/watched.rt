@@ -5,7 +5,7 @@ ghost use Rattle.dasd_subsystem.specs.Watched.{credit_of, has_second, mask_byte,
 ghost use Rattle.dasd_subsystem.specs.Watched.{seeks_byte, word_of, writes_byte};
 
 use ckd_command::{Credit, Lap, Registers};
-use ckd_position::{Area, Part, Position};
+use ckd_position::{Area, Position, RecordPart};
 use ckd_sense::{FileMask, SeekPermission, WritePermission};
 use s360_channel::Watched;
 use s360_program::view::AtWork;
@@ -162,9 +162,9 @@ fn passed(position: Position) -> (u8, usize)
     match position {
         Position::AtIndex => (0, 0),
         Position::At(Area::HomeAddress) => (1, 0),
-        Position::At(Area::Of(Part::Count, record)) => (2, record),
-        Position::At(Area::Of(Part::Key, record)) => (3, record),
-        Position::At(Area::Of(Part::Data, record)) => (4, record),
+        Position::At(Area::Of(RecordPart::Count, record)) => (2, record),
+        Position::At(Area::Of(RecordPart::Key, record)) => (3, record),
+        Position::At(Area::Of(RecordPart::Data, record)) => (4, record),
     }
 }
 
