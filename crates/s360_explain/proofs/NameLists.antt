@@ -4,7 +4,7 @@ use Rattle.std.proofs.lemmas.Bool.{ne_eqb}
 use Rattle.std.proofs.lemmas.List.Concat.{flat_map-append}
 use Rattle.std.proofs.lemmas.List.Elements.{filter_more}
 use Rattle.std.specs.Prelude.{filter}
-use Rattle.std.specs.List.{join_by, flat_map}
+use Rattle.std.specs.List.{flat_map}
 use Rattle.s360_words.specs.Words.{has}
 use Rattle.s360_explain.specs.Names.{listed_name, name_separator, separator_at, bits_text}
 use Rattle.s360_explain.specs.declared.bits.Field.{Field}

@@ -1,4 +1,4 @@
-use Rattle.std.proofs.Common.{rules, ◌≡◌, ◌∙◌, ap, sym, refl, ◌+◌, take, not}
+use Rattle.std.proofs.Common.{rules, ◌∙◌, ap, sym, refl}
 use Rattle.std.proofs.Output.{has_written_append, has_written_of_eq, writes_in_calls_nil}
 use Rattle.s360_explain.specs.Names.{bits_text}
 use Rattle.s360_explain.proofs.NameLists.{is_nil, one_on, one_bit_more, not_nil}
