@@ -58,7 +58,7 @@ fn put(told: &Text, lines: &mut [u8]) -> usize
         return told.put_into(lines);
     }
     let mut lost = Text::new();
-    lost.line("lines are lost: those of one look have more than 2,048 bytes");
+    lost.line(&"lines are lost: those of one look have more than 2,048 bytes");
     lost.put_into(lines)
 }
 

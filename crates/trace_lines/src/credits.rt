@@ -6,14 +6,13 @@ use crate::trace::{Leave, Trace};
 use ckd_command::Credit;
 use ckd_command::tables::credit_of_search;
 use ckd_sense::Command;
+use ckd_track::key_length;
 use s360_words::Ccw;
-use trace_words::{
-    Line, compared_size, is_credited, record_of_credit, room_behind, tell_credit, tell_key,
-};
+use trace_words::{Compared, CreditUse, Met, Remark, TraceLine, key_in, room_behind};
 
 impl Trace {
     /// The key of the record that a search by key has met.
-    pub(crate) fn tell_key_met(&mut self, line: &Line, work: &Work) {
+    pub(crate) fn tell_key_met(&mut self, line: &TraceLine, work: &Work) {
         if !matches!(
             line.command(),
             Some(Command::SearchKeyEqual | Command::SearchKeyHigh | Command::SearchKeyEqualOrHigh)
@@ -21,34 +20,30 @@ impl Trace {
             return;
         }
         if let (Some(met), Some(slot)) = (self.met, work.slot) {
-            tell_key(slot, met.area, &mut self.text);
-        }
-    }
-
-    /// The bytes that a write has filled with zeros, where fewer came than its area has.
-    pub(crate) fn tell_filled(&mut self, line: &Line) {
-        let Some(command) = line.command() else {
-            return;
-        };
-        if let Some(filled) = self.passed.filled(command, self.met) {
-            self.text.put("        fills the other ");
-            if filled == 1 {
-                self.text.line("byte with a zero");
-            } else {
-                self.text.number(filled as u64);
-                self.text.line(" bytes with zeros");
+            if let Some((number, key)) = key_in(slot, met.area) {
+                self.text.line(&Remark::Key(number, key));
             }
         }
     }
 
+    /// The bytes that a write has filled with zeros, where fewer came than its area has.
+    pub(crate) fn tell_filled(&mut self, line: &TraceLine) {
+        let Some(command) = line.command() else {
+            return;
+        };
+        if let Some(filled) = self.passed.filled(command, self.met) {
+            self.text.line(&Remark::Filled(filled));
+        }
+    }
+
     /// What a command that is over leaves for a write.
-    pub(crate) fn leaves(&mut self, line: &Line, skips: bool, seen: &Seen) {
+    pub(crate) fn leaves(&mut self, line: &TraceLine, skips: bool, seen: &Seen) {
         let Some(work) = &seen.work else {
             return;
         };
         self.leave = Leave::Nothing;
         if let Some(credit) = work.registers.credit {
-            tell_credit("leaves a credit", credit, &mut self.text);
+            self.text.line(&Remark::Credit(CreditUse::Leaves, credit));
             self.keep_room(credit, seen);
             return;
         }
@@ -58,42 +53,18 @@ impl Trace {
     }
 
     // That a search leaves no credit which was satisfied, since it compared too few bytes.
-    fn leaves_no_credit(&mut self, line: &Line) {
+    fn leaves_no_credit(&mut self, line: &TraceLine) {
         let (Some(command), Some(met)) = (line.command(), self.met) else {
             return;
         };
         if let Some(missed) = credit_of_search(command, Some(met.area)) {
-            let count = self.passed.count;
-            self.leave = Leave::TooFew(missed, count, compared_size(command, met));
-            self.text.put("        leaves no credit: ");
-            self.tell_compared();
-            self.text.line(if count == 1 {
-                " was compared"
-            } else {
-                " were compared"
-            });
+            let compared = Compared {
+                count: self.passed.count,
+                of: compared_size(command, met),
+            };
+            self.leave = Leave::TooFew(missed, compared);
+            self.text.line(&Remark::NoCredit(compared));
         }
-    }
-
-    /// How many bytes the search compared that was the last command, and of how many.
-    pub(crate) fn tell_compared(&mut self) {
-        let Leave::TooFew(_, compared, of) = self.leave else {
-            return;
-        };
-        if let Some(all) = of {
-            self.text.number(compared as u64);
-            self.text.put(" of ");
-            self.tell_quantity(all as u64, "byte", "bytes");
-        } else {
-            self.tell_quantity(compared as u64, "byte", "bytes");
-        }
-    }
-
-    /// A count and its noun, of one or of none and several.
-    pub(crate) fn tell_quantity(&mut self, number: u64, one: &str, many: &str) {
-        self.text.number(number);
-        self.text.put(" ");
-        self.text.put(if number == 1 { one } else { many });
     }
 
     // Keeps what is left of the track behind the record of a credit, where that is seen.
@@ -118,20 +89,20 @@ impl Trace {
         let Some(ccw) = seen.storage.last else {
             return;
         };
-        let does = if is_credited(ccw.code) {
-            "uses the credit"
+        let becomes = if is_credited(ccw.code) {
+            CreditUse::Uses
         } else {
-            "takes the credit away"
+            CreditUse::TakesAway
         };
-        self.tell_gone(ccw, does);
+        self.tell_gone(ccw, becomes);
     }
 
     /// A credit that is gone by a command that ends its program as it begins.
     pub(crate) fn tell_lost_credit(&mut self, ccw: Ccw) {
-        self.tell_gone(ccw, "takes the credit away");
+        self.tell_gone(ccw, CreditUse::TakesAway);
     }
 
-    fn tell_gone(&mut self, ccw: Ccw, does: &str) {
+    fn tell_gone(&mut self, ccw: Ccw, becomes: CreditUse) {
         let Some(before) = self.registers else {
             return;
         };
@@ -139,7 +110,32 @@ impl Trace {
             return;
         };
         if !ccw.is_transfer() {
-            tell_credit(does, credit, &mut self.text);
+            self.text.line(&Remark::Credit(becomes, credit));
         }
+    }
+}
+
+// Whether the command of a code needs a credit.
+fn is_credited(code: u8) -> bool {
+    matches!(code, 0x15 | 0x1D | 0x05 | 0x0D)
+}
+
+// The record behind which a credit lets another be made, if it is a record's.
+fn record_of_credit(credit: Credit) -> Option<usize> {
+    match credit {
+        Credit::EqualHomeAddress | Credit::WroteHomeAddress => None,
+        Credit::EqualId(number) | Credit::EqualKey(number) | Credit::WroteRecord(number) => {
+            Some(number)
+        }
+    }
+}
+
+// How many bytes a search that lets a write follow compares in all, where that is known.
+fn compared_size(command: Command, met: Met) -> Option<u32> {
+    match command {
+        Command::SearchHomeAddressEqual => Some(4),
+        Command::SearchIdEqual => Some(5),
+        Command::SearchKeyEqual => Some(key_length(&met.count?) as u32),
+        _ => None,
     }
 }

@@ -1,14 +1,15 @@
 //! What a trace tells of a program's end.
 
-use crate::seen::{Seen, Went, place_in};
-use crate::stored::{last_of, next_byte};
+use crate::seen::{Seen, Went, has_unit_check, place_in};
+use crate::stored::{last_of, next_byte, word_at};
 use crate::trace::Trace;
 use bitflags::Flags;
-use s360_explain::ChannelNames;
 use s360_program::view::AtWork;
 use s360_words::{BLOCK_SIZE, Ccw, ChannelStatus, Csw, UnitStatus};
-use trace_words::reasons::{self, has_unit_check};
-use trace_words::{Behind, Found, Line, found_at_end, found_so_far, just, tell_not_taken, word_at};
+use trace_words::{
+    Behind, CheckReason, NotTaken, Onward, Remark, TraceLine, WorkedOn, just, worked_on_at_end,
+    worked_on_so_far,
+};
 
 impl Trace {
     /// The program is over that was so before its last unit.
@@ -31,45 +32,18 @@ impl Trace {
     fn tell_channel(&mut self, csw: &Csw, before: AtWork, was_taken: bool, seen: &Seen) {
         if csw.channel.contains(ChannelStatus::PROGRAM_CHECK) && !was_taken {
             let last = last_of(*csw);
-            self.tell_check(csw.channel);
-            return self
-                .text
-                .line(reasons::of_word(last, word_at(last, seen.storage.last)));
+            let reason = CheckReason::Word(last, word_at(last, seen.storage.last));
+            return self.tell_check(csw.channel, reason);
         }
         if csw.channel.0 & !ChannelStatus::PROGRAM_CONTROLLED_INTERRUPTION.0 == 0 {
             return;
         }
-        self.tell_check(csw.channel);
-        if csw.channel.contains(ChannelStatus::INCORRECT_LENGTH) {
-            self.text.line(reasons::of_length(csw.count));
+        let reason = if csw.channel.contains(ChannelStatus::INCORRECT_LENGTH) {
+            CheckReason::Length(csw.count)
         } else {
-            self.tell_refused_byte(csw, before, seen);
-        }
-    }
-
-    // The place in storage that a byte could not go to or come from.
-    fn tell_refused_byte(&mut self, csw: &Csw, before: AtWork, seen: &Seen) {
-        let Some(at) = next_byte(before) else {
-            return self.text.line("an address under the word can't be used");
+            of_refused_byte(csw, before, seen)
         };
-        match seen.storage.key {
-            Some(key) => {
-                self.text.put("the block of ");
-                self.text.address(at - at % BLOCK_SIZE);
-                self.text.put(" has the key ");
-                self.text.digit(key);
-                self.text.put(", and the program ");
-                self.text.digit(csw.key);
-            }
-            None => {
-                self.text.put("the address ");
-                self.text.address(at);
-                self.text.put(" is outside storage, which has ");
-                self.text.number(seen.storage.size as u64);
-                self.text.put(" bytes");
-            }
-        }
-        self.text.end();
+        self.tell_check(csw.channel, reason);
     }
 
     // Why a command ended in unit check, and that its record has no data.
@@ -78,7 +52,7 @@ impl Trace {
             self.tell_sense(code, seen);
         }
         if unit.contains(UnitStatus::UNIT_EXCEPTION) {
-            self.text.line("    unit exception: the record has no data, as at the end of a file");
+            self.text.line(&Remark::UnitException);
         }
     }
 
@@ -91,7 +65,7 @@ impl Trace {
                 self.tell_lost_credit(ccw);
                 self.tell_asked(ccw);
                 self.counted = Some(last);
-                self.tell_over(Line::of(last, ccw), csw, seen)
+                self.tell_over(TraceLine::of(last, ccw), csw, seen)
             }
             (before, _) => self.tell_not_reached(last, word, before, csw.unit),
         }
@@ -102,7 +76,7 @@ impl Trace {
         &mut self,
         last: u32,
         word: Option<Ccw>,
-        before: Option<Line>,
+        before: Option<TraceLine>,
         unit: UnitStatus,
     ) -> u8 {
         let code = match before {
@@ -112,30 +86,35 @@ impl Trace {
             }
             None => 0,
         };
-        tell_not_taken(last, word, before, unit, &mut self.text);
+        self.text.line(&NotTaken {
+            at: last,
+            word,
+            before,
+            unit,
+        });
         code
     }
 
-    fn tell_over(&mut self, line: Line, csw: &Csw, seen: &Seen) -> u8 {
+    fn tell_over(&mut self, line: TraceLine, csw: &Csw, seen: &Seen) -> u8 {
         let behind = Behind {
             unit: csw.unit,
-            how: "",
-            left: Some(csw.count),
+            onward: Onward::Ended(csw.count),
         };
-        line.tell(self.found_by(&line, csw, seen), &behind, &mut self.text);
+        let came = self.worked_on_by(&line, csw, seen);
+        self.tell_word(line, came, behind);
         self.tell_filled_by(&line, csw.unit);
         line.code
     }
 
     // What the command came to in which a program ended.
-    fn found_by(&self, line: &Line, csw: &Csw, seen: &Seen) -> Found {
+    fn worked_on_by(&self, line: &TraceLine, csw: &Csw, seen: &Seen) -> WorkedOn {
         let satisfied = csw.unit.contains(UnitStatus::STATUS_MODIFIER);
         let place = place_in(seen.drive, csw.unit);
-        found_at_end(line, self.met, &self.passed, satisfied, place)
+        worked_on_at_end(line, self.met, &self.passed, satisfied, place)
     }
 
     // What a write has filled with zeros in which a program ended, unless it failed.
-    fn tell_filled_by(&mut self, line: &Line, unit: UnitStatus) {
+    fn tell_filled_by(&mut self, line: &TraceLine, unit: UnitStatus) {
         if !has_unit_check(unit) {
             self.tell_filled(line);
         }
@@ -161,7 +140,7 @@ impl Trace {
     }
 
     // The word in which a program is cut. Of one that a reset cuts no status is known.
-    fn tell_cut(&mut self, line: &Line, is_lost: bool, seen: &Seen) {
+    fn tell_cut(&mut self, line: &TraceLine, is_lost: bool, seen: &Seen) {
         if line.is_told {
             return;
         }
@@ -169,39 +148,51 @@ impl Trace {
             Some(csw) => {
                 let behind = Behind {
                     unit: csw.unit,
-                    how: "cut; ",
-                    left: Some(csw.count),
+                    onward: Onward::Halted(csw.count),
                 };
                 (
-                    self.found_by(line, &csw, seen),
+                    self.worked_on_by(line, &csw, seen),
                     behind,
                     has_unit_check(csw.unit),
                 )
             }
-            None => (self.found_by_reset(line, seen), just("cut"), is_lost),
+            None => (
+                self.worked_on_by_reset(line, seen),
+                just(Onward::Cut),
+                is_lost,
+            ),
         };
-        line.tell(came, &behind, &mut self.text);
+        self.tell_word(*line, came, behind);
         if !failed {
             self.tell_filled(line);
         }
     }
 
     // What a command came to that a reset cut: where the arm stands, or the area.
-    fn found_by_reset(&self, line: &Line, seen: &Seen) -> Found {
+    fn worked_on_by_reset(&self, line: &TraceLine, seen: &Seen) -> WorkedOn {
         let place = place_in(seen.drive, UnitStatus(0));
-        match found_at_end(line, None, &self.passed, false, place) {
-            Found::Nothing => found_so_far(line, self.met),
-            found => found,
+        match worked_on_at_end(line, None, &self.passed, false, place) {
+            WorkedOn::Nothing => worked_on_so_far(line, self.met),
+            came => came,
         }
     }
 
-    /// That the channel ended a program, or did not begin it; the interruption that a word asked for ends none.
-    pub(crate) fn tell_check(&mut self, channel: ChannelStatus) {
+    /// That the channel ended a program, or did not begin it, and why; the interruption that a word asked for ends none.
+    pub(crate) fn tell_check(&mut self, channel: ChannelStatus, reason: CheckReason) {
         let asked = ChannelStatus::PROGRAM_CONTROLLED_INTERRUPTION;
         self.fails = true;
-        self.text.put("    ");
-        self.text
-            .show(&ChannelNames(ChannelStatus(channel.0 & !asked.0)));
-        self.text.put(": ");
+        let channel = ChannelStatus(channel.0 & !asked.0);
+        self.text.line(&Remark::Check(channel, reason));
+    }
+}
+
+// Why a byte could not go to its place in storage, or come from it.
+fn of_refused_byte(csw: &Csw, before: AtWork, seen: &Seen) -> CheckReason {
+    let Some(at) = next_byte(before) else {
+        return CheckReason::Address;
+    };
+    match seen.storage.key {
+        Some(key) => CheckReason::Key(at - at % BLOCK_SIZE, key, csw.key),
+        None => CheckReason::Outside(at, seen.storage.size),
     }
 }

@@ -4,10 +4,11 @@ use crate::seen::{Stood, Went};
 use crate::stored::Start;
 use crate::trace::{Leave, Trace};
 use s360_program::view::AtWork;
-use trace_words::kept::{
+use trace_kept::{
     KeptArea, KeptBytes, KeptLine, KeptWord, NO_WORD, credit_of, device_of, number_of,
     number_of_credit, one_more,
 };
+use trace_words::Compared;
 
 /// What a trace keeps.
 #[repr(C)]
@@ -139,13 +140,13 @@ impl KeptLeave {
                 kept.leave = 1;
                 kept.number = room;
             }
-            Leave::TooFew(credit, compared, all) => {
+            Leave::TooFew(credit, compared) => {
                 let (credit, missed) = number_of_credit(Some(credit));
                 kept.leave = 2;
                 kept.credit = credit;
                 kept.missed = missed;
-                kept.number = compared;
-                kept.all = one_more(all);
+                kept.number = compared.count;
+                kept.all = one_more(compared.of);
             }
         }
         kept
@@ -154,7 +155,13 @@ impl KeptLeave {
     fn leave(&self) -> Leave {
         match (self.leave, credit_of(self.credit, self.missed)) {
             (1, _) => Leave::Room(self.number),
-            (2, Some(credit)) => Leave::TooFew(credit, self.number, number_of(self.all)),
+            (2, Some(credit)) => {
+                let compared = Compared {
+                    count: self.number,
+                    of: number_of(self.all),
+                };
+                Leave::TooFew(credit, compared)
+            }
             _ => Leave::Nothing,
         }
     }

@@ -1,6 +1,7 @@
 //! What is seen of a channel at one moment.
 
 use crate::stored::Stored;
+use bitflags::Flags;
 use ckd_command::{Credit, Registers};
 use ckd_drive::Drive;
 use ckd_image::ImageStore;
@@ -10,7 +11,6 @@ use s360_events::Answer;
 use s360_program::view::{AtWork, ProgramView};
 use s360_trace::Moment;
 use s360_words::{Csw, UnitStatus};
-use trace_words::reasons::has_unit_check;
 
 /// What a channel shows of itself at a moment.
 #[derive(Clone, Copy)]
@@ -140,4 +140,9 @@ pub(crate) fn place_in(drive: Option<DriveView>, unit: UnitStatus) -> Option<(u1
         Some(drive) if !has_unit_check(unit) => Some((drive.cylinder, drive.head)),
         _ => None,
     }
+}
+
+/// Whether unit check is on.
+pub(crate) fn has_unit_check(unit: UnitStatus) -> bool {
+    unit.contains(UnitStatus::UNIT_CHECK)
 }

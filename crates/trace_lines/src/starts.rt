@@ -1,13 +1,15 @@
 //! What a trace tells of a program's start, and of a command's.
 
-use crate::seen::{Seen, place_in};
+use crate::seen::{Seen, has_unit_check, place_in};
 use crate::trace::{Leave, Trace};
 use bitflags::Flags;
 use s360_events::{Condition, Status};
 use s360_program::view::{AtWork, ProgramView};
 use s360_words::{Ccw, ChannelStatus, UnitStatus};
-use trace_words::reasons::{self, has_unit_check};
-use trace_words::{Behind, CHAINED, Found, Line, found_at_end, just, tell_not_taken};
+use trace_words::{
+    Behind, CHAINED, CheckReason, NotTaken, Onward, Remark, TraceLine, WorkedOn, just,
+    worked_on_at_end,
+};
 
 impl Trace {
     /// What came of a start.
@@ -41,34 +43,37 @@ impl Trace {
         let at = word & 0x00FF_FFFF;
         let ccw = self.start.word;
         if status.channel.contains(ChannelStatus::PROGRAM_CHECK) {
-            let mut reason = reasons::BAD_ADDRESS_WORD;
+            let mut reason = CheckReason::AddressWord;
             if word & 0x0F00_0000 == 0 {
-                tell_not_taken(at, ccw, None, UnitStatus(0), &mut self.text);
-                reason = reasons::of_word(at, ccw);
+                self.text.line(&NotTaken {
+                    at,
+                    word: ccw,
+                    before: None,
+                    unit: UnitStatus(0),
+                });
+                reason = CheckReason::Word(at, ccw);
             }
-            self.tell_check(status.channel);
-            return self.text.line(reason);
+            return self.tell_check(status.channel, reason);
         }
         if let Some(ccw) = ccw {
-            self.over_at_once(Line::of(at, ccw), status, seen);
+            self.over_at_once(TraceLine::of(at, ccw), status, seen);
         }
     }
 
-    fn over_at_once(&mut self, line: Line, status: Status, seen: &Seen) {
+    fn over_at_once(&mut self, line: TraceLine, status: Status, seen: &Seen) {
         if status
             .channel
             .contains(ChannelStatus::PROGRAM_CONTROLLED_INTERRUPTION)
         {
-            self.text.line("        asks for an interruption");
+            self.text.line(&Remark::AsksForInterruption);
         }
         let place = place_in(seen.drive, status.unit);
         let behind = Behind {
             unit: status.unit,
-            how: "",
-            left: None,
+            onward: Onward::Untold,
         };
-        let came = found_at_end(&line, None, &self.passed, false, place);
-        line.tell(came, &behind, &mut self.text);
+        let came = worked_on_at_end(&line, None, &self.passed, false, place);
+        self.tell_word(line, came, behind);
         if has_unit_check(status.unit) {
             self.tell_sense(line.code, seen);
         }
@@ -79,7 +84,7 @@ impl Trace {
         match now.at_work {
             AtWork::Looking(ccw) | AtWork::Moving(ccw, _) => {
                 self.forget_command();
-                self.line = Some(Line::of(now.last, ccw));
+                self.line = Some(TraceLine::of(now.last, ccw));
                 self.counted = Some(now.last);
                 self.tell_asked(ccw);
             }
@@ -93,17 +98,17 @@ impl Trace {
 
     // A word that was over in the unit that fetched it, and behind which the program goes on.
     fn immediate(&mut self, at: u32, ccw: Ccw, seen: &Seen) {
-        let line = Line::of(at, ccw);
+        let line = TraceLine::of(at, ccw);
         if ccw.is_transfer() {
-            return line.tell(Found::Nothing, &just(""), &mut self.text);
+            return self.tell_word(line, WorkedOn::Nothing, just(Onward::Untold));
         }
         self.tell_asked(ccw);
         let Some(work) = &seen.work else {
             return;
         };
         let place = Some((work.registers.cylinder, work.registers.head));
-        let came = found_at_end(&line, None, &self.passed, false, place);
-        line.tell(came, &CHAINED, &mut self.text);
+        let came = worked_on_at_end(&line, None, &self.passed, false, place);
+        self.tell_word(line, came, CHAINED);
         self.counted = Some(at);
         self.leave = Leave::Nothing;
     }

@@ -6,7 +6,6 @@ use s360_program::view::{AtWork, ProgramView};
 use s360_storage::MainStorage;
 use s360_trace::Moment;
 use s360_words::{Ccw, Csw};
-use trace_words::word_at;
 
 /// What a look finds in main storage.
 #[derive(Clone, Copy)]
@@ -106,4 +105,12 @@ pub(crate) fn last_word(running: Option<ProgramView>, ended: Option<Csw>) -> Opt
         (None, Some(csw)) => Some(last_of(csw)),
         (None, None) => None,
     }
+}
+
+/// The word that storage has at an address, unless no word can stand there.
+pub(crate) fn word_at(at: u32, word: Option<Ccw>) -> Option<Ccw> {
+    if at % 8 != 0 {
+        return None;
+    }
+    word
 }

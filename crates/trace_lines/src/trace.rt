@@ -1,5 +1,8 @@
 //! What a trace tells of units and events, by what is seen between them.
 
+ghost use Rattle.std.specs.Prelude.{◌++◌, Some, codes};
+ghost use Rattle.s360_deck.specs.Lines.{answer_text};
+
 use crate::seen::{Seen, Shown, Stood, Went, Work};
 use crate::stored::{Start, Stored, last_word};
 use ckd_command::Credit;
@@ -11,9 +14,10 @@ use s360_program::view::{AtWork, ProgramView};
 use s360_storage::MainStorage;
 use s360_trace::Moment;
 use s360_words::Ccw;
+use std::fmt;
 use trace_words::{
-    CHAINED, Found, Line, Met, Passed, SKIPS, Text, are_of_one_record, count_in, found_at_end,
-    found_so_far, just, tell_answer,
+    Behind, CHAINED, Compared, EventLine, Met, Onward, Passed, Remark, SKIPS, Text, ToldLine,
+    TraceLine, WorkedOn, count_in, just, worked_on_at_end, worked_on_so_far,
 };
 
 /// A trace of one channel: what was seen of it, and the lines that tell of the last look.
@@ -31,7 +35,7 @@ pub struct Trace {
     /// The drive of the last program.
     pub(crate) device: Option<u8>,
     /// The word at work.
-    pub(crate) line: Option<Line>,
+    pub(crate) line: Option<TraceLine>,
     /// What its command has met, and what has passed in it.
     pub(crate) met: Option<Met>,
     pub(crate) passed: Passed,
@@ -52,8 +56,8 @@ pub(crate) enum Leave {
     Nothing,
     /// So much of the track behind the record that it found or made.
     Room(u32),
-    /// Not this credit: a search compared so many bytes, and not all, of which there are so many where that is known.
-    TooFew(Credit, u32, Option<u32>),
+    /// Not this credit: a search compared so many bytes, and not all.
+    TooFew(Credit, Compared),
 }
 
 impl Trace {
@@ -138,9 +142,7 @@ impl Trace {
             self.cut(matches!(answer, Answer::Reset(Some(_))), seen);
         }
         if self.with_answers {
-            self.text.put("= ");
-            self.text.show(&AnswerLine(answer));
-            self.text.end();
+            self.text.line(&PrintedAnswer(answer));
         }
         if matches!(
             event,
@@ -148,7 +150,10 @@ impl Trace {
         ) {
             return;
         }
-        tell_answer(answer, self.counted, &mut self.text);
+        self.text.line(&EventLine {
+            answer,
+            counted: self.counted,
+        });
         if let Answer::Sio(_, condition) = answer {
             self.starts = !matches!(condition, Condition::Two);
             self.fails = matches!(condition, Condition::Three);
@@ -242,7 +247,11 @@ impl Trace {
         self.tell_chaining(&line);
         match seen.storage.last {
             Some(word) if word.is_transfer() => {
-                Line::of(at, word).tell(Found::Nothing, &just(""), &mut self.text);
+                self.tell_word(
+                    TraceLine::of(at, word),
+                    WorkedOn::Nothing,
+                    just(Onward::Untold),
+                );
                 if let Some(line) = &mut self.line {
                     line.is_told = true;
                 }
@@ -265,20 +274,29 @@ impl Trace {
         self.starts = false;
         self.fails = false;
         if let Some(line) = self.line {
-            self.tell_so_far(&line, "still runs");
+            self.tell_so_far(&line, Onward::StillRuns);
         }
     }
 
     /// Tells the line of a word that chains data.
-    pub(crate) fn tell_chaining(&mut self, line: &Line) {
-        self.tell_so_far(line, "chains data");
+    pub(crate) fn tell_chaining(&mut self, line: &TraceLine) {
+        self.tell_so_far(line, Onward::ChainsData);
     }
 
     /// Tells the line of a word that is not over, unless it is told already.
-    pub(crate) fn tell_so_far(&mut self, line: &Line, how: &'static str) {
+    pub(crate) fn tell_so_far(&mut self, line: &TraceLine, onward: Onward) {
         if !line.is_told {
-            line.tell(found_so_far(line, self.met), &just(how), &mut self.text);
+            self.tell_word(*line, worked_on_so_far(line, self.met), just(onward));
         }
+    }
+
+    /// Tells a word, what its command worked on, and what comes behind it.
+    pub(crate) fn tell_word(&mut self, line: TraceLine, worked_on: WorkedOn, behind: Behind) {
+        self.text.line(&ToldLine {
+            line,
+            worked_on,
+            behind,
+        });
     }
 
     // A command is over, and the program goes on; whether a word is skipped.
@@ -287,8 +305,8 @@ impl Trace {
             return;
         };
         let place = Some((work.registers.cylinder, work.registers.head));
-        let came = found_at_end(&line, self.met, &self.passed, skips, place);
-        line.tell(came, if skips { &SKIPS } else { &CHAINED }, &mut self.text);
+        let came = worked_on_at_end(&line, self.met, &self.passed, skips, place);
+        self.tell_word(line, came, if skips { SKIPS } else { CHAINED });
         self.tell_key_met(&line, work);
         self.tell_filled(&line);
         self.leaves(&line, skips, seen);
@@ -305,7 +323,7 @@ impl Trace {
     /// A word that asks for an interruption.
     pub(crate) fn tell_asked(&mut self, ccw: Ccw) {
         if ccw.interrupts() {
-            self.text.line("        asks for an interruption");
+            self.text.line(&Remark::AsksForInterruption);
         }
     }
 
@@ -316,10 +334,29 @@ impl Trace {
         };
         if work.registers.head == before.head {
             self.passed.has_turned = true;
-            return self.text.line("        the index passes");
+            return self.text.line(&Remark::IndexPasses);
         }
-        self.text.put("        the next head: ");
-        self.text.number(work.registers.head as u64);
-        self.text.end();
+        self.text.line(&Remark::NextHead(work.registers.head));
+    }
+}
+
+// An answer as a deck prints it, in a trace with answers.
+#[derive(Clone, Copy)]
+struct PrintedAnswer<'a>(&'a Answer);
+
+impl fmt::Display for PrintedAnswer<'_> {
+    ghost output = { λ a. Some (codes "= " ++ answer_text a.0.now) };
+
+    fn fmt<W: fmt::Write>(&self, f: &mut fmt::Formatter<W>) -> fmt::Result {
+        write!(f, "= {}", AnswerLine(self.0))
+    }
+}
+
+// Whether two areas are of one record.
+fn are_of_one_record(one: Area, other: Area) -> bool {
+    match (one, other) {
+        (Area::HomeAddress, Area::HomeAddress) => true,
+        (Area::Of(_, number), Area::Of(_, other)) => number == other,
+        _ => false,
     }
 }

@@ -8,12 +8,12 @@ use std::fmt::Write;
 const LINE_ROOM: usize = 256;
 
 /// A line that is kept, without its line feed.
-pub(crate) type KeptLine = ArrayString<LINE_ROOM>;
+pub(crate) type HeldLine = ArrayString<LINE_ROOM>;
 
 /// The last lines.
 #[derive(Drop)]
 pub(crate) struct LastLines {
-    lines: Vec<KeptLine>,
+    lines: Vec<HeldLine>,
     /// How many are kept at most.
     most: usize,
     /// The place of the next one.
@@ -40,7 +40,7 @@ impl LastLines {
     }
 
     /// One more, in the place of the first where there are as many as are kept.
-    pub(crate) fn push(&mut self, line: KeptLine) {
+    pub(crate) fn push(&mut self, line: HeldLine) {
         if self.lines.len() < self.most {
             // the room was taken at the beginning
             let _ = self.lines.push(line);
@@ -54,7 +54,7 @@ impl LastLines {
     }
 
     /// The line so many before the next one: 1 is the last.
-    pub(crate) fn back(&self, distance: usize) -> Option<&KeptLine> {
+    pub(crate) fn back(&self, distance: usize) -> Option<&HeldLine> {
         if distance == 0 || distance > self.lines.len() {
             return None;
         }
@@ -72,8 +72,8 @@ impl LastLines {
 }
 
 /// How often a round of so many lines came again.
-pub(crate) fn folded(length: usize, times: u64) -> KeptLine {
-    let mut line = KeptLine::new();
+pub(crate) fn folded(length: usize, times: u64) -> HeldLine {
+    let mut line = HeldLine::new();
     let _ = if length == 1 {
         write!(line, "        the same line {times} times more")
     } else {

@@ -1,6 +1,6 @@
 //! The lines of a trace on their way to a writer.
 
-use crate::last_lines::KeptLine;
+use crate::last_lines::HeldLine;
 use crate::rounds::Rounds;
 use crate::selected::SelectedLines;
 use std::alloc::{AllocError, Global};
@@ -81,7 +81,7 @@ impl<W: Write + Drop> TraceOutput<W> {
     /// These lines are told, which may be those of a unit.
     pub fn take(&mut self, lines: &str, of_unit: bool) {
         for line in lines.lines() {
-            let mut kept = KeptLine::new();
+            let mut kept = HeldLine::new();
             if kept.try_push_str(line).is_err() {
                 self.told.has_failed = true;
             }

@@ -1,6 +1,6 @@
 //! Rounds of lines that come again are told once, with how often they came again.
 
-use crate::last_lines::{KeptLine, LastLines, folded};
+use crate::last_lines::{HeldLine, LastLines, folded};
 use crate::selected::SelectedLines;
 use std::alloc::{AllocError, Global};
 use std::io::Write;
@@ -40,7 +40,7 @@ impl Rounds {
     }
 
     /// A line that a unit tells.
-    pub(crate) fn take<W: Write + Drop>(&mut self, line: KeptLine, told: &mut SelectedLines<W>) {
+    pub(crate) fn take<W: Write + Drop>(&mut self, line: HeldLine, told: &mut SelectedLines<W>) {
         let mut length = self.round_with(&line);
         if length.is_none() && self.length > 0 {
             self.release(told);
@@ -62,7 +62,7 @@ impl Rounds {
     }
 
     // Whether a line is the one so many before it.
-    fn comes_again(&self, line: &KeptLine, distance: usize) -> bool {
+    fn comes_again(&self, line: &HeldLine, distance: usize) -> bool {
         match self.lines.back(distance) {
             Some(before) => before.as_str() == line.as_str(),
             None => false,
@@ -71,7 +71,7 @@ impl Rounds {
 
     // The length of a round that comes again with the lines held back and this one: the one that they are held back for, or else, where
     // that came not even once whole, the shortest longer one.
-    fn round_with(&self, line: &KeptLine) -> Option<usize> {
+    fn round_with(&self, line: &HeldLine) -> Option<usize> {
         if self.length > 0 && self.comes_again(line, self.length) {
             return Some(self.length);
         }
@@ -99,7 +99,7 @@ impl Rounds {
     }
 
     // Holds a line back, of a round of this length that comes again.
-    fn hold(&mut self, line: KeptLine, length: usize) {
+    fn hold(&mut self, line: HeldLine, length: usize) {
         self.length = length;
         self.lines.push(line);
         self.begun = self.begun.saturating_add(1);

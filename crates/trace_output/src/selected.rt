@@ -1,6 +1,6 @@
 //! Which lines of a trace are written.
 
-use crate::last_lines::{KeptLine, LastLines};
+use crate::last_lines::{HeldLine, LastLines};
 use crate::output::TracedLines;
 use std::alloc::{AllocError, Global};
 use std::io::Write;
@@ -50,7 +50,7 @@ impl<W: Write + Drop> SelectedLines<W> {
     }
 
     /// One line more.
-    pub(crate) fn take(&mut self, line: &KeptLine) {
+    pub(crate) fn take(&mut self, line: &HeldLine) {
         if !self.fails {
             if let Some(program) = &mut self.program {
                 return program.push(*line);
@@ -107,7 +107,7 @@ impl<W: Write + Drop> SelectedLines<W> {
     }
 
     // A line that is one of those asked for.
-    fn tell(&mut self, line: &KeptLine) {
+    fn tell(&mut self, line: &HeldLine) {
         if let Some(last) = &mut self.last {
             return last.push(*line);
         }
@@ -115,7 +115,7 @@ impl<W: Write + Drop> SelectedLines<W> {
     }
 
     // Writes a line, unless one could not be written.
-    fn write(&mut self, line: &KeptLine) {
+    fn write(&mut self, line: &HeldLine) {
         if !self.has_failed {
             self.has_failed = self.writer.write_all(line.as_str().as_bytes()).is_err()
                 || self.writer.write_all(b"\n").is_err();
@@ -124,7 +124,7 @@ impl<W: Write + Drop> SelectedLines<W> {
 }
 
 // A line that is kept, by how many stand behind it.
-fn kept_at(lines: &Option<LastLines>, distance: usize) -> Option<KeptLine> {
+fn kept_at(lines: &Option<LastLines>, distance: usize) -> Option<HeldLine> {
     match lines {
         Some(lines) => lines.back(distance).copied(),
         None => None,

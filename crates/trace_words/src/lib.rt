@@ -1,22 +1,25 @@
 //! The words of a trace: the line of a channel command word in its columns, the line of an event, what a command met, and why it failed.
-//! What is told is given; when it is told, `trace_lines` says.
+//! What is told is given as values; when it is told, `trace_lines` says.
 #![tactic(auto)]
 
+mod columns;
 mod events;
-mod found;
-pub mod kept;
 mod line;
 mod met;
+mod numbers;
 mod passed;
-pub mod reasons;
+mod reasons;
+mod remarks;
 mod text;
+mod worked_on;
 
-pub use crate::events::tell_answer;
-pub use crate::found::{Found, found_at_end, found_so_far, is_credited};
-pub use crate::line::{Behind, CHAINED, Line, SKIPS, just, tell_not_taken, word_at};
-pub use crate::met::{
-    Met, are_of_one_record, compared_size, count_in, record_of_credit, room_behind, tell_credit,
-    tell_key,
+pub use crate::events::EventLine;
+pub use crate::line::{Behind, CHAINED, NotTaken, Onward, SKIPS, ToldLine, TraceLine, just};
+pub use crate::met::{Met, count_in, key_in, room_behind};
+pub use crate::passed::Passed;
+pub use crate::reasons::{
+    BareTrack, CheckReason, Compared, NoPlace, NoRoom, SenseReason, cause_of, of_bare_track,
 };
-pub use crate::passed::{Passed, argument_size};
+pub use crate::remarks::{CreditUse, Remark};
 pub use crate::text::{ROOM, Text};
+pub use crate::worked_on::{Outcome, WorkedOn, worked_on_at_end, worked_on_so_far};

@@ -1,14 +1,13 @@
 //! What a command met on its track.
 
-use crate::passed::lengths_in;
-use crate::text::Text;
-use ckd_command::Credit;
-use ckd_position::Area;
-use ckd_sense::Command;
-use ckd_track::{DriveModel, capacity_behind, read_slot};
+ghost use Rattle.std.specs.Prelude.{Some};
+ghost use Rattle.std.specs.Fmt.{WritesOnOk};
+ghost use Rattle.trace_words.specs.Tracks.{met_text, record_text, count_text};
 
-/// How many bytes of a key are shown.
-const SHOWN_OF_KEY: usize = 8;
+use crate::numbers::Bytes;
+use ckd_position::Area;
+use ckd_track::{DriveModel, capacity_behind, lengths, read_slot};
+use std::fmt;
 
 /// An area, with the eight count bytes of its record where they were seen.
 #[derive(Clone, Copy)]
@@ -19,26 +18,40 @@ pub struct Met {
     pub count: Option<[u8; 8]>,
 }
 
-/// Tells the record of an area, and its identifier, key length and data length where they are known.
-pub fn tell_met(met: &Met, text: &mut Text) {
-    let Some(number) = record_of(met.area) else {
-        return text.put("home address");
-    };
-    text.put("R");
-    text.number(number as u64);
-    if let Some(count) = &met.count {
-        tell_count(count, text);
+/// The record of the area, and its identifier, key length and data length where they are known.
+impl fmt::Display for Met {
+    ghost output = { λ m. Some (met_text m) };
+
+    fn fmt<W: fmt::Write>(&self, f: &mut fmt::Formatter<W>) -> fmt::Result {
+        match self.area {
+            Area::HomeAddress => f.write_str("home address"),
+            Area::Of(_, number) => write_record(f, number, &self.count),
+        }
     }
 }
 
-fn tell_count(count: &[u8; 8], text: &mut Text) {
-    let (key, data) = lengths_in(count);
-    text.put(" ");
-    text.bytes(&count[..5]);
-    text.put(" KL ");
-    text.number(key as u64);
-    text.put(" DL ");
-    text.number(data as u64);
+// Writes the place of a record, and what its count area says, where that was seen.
+fn write_record<W: fmt::Write>(
+    f: &mut fmt::Formatter<W>,
+    number: usize,
+    count: &Option<[u8; 8]>,
+) -> fmt::Result
+    ensures { WritesOnOk W.write_str_gives f.old result (record_text number count.now) f.new }
+{
+    write!(f, "R{number}")?;
+    match count {
+        Some(count) => write_count(f, count),
+        None => Ok(()),
+    }
+}
+
+// Writes what a count area says.
+fn write_count<W: fmt::Write>(f: &mut fmt::Formatter<W>, count: &[u8; 8]) -> fmt::Result
+    ensures { WritesOnOk W.write_str_gives f.old result (count_text count.now) f.new }
+{
+    let (key, data) = lengths(count);
+    let identifier = Bytes(&count[..5]);
+    write!(f, " {identifier} KL {key} DL {data}")
 }
 
 /// The record of an area, if it is a record's.
@@ -46,15 +59,6 @@ pub fn record_of(area: Area) -> Option<usize> {
     match area {
         Area::HomeAddress => None,
         Area::Of(_, number) => Some(number),
-    }
-}
-
-/// Whether two areas are of one record.
-pub fn are_of_one_record(one: Area, other: Area) -> bool {
-    match (one, other) {
-        (Area::HomeAddress, Area::HomeAddress) => true,
-        (Area::Of(_, number), Area::Of(_, other)) => number == other,
-        _ => false,
     }
 }
 
@@ -70,64 +74,16 @@ pub fn count_in(slot: &[u8], area: Area) -> Option<[u8; 8]> {
     track.count_of(number).first_chunk::<8>().copied()
 }
 
-/// The record behind which a credit lets another be made, if it is a record's.
-pub fn record_of_credit(credit: Credit) -> Option<usize> {
-    match credit {
-        Credit::EqualHomeAddress | Credit::WroteHomeAddress => None,
-        Credit::EqualId(number) | Credit::EqualKey(number) | Credit::WroteRecord(number) => {
-            Some(number)
-        }
-    }
-}
-
-/// Tells for what a credit gives leave.
-pub fn tell_credit(does: &str, credit: Credit, text: &mut Text) {
-    text.put("        ");
-    text.put(does);
-    match credit {
-        Credit::EqualHomeAddress => text.put(": home address, found equal"),
-        Credit::WroteHomeAddress => text.put(": home address, written"),
-        Credit::EqualId(number) => tell_record(number, ", whose ID was found equal", text),
-        Credit::EqualKey(number) => tell_record(number, ", whose key was found equal", text),
-        Credit::WroteRecord(number) => tell_record(number, ", written", text),
-    }
-    text.end();
-}
-
-fn tell_record(number: usize, what: &str, text: &mut Text) {
-    text.put(": R");
-    text.number(number as u64);
-    text.put(what);
-}
-
-/// Tells the first bytes of the key of an area's record on the track that a slot spells, if it has one there.
-pub fn tell_key(slot: &[u8], area: Area, text: &mut Text) {
-    let (Some(number), Ok(track)) = (record_of(area), read_slot(slot)) else {
-        return;
+/// The key of an area's record on the track that a slot spells, with the record's number, if it has one there.
+pub fn key_in<'a>(slot: &'a [u8], area: Area) -> Option<(usize, &'a [u8])> {
+    let number = record_of(area)?;
+    let Ok(track) = read_slot(slot) else {
+        return None;
     };
     if number >= track.len() {
-        return;
+        return None;
     }
-    let key = track.key_of(number);
-    let shown = SHOWN_OF_KEY.min(key.len());
-    text.put("        the key of R");
-    text.number(number as u64);
-    text.put(": ");
-    text.bytes(&key[..shown]);
-    if shown < key.len() {
-        text.put("..");
-    }
-    text.end();
-}
-
-/// How many bytes a search that lets a write follow compares in all, where that is known.
-pub fn compared_size(command: Command, met: Met) -> Option<u32> {
-    match command {
-        Command::SearchHomeAddressEqual => Some(4),
-        Command::SearchIdEqual => Some(5),
-        Command::SearchKeyEqual => Some(u32::from(lengths_in(&met.count?).0)),
-        _ => None,
-    }
+    Some((number, track.key_of(number)))
 }
 
 /// What the records of the track that a slot spells leave of it behind this one, where others follow them.

@@ -4,6 +4,7 @@ ghost use Rattle.std.specs.Prelude.{◌≤◌};
 
 use crate::met::Met;
 use ckd_sense::Command;
+use ckd_track::{data_length, lengths};
 
 /// The first bytes that are kept: as many as a count area has.
 const KEPT: usize = 8;
@@ -47,7 +48,7 @@ impl Passed {
 
     /// The lengths of key and data of a new record.
     pub fn lengths(&self) -> (u8, u16) {
-        lengths_in(&self.first)
+        lengths(&self.first)
     }
 
     /// How many bytes of its area a write that is over has filled with zeros, if it has any, and its area is known.
@@ -56,7 +57,7 @@ impl Passed {
             return None;
         }
         let whole = match command {
-            Command::WriteData => u32::from(lengths_in(&met?.count?).1),
+            Command::WriteData => data_length(&met?.count?) as u32,
             Command::WriteKeyAndData => body_of(&met?.count?),
             Command::WriteR0 | Command::WriteCountKeyAndData if self.count >= 8 => {
                 8 + body_of(&self.first)
@@ -70,26 +71,10 @@ impl Passed {
     }
 }
 
-/// The lengths of key and data in a count area.
-pub fn lengths_in(count: &[u8; KEPT]) -> (u8, u16) {
-    let [_, _, _, _, _, key, high, low] = *count;
-    (key, u16::from_be_bytes([high, low]))
-}
-
 // How many bytes key and data have by their count area.
 fn body_of(count: &[u8; KEPT]) -> u32
     ensures { result ≤ 65790 }
 {
-    let (key, data) = lengths_in(count);
+    let (key, data) = lengths(count);
     u32::from(key) + u32::from(data)
-}
-
-/// How many bytes a command takes before it does anything, if it takes an argument of one size.
-pub fn argument_size(command: Command) -> Option<u32> {
-    match command {
-        Command::Seek | Command::SeekCylinder | Command::SeekHead => Some(6),
-        Command::WriteHomeAddress => Some(5),
-        Command::WriteR0 | Command::WriteCountKeyAndData => Some(8),
-        _ => None,
-    }
 }

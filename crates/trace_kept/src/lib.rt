@@ -1,11 +1,11 @@
-//! What a trace keeps between two looks, in plain numbers of known widths, for a program that keeps it itself. All zero it is nothing.
+//! What a trace keeps of words, areas and bytes between two looks, in plain numbers of known widths, for a program that keeps it itself.
+//! All zero it is nothing.
+#![tactic(auto)]
 
-use crate::line::Line;
-use crate::met::Met;
-use crate::passed::Passed;
 use ckd_command::Credit;
 use ckd_position::{Area, RecordPart};
 use s360_words::{Ccw, CcwFlags};
+use trace_words::{Met, Passed, TraceLine};
 
 /// One more than a number, or 0 where there is none.
 pub fn one_more(number: Option<u32>) -> u64 {
@@ -178,7 +178,7 @@ pub struct KeptLine {
 
 impl KeptLine {
     /// A line in numbers.
-    pub fn of(line: Option<Line>) -> KeptLine {
+    pub fn of(line: Option<TraceLine>) -> KeptLine {
         let mut kept = KeptLine {
             at: 0,
             moved: 0,
@@ -205,12 +205,12 @@ impl KeptLine {
     }
 
     /// The line.
-    pub fn line(&self) -> Option<Line> {
+    pub fn line(&self) -> Option<TraceLine> {
         if self.is_known == 0 {
             return None;
         }
         let first = self.first;
-        Some(Line {
+        Some(TraceLine {
             at: self.at,
             ccw: self.word.word(),
             code: self.code,
