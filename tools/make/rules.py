@@ -34,10 +34,7 @@ def wrong_places(index: Index, row: Row) -> Iterator[str]:
             yield f"{row.title()}: no function {place.name} in crates/{place.crate}/src/{place.file}"
         elif len(found) > 1:
             yield f"{row.title()}: several functions {place.name} in crates/{place.crate}/src/{place.file}: {', '.join(found)}"
-    for crate, file in row.worked:
-        if not (tree.top / "crates" / crate / "src" / file).is_file():
-            yield f"{row.title()}: no file crates/{crate}/src/{file}"
-    for file in row.pinned_by:
+    for file in [*(f"crates/{crate}/src/{name}" for crate, name in row.worked), *row.pinned_by]:
         if not (tree.top / file).is_file():
             yield f"{row.title()}: no file {file}"
     for name in row.rules:
