@@ -7,7 +7,7 @@ use Rattle.ckd_track.specs.declared.geometries.Geometry.{Geometry}
 use Rattle.ckd_image.specs.Image.{ImageState, HoldsImage}
 use Rattle.dasd_extract.specs.Names.{Names, is_name}
 use Rattle.dasd_jobs.specs.Back.{WritesBack}
-use Rattle.dasd_jobs.specs.Lines.{model_digits}
+use Rattle.ckd_track.specs.Model.{model_number_of}
 use Rattle.dasd_jobs.specs.Sources.{SourceFile, ReadsWhole}
 use Rattle.dasd_jobs.specs.Unopened.{NotRead}
 use Rattle.dasd_jobs.specs.Written.{Replaced}
@@ -90,7 +90,7 @@ renamed_line old new = concat (codes "renamed " ∷ old ∷ codes " to " ∷ new
 -- what a change of the label prints
 abbrev pub relabelled_line : Geometry → List ℕ
 relabelled_line g =
-    concat (codes "relabelled " ∷ model_digits g.model ∷ codes " " ∷ decimal g.cylinders ∷ codes " cylinders" ∷ (10 ∷ []) ∷ [])
+    concat (codes "relabelled " ∷ decimal (model_number_of g.model) ∷ codes " " ∷ decimal g.cylinders ∷ codes " cylinders" ∷ (10 ∷ []) ∷ [])
 
 -- these texts are names: the old one may stand on a volume, and the new one may be given to a data set
 pub record AreNames (old new old_name new_name : List ℕ) : Type 0 where

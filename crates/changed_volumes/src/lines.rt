@@ -8,7 +8,6 @@ use crate::saves::NewName;
 use arrayvec::ArrayString;
 use ckd_track::Geometry;
 use counted_io::{Counted, WriteFault, write_flushed};
-use dasd_jobs::model_number;
 use std::io::Write;
 use text_lines::put_decimal;
 
@@ -62,7 +61,7 @@ fn relabelled_line(geometry: Geometry) -> ArrayString<40>
 {
     let mut line: ArrayString<40> = ArrayString::new();
     line.push_str("relabelled ");
-    line.push_str(model_number(geometry.model));
+    put_decimal(&mut line, u32::from(geometry.model.number()));
     line.push_str(" ");
     put_decimal(&mut line, u32::from(geometry.cylinders));
     line.push_str(" cylinders\n");

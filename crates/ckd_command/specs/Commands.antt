@@ -129,7 +129,7 @@ refusal_under Yes c r = if is_out_of_sequence c r then Some cause.OUT_OF_SEQUENC
 abbrev pub refusal : Command → Registers → Option Sense
 refusal c r = refusal_under (permit_of r.file_mask c) c r
 
--- where a command that is allowed begins: No Operation is over at once, Recalibrate and Read IPL send the arm to
+-- where a command that is allowed begins: No-Operation is over at once, Recalibrate and Read IPL send the arm to
 -- cylinder 0, head 0, and the others work
 abbrev pub started : Command → Registers → Opened → Beginning
 started command.NoOperation r o = Immediate r
@@ -155,7 +155,7 @@ beginning code r = begin_decoded (decoded code) r
 
 -- One look at the track under the arm.
 
--- an index that passes without the multi-track bit: the second one of a command ends it
+-- an index that passes without the multi-track bit: the second one of a command, or of a chain of searches, ends it
 abbrev pub turned : Registers → Lap → Sight
 turned r First = IndexPassed (record r { position = AtIndex; lap = Second })
 turned r Second = Missed (with_cause (at_index r) cause.NO_RECORD_FOUND)

@@ -7,7 +7,7 @@ ghost use Rattle.ckd_image.specs.Layout.{image_length};
 use ckd_track::{DriveModel, Geometry};
 
 /// The length of an image's header, in bytes. The slots follow it.
-pub(crate) const HEADER_LENGTH: usize = 512;
+pub const HEADER_LENGTH: usize = 512;
 
 /// Where a slot of this size begins in its file; the track is counted from the file's first one.
 pub(crate) fn slot_start(size: u32, track: u32) -> u64

@@ -17,7 +17,7 @@ pub use crate::copying::CopyStore;
 pub use crate::failing::FailingStore;
 pub use crate::fault::MountFault;
 pub use crate::images::Image;
-pub use crate::layout::image_len;
+pub use crate::layout::{HEADER_LENGTH, image_len};
 pub use crate::memory::MemoryStore;
 pub use crate::new_volume::write_new_volume;
 pub use crate::store::{ImageStore, StoreFault};

@@ -102,7 +102,7 @@ impl<S: ImageStore> TrackCache<S> {
         mem::replace(&mut self.image, image)
     }
 
-    /// Has the slot of a track at hand, which is loaded where that of another is. A slot that was written is saved first.
+    /// Has the slot of a track at hand, which is loaded where that of another is: one of which nothing is to be saved.
     ///
     /// # Errors
     ///

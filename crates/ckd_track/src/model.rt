@@ -1,7 +1,7 @@
 //! The two drives.
 
 ghost use Rattle.std.specs.Prelude.{◌≡◌};
-ghost use Rattle.ckd_track.specs.Model.{heads_of, capacity_of, slot_size_of};
+ghost use Rattle.ckd_track.specs.Model.{heads_of, capacity_of, slot_size_of, model_number_of, model_numbered};
 
 /// A drive: the IBM 2311 or the IBM 2314.
 #[derive(Clone, Copy, Debug, PartialEq, Eq)]
@@ -13,6 +13,27 @@ pub enum DriveModel {
 }
 
 impl DriveModel {
+    /// The number that the drive is known by: 2311 or 2314.
+    pub fn number(self) -> u16
+        ensures { result ≡ model_number_of self }
+    {
+        match self {
+            DriveModel::D2311 => 2311,
+            DriveModel::D2314 => 2314,
+        }
+    }
+
+    /// The drive of such a number; `None` of any other.
+    pub fn numbered(number: u16) -> Option<DriveModel>
+        ensures { result ≡ model_numbered number }
+    {
+        match number {
+            2311 => Some(DriveModel::D2311),
+            2314 => Some(DriveModel::D2314),
+            _ => None,
+        }
+    }
+
     /// Tracks per cylinder.
     pub fn heads(self) -> u16
         ensures { result ≡ heads_of self }

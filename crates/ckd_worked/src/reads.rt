@@ -112,7 +112,7 @@ pub fn unreadable_track()
     ensures position { seen (does (asks 0x06 []) (behind (At (Of Count 1)) (at_head 2))) ≡ saw FindsNone 0x0802 (At (Of Count 1)) None }
 {}
 
-/// No Operation, Sense, the seeks, Recalibrate and Set File Mask do not look at the track.
+/// No-Operation, Sense, the seeks, Recalibrate and Set File Mask do not look at the track.
 pub fn commands_that_need_no_readable_track()
     ensures { senses_of (0x03 ∷ 0x04 ∷ 0x07 ∷ 0x0B ∷ 0x1B ∷ 0x13 ∷ 0x1F ∷ []) (at_head 2) ≡ replicate 7 0x0000 }
 {}

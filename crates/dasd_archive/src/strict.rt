@@ -11,6 +11,7 @@ ghost use Rattle.dasd_archive.specs.Strict.{strict_text, findings_in_header, Add
 use crate::printed::{print_flushed, print_lines};
 use crate::reports::{FindingForm, Tally, write_tally};
 use crate::tracks::{CheckedTrack, check_header, check_track};
+use ckd_image::HEADER_LENGTH;
 use counted_io::Counted;
 use dasd_volumes::{EachTrack, SlotReader, VolumeFault, VolumeTrack, all_tracks, each_track};
 use std::alloc::Global;
@@ -22,7 +23,7 @@ pub struct FileHeader<'a> {
     /// Which file it is of; the first is number 1.
     pub file: u8,
     /// Its bytes.
-    pub bytes: &'a [u8; 512],
+    pub bytes: &'a [u8; HEADER_LENGTH],
 }
 
 // A strict check of tracks: how what is found is written and how much it is, and a table of records and the lines of one track.

@@ -1,7 +1,6 @@
 -- What C is told of handles that are made, and of drives that are attached and detached.
-use Rattle.std.specs.Prelude.{◌≡◌, ℤ, pos, ◌/◌, ◌%◌, ℕ, Option, Some, None, ◌==◌, if◌then◌else◌}
+use Rattle.std.specs.Prelude.{◌≡◌, ℤ, pos, ◌/◌, ◌%◌, ℕ, Option, Some, None}
 use Rattle.ckd_track.specs.declared.model.DriveModel.{DriveModel}
-use Rattle.ckd_track.specs.declared.model.DriveModel.TheVariants.{D2311, D2314}
 use Rattle.ckd_image.specs.Image.{ImageState}
 use Rattle.s360_channels.specs.Channels.{ChannelsState, OnChannel, channel_at}
 use Rattle.s360_channels.specs.Packs.{RefusedDetach, TakesOff}
@@ -18,10 +17,6 @@ pub record TellsWhy {A : Type 0} (number : A → ℤ) (is_why : A → Type 0) (c
 pub data DoneOrRefused (code : ℤ) (old new : ChannelsState) (does refused : Type 0) : Type 0 where
   Done : code ≡ pos 0 → does → DoneOrRefused code old new does refused
   Refused : refused → new ≡ old → DoneOrRefused code old new does refused
-
--- a drive's model by its number
-abbrev pub model_of : ℕ → Option DriveModel
-model_of number = if number == 2311 then Some D2311 else (if number == 2314 then Some D2314 else None)
 
 -- A drive of a model that there is is attached, with a new volume,
 abbrev pub AttachesOf : Option DriveModel → (address cylinders : ℕ) → (old new : ChannelsState) → Type 0

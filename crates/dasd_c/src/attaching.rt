@@ -1,11 +1,12 @@
 //! Drives are attached and detached.
 
 ghost use Rattle.std.specs.Prelude.{◌≡◌, ◌/◌, ◌%◌, map, pos};
+ghost use Rattle.ckd_track.specs.Model.{model_numbered};
 ghost use Rattle.s360_words.specs.Storage.{Storage as StorageState};
 ghost use Rattle.s360_channels.specs.Channels.{channel_at};
 ghost use Rattle.s360_channels.specs.Selectors.{across};
 ghost use Rattle.dasd_subsystem.specs.Attaching.{AreImage, Attaches, NotAttached, NotMounted};
-ghost use Rattle.dasd_c.specs.Attaching.{AttachesOf, Detached, DoneOrRefused, RefusesDetach, RefusesOf, TellsWhy, model_of};
+ghost use Rattle.dasd_c.specs.Attaching.{AttachesOf, Detached, DoneOrRefused, RefusesDetach, RefusesOf, TellsWhy};
 ghost use Rattle.dasd_c.specs.Calls.{CallsAny};
 ghost use Rattle.dasd_c.specs.Codes.{refusal_code};
 
@@ -72,8 +73,8 @@ pub extern "C" fn dasd_attach_new(
     cylinders: u16,
 ) -> i32
     ensures { CallsAny handle.old.slot.held handle.new.slot.held result
-        (λ old new. DoneOrRefused result old new (AttachesOf (model_of model) address cylinders old new)
-        (RefusesOf (model_of model) address cylinders result old)) }
+        (λ old new. DoneOrRefused result old new (AttachesOf (model_numbered model) address cylinders old new)
+        (RefusesOf (model_numbered model) address cylinders result old)) }
 {
     let Some(mut subsystem) = take(handle, alloc) else {
         return NOTHING_HELD;
@@ -91,26 +92,16 @@ fn attach_new(
     cylinders: u16,
 ) -> i32
     ensures does { (s : StorageState) → DoneOrRefused result (across subsystem.old.channels s) (across subsystem.new.channels s)
-        (AttachesOf (model_of model) address cylinders (across subsystem.old.channels s) (across subsystem.new.channels s))
-        (RefusesOf (model_of model) address cylinders result (across subsystem.old.channels s)) }
+        (AttachesOf (model_numbered model) address cylinders (across subsystem.old.channels s) (across subsystem.new.channels s))
+        (RefusesOf (model_numbered model) address cylinders result (across subsystem.old.channels s)) }
     ensures storage { subsystem.new.storage ≡ subsystem.old.storage }
 {
-    let Some(model) = model_of(model) else {
+    let Some(model) = DriveModel::numbered(model) else {
         return BAD_MODEL;
     };
     match subsystem.attach_new(alloc, address, model, cylinders) {
         Ok(()) => DONE,
         Err(refusal) => of_refusal(refusal),
-    }
-}
-
-fn model_of(number: u16) -> Option<DriveModel>
-    ensures { result ≡ model_of number }
-{
-    match number {
-        2311 => Some(DriveModel::D2311),
-        2314 => Some(DriveModel::D2314),
-        _ => None,
     }
 }
 

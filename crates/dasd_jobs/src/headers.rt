@@ -2,18 +2,15 @@
 
 ghost use Rattle.std.specs.Prelude.{◌≡◌, ◌≤◌, ◌+◌, ◌++◌, length, take, replicate, slice_range};
 
-use ckd_image::{Image, ImageStore, MountFault, StoreFault};
+use ckd_image::{HEADER_LENGTH, Image, ImageStore, MountFault, StoreFault};
 use ghost_data::Count;
 use std::marker::Model;
-
-/// The bytes of a header.
-pub(crate) const HEADER: usize = 512;
 
 /// The header of a file of this length. As a store it holds zeros behind the header; it gives the header whole, and every other
 /// read and each write fails.
 #[derive(Drop)]
 pub(crate) struct HeaderStore {
-    header: [u8; HEADER],
+    header: [u8; HEADER_LENGTH],
     len: u64,
     refused: Count,
 }
@@ -33,7 +30,7 @@ impl Model for HeaderStore {
 
 impl HeaderStore {
     /// The store of a header; of a file that is shorter its bytes do not matter.
-    pub(crate) fn new(header: [u8; HEADER], len: u64) -> HeaderStore
+    pub(crate) fn new(header: [u8; HEADER_LENGTH], len: u64) -> HeaderStore
         ensures { result.content ≡ take len (header ++ replicate len 0) }
     {
         HeaderStore {
@@ -56,7 +53,7 @@ impl ImageStore for HeaderStore {
     }
 
     fn read_at(&mut self, at: u64, into: &mut [u8]) -> Result<(), StoreFault> {
-        if at == 0 && into.len() == HEADER {
+        if at == 0 && into.len() == HEADER_LENGTH {
             into.copy_from_slice(&self.header);
             Ok(())
         } else {
@@ -73,10 +70,10 @@ impl ImageStore for HeaderStore {
 
 /// Whether these bytes are the header of an image, or of one of its files, as far as a header alone says.
 pub fn is_header(header: &[u8]) -> bool {
-    let Some(bytes) = header.first_chunk::<HEADER>() else {
+    let Some(bytes) = header.first_chunk::<HEADER_LENGTH>() else {
         return false;
     };
-    match Image::mount(HeaderStore::new(*bytes, HEADER as u64)) {
+    match Image::mount(HeaderStore::new(*bytes, HEADER_LENGTH as u64)) {
         Ok(_) => true,
         Err((fault, _)) => matches!(fault, MountFault::Length | MountFault::Split),
     }

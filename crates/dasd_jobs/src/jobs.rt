@@ -5,7 +5,7 @@ ghost use Rattle.counted_io.specs.Streams.{seen_by, WritesWhole, IsFlushed};
 ghost use Rattle.ckd_track.specs.Model.{slot_size_of};
 ghost use Rattle.ckd_image.specs.Image.{new_file};
 ghost use Rattle.dasd_jobs.specs.Causes.{volume_fault};
-ghost use Rattle.dasd_jobs.specs.Lines.{formatted_line, model_digits};
+ghost use Rattle.dasd_jobs.specs.Lines.{formatted_line};
 ghost use Rattle.dasd_volumes.specs.Checks.{check_text, NumberIn};
 ghost use Rattle.dasd_volumes.specs.Listing.{volume_text};
 ghost use Rattle.dasd_jobs.specs.Printed.{CountsLines, PrintsFiles};
@@ -82,21 +82,11 @@ pub fn write_formatted<W: Write, P: Progress>(
 {
     let mut line: ArrayString<40> = ArrayString::new();
     line.push_str("formatted ");
-    line.push_str(model_number(volume.model));
+    put_decimal(&mut line, u32::from(volume.model.number()));
     line.push_str(" ");
     put_decimal(&mut line, u32::from(volume.cylinders));
     line.push_str(" cylinders\n");
     write_flushed(writer, line.as_bytes())
-}
-
-/// The number of a drive's model.
-pub fn model_number(model: DriveModel) -> &'static str
-    ensures { result.now ≡ model_digits model }
-{
-    match model {
-        DriveModel::D2311 => "2311",
-        DriveModel::D2314 => "2314",
-    }
 }
 
 // Writes a new image to a path, and shows so of a large volume.

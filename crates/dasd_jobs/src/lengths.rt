@@ -8,9 +8,9 @@ ghost use Rattle.dasd_jobs.specs.Lengths.{judged_length, whole_length};
 ghost use Rattle.dasd_jobs.specs.Opening.{AreTracks, judged, left_behind};
 
 use crate::files::ImageFiles;
-use crate::headers::HEADER;
 use crate::reasons::Head;
 use byteorder::{ByteOrder, LittleEndian};
+use ckd_image::HEADER_LENGTH;
 use ckd_track::Geometry;
 use dasd_volumes::PrintedAddress;
 use quantities::Quantity;
@@ -36,18 +36,18 @@ fn whole_length(head: &Head) -> Option<u64>
     let size = u64::from(LittleEndian::read_u32(&head.header[12..16]));
     let cylinder = heads * size;
     if cylinder == 0 {
-        return Some(HEADER as u64);
+        return Some(HEADER_LENGTH as u64);
     }
-    let tracks = (head.len - HEADER as u64) / size;
+    let tracks = (head.len - HEADER_LENGTH as u64) / size;
     let slots = tracks.div_ceil(heads).checked_mul(cylinder)?;
-    slots.checked_add(HEADER as u64)
+    slots.checked_add(HEADER_LENGTH as u64)
 }
 
 // The length by which a file is judged that is read as far as it goes.
 fn judged_length(head: &Head) -> u64
     ensures { result ≡ judged_length head.now.header head.now.len }
 {
-    if head.len < HEADER as u64 {
+    if head.len < HEADER_LENGTH as u64 {
         return head.len;
     }
     match whole_length(head) {
@@ -77,10 +77,10 @@ pub(crate) fn tracks_in(head: &Head, geometry: Geometry) -> u32
     requires { IsGeometry geometry }
     ensures { AreTracks geometry head.now result }
 {
-    if head.len < HEADER as u64 {
+    if head.len < HEADER_LENGTH as u64 {
         return 0;
     }
-    let tracks = (head.len - HEADER as u64) / u64::from(geometry.track_size);
+    let tracks = (head.len - HEADER_LENGTH as u64) / u64::from(geometry.track_size);
     tracks.min(u64::from(geometry.tracks())) as u32
 }
 
@@ -107,7 +107,7 @@ pub(crate) fn left_out(heads: &[Head], geometry: Geometry) -> u64
     }
     let last = heads[len - 1];
     let slots = u64::from(tracks_in(&last, geometry)) * u64::from(geometry.track_size);
-    last.len.saturating_sub(HEADER as u64 + slots)
+    last.len.saturating_sub(HEADER_LENGTH as u64 + slots)
 }
 
 /// Of the last file of an image it is told what it lacks, and what of it is left out.

@@ -18,9 +18,7 @@ mod written;
 pub use crate::faults::{JobFault, of_write};
 pub use crate::files::{FileFault, ImageFiles, OpenedFile, SavePlan};
 pub use crate::headers::is_header;
-pub use crate::jobs::{
-    NewVolume, check_files, format_file, list_files, model_number, write_formatted,
-};
+pub use crate::jobs::{NewVolume, check_files, format_file, list_files, write_formatted};
 pub use crate::lengths::Reach;
 pub use crate::mounting::{new_image, read_image, write_back, write_file};
 pub use crate::new_files::{DraftWriter, begin_file, put_file};

@@ -3,16 +3,16 @@
 ghost use Rattle.std.specs.Prelude.{◌≡◌};
 
 use crate::files::ImageFiles;
-use crate::headers::{HEADER, is_header};
+use crate::headers::is_header;
 use byteorder::{ByteOrder, LittleEndian};
-use ckd_image::MountFault;
+use ckd_image::{HEADER_LENGTH, MountFault};
 use quantities::Quantity;
 use std::fmt;
 
 /// The header of a file, and the file's length. Of a file that is shorter than a header it has zeros.
 #[derive(Clone, Copy)]
 pub(crate) struct Head {
-    pub(crate) header: [u8; HEADER],
+    pub(crate) header: [u8; HEADER_LENGTH],
     pub(crate) len: u64,
 }
 
@@ -93,7 +93,10 @@ impl fmt::Display for Reason {
             }
             Reason::NoHeader(len) => {
                 let bytes = Quantity::new(*len, "byte", "bytes");
-                write!(f, "its length is {bytes}, and its header has {HEADER}")
+                write!(
+                    f,
+                    "its length is {bytes}, and its header has {HEADER_LENGTH}"
+                )
             }
             Reason::OtherLength(len, wanted) => {
                 write!(
@@ -105,7 +108,7 @@ impl fmt::Display for Reason {
                 let bytes = Quantity::new(*len, "byte", "bytes");
                 write!(
                     f,
-                    "its length is {bytes}, and an image is {HEADER} bytes and whole cylinders of {cylinder}"
+                    "its length is {bytes}, and an image is {HEADER_LENGTH} bytes and whole cylinders of {cylinder}"
                 )
             }
         }
@@ -198,7 +201,7 @@ fn reason_of_length(
     head: &Head,
     before: Option<Head>,
 ) -> Option<Reason> {
-    let (header, len) = (HEADER as u64, head.len);
+    let (header, len) = (HEADER_LENGTH as u64, head.len);
     if len < header {
         return Some(Reason::NoHeader(len));
     }

@@ -14,7 +14,7 @@ use Rattle.dasd_volumes.specs.declared.forms.Style.TheVariants.{Text, Json}
 use Rattle.dasd_archive.specs.Compare.{compare_text, changed_in, PrintsBoth, NumberOfBoth}
 use Rattle.dasd_volumes.specs.Printing.{PrintsBytes}
 use Rattle.dasd_words.specs.declared.requests.ComparedVolumes.{ComparedVolumes}
-use Rattle.dasd_jobs.specs.Lines.{model_digits}
+use Rattle.ckd_track.specs.Model.{model_number_of}
 use Rattle.dasd_jobs.specs.Sources.{SourceFile, OfVolume}
 use Rattle.dasd_run.specs.declared.commands.Ending.{Ending}
 use Rattle.dasd_run.specs.declared.commands.Ending.TheVariants.{Findings}
@@ -28,7 +28,7 @@ use Rattle.dasd_run.specs.Printed.{style_of, IsUnopened}
 -- a geometry in words
 abbrev pub shape_text : Geometry → List ℕ
 shape_text g = concat (
-    model_digits g.model ∷ codes " " ∷ quantity_text g.cylinders (codes "cylinder") (codes "cylinders") ∷ codes " slot "
+    decimal (model_number_of g.model) ∷ codes " " ∷ quantity_text g.cylinders (codes "cylinder") (codes "cylinders") ∷ codes " slot "
     ∷ decimal g.track_size ∷ [])
 
 -- the line of two geometries that differ

@@ -19,7 +19,7 @@ use crate::reaches::with_reach;
 use ckd_track::Geometry;
 use counted_io::{Counted, WriteFault, write_flushed};
 use dasd_archive::{Comparison, VolumePart, compare, dump, has_records};
-use dasd_jobs::{Progress, SlotReader, Traces, model_number, open_volume};
+use dasd_jobs::{Progress, SlotReader, Traces, open_volume};
 use dasd_volumes::{Form, Range, Style, VolumeFault};
 use dasd_words::{ComparedVolumes, DumpedPart, Numbers, PrintedVolume};
 use quantities::Quantity;
@@ -226,7 +226,7 @@ impl fmt::Display for Shape {
     ghost output = { λ s. Some (shape_text s.0) };
 
     fn fmt<W: fmt::Write>(&self, f: &mut fmt::Formatter<W>) -> fmt::Result {
-        let model = model_number(self.0.model);
+        let model = self.0.model.number();
         let cylinders = Quantity::new(self.0.cylinders as u64, "cylinder", "cylinders");
         let size = self.0.track_size;
         write!(f, "{model} {cylinders} slot {size}")

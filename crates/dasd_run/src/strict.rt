@@ -11,6 +11,7 @@ use crate::commands::{Ending, ending_of};
 use crate::fault::ProgramFault;
 use crate::host::Host;
 use crate::printed_paths::quoted;
+use ckd_image::HEADER_LENGTH;
 use counted_io::Counted;
 use dasd_archive::{FileHeader, FindingForm, FindingStyle, Tally, check_headers, check_strict};
 use dasd_jobs::{Progress, SlotReader, Traces, open_volume};
@@ -18,9 +19,6 @@ use dasd_volumes::VolumeFault;
 use dasd_words::StrictCheck;
 use std::alloc::Global;
 use std::io::{Read, Write};
-
-/// The length of a file's header, in bytes.
-const HEADER: usize = 512;
 
 /// Prints all that is found on the volume of these files, and says whether there is an error.
 ///
@@ -56,7 +54,7 @@ fn check_opened<V: SlotReader, W: Write>(
     volume: &mut V,
     writer: &mut Counted<W>,
     form: FindingForm,
-    heads: &[[u8; HEADER]],
+    heads: &[[u8; HEADER_LENGTH]],
 ) -> Result<Ending, ProgramFault>
     ensures { ChecksWhole result form.entry.style form.entry.path.now heads.now (V.volume volume.old)
         (seen_by W.contents writer.old) (seen_by W.contents writer.new) }
@@ -73,7 +71,7 @@ fn check_heads<W: Write>(
     writer: &mut Counted<W>,
     tally: &mut Tally,
     form: FindingForm,
-    heads: &[[u8; HEADER]],
+    heads: &[[u8; HEADER_LENGTH]],
 ) -> Result<(), VolumeFault>
     ensures found { PrintsFindings result form.entry.style form.entry.path.now (found_in heads.now)
         (seen_by W.contents writer.old) (seen_by W.contents writer.new) tally.old tally.new }

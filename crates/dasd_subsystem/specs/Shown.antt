@@ -1,7 +1,6 @@
 -- What a C program is shown of a channel and of a drive: numbers in the place of names.
 use Rattle.std.specs.Prelude.{◌≡◌, ℕ, Bool, List, length, map, filter, is_some, Option, Some, None, if◌then◌else◌}
-use Rattle.ckd_track.specs.declared.model.DriveModel.{DriveModel}
-use Rattle.ckd_track.specs.declared.model.DriveModel.TheVariants.{D2311, D2314}
+use Rattle.ckd_track.specs.Model.{model_number_of}
 use Rattle.s360_laws.specs.declared.arm.Arm.{Arm}
 use Rattle.s360_laws.specs.declared.arm.Arm.TheVariants.{AtRest, InMotion, Arrived}
 use Rattle.attached_drives.specs.declared.view.DriveView.{DriveView}
@@ -17,10 +16,6 @@ numbers_of Idle = (0, 0, 0)
 numbers_of (Working device asked) = (1, device, if asked then 1 else 0)
 numbers_of (Pending device csw) = (2, device, 0)
 
-abbrev pub number_of_model : DriveModel → ℕ
-number_of_model D2311 = 2311
-number_of_model D2314 = 2314
-
 abbrev pub number_of_arm : Arm → ℕ
 number_of_arm AtRest = 0
 number_of_arm InMotion = 1
@@ -28,7 +23,7 @@ number_of_arm Arrived = 2
 
 abbrev pub drive_shown : DriveView → ShownDrive
 drive_shown d = record {
-  model = number_of_model d.model;
+  model = model_number_of d.model;
   cylinders = d.cylinders;
   cylinder = d.cylinder;
   head = d.head;

@@ -5,11 +5,9 @@ ghost use Rattle.dasd_files.specs.Files.{IsFile};
 ghost use Rattle.dasd_subsystem.specs.Changed.{ShowsNext, by_slots, slot_size, tracks_in};
 
 use byteorder::{ByteOrder, LittleEndian};
+use ckd_image::HEADER_LENGTH;
 use dasd_files::VolumeFile;
 use std::alloc::{AllocError, Global};
-
-/// The length of a file's header, in bytes. The slots follow it.
-const HEADER_LENGTH: u32 = 512;
 
 /// A track that may have been written, and where its slot lies in the file.
 #[repr(C)]
@@ -32,12 +30,12 @@ pub fn next_changed(file: &VolumeFile, size: u32, since: u64, from: usize) -> Op
     ensures file { IsFile file.now }
 {
     let len = file.bytes().len();
-    if size == 0 || len < HEADER_LENGTH as usize {
+    if size == 0 || len < HEADER_LENGTH {
         return None;
     }
-    let tracks = (len - HEADER_LENGTH as usize) / size as usize;
+    let tracks = (len - HEADER_LENGTH) / size as usize;
     for track in from..tracks {
-        let at = HEADER_LENGTH as usize + track * size as usize;
+        let at = HEADER_LENGTH + track * size as usize;
         if file.may_have_changed(since, at, size as usize) {
             return Some(ShownTrack {
                 at,
@@ -55,10 +53,11 @@ pub(crate) fn watch(alloc: Global, file: &mut VolumeFile, size: u32) -> Result<(
     ensures slots { OnOk result (file.new ≡ by_slots size file.old) }
     ensures same { file.new ≡ record file.old { parts = file.new.parts } }
 {
-    if size <= HEADER_LENGTH {
+    let header = HEADER_LENGTH as u32;
+    if size <= header {
         return Ok(());
     }
-    file.watch(alloc, size - HEADER_LENGTH, size)
+    file.watch(alloc, size - header, size)
 }
 
 /// The size of a slot, as the header says it with which these bytes begin; 0 where they are fewer than it has.

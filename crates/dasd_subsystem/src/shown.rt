@@ -1,7 +1,7 @@
 //! What a C program is shown of a channel and of a drive: numbers in the place of names.
 
 ghost use Rattle.std.specs.Prelude.{◌≡◌};
-ghost use Rattle.dasd_subsystem.specs.Shown.{ShowsState, arm_shown, drive_shown, drives_shown, number_of_arm, number_of_model, numbers_of, unit_shown};
+ghost use Rattle.dasd_subsystem.specs.Shown.{ShowsState, arm_shown, drive_shown, drives_shown, number_of_arm, numbers_of, unit_shown};
 
 use ckd_track::DriveModel;
 use s360_channel::{DriveView, SubchannelView, View};
@@ -34,7 +34,7 @@ impl ShownDrive {
     {
         let sense = drive.sense;
         ShownDrive {
-            model: number_of_model(drive.model),
+            model: drive.model.number(),
             cylinders: drive.cylinders,
             cylinder: drive.cylinder,
             head: drive.head,
@@ -42,15 +42,6 @@ impl ShownDrive {
             sense,
             reserved: 0,
         }
-    }
-}
-
-fn number_of_model(model: DriveModel) -> u16
-    ensures { result ≡ number_of_model model }
-{
-    match model {
-        DriveModel::D2311 => 2311,
-        DriveModel::D2314 => 2314,
     }
 }
 

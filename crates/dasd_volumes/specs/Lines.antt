@@ -3,11 +3,10 @@ use Rattle.std.specs.Prelude.{ℕ, ◌-◌, ◌^◌, ◌==◌, min, if◌then◌
 use Rattle.std.specs.List.{flat_map, concat}
 use Rattle.std.specs.Fmt.{digits, decimal}
 use Rattle.ckd_track.specs.declared.model.DriveModel.{DriveModel}
-use Rattle.ckd_track.specs.declared.model.DriveModel.TheVariants.{D2311, D2314}
 use Rattle.ckd_track.specs.declared.geometries.Geometry.{Geometry}
 use Rattle.ckd_track.specs.declared.fault.SlotFault.{SlotFault}
 use Rattle.ckd_track.specs.declared.fault.SlotFault.TheVariants.{NoEnd, RecordPastEnd}
-use Rattle.ckd_track.specs.Model.{heads_of}
+use Rattle.ckd_track.specs.Model.{heads_of, model_number_of}
 use Rattle.ckd_track.specs.Track.{Record, Track}
 use Rattle.ckd_track.specs.Charges.{used_of}
 
@@ -17,11 +16,6 @@ hexadecimal width n = replicate (width - length (digits 16 true n)) 48 ++ digits
 
 abbrev pub bytes_text : List ℕ → List ℕ
 bytes_text bytes = flat_map (hexadecimal 2) bytes
-
--- the number of a drive's model
-abbrev pub model_number_of : DriveModel → ℕ
-model_number_of D2311 = 2311
-model_number_of D2314 = 2314
 
 -- where a track is
 abbrev pub address_text : (cylinder head : ℕ) → List ℕ

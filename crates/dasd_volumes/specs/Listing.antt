@@ -5,10 +5,10 @@ use Rattle.std.specs.Fmt.{decimal}
 use Rattle.ckd_track.specs.declared.model.DriveModel.{DriveModel}
 use Rattle.ckd_track.specs.declared.geometries.Geometry.{Geometry}
 use Rattle.ckd_track.specs.declared.fault.SlotFault.{SlotFault}
-use Rattle.ckd_track.specs.Model.{heads_of}
+use Rattle.ckd_track.specs.Model.{heads_of, model_number_of}
 use Rattle.ckd_track.specs.Track.{Record, Track, track_of, record_in}
 use Rattle.ckd_track.specs.Charges.{used_of}
-use Rattle.dasd_volumes.specs.Lines.{bytes_text, fault_text, model_number_of, line_feed, volume_line, track_lines}
+use Rattle.dasd_volumes.specs.Lines.{bytes_text, fault_text, line_feed, volume_line, track_lines}
 use Rattle.dasd_volumes.specs.declared.forms.Style.{Style}
 use Rattle.dasd_volumes.specs.declared.forms.Style.TheVariants.{Text, Json}
 use Rattle.dasd_volumes.specs.declared.walks.Range.{Range}

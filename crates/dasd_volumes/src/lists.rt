@@ -15,7 +15,7 @@ use crate::forms::{Form, Style};
 use crate::objects::{list_object, list_unreadable_object, list_volume_object};
 use crate::pieces::{LINE, put_address, put_count, put_fault};
 use crate::reading::SlotReader;
-use crate::text::{PrintedAddress, model_number};
+use crate::text::PrintedAddress;
 use crate::walks::{EachTrack, Range, Tracks, VolumeTrack, all_heads, all_tracks, each_track};
 use arrayvec::ArrayString;
 use ckd_track::{Geometry, SlotFault, TrackView, read_slot, used};
@@ -147,7 +147,7 @@ fn list_geometry<W: Write>(writer: &mut Counted<W>, geometry: Geometry) -> Resul
     ensures { WritesWhole result (seen_by W.contents writer.old) (seen_by W.contents writer.new) (volume_line geometry) }
 {
     let mut line: ArrayString<LINE> = ArrayString::new();
-    put_decimal(&mut line, u32::from(model_number(geometry.model)));
+    put_decimal(&mut line, u32::from(geometry.model.number()));
     line.push_str(" ");
     put_decimal(&mut line, u32::from(geometry.cylinders));
     line.push_str(" cylinders ");

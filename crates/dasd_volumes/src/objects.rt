@@ -8,7 +8,7 @@ ghost use Rattle.dasd_volumes.specs.Volumes.{of_each};
 ghost use Rattle.dasd_volumes.specs.Listing.{volume_object, place_text, unreadable_object, comma_before, listed_record, whole_text, track_object};
 
 use crate::pieces::{LINE, put_count, put_fault};
-use crate::text::{PrintedAddress, model_number};
+use crate::text::PrintedAddress;
 use crate::walks::VolumeTrack;
 use arrayvec::ArrayString;
 use ckd_track::{DriveModel, Geometry, SlotFault, TrackView, used};
@@ -27,7 +27,7 @@ pub(crate) fn list_volume_object<W: Write>(
     write_path(writer, path)?;
     let mut line: ArrayString<LINE> = ArrayString::new();
     line.push_str(",\"model\":");
-    put_decimal(&mut line, u32::from(model_number(geometry.model)));
+    put_decimal(&mut line, u32::from(geometry.model.number()));
     line.push_str(",\"cylinders\":");
     put_decimal(&mut line, u32::from(geometry.cylinders));
     line.push_str(",\"heads\":");

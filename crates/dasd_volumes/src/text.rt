@@ -2,10 +2,10 @@
 
 ghost use Rattle.std.specs.Prelude.{◌≡◌, ◌≤◌, Some, length};
 ghost use Rattle.std.specs.Fmt.{WritesOnOk};
-ghost use Rattle.dasd_volumes.specs.Lines.{bytes_text, address_text, fault_text, model_number_of};
+ghost use Rattle.dasd_volumes.specs.Lines.{bytes_text, address_text, fault_text};
 
 use arrayvec::ArrayString;
-use ckd_track::{DriveModel, SlotFault};
+use ckd_track::SlotFault;
 use std::fmt;
 use text_lines::put_bytes;
 
@@ -72,15 +72,5 @@ impl fmt::Display for Reason {
             SlotFault::NoEnd(offset) => write!(f, "no end at {offset}"),
             SlotFault::RecordPastEnd(offset) => write!(f, "record past end at {offset}"),
         }
-    }
-}
-
-/// The number of a drive's model.
-pub(crate) fn model_number(model: DriveModel) -> u16
-    ensures { result ≡ model_number_of model }
-{
-    match model {
-        DriveModel::D2311 => 2311,
-        DriveModel::D2314 => 2314,
     }
 }

@@ -3,7 +3,7 @@
 ghost use Rattle.std.specs.Prelude.{◌≡◌, ◌≤◌, length, None, IfOk, OnOk, OnErr};
 
 use crate::remarks::Remarks;
-use ckd_image::StoreFault;
+use ckd_image::{HEADER_LENGTH, StoreFault};
 use dasd_jobs::{OpenedFile, is_header};
 use file_journals::{Notes, whole_file};
 use std::alloc::Global;
@@ -11,9 +11,6 @@ use std::fs::File;
 use std::io;
 use std::io::{Error, ErrorKind, Read};
 use std::os::unix::fs::FileExt;
-
-/// The bytes of a header, by which a pipe is judged before it is read on.
-const HEADER: usize = 512;
 
 /// How many bytes are read at once.
 const PIECE: usize = 4_096;
@@ -120,7 +117,7 @@ impl<'a> HostFile<'a> {
             return HostFile::of(alloc, remarks, path, file, known.len());
         }
         let mut bytes = Vec::new(alloc);
-        read_up_to(&mut file, &mut bytes, HEADER)?;
+        read_up_to(&mut file, &mut bytes, HEADER_LENGTH)?;
         if is_header(bytes.as_slice()) {
             read_up_to(&mut file, &mut bytes, usize::MAX)?;
         }

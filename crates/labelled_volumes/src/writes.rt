@@ -9,15 +9,12 @@ ghost use Rattle.new_labels.specs.Labels.{Fits};
 ghost use Rattle.new_labels.specs.Tracks.{labelled_slot};
 ghost use Rattle.labelled_volumes.specs.Files.{labelled_file, header_front};
 
-use ckd_image::{ImageStore, StoreFault};
+use ckd_image::{HEADER_LENGTH, ImageStore, StoreFault};
 use ckd_track::{DriveModel, Geometry, overwrite};
 use new_labels::{NewLabel, spell_labelled_track};
 
 /// The greatest track size of a new image, in bytes.
 const LARGEST_SLOT: usize = 7680;
-
-/// The bytes of a file before its slots.
-const HEADER: usize = 512;
 
 // Writes a new volume with a label into a file without bytes: its header, and the slot of each track in order, each at the file's end.
 pub(crate) fn write_labelled<D: ImageStore>(
@@ -40,10 +37,10 @@ pub(crate) fn write_labelled<D: ImageStore>(
 }
 
 // The header of a new image.
-fn header_of(model: DriveModel) -> [u8; HEADER]
+fn header_of(model: DriveModel) -> [u8; HEADER_LENGTH]
     ensures { result ≡ new_header model }
 {
-    let mut header = [0; HEADER];
+    let mut header = [0; HEADER_LENGTH];
     overwrite(&mut header, 0, &header_front(model));
     header
 }
@@ -76,6 +73,6 @@ fn write_slot<D: ImageStore>(
     ensures whole { length (labelled_slot geometry label.now track) ≡ geometry.track_size }
 {
     spell_labelled_track(slot, geometry, label, track);
-    let at = HEADER as u64 + u64::from(track) * u64::from(geometry.track_size);
+    let at = HEADER_LENGTH as u64 + u64::from(track) * u64::from(geometry.track_size);
     draft.write_at(at, slot)
 }

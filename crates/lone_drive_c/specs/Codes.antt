@@ -1,7 +1,5 @@
 -- What C is told by numbers. They are those of dasd.h and of dasd_drive.h.
-use Rattle.std.specs.Prelude.{ℤ, pos, neg_ℤ, ℕ, Option, Some, None, Result, Ok, Err, ◌==◌, if◌then◌else◌}
-use Rattle.ckd_track.specs.declared.model.DriveModel.{DriveModel}
-use Rattle.ckd_track.specs.declared.model.DriveModel.TheVariants.{D2311, D2314}
+use Rattle.std.specs.Prelude.{ℤ, pos, neg_ℤ, Result, Ok, Err}
 use Rattle.ckd_image.specs.declared.fault.MountFault.{MountFault}
 use Rattle.ckd_image.specs.declared.fault.MountFault.TheVariants as mount
 use Rattle.ckd_image.specs.declared.store.StoreFault.{StoreFault}
@@ -69,10 +67,6 @@ abbrev pub made_code : NotMade → ℤ
 made_code OutOfMemory = neg_ℤ (pos 3)
 made_code NoCylinders = neg_ℤ (pos 9)
 made_code (Mount fault) = mount_code fault
-
--- a drive's model by its number
-abbrev pub model_of : ℕ → Option DriveModel
-model_of number = if number == 2311 then Some D2311 else (if number == 2314 then Some D2314 else None)
 
 -- enum dasd_drive_begun: what a command code led to
 abbrev pub begun_code : Begun → ℤ

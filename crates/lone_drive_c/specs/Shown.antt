@@ -1,7 +1,6 @@
 -- What is shown of a drive.
 use Rattle.std.specs.Prelude.{◌≡◌, ℤ, pos, ℕ, if◌then◌else◌}
-use Rattle.ckd_track.specs.declared.model.DriveModel.{DriveModel}
-use Rattle.ckd_track.specs.declared.model.DriveModel.TheVariants.{D2311, D2314}
+use Rattle.ckd_track.specs.Model.{model_number_of}
 use Rattle.ckd_sense.specs.SenseBytes.{sense_bytes}
 use Rattle.ckd_command.specs.Drive.{is_written}
 use Rattle.ckd_drive.specs.Work.{DriveState, phase_of}
@@ -21,14 +20,10 @@ next_shown phase = record { passed = 0; left = 0 }
 abbrev pub ShowsNext : (code : ℤ) → Next → DriveState → Type 0
 ShowsNext code shown d = (code ≡ phase_code (phase_of d.work)) × (shown ≡ next_shown (phase_of d.work))
 
-abbrev pub number_of_model : DriveModel → ℕ
-number_of_model D2311 = 2311
-number_of_model D2314 = 2314
-
 -- a drive: its volume's model and cylinders, where its arm is, whether the track there waits to be saved, and the sense bytes
 abbrev pub drive_shown : DriveState → Seen
 drive_shown d = record {
-  model = number_of_model d.state.volume.geometry.model;
+  model = model_number_of d.state.volume.geometry.model;
   cylinders = d.state.volume.geometry.cylinders;
   cylinder = d.state.registers.cylinder;
   head = d.state.registers.head;

@@ -1,10 +1,11 @@
 //! The handle, and how a drive is taken out of it and put back.
 
 ghost use Rattle.std.specs.Prelude.{◌≡◌, ◌==◌, Option, Some, None, IsSome, IfSome, is_some, option_map, pos, true, false, if◌then◌else◌};
+ghost use Rattle.ckd_track.specs.Model.{model_numbered};
 ghost use Rattle.lone_drive.specs.Making.{IsOver, NotMounted};
 ghost use Rattle.lone_drive.specs.declared.refusal.NotMade.TheVariants as made;
 ghost use Rattle.lone_drive_c.specs.Calls.{IsNewOf, TellsWhy, WhyNone};
-ghost use Rattle.lone_drive_c.specs.Codes.{nothing_held, in_use, made_code, model_of};
+ghost use Rattle.lone_drive_c.specs.Codes.{nothing_held, in_use, made_code};
 ghost use Rattle.lone_drive_c.specs.declared.handle.TheConstants.{HELD};
 
 use crate::parts::Parts;
@@ -95,31 +96,21 @@ pub extern "C" fn dasd_drive_attach_new(
     model: u16,
     cylinders: u16,
 ) -> i32
-    ensures made { result ≡ pos 0 → IfSome handle.new.slot.held (λ d. IsNewOf (model_of model) cylinders d.drive) }
+    ensures made { result ≡ pos 0 → IfSome handle.new.slot.held (λ d. IsNewOf (model_numbered model) cylinders d.drive) }
     ensures held { result ≡ pos 0 → IsSome handle.new.slot.held }
     ensures stays { (result ≡ pos 0 → ⊥) → handle.new.slot.held ≡ handle.old.slot.held }
     ensures in_use { IsSome handle.old.slot.held → result ≡ in_use }
-    ensures refused { handle.old.slot.held ≡ None → (result ≡ pos 0 → ⊥) → WhyNone (model_of model) cylinders result }
+    ensures refused { handle.old.slot.held ≡ None → (result ≡ pos 0 → ⊥) → WhyNone (model_numbered model) cylinders result }
 {
     if handle.stamp == HELD {
         return IN_USE;
     }
-    let Some(model) = model_of(model) else {
+    let Some(model) = DriveModel::numbered(model) else {
         return BAD_MODEL;
     };
     match LoneDrive::format(alloc, model, cylinders) {
         Ok(made) => hold(handle, alloc, made),
         Err(why) => of_not_made(why),
-    }
-}
-
-fn model_of(number: u16) -> Option<DriveModel>
-    ensures { result ≡ model_of number }
-{
-    match number {
-        2311 => Some(DriveModel::D2311),
-        2314 => Some(DriveModel::D2314),
-        _ => None,
     }
 }
 

@@ -2,12 +2,11 @@
 
 ghost use Rattle.std.specs.Prelude.{◌≡◌, None};
 ghost use Rattle.lone_drive_c.specs.Calls.{Holds};
-ghost use Rattle.lone_drive_c.specs.Shown.{Shows, ShowsNext, drive_shown, next_shown, number_of_model};
+ghost use Rattle.lone_drive_c.specs.Shown.{Shows, ShowsNext, drive_shown, next_shown};
 
 use crate::handle::{Handle, put, take};
 use crate::tell::{DONE, NOTHING_HELD, of_phase};
 use ckd_drive::{Drive, Phase};
-use ckd_track::DriveModel;
 use dasd_files::VolumeFile;
 use std::alloc::Global;
 
@@ -83,21 +82,12 @@ fn as_seen(drive: &Drive<VolumeFile>) -> Seen
 {
     let geometry = drive.geometry();
     Seen {
-        model: number_of_model(geometry.model),
+        model: geometry.model.number(),
         cylinders: geometry.cylinders,
         cylinder: drive.cylinder(),
         head: drive.head(),
         written: drive.is_written() as u8,
         sense: drive.sense(),
         reserved: 0,
-    }
-}
-
-fn number_of_model(model: DriveModel) -> u16
-    ensures { result ≡ number_of_model model }
-{
-    match model {
-        DriveModel::D2311 => 2311,
-        DriveModel::D2314 => 2314,
     }
 }

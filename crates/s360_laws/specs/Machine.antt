@@ -256,7 +256,7 @@ interrupt_program device script m (Some csw) = (
   goes_on device script (TakesInterruption ∷ Outside (csw_stored csw) ∷ []) m,
 )
 
--- a pending CSW comes first, then the lowest device whose arm has arrived
+-- A pending CSW comes first, then the lowest device whose arm has arrived; in which order devices interrupt the manuals leave to the machine.
 abbrev pub interrupt : Machine → Subchannel → Answer × Machine
 interrupt m Idle = interrupt_device m (lowest (filter has_arrived m.devices))
 interrupt m (Working device script) = interrupt_program device script m (asked_by (run_of m device script))

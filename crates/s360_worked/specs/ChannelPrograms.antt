@@ -37,7 +37,7 @@ read address flags count = program (ccw 0x06 address flags count)
 abbrev pub read_at_end : Storage
 read_at_end = stored (cleared 65536) 0x400 (ccw 0x06 0xFFFC 0 80)
 
--- Seek to head 1, Read Data with these flags, No Operation
+-- Seek to head 1, Read Data with these flags, No-Operation
 abbrev pub read_without_data : (flags : ℕ) → Storage
 read_without_data flags =
     stored (program (ccw 0x07 0x500 0x40 6 ++ ccw 0x06 0x600 flags 1 ++ ccw 0x03 0 0 1)) 0x500 (0 ∷ 0 ∷ 0 ∷ 0 ∷ 0 ∷ 1 ∷ [])
@@ -47,7 +47,7 @@ abbrev pub search_key_from_head_8 : Storage
 search_key_from_head_8 =
     stored (program (ccw 0x07 0x500 0x40 6 ++ ccw 0xA9 0x506 0x40 4 ++ ccw 0x08 0x408 0 0)) 0x500 (0 ∷ 0 ∷ 0 ∷ 0 ∷ 0 ∷ 8 ∷ [])
 
--- Seek to cylinder 2, No Operation
+-- Seek to cylinder 2, No-Operation
 abbrev pub seek_cylinder_2 : Storage
 seek_cylinder_2 = stored (program (ccw 0x07 0x500 0x40 6 ++ ccw 0x03 0 0 1)) 0x500 (0 ∷ 0 ∷ 0 ∷ 2 ∷ 0 ∷ 0 ∷ [])
 
@@ -91,7 +91,7 @@ write_home_address = ccw 0x1F 0x500 0x40 1 ++ ccw 0x19 0x501 0 5
 abbrev pub transfer_first : Storage
 transfer_first = program (ccw 0x08 0x408 0 0)
 
--- No Operation, and a transfer in channel that leads to another one
+-- No-Operation, and a transfer in channel that leads to another one
 abbrev pub transfer_to_transfer : Storage
 transfer_to_transfer = program (ccw 0x03 0 0x40 1 ++ ccw 0x08 0x410 0 0 ++ ccw 0x08 0x400 0 0)
 
@@ -111,7 +111,7 @@ read_into_two flags count second_flags second_count =
 abbrev pub seek_and_sense : Storage
 seek_and_sense = program (ccw 0x07 0x500 0 6 ++ ccw 0x04 0x600 0 6)
 
--- Seek to cylinder 0, head 0; No Operation
+-- Seek to cylinder 0, head 0; No-Operation
 abbrev pub seek_and_no_operation : Storage
 seek_and_no_operation = program (ccw 0x07 0x500 0x40 6 ++ ccw 0x03 0 0 1)
 
@@ -119,6 +119,6 @@ seek_and_no_operation = program (ccw 0x07 0x500 0x40 6 ++ ccw 0x03 0 0 1)
 abbrev pub recalibrate : Storage
 recalibrate = program (ccw 0x13 0 0 1)
 
--- No Operation, with the flag for program-controlled interruption
+-- No-Operation, with the flag for program-controlled interruption
 abbrev pub interrupting_no_operation : Storage
 interrupting_no_operation = program (ccw 0x03 0 0x08 1)

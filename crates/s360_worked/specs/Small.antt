@@ -40,15 +40,15 @@ small_drive = record {
 abbrev pub start_at : (address : ℕ) → IdleDrive → Storage → Start
 start_at address drive storage = record { caw = address; storage = storage; drive = drive }
 
--- No Operation, and a transfer in channel to a word at 414, which is no multiple of 8
+-- No-Operation, and a transfer in channel to a word at 414, which is no multiple of 8
 abbrev pub transfer_to_414 : Storage
 transfer_to_414 = program (ccw 0x03 0 0x40 1 ++ ccw 0x08 0x414 0 0 ++ 0 ∷ 0 ∷ 0 ∷ 0 ∷ ccw 0x03 0 0 1)
 
--- No Operation in the last eight bytes of storage, and the next word behind them
+-- No-Operation in the last eight bytes of storage, and the next word behind them
 abbrev pub at_end_of_storage : Storage
 at_end_of_storage = stored (cleared 4096) 0xFF8 (ccw 0x03 0 0x40 1)
 
--- No Operation, and one with a count of zero
+-- No-Operation, and one with a count of zero
 abbrev pub second_without_count : Storage
 second_without_count = program (ccw 0x03 0 0x40 1 ++ ccw 0x03 0 0 0)
 
@@ -73,11 +73,11 @@ write_past_storage = stored (search_and_go (ccw 0x05 0xFFE 0 4)) 0xFFE (0xD7 ∷
 abbrev pub write_from_other_block : Storage
 write_from_other_block = with_key (write_small 0) 0x600 2
 
--- Read Data of two bytes with these flags, and No Operation
+-- Read Data of two bytes with these flags, and No-Operation
 abbrev pub short_read : (flags : ℕ) → Storage
 short_read flags = program (ccw 0x06 0x600 flags 2 ++ ccw 0x03 0 0 1)
 
--- No Operation with the flag for program-controlled interruption, and another one
+-- No-Operation with the flag for program-controlled interruption, and another one
 abbrev pub interruption_before_fetch : Storage
 interruption_before_fetch = program (ccw 0x03 0 0x48 1 ++ ccw 0x03 0 0 1)
 
@@ -89,11 +89,11 @@ interruption_in_data = program (ccw 0x06 0x600 0x88 2 ++ ccw 0x00 0x700 0x00 2)
 abbrev pub seek_to : (address : List ℕ) → Storage
 seek_to address = stored (program (ccw 0x07 0x500 0 6)) 0x500 address
 
--- No Operation, and a transfer in channel to the highest address at which a word could stand
+-- No-Operation, and a transfer in channel to the highest address at which a word could stand
 abbrev pub transfer_to_last_word : Storage
 transfer_to_last_word = program (ccw 0x03 0 0x40 1 ++ ccw 0x08 0xFFFFF8 0 0)
 
--- No Operation, and a transfer in channel by another code, with the flags that must be zero elsewhere, and a count
+-- No-Operation, and a transfer in channel by another code, with the flags that must be zero elsewhere, and a count
 abbrev pub transfer_by_another_code : Storage
 transfer_by_another_code = program (ccw 0x03 0 0x40 1 ++ ccw 0xF8 0x418 0x07 5 ++ replicate 8 0 ++ ccw 0x03 0 0 1)
 
@@ -109,7 +109,7 @@ read_over_two_blocks = with_key (program (ccw 0x06 0x7FE 0 4)) 0 1
 abbrev pub seek_with : (flags count : ℕ) → (cylinder : ℕ) → Storage
 seek_with flags count cylinder = stored (program (ccw 0x07 0x500 flags count)) 0x500 (0 ∷ 0 ∷ 0 ∷ cylinder ∷ 0 ∷ 1 ∷ [])
 
--- No Operation, and another one with a count of nine
+-- No-Operation, and another one with a count of nine
 abbrev pub two_no_operations : Storage
 two_no_operations = program (ccw 0x03 0 0x40 1 ++ ccw 0x03 0 0 9)
 

@@ -12,7 +12,7 @@ use Rattle.ckd_track.specs.declared.geometries.Geometry.{Geometry}
 use Rattle.ckd_track.specs.Geometry.{tracks_of}
 use Rattle.ckd_track.specs.Track.{Track, IsRecord, spelling, track_of}
 use Rattle.ckd_track.proofs.Laws.{spelled_is_read, read_is_spelled}
-use Rattle.dasd_volumes.specs.Lines.{model_number_of}
+use Rattle.ckd_track.specs.Model.{model_number_of}
 use Rattle.dasd_volumes.specs.Volumes.{of_each}
 use Rattle.volume_hash.specs.Message.{said_by, says, track_message, volume_head, tracks_message, volume_message}
 use Rattle.volume_hash.specs.Apart.{IsSlot, IsVolume, SaySame, MessageIsWhatTheySay}

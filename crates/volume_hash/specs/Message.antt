@@ -6,7 +6,7 @@ use Rattle.ckd_track.specs.declared.fault.SlotFault.{SlotFault}
 use Rattle.ckd_track.specs.declared.geometries.Geometry.{Geometry}
 use Rattle.ckd_track.specs.Geometry.{tracks_of}
 use Rattle.ckd_track.specs.Track.{Track, spelling, track_of}
-use Rattle.dasd_volumes.specs.Lines.{model_number_of}
+use Rattle.ckd_track.specs.Model.{model_number_of}
 use Rattle.dasd_volumes.specs.Reading.{KnownVolume}
 use Rattle.dasd_volumes.specs.Volumes.{of_each}
 use Rattle.volume_hash.specs.declared.volumes.VolumeHash.{VolumeHash}

@@ -1,13 +1,12 @@
 //! What a volume says.
 
 ghost use Rattle.std.specs.Prelude.{◌≡◌, ◌≢◌, length, IfOk, IfErr, OnOk};
-ghost use Rattle.dasd_volumes.specs.Lines.{model_number_of};
 ghost use Rattle.dasd_volumes.specs.Reading.{IsRead};
 ghost use Rattle.volume_hash.specs.Message.{volume_head, AddsTracks, NumberOfUnreadable, IsHashOf};
 
 use crate::message::Message;
 use crate::tracks::add_slot;
-use ckd_track::{DriveModel, Geometry};
+use ckd_track::Geometry;
 use dasd_volumes::{SlotReader, VolumeFault};
 use std::alloc::Global;
 
@@ -50,19 +49,9 @@ fn begin(geometry: Geometry) -> Message
 {
     let mut message = Message::new();
     message.add(b"volume");
-    message.add(&model_number(geometry.model).to_be_bytes());
+    message.add(&geometry.model.number().to_be_bytes());
     message.add(&geometry.cylinders.to_be_bytes());
     message
-}
-
-// The number of a drive's model.
-fn model_number(model: DriveModel) -> u16
-    ensures { result ≡ model_number_of model }
-{
-    match model {
-        DriveModel::D2311 => 2311,
-        DriveModel::D2314 => 2314,
-    }
 }
 
 // What the tracks say goes to the message, each of which is loaded into the slot; and how many can't be read.

@@ -10,4 +10,4 @@ returns-in-Ok-clause-does c = λ s.
     let old = across c.args.subsystem.now.channels s in
     let new = across c.attach_new.new.self.channels s in
     Done refl (subst (λ (o : Option DriveModel). AttachesOf o c.args.address c.args.cylinders old new) (sym c.in-Some.is
-    ∙ c.model_of.ensures) (c.in-Ok.ensures.attached s))
+    ∙ c.numbered.ensures) (c.in-Ok.ensures.attached s))

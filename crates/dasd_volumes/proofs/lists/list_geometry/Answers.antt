@@ -22,7 +22,7 @@ returns g c = subst (λ t. WritesWhole c.write_whole.result (seen_by g.W.Write.c
           c.from.ensures,
           c.from-2.ensures,
           c.from-3.ensures,
-          c.model_number.ensures,
+          c.number.ensures,
           c.heads.ensures,
         ) (simp (append_assoc))
 

@@ -3,8 +3,7 @@ use Rattle.std.proofs.lemmas.Result.{err_from_is_err_and}
 use Rattle.std.specs.Fmt.{decimal}
 use Rattle.std.specs.List.{concat}
 use Rattle.counted_io.specs.Streams.{seen_by, WritesWhole}
-use Rattle.dasd_volumes.specs.Lines.{model_number_of}
-use Rattle.ckd_track.specs.Model.{heads_of}
+use Rattle.ckd_track.specs.Model.{heads_of, model_number_of}
 use Rattle.dasd_volumes.proofs.Together.{together_is}
 use Rattle.dasd_volumes.proofs.Printing.{then_whole, stopped_before}
 use Rattle.dasd_volumes.proofs.objects.list_volume_object.Goals as goal
@@ -42,7 +41,7 @@ returns g c =
           c.from.ensures,
           c.from-2.ensures,
           c.from-3.ensures,
-          c.model_number.ensures,
+          c.number.ensures,
           c.heads.ensures,
         ) (together_is [] pieces)
 

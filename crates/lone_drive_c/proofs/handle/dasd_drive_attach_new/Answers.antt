@@ -15,4 +15,4 @@ returns-in-Ok-clause-refused c none failed =
       reason = OutOfMemory;
       told = told ∙ c.hold.ensures.no_memory (λ done. failed (told ∙ done));
       holds = c.in-Ok.ensures.some;
-    } in subst (λ (o : Option DriveModel). WhyNone o c.args.cylinders code) (sym c.in-Some.is ∙ c.model_of.ensures) why
+    } in subst (λ (o : Option DriveModel). WhyNone o c.args.cylinders code) (sym c.in-Some.is ∙ c.numbered.ensures) why
