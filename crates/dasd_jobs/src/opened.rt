@@ -14,11 +14,11 @@ ghost use Rattle.dasd_jobs.specs.Opening.{IsHeadOf, AddsFile, AddsHead, NotAdded
 
 use crate::faults::{JobFault, of_mount, of_read};
 use crate::files::{ImageFiles, OpenedFile};
-use crate::headers::{HEADER, HeaderStore};
+use crate::headers::HeaderStore;
 use crate::lengths::{Reach, judged_at, lacking, left_out, remark_reach, tracks_in};
 use crate::reasons::{Head, remark_on};
 use arrayvec::ArrayVec;
-use ckd_image::{Image, MOST_FILES, MountFault, StoreFault};
+use ckd_image::{HEADER_LENGTH, Image, MOST_FILES, MountFault, StoreFault};
 use ckd_track::Geometry;
 use dasd_volumes::SlotReader;
 use ghost_data::Count;
@@ -121,7 +121,7 @@ fn load_from<O: OpenedFile>(
     let Some(place) = place_of(tracks, track) else {
         return Ok(0);
     };
-    let at = HEADER as u64 + place.track as u64 * size as u64;
+    let at = HEADER_LENGTH as u64 + place.track as u64 * size as u64;
     match read_from(files, place.file, at, slot) {
         Ok(()) => Ok(slot.len()),
         Err(fault) => Err(fault),
@@ -242,8 +242,8 @@ fn read_head<O: OpenedFile>(file: &mut O) -> Result<Head, JobFault>
     ensures fault { IfErr result (λ e. e ≡ JobFault.Read) }
 {
     let len = file.len();
-    let mut header = [0; HEADER];
-    if len < HEADER as u64 {
+    let mut header = [0; HEADER_LENGTH];
+    if len < HEADER_LENGTH as u64 {
         return Ok(Head { header, len });
     }
     match file.read_at(0, &mut header) {
@@ -323,7 +323,7 @@ impl<O: OpenedFile> OpenedVolume<O> {
     /// # Errors
     ///
     /// A header can't be read, or there is no memory.
-    pub fn read_headers(&mut self, alloc: Global) -> Result<Vec<[u8; HEADER]>, JobFault>
+    pub fn read_headers(&mut self, alloc: Global) -> Result<Vec<[u8; HEADER_LENGTH]>, JobFault>
         ensures headers { IfOk result (λ headers. AllZip IsHeader self.old.contents headers.items) }
         ensures kept { self.new ≡ self.old }
         ensures fault { IfErr result (λ e. (e ≡ JobFault.Read) ⊎ (e ≡ JobFault.OutOfMemory)) }
@@ -336,7 +336,7 @@ impl<O: OpenedFile> OpenedVolume<O> {
 fn headers_of<O: OpenedFile>(
     alloc: Global,
     files: &mut Vec<O>,
-) -> Result<Vec<[u8; HEADER]>, JobFault>
+) -> Result<Vec<[u8; HEADER_LENGTH]>, JobFault>
     ensures headers { IfOk result (λ headers. AllZip IsHeader (map O.content files.old.items) headers.items) }
     ensures kept { map O.content files.new.items ≡ map O.content files.old.items }
     ensures fault { IfErr result (λ e. (e ≡ JobFault.Read) ⊎ (e ≡ JobFault.OutOfMemory)) }
@@ -355,13 +355,16 @@ fn headers_of<O: OpenedFile>(
 }
 
 // The header of the file at this place.
-fn header_of<O: OpenedFile>(files: &mut Vec<O>, place: usize) -> Result<[u8; HEADER], JobFault>
+fn header_of<O: OpenedFile>(
+    files: &mut Vec<O>,
+    place: usize,
+) -> Result<[u8; HEADER_LENGTH], JobFault>
     requires { place < vec_len files.old }
     ensures header { IfOk result (IsHeader (slice_index_or (map O.content files.old.items) place None)) }
     ensures kept { map O.content files.new.items ≡ map O.content files.old.items }
     ensures fault { IfErr result (λ e. e ≡ JobFault.Read) }
 {
-    let mut header = [0; HEADER];
+    let mut header = [0; HEADER_LENGTH];
     match read_from(files, place, 0, &mut header) {
         Ok(()) => Ok(header),
         Err(_) => Err(JobFault::Read),
