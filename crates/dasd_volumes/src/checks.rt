@@ -1,6 +1,6 @@
 //! The tracks of a volume that can't be read.
 
-ghost use Rattle.std.specs.Prelude.{◌≡◌, ◌≢◌, false, length, IfOk, IfErr, OnOk};
+ghost use Rattle.std.specs.Prelude.{◌≡◌, ◌≢◌, ◌<◌, false, length, IfOk, IfErr, OnOk};
 ghost use Rattle.counted_io.specs.Streams.{seen_by, WritesWhole, IsFlushed};
 ghost use Rattle.ckd_track.specs.Track.{track_of};
 ghost use Rattle.dasd_volumes.specs.Printing.{PrintsText, CountsWrites, CountsFindings};
@@ -15,7 +15,7 @@ use crate::reading::SlotReader;
 use crate::text::PrintedAddress;
 use crate::walks::{EachTrack, VolumeTrack, all_tracks, each_track};
 use arrayvec::ArrayString;
-use ckd_track::{SlotFault, read_slot};
+use ckd_track::{Geometry, SlotFault, read_slot};
 use counted_io::{Counted, WriteFault, write_flushed};
 use std::alloc::Global;
 use std::io::Write;
@@ -29,7 +29,8 @@ struct CheckedTracks<'a, P> {
 }
 
 /// Prints each track of a volume that can't be read, with why, and then how many there are, which it answers. Of a
-/// large volume it shows each cylinder. Nothing is shown while a line is written, nor behind the call.
+/// large volume it shows each cylinder, before its first track is read. Nothing is shown while a line is written, nor
+/// behind the call.
 ///
 /// # Errors
 ///
@@ -79,6 +80,7 @@ fn check_tracks<V: SlotReader, W: Write, P: Progress>(
     ensures volume { IsRead result (V.volume volume.old) (V.volume volume.new) (V.failures volume.old) (V.failures volume.new) }
 {
     let geometry = volume.geometry();
+    show_cylinder(progress, geometry, 0);
     let mut check = CheckedTracks {
         progress,
         findings: 0,
@@ -114,10 +116,10 @@ impl<'a, P: Progress> EachTrack for CheckedTracks<'a, P> {
         track: VolumeTrack,
         slot: &[u8],
     ) -> Result<(), VolumeFault> {
-        show_cylinder(self.progress, track);
         match check_track(writer, self.progress, track, slot) {
             Ok(found) => {
                 self.findings = self.findings.saturating_add(found);
+                show_next(self.progress, track);
                 Ok(())
             }
             Err(WriteFault) => Err(VolumeFault::Write),
@@ -129,8 +131,17 @@ impl<'a, P: Progress> EachTrack for CheckedTracks<'a, P> {
     ghost kept = { λ a b c first next. next ∙ first };
 }
 
-// Shows the cylinder of a large volume, at its first track.
-fn show_cylinder<P: Progress>(progress: &mut P, track: VolumeTrack)
+// Shows a cylinder of a large volume.
+fn show_cylinder<P: Progress>(progress: &mut P, geometry: Geometry, cylinder: u16)
+    requires { cylinder < geometry.cylinders }
+{
+    if is_large(geometry) {
+        progress.show(Stage::Checking(cylinder + 1, geometry.cylinders));
+    }
+}
+
+// Shows the next cylinder of a large volume, behind the last track of one.
+fn show_next<P: Progress>(progress: &mut P, track: VolumeTrack)
     requires { IsTrack track }
 {
     let VolumeTrack {
@@ -138,8 +149,8 @@ fn show_cylinder<P: Progress>(progress: &mut P, track: VolumeTrack)
         cylinder,
         head,
     } = track;
-    if head == 0 && is_large(geometry) {
-        progress.show(Stage::Checking(cylinder + 1, geometry.cylinders));
+    if head + 1 == geometry.model.heads() && cylinder + 1 < geometry.cylinders {
+        show_cylinder(progress, geometry, cylinder + 1);
     }
 }
 
