@@ -109,39 +109,45 @@ pub record Saved (was now : ImageState) (slot : List ℕ) (track : ℕ) (r : Res
   })
   pub size : length (get_or now.slots track []) ≡ was.geometry.track_size
 
--- with all that is seen of an image before and now, since each of it stays or is counted
-pub saved : (g : Geometry) (files new origins : List (List ℕ)) (slot : List ℕ) (track before now loads saves : ℕ)
-    (r : Result (Unit {0}) StoreFault) → mount_of files ≡ Ok g → mount_of new ≡ Ok g → track < tracks_of g → length slot ≡ g.track_size
-    → map (take 512) new ≡ map (take 512) files → OnOk r (slot_bytes new ≡ overwritten (slot_bytes files) (track * g.track_size) slot)
-    → OnErr r (Torn (slot_bytes files) (slot_bytes new) (track * g.track_size) g.track_size) → Counts before now r
-    → Saved (seen g files origins before loads saves) (seen g new origins now loads (saves + 1)) slot track r
-saved g files new origins slot track before now loads saves r mounts mounts_now exists size headers written torn counted =
-    by r written torn counted
-  where
-    long : length (get_or (slots_of g new) track []) ≡ g.track_size
-    long = length-slot g.track_size (tracks_of g) track (slot_bytes new) exists (let behind = (mount_fits new g mounts_now).is_length in
-        omega arith)
+-- a write of the slot of a track to the files of an image of this geometry, as it was answered and is counted
+pub record WritesSlot (g : Geometry) (files new : List (List ℕ)) (slot : List ℕ) (track before now : ℕ)
+    (r : Result (Unit {0}) StoreFault) : Type 0 where
+  pub mounts : mount_of files ≡ Ok g
+  pub mounts_now : mount_of new ≡ Ok g
+  pub exists : track < tracks_of g
+  pub size : length slot ≡ g.track_size
+  pub headers : map (take 512) new ≡ map (take 512) files
+  pub written : OnOk r (slot_bytes new ≡ overwritten (slot_bytes files) (track * g.track_size) slot)
+  pub torn : OnErr r (Torn (slot_bytes files) (slot_bytes new) (track * g.track_size) g.track_size)
+  pub counted : Counts before now r
 
-    by : (r : Result (Unit {0}) StoreFault) → OnOk r (slot_bytes new ≡ overwritten (slot_bytes files) (track * g.track_size) slot)
-        → OnErr r (Torn (slot_bytes files) (slot_bytes new) (track * g.track_size) g.track_size) → Counts before now r
-        → Saved (seen g files origins before loads saves) (seen g new origins now loads (saves + 1)) slot track r
-    by (Ok v) written torn counted =
-        record {
-          geometry = refl;
-          ok = rw (headers, slots_put g files new slot track mounts exists size written, counted) refl;
-          err =
-              tt;
-          size = long;
-        }
-    by (Err e) written torn counted =
-        let at = track * g.track_size in
-        let behind = (mount_fits files g mounts).is_length in
-        let within = slot_within g.track_size (tracks_of g) track exists in
-        let ends : at + g.track_size ≤ length (slot_bytes files) = omega arith in
-        let part = slice_range (slot_bytes new) at (at + g.track_size) in
-        let part_size : length part ≡ g.track_size = length-between (slot_bytes new) at (at + g.track_size) (rw torn.same_length ends)
-        ∙ omega arith in
-        let slots : slots_of g new ≡ set (slots_of g files) track part = slots_put g files new part track mounts exists part_size
-        (torn_is (slot_bytes files) (slot_bytes new) at g.track_size torn ends) in
-        let there : get_or (slots_of g new) track [] ≡ part = sym (slot_is g new track exists) in
-        record { geometry = refl; ok = tt; err = rw (there, headers, slots, counted) refl; size = long }
+-- what stands in the place of a slot that was written is as long as a slot, also where the write failed
+length-slot_written : {g : Geometry} {files new : List (List ℕ)} {slot : List ℕ} {track before now : ℕ} {r : Result (Unit {0}) StoreFault}
+    → WritesSlot g files new slot track before now r → length (get_or (slots_of g new) track []) ≡ g.track_size
+length-slot_written {g} {files} {new} {slot} {track} w =
+    let behind = (mount_fits new g w.mounts_now).is_length in
+    length-slot g.track_size (tracks_of g) track (slot_bytes new) w.exists (omega arith)
+
+-- an image whose slot was written, in all that is seen of it, since each of it stays or is counted
+pub saved : {g : Geometry} {files new : List (List ℕ)} {slot : List ℕ} {track before now : ℕ} (origins : List (List ℕ))
+    (loads saves : ℕ) (r : Result (Unit {0}) StoreFault) → WritesSlot g files new slot track before now r
+    → Saved (seen g files origins before loads saves) (seen g new origins now loads (saves + 1)) slot track r
+saved {g} {files} {new} {slot} {track} origins loads saves (Ok v) w =
+    record {
+      geometry = refl;
+      ok = rw (w.headers, slots_put g files new slot track w.mounts w.exists w.size w.written, w.counted) refl;
+      err = tt;
+      size = length-slot_written w;
+    }
+saved {g} {files} {new} {slot} {track} origins loads saves (Err e) w =
+    let at = track * g.track_size in
+    let behind = (mount_fits files g w.mounts).is_length in
+    let within = slot_within g.track_size (tracks_of g) track w.exists in
+    let ends : at + g.track_size ≤ length (slot_bytes files) = omega arith in
+    let part = slice_range (slot_bytes new) at (at + g.track_size) in
+    let part_size : length part ≡ g.track_size = length-between (slot_bytes new) at (at + g.track_size) (rw w.torn.same_length ends)
+    ∙ omega arith in
+    let slots : slots_of g new ≡ set (slots_of g files) track part = slots_put g files new part track w.mounts w.exists part_size
+    (torn_is (slot_bytes files) (slot_bytes new) at g.track_size w.torn ends) in
+    let there : get_or (slots_of g new) track [] ≡ part = sym (slot_is g new track w.exists) in
+    record { geometry = refl; ok = tt; err = rw (there, w.headers, slots, w.counted) refl; size = length-slot_written w }

@@ -172,34 +172,40 @@ joined_next model size before next total file files in_order long j =
           more_bytes (heads_of model * size) before (next - before) total file files long (rw split j.bytes);
     }
 
--- files in parts, by their headers; its premises are many, since it goes along both lists at once, and the number of a
--- part, the end of the one before it and where it begins are others with each step
-joined : (first : FileHeader) (n previous : ℕ) (model : DriveModel) (size before total : ℕ) (headers : List FileHeader)
-    (files : List (List ℕ)) → before ≤ previous + 1 → are_parts first n previous headers ≡ true → AreHeaders headers files
-    → cylinders_in (heads_of model * size) before headers ≡ Some total → Joined model size before total files
-joined first n previous model size before total [] files order parts are found = cc
-joined first n previous model size before total (last ∷ []) (file ∷ []) order parts are found =
-    joined_last model size before total last file are.0.is_len found
-joined first n previous model size before total (h ∷ g ∷ rest) (file ∷ files) order parts are found =
-    let next = h.highest_cylinder + 1 in
-    let a = and_parts (is_part first n h) (nat_lt previous h.highest_cylinder && are_parts first (n + 1) h.highest_cylinder (g ∷ rest))
-    parts in
-    let b = and_parts (nat_lt previous h.highest_cylinder) (are_parts first (n + 1) h.highest_cylinder (g ∷ rest)) a.1 in
-    let up = ltb-true previous h.highest_cylinder b.0 in
-    let it = kept_if (h.len == 512 + (next - before) * (heads_of model * size)) (cylinders_in (heads_of model * size) next (g ∷ rest)) total
-    found in
-    joined_next model size before next total file files (omega arith) (sym are.0.is_len
-    ∙ eqb-true h.len (512 + (next - before) * (heads_of model * size)) it.0)
-    (joined first (n + 1) h.highest_cylinder model size next total (g ∷ rest) files (omega arith) b.1 are.1 it.1)
-joined first n previous model size before total (h ∷ rest) [] order parts are found = absurd are
-joined first n previous model size before total (h ∷ []) (file ∷ more ∷ files) order parts are found = absurd are.1
+-- where the parts of a volume go on: the number of the part that comes next, the highest cylinder of the one before it, and
+-- how many cylinders the files before it hold
+record NextPart : Type 0 where
+  pub number : ℕ
+  pub previous : ℕ
+  pub before : ℕ
+
+-- files in parts, by their headers; it goes along both lists at once
+joined : (first : FileHeader) (part : NextPart) (model : DriveModel) (size total : ℕ) (headers : List FileHeader) (files : List (List ℕ))
+    → part.before ≤ part.previous + 1 → are_parts first part.number part.previous headers ≡ true → AreHeaders headers files
+    → cylinders_in (heads_of model * size) part.before headers ≡ Some total → Joined model size part.before total files
+joined first part model size total [] files order parts are found = cc
+joined first part model size total (last ∷ []) (file ∷ []) order parts are found =
+    joined_last model size part.before total last file are.0.is_len found
+joined first part model size total (h ∷ g ∷ rest) (file ∷ files) order parts are found =
+    let next : NextPart = record { number = part.number + 1; previous = h.highest_cylinder; before = h.highest_cylinder + 1 } in
+    let behind = are_parts first next.number next.previous (g ∷ rest) in
+    let a = and_parts (is_part first part.number h) (nat_lt part.previous h.highest_cylinder && behind) parts in
+    let b = and_parts (nat_lt part.previous h.highest_cylinder) behind a.1 in
+    let up = ltb-true part.previous h.highest_cylinder b.0 in
+    let it = kept_if (h.len == 512 + (next.before - part.before) * (heads_of model * size))
+    (cylinders_in (heads_of model * size) next.before (g ∷ rest)) total found in
+    joined_next model size part.before next.before total file files (omega arith) (sym are.0.is_len
+    ∙ eqb-true h.len (512 + (next.before - part.before) * (heads_of model * size)) it.0)
+    (joined first next model size total (g ∷ rest) files (omega arith) b.1 are.1 it.1)
+joined first part model size total (h ∷ rest) [] order parts are found = absurd are
+joined first part model size total (h ∷ []) (file ∷ more ∷ files) order parts are found = absurd are.1
 
 together : (model : DriveModel) (size total : ℕ) (headers : List FileHeader) (files : List (List ℕ)) → are_together headers ≡ true
     → AreHeaders headers files → cylinders_in (heads_of model * size) 0 headers ≡ Some total → Joined model size 0 total files
 together model size total [] files is are found = cc
 together model size total (only ∷ []) (file ∷ []) is are found = joined_last model size 0 total only file are.0.is_len found
-together model size total (first ∷ second ∷ rest) files is are found = joined first 1 0 model size 0 total (first ∷ second ∷ rest) files
-    (omega arith) is are found
+together model size total (first ∷ second ∷ rest) files is are found =
+    joined first (record { number = 1; previous = 0; before = 0 }) model size total (first ∷ second ∷ rest) files (omega arith) is are found
 together model size total (only ∷ []) [] is are found = absurd are
 together model size total (only ∷ []) (file ∷ more ∷ files) is are found = absurd are.1
 

@@ -20,7 +20,7 @@ use Rattle.ckd_position.specs.declared.areas.RecordPart.{RecordPart}
 use Rattle.ckd_position.specs.declared.extents.AreaBytes.{AreaBytes}
 use Rattle.ckd_position.specs.declared.extents.AreaBytes.TheVariants as extent
 use Rattle.ckd_position.specs.Contents.{Sighted, bytes_of, record_on, records_on, is_readable}
-use Rattle.ckd_slot.specs.Buffer.{Lies, Tabled, IsRead, IsBuffer, HasBytes, StandsThere, home_address_place, record_place}
+use Rattle.ckd_slot.specs.Buffer.{Lies, Tabled, IsRead, IsIndexed, IsBuffer, HasBytes, StandsThere, home_address_place, record_place}
 
 take_five : (slot ha : List ℕ) → take 5 slot ≡ ha → take 4 (drop 1 slot) ≡ drop 1 ha
 take_five [] ha e = rw (← e) refl
@@ -84,10 +84,14 @@ pub record Reads (slot : List ℕ) : Type 0 where
   pub read : track_of slot ≡ Ok (track_in slot)
   pub spells : Spells slot (track_in slot)
 
+pub reads_indexed : {slot offsets : List ℕ} {records : Option ℕ} → IsIndexed slot offsets records → is_readable (track_of slot) ≡ true
+    → Reads slot
+reads_indexed {slot} {offsets} {records = Some n} x e = record { read = x.read.read; spells = x.read.spells }
+reads_indexed {slot} {offsets} {records = None} x e = absurd (let no : is_readable (track_of slot) ≡ false = x.read in cc)
+
 pub reads : {slot offsets : List ℕ} {records : Option ℕ} {zeros_from : ℕ} {charged : Charged}
     → IsBuffer slot offsets records zeros_from charged → is_readable (track_of slot) ≡ true → Reads slot
-reads {slot} {offsets} {records = Some n} x e = record { read = x.indexed.read.read; spells = x.indexed.read.spells }
-reads {slot} {offsets} {records = None} x e = absurd (let no : is_readable (track_of slot) ≡ false = x.indexed.read in cc)
+reads x e = reads_indexed x.indexed e
 
 pub home_window : {slot : List ℕ} (e : AreaBytes) → Reads slot → Lies slot (home_address_place e) (bytes_of e (track_of slot) HomeAddress)
 home_window {slot} e r =

@@ -1,6 +1,6 @@
 -- What writes leave of the slot and of the table.
 use Rattle.std.proofs.Common.{◌≡◌, ◌∙◌, ap, sym, subst, refl, ℕ, zero, suc, ◌+◌, ◌-◌, ◌*◌, ◌/◌, ◌^◌, ◌≤◌, ◌<◌, min, List, [], ◌∷◌, ◌++◌}
-use Rattle.std.proofs.Common.{Bool, true, false, length, take, drop, set, flat_map, replicate, slice_index, bytes_eq, length-append}
+use Rattle.std.proofs.Common.{true, false, length, take, drop, set, flat_map, replicate, slice_index, bytes_eq, length-append}
 use Rattle.std.proofs.Common.{length-take, length-set, append-nil, Option, Some, None, Ok, unwrap_or, All, sum_by, arith}
 use Rattle.std.specs.Option.{ForSome}
 use Rattle.std.proofs.lemmas.List.{length-replicate, take_min, take_at, take-take, take_more_set, get_or_at}
@@ -33,7 +33,7 @@ use Rattle.ckd_slot.specs.declared.charges.Charged.{Charged}
 use Rattle.ckd_position.specs.declared.extents.AreaBytes.{AreaBytes}
 use Rattle.ckd_position.specs.declared.extents.AreaBytes.TheVariants as extent
 use Rattle.ckd_slot.specs.declared.windows.Window.{Window}
-use Rattle.ckd_slot.proofs.AreaPlaces.{Reads, reads, parts_there, how_many}
+use Rattle.ckd_slot.proofs.AreaPlaces.{Reads, reads_indexed, parts_there, how_many}
 use Rattle.ckd_slot.proofs.Lengths.{lengths_of}
 use Rattle.ckd_slot.proofs.Begun.{zeros_first}
 
@@ -136,32 +136,47 @@ pub record Fitting (slot : List ℕ) (number : ℕ) (after : Option Area) (count
   pub there : number ≤ length (track_in slot).records
   pub room : length (spelling (formatted (track_of slot) after count)) ≤ length slot
 
--- by what the code asked of the track as it sees it, and by the answer; each is a premise, since the code has them from
--- several calls
-pub fitting : (slot : List ℕ) (model : DriveModel) (before : Option ℕ) (after : Option Area) (count : List ℕ) (seen : Track) (n : ℕ)
-    (answer : Bool) → Spells slot (track_in slot) → AreBytes count → length count ≡ 8
-    → kept_records before (track_in slot) ≡ kept (track_of slot) after → ForSome before (λ i. i < length (track_in slot).records)
-    → track_of slot ≡ Ok seen → n ≡ number_up_to before
-    → answer ≡ has_room model (take n seen.records) (key_length count) (data_length count) → answer ≡ true
+-- the count bytes of a record
+pub record AreCountBytes (count : List ℕ) : Type 0 where
+  pub bytes : AreBytes count
+  pub eight : length count ≡ 8
+
+-- the last record that a new one behind this area leaves before it
+pub record StandsBefore (slot : List ℕ) (before : Option ℕ) (after : Option Area) : Type 0 where
+  pub same : kept_records before (track_in slot) ≡ kept (track_of slot) after
+  pub there : ForSome before (λ i. i < length (track_in slot).records)
+
+-- what the code asked of the track as it sees it, and what it was answered: a record of these count bytes has room behind
+-- the first ones, so many of them
+pub record AnsweredRoom (slot : List ℕ) (model : DriveModel) (before : Option ℕ) (count : List ℕ) (n : ℕ) : Type 0 where
+  pub seen : Track
+  pub read : track_of slot ≡ Ok seen
+  pub number : n ≡ number_up_to before
+  pub room : has_room model (take n seen.records) (key_length count) (data_length count) ≡ true
+
+-- a new record of these count bytes fits, by what the code asked of the track and was answered
+pub fitting : (slot : List ℕ) (model : DriveModel) (before : Option ℕ) (after : Option Area) (count : List ℕ) (n : ℕ)
+    → Spells slot (track_in slot) → AreCountBytes count → StandsBefore slot before after → AnsweredRoom slot model before count n
     → capacity_of model + 37 ≤ length slot → Fitting slot n after count × (fits_track model after count (track_of slot) ≡ true)
-fitting slot model before after count seen n answer s b eight same there read is by_sum holds size =
-    let same_track : track_in slot ≡ seen = ap track_or_none read in
+fitting slot model before after count n s b last asked size =
+    let same_track : track_in slot ≡ asked.seen = ap track_or_none asked.read in
+    let is = asked.number in
     let has : has_room model (kept_records before (track_in slot)) (key_length count) (data_length count) ≡ true =
-    rw (kept_take (track_in slot) before, same_track, ← is) (sym by_sum ∙ holds) in
+    rw (kept_take (track_in slot) before, same_track, ← is) asked.room in
     let S : Track → Type 0 = λ x. length (spelling x) ≤ capacity_of model + 37 in
-    let le = subst S (formatted_is slot before after count eight same) (leaves_room model (track_in slot) before (key_length count)
-    (data_length count) s.home_address s.records has count (replicate (body_length count) 0) eight refl refl (length-replicate {A =
+    let le = subst S (formatted_is slot before after count b.eight last.same) (leaves_room model (track_in slot) before (key_length count)
+    (data_length count) s.home_address s.records has count (replicate (body_length count) 0) b.eight refl refl (length-replicate {A =
     ℕ} (body_length count) 0)) in (
       record {
         spells = s;
-        bytes = b;
-        eight = eight;
+        bytes = b.bytes;
+        eight = b.eight;
         no_mark = no_end_mark model (kept_records before (track_in slot)) count has;
-        same = rw is (sym (kept_take (track_in slot) before) ∙ same);
-        there = rw is (up_to_le (track_in slot) before there);
+        same = rw is (sym (kept_take (track_in slot) before) ∙ last.same);
+        there = rw is (up_to_le (track_in slot) before last.there);
         room = omega (arith, le, size);
       },
-      ap (λ (rs : List Record). has_room model rs (key_length count) (data_length count)) (sym same) ∙ has,
+      ap (λ (rs : List Record). has_room model rs (key_length count) (data_length count)) (sym last.same) ∙ has,
     )
 
 module _ {slot : List ℕ} {number : ℕ} {after : Option Area} {count : List ℕ} (k : Fitting slot number after count) where
@@ -430,16 +445,15 @@ pub record Made (slot : List ℕ) (number : ℕ) (count : List ℕ) (w : Window)
   pub few : 13 + 8 * number ≤ length slot
   pub size : length slot < 2 ^ 32
 
--- a new record in a buffer; it names each field that the buffer keeps beside its slot, and the record by its parts
-pub made_by : {slot offsets : List ℕ} {records : Option ℕ} {zeros_from : ℕ} {charged : Charged} {bytes : List ℕ} (number : ℕ)
-    (count : List ℕ) (w : Window)
-    → IsBuffer slot offsets records zeros_from charged → is_readable (track_of slot) ≡ true → AreBytes count → length count ≡ 8
+-- a new record in a slot beside its table
+pub made_by : {slot offsets : List ℕ} {records : Option ℕ} {bytes : List ℕ} (number : ℕ) (count : List ℕ) (w : Window)
+    → IsIndexed slot offsets records → is_readable (track_of slot) ≡ true → AreCountBytes count
     → CanMake (length slot) (track_of slot) number count w bytes → Made slot number count w
-made_by {slot} number count w x r bytes eight can =
+made_by {slot} number count w x r b can =
     let k : Fitting slot number (area_before number) count = record {
-      spells = (reads x r).spells;
-      bytes = bytes;
-      eight = eight;
+      spells = (reads_indexed x r).spells;
+      bytes = b.bytes;
+      eight = b.eight;
       no_mark = can.no_end_mark;
       same = sym (kept_number number (track_in slot));
       there = can.there;
@@ -457,7 +471,7 @@ made_by {slot} number count w x r bytes eight can =
       room = omega (arith, start, len, format_room k);
       few =
           omega (arith, can.there, few);
-      size = x.indexed.size;
+      size = x.size;
     }
 
 -- the records that are kept are the first ones, so many of them

@@ -8,6 +8,5 @@ pub write_at-tells : goal.write_at-tells
 write_at-tells x c =
     let old = c.args.self.now in
     let new = c.new.self.now in
-    told old.store new.store old.made_to_fail new.made_to_fail c.args.at c.args.bytes.now (fails_next old)
-    (has_room old.store c.args.at c.args.bytes.now) c.result c.requires c.ensures.succeeds
-    (ap (λ (f : Failing). f.store) c.ensures.after) (ap (λ (f : Failing). f.made_to_fail) c.ensures.after)
+    told old new c.args.at c.args.bytes.now (fails_next old) (has_room old.store c.args.at c.args.bytes.now) c.result c.requires
+    c.ensures.succeeds (ap (λ (f : Failing). f.store) c.ensures.after) (ap (λ (f : Failing). f.made_to_fail) c.ensures.after)

@@ -3,7 +3,7 @@ use Rattle.std.specs.List.{sum}
 use Rattle.ckd_image.specs.Header.{accepted}
 use Rattle.ckd_image.specs.Image.{ImageState}
 use Rattle.ckd_image.specs.Files.{each, listed}
-use Rattle.ckd_image.proofs.ImageLemmas.{seen, tracks_held, Saved, saved}
+use Rattle.ckd_image.proofs.ImageLemmas.{seen, tracks_held, Saved, WritesSlot, saved}
 use Rattle.ckd_image.proofs.images.Image.save.Goals as goal
 
 pub write_slot-requires-clause-exists : goal.write_slot-requires-clause-exists
@@ -19,10 +19,18 @@ returns g c =
     let new = each g.S.ImageStore.content (listed c.write_slot.new.stores) in
     let origins = each g.S.ImageStore.origin (listed i.stores) in
     let failures = sum (each g.S.ImageStore.failures (listed c.write_slot.new.stores)) in
-    let it = saved i.geometry (each g.S.ImageStore.content (listed i.stores)) new origins c.args.slot.now c.args.track
-    (sum (each g.S.ImageStore.failures (listed i.stores))) failures i.loads i.saves c.write_slot.result c.self.invariant.0
-    (ap accepted e.heads ∙ c.self.invariant.0)
-    (rw (← c.self.view_is) at c.requires.exists) (rw (← c.self.view_is) at c.requires.size) e.headers e.written e.torn e.counted in
+    let written : WritesSlot i.geometry (each g.S.ImageStore.content (listed i.stores)) new c.args.slot.now c.args.track
+    (sum (each g.S.ImageStore.failures (listed i.stores))) failures c.write_slot.result = record {
+      mounts = c.self.invariant.0;
+      mounts_now = ap accepted e.heads ∙ c.self.invariant.0;
+      exists = rw (← c.self.view_is) at c.requires.exists;
+      size = rw (← c.self.view_is) at c.requires.size;
+      headers = e.headers;
+      written = e.written;
+      torn = e.torn;
+      counted = e.counted;
+    } in
+    let it = saved origins i.loads i.saves c.write_slot.result written in
     let k = subst (λ (was : ImageState). Saved was (seen i.geometry new origins failures i.loads (i.saves + 1)) c.args.slot.now c.args.track
     c.write_slot.result) c.self.view_is it in
     rw (e.same, c.next-self-inside.ensures) (record { geometry = k.geometry; ok = k.ok; err = k.err; size = k.size })

@@ -11,59 +11,59 @@ use Rattle.ckd_slot.proofs.buffer.TrackBuffer.format.Goals as goal
 
 pub overflow_sub-place : goal.overflow_sub-place
 overflow_sub-place c =
-    let m = made_by c.args.number c.args.count c.args.place (rw c.self.view_is at c.self.invariant) c.requires.readable
-    (are_bytes c.args.count (search rules)) (search rules) c.requires.can in
+    let m = made_by c.args.number c.args.count c.args.place (rw c.self.view_is at c.self.invariant).indexed c.requires.readable
+    (record { bytes = are_bytes c.args.count (search rules); eight = search rules }) c.requires.can in
     omega (arith, m.start)
 
 pub overflow_cast-place : goal.overflow_cast-place
 overflow_cast-place c =
-    let m = made_by c.args.number c.args.count c.args.place (rw c.self.view_is at c.self.invariant) c.requires.readable
-    (are_bytes c.args.count (search rules)) (search rules) c.requires.can in
+    let m = made_by c.args.number c.args.count c.args.place (rw c.self.view_is at c.self.invariant).indexed c.requires.readable
+    (record { bytes = are_bytes c.args.count (search rules); eight = search rules }) c.requires.can in
     omega (arith, m.room, m.size)
 
 pub index_mut-requires : goal.index_mut-requires
 index_mut-requires c =
     let x = rw c.self.view_is at c.self.invariant in
-    let m = made_by c.args.number c.args.count c.args.place x c.requires.readable (are_bytes c.args.count (search rules))
-    (search rules) c.requires.can in
+    let m = made_by c.args.number c.args.count c.args.place x.indexed c.requires.readable
+    (record { bytes = are_bytes c.args.count (search rules); eight = search rules }) c.requires.can in
     omega (arith, m.few, x.indexed.room)
 
 pub overflow_add-self : goal.overflow_add-self
 overflow_add-self c =
-    let m = made_by c.args.number c.args.count c.args.place (rw c.self.view_is at c.self.invariant) c.requires.readable
-    (are_bytes c.args.count (search rules)) (search rules) c.requires.can in
+    let m = made_by c.args.number c.args.count c.args.place (rw c.self.view_is at c.self.invariant).indexed c.requires.readable
+    (record { bytes = are_bytes c.args.count (search rules); eight = search rules }) c.requires.can in
     omega (arith, m.few, m.size)
 
 pub overflow_add-self-2 : goal.overflow_add-self-2
 overflow_add-self-2 c =
-    let m = made_by c.args.number c.args.count c.args.place (rw c.self.view_is at c.self.invariant) c.requires.readable
-    (are_bytes c.args.count (search rules)) (search rules) c.requires.can in
+    let m = made_by c.args.number c.args.count c.args.place (rw c.self.view_is at c.self.invariant).indexed c.requires.readable
+    (record { bytes = are_bytes c.args.count (search rules); eight = search rules }) c.requires.can in
     omega (arith, m.room, m.size)
 
 pub overflow_add-self-3 : goal.overflow_add-self-3
 overflow_add-self-3 c =
-    let m = made_by c.args.number c.args.count c.args.place (rw c.self.view_is at c.self.invariant) c.requires.readable
-    (are_bytes c.args.count (search rules)) (search rules) c.requires.can in
+    let m = made_by c.args.number c.args.count c.args.place (rw c.self.view_is at c.self.invariant).indexed c.requires.readable
+    (record { bytes = are_bytes c.args.count (search rules); eight = search rules }) c.requires.can in
     omega (arith, m.room, m.size)
 
 pub write_record-requires-clause-before : goal.write_record-requires-clause-before
 write_record-requires-clause-before c =
-    let m = made_by c.args.number c.args.count c.args.place (rw c.self.view_is at c.self.invariant) c.requires.readable
-    (are_bytes c.args.count (search rules)) (search rules) c.requires.can in
+    let m = made_by c.args.number c.args.count c.args.place (rw c.self.view_is at c.self.invariant).indexed c.requires.readable
+    (record { bytes = are_bytes c.args.count (search rules); eight = search rules }) c.requires.can in
     omega (arith, m.start)
 
 pub write_record-requires-clause-room : goal.write_record-requires-clause-room
 write_record-requires-clause-room c =
-    let m = made_by c.args.number c.args.count c.args.place (rw c.self.view_is at c.self.invariant) c.requires.readable
-    (are_bytes c.args.count (search rules)) (search rules) c.requires.can in
+    let m = made_by c.args.number c.args.count c.args.place (rw c.self.view_is at c.self.invariant).indexed c.requires.readable
+    (record { bytes = are_bytes c.args.count (search rules); eight = search rules }) c.requires.can in
     rw (c.deref_mut.ensures.value ∙ c.self.view_is) m.room
 
 pub invariant_of-self : goal.invariant_of-self
 invariant_of-self c =
     let s = c.args.self.now in
     let x = rw c.self.view_is at c.self.invariant in
-    let m = made_by c.args.number c.args.count c.args.place x c.requires.readable (are_bytes c.args.count (search rules))
-    (search rules) c.requires.can in
+    let m = made_by c.args.number c.args.count c.args.place x.indexed c.requires.readable
+    (record { bytes = are_bytes c.args.count (search rules); eight = search rules }) c.requires.can in
     let k = m.fitting in
     let i = c.self.inside in
     let made = slot_of (length s) (made_on (track_of s) c.args.number c.args.count) in
@@ -87,7 +87,7 @@ invariant_of-self c =
 
 pub returns-clause-slot : goal.returns-clause-slot
 returns-clause-slot c =
-    let m = made_by c.args.number c.args.count c.args.place (rw c.self.view_is at c.self.invariant) c.requires.readable
-    (are_bytes c.args.count (search rules)) (search rules) c.requires.can in
+    let m = made_by c.args.number c.args.count c.args.place (rw c.self.view_is at c.self.invariant).indexed c.requires.readable
+    (record { bytes = are_bytes c.args.count (search rules); eight = search rules }) c.requires.can in
     rw (with_items_is c.self.inside.slot c.write_record.new.slot (search rules)) (rw (c.deref_mut.ensures.value
     ∙ c.self.view_is) at c.write_record.ensures ∙ written_slot m.fitting c.args.place c.args.bytes.now m.place c.requires.can.room)

@@ -18,9 +18,14 @@ returns-clause-places c =
     let b = c.before-2.result in
     let r = reads (rw c.self.view_is at c.self.invariant) c.requires.readable in
     let seen = ap track_of (sym (c.deref.ensures.value ∙ c.self.view_is)) ∙ c.view_at-view.ensures.track in
-    let k = fitting s c.args.model b c.args.after c.args.count c.view_at-view.result c.records_up_to-kept.result c.fits.result r.spells
-    (are_bytes c.args.count (search rules)) (search rules) c.before-2.ensures.kept c.before-2.ensures.there seen
-    c.records_up_to-kept.ensures c.fits.ensures.fits c.if-not-fits.false c.requires.size in
+    let k = fitting s c.args.model b c.args.after c.args.count c.records_up_to-kept.result r.spells
+    (record { bytes = are_bytes c.args.count (search rules); eight = search rules })
+    (record { same = c.before-2.ensures.kept; there = c.before-2.ensures.there }) (record {
+      seen = c.view_at-view.result;
+      read = seen;
+      number = c.records_up_to-kept.ensures;
+      room = sym c.fits.ensures.fits ∙ c.if-not-fits.false;
+    }) c.requires.size in
     record {
       fits = k.1;
       is_last = is_last k.0;
