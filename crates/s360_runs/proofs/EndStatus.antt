@@ -65,7 +65,7 @@ good_run s script = run_holds {P = λ key g. Unit {0}} {E = λ st. IsGood} RunGo
       device_end =
           refl;
     }))
-    (λ key g h. (λ f. (good_phase f key g).1, asks_good key g)) (λ used st e h. h)
+    (record { stands = λ key g h. (λ f. (good_phase f key g).1, asks_good key g); ends = λ used st e h. h })
     (λ caw at. walk_holds (λ g. Unit {0}) (λ st. IsGood) caw.key (λ turn g h. tt) (λ f g h. (good_phase f caw.key g).0) script
     (Between (start_point caw s)) tt)
 

@@ -62,7 +62,7 @@ past_sized turn g = grind (arith, turn_sized)
 
 pub keeps_size : KeepsSize
 keeps_size s script = run_holds {P = λ key g. Sized s.storage (storage_in g)} {E = λ st e. Sized s.storage st}
-    (OutcomeKeepsSize s.storage) s script refl seen (λ used st e h. h)
+    (OutcomeKeepsSize s.storage) s script refl (record { stands = seen; ends = λ used st e h. h })
     (λ caw at. walk_holds (λ g. Sized s.storage (storage_in g)) (λ st e. Sized s.storage st) caw.key (λ turn g h. past_sized turn g
     ∙ h) (λ f. next_sized s.storage f caw.key) script (Between (start_point caw s)) refl)
   where

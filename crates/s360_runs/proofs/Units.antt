@@ -54,19 +54,22 @@ module _ (P : ProgramPhase → Type 0) (E : Storage → Ending → Type 0) (key 
   plain_walk_holds step (OneUnit f ∷ rest) g h = next_holds (without_faults rest) (unit None key g) (step g h) (plain_walk_holds step rest)
   plain_walk_holds step (turn ∷ rest) g h = plain_walk_holds step rest (phase_past turn g) (past turn g h)
 
+-- a property of outcomes is that of the phase in which a program stands, and that of the ending of one that is over
+pub record OutcomeIs (P : ℕ → ProgramPhase → Type 0) (E : Storage → Ending → Type 0) (O : Outcome → Type 0) : Type 0 where
+  pub stands : (key : ℕ) (g : ProgramPhase) → P key g → O (NotEnded (standing_in key g))
+  pub ends : (used : ℕ) (st : Storage) (e : Ending) → E st e → O (Ended used st e)
+
 -- what holds of a run that starts nothing, and of a walk from its start, holds of the run
 pub run_holds : {P : (key : ℕ) → ProgramPhase → Type 0} {E : Storage → Ending → Type 0} (O : Outcome → Type 0) (s : Start) (script : Script)
-    → O (run_from script s None)
-    → ((key : ℕ) (g : ProgramPhase) → P key g → O (NotEnded (standing_in key g))) → ((used : ℕ) (st : Storage) (e : Ending) → E st e
-    → O (Ended used st e))
+    → O (run_from script s None) → OutcomeIs P E O
     → ((caw : Caw) → caw_of s.caw ≡ Some caw → WalkIs (P caw.key) E (walk script caw.key (Between (start_point caw s)))) → O (run script s)
-run_holds {P} {E} O s script nothing stands ends h = go (caw_of s.caw) refl
+run_holds {P} {E} O s script nothing is h = go (caw_of s.caw) refl
   where
     go : (c : Option Caw) → caw_of s.caw ≡ c → O (run_from script s c)
     go None at = nothing
     go (Some caw) at = rw (run_walk s caw script)
         ((elim (walk script caw.key (Between (start_point caw s))) as (λ w. WalkIs (P caw.key) E w
-        → O (outcome_of script caw.key w)) [ StandsIn g ↦ stands caw.key g | EndsWith rest st e ↦ ends _ st e ]) (h caw at))
+        → O (outcome_of script caw.key w)) [ StandsIn g ↦ is.stands caw.key g | EndsWith rest st e ↦ is.ends _ st e ]) (h caw at))
 
 -- a turn that is no unit leaves the drive
 pub past_state : (turn : Turn) (g : ProgramPhase) → state_in (phase_past turn g) ≡ state_in g

@@ -98,8 +98,8 @@ no_fault_nothing_told s script = (told script, rw (first_is_unit s).first_is (ca
     told script = run_holds {P = λ key g. Calm (Quiet s.drive) (state_in g)} {E = λ st. TellsNoFault s.drive}
         (OutcomeTellsNoFault s.drive) s (without_faults script)
         (calm_ending s.drive 0 (first_place 0) (untouched (begin_program s.drive)) PROGRAM_CHECK (record { saved = refl; quiet = λ q. q }))
-        (λ key g h. (calm_phase s.drive key g h).1) (λ used st e h. h) (λ caw at. calm_walk s.drive script caw.key
-        (Between (start_point caw s)) (calm_start caw s))
+        (record { stands = λ key g h. (calm_phase s.drive key g h).1; ends = λ used st e h. h })
+        (λ caw at. calm_walk s.drive script caw.key (Between (start_point caw s)) (calm_start caw s))
 
 -- Where a program stands, nothing is lost.
 

@@ -144,7 +144,7 @@ module _ (n : ℕ) (v : Volume) (s : Start) (caw : Caw) where
 
 pub run_keeps : RunKeeps
 run_keeps s script n h = run_holds {P = CutKeeps n s.drive.volume} {E = λ st e. slot_in e.drive.volume n ≡ slot_in s.drive.volume n}
-    (OutcomeKeeps n s.drive.volume) s script refl (λ key g k. k) (λ used st e k. k)
+    (OutcomeKeeps n s.drive.volume) s script refl (record { stands = λ key g k. k; ends = λ used st e k. k })
     (λ caw at. keeps_on n s.drive.volume s caw [] script (Between (start_point caw s)) refl (ap (run_writes_from n script s) (sym at)
     ∙ h) refl)
 
