@@ -1,5 +1,5 @@
 -- The bytes of an area stand where its record stands.
-use Rattle.std.proofs.Common.{◌≡◌, ◌∙◌, ap, sym, refl, ℕ, ◌+◌, ◌-◌, ◌/◌, ◌%◌, ◌≤◌, ◌<◌, List, [], ◌∷◌, ◌++◌, true, false, ◌==◌, length}
+use Rattle.std.proofs.Common.{Bool, ◌≡◌, ◌∙◌, ap, sym, refl, ℕ, ◌+◌, ◌-◌, ◌/◌, ◌%◌, ◌≤◌, ◌<◌, List, [], ◌∷◌, ◌++◌, true, false, ◌==◌, length}
 use Rattle.std.proofs.Common.{take, drop, slice_index, length-drop, length-take, length-append, drop-drop, Option, Some, None, Result, Ok}
 use Rattle.std.proofs.Common.{Err, Fits, w8, get_or, IfOk, arith}
 use Rattle.std.specs.Result.{result_ok}
@@ -89,8 +89,8 @@ pub reads_indexed : {slot offsets : List ℕ} {records : Option ℕ} → IsIndex
 reads_indexed {slot} {offsets} {records = Some n} x e = record { read = x.read.read; spells = x.read.spells }
 reads_indexed {slot} {offsets} {records = None} x e = absurd (let no : is_readable (track_of slot) ≡ false = x.read in cc)
 
-pub reads : {slot offsets : List ℕ} {records : Option ℕ} {zeros_from : ℕ} {charged : Charged}
-    → IsBuffer slot offsets records zeros_from charged → is_readable (track_of slot) ≡ true → Reads slot
+pub reads : {slot offsets : List ℕ} {records : Option ℕ} {zeros_from : ℕ} {charged : Charged} {exact : Bool}
+    → IsBuffer slot offsets records zeros_from charged exact → is_readable (track_of slot) ≡ true → Reads slot
 reads x e = reads_indexed x.indexed e
 
 pub home_window : {slot : List ℕ} (e : AreaBytes) → Reads slot → Lies slot (home_address_place e) (bytes_of e (track_of slot) HomeAddress)

@@ -1,11 +1,14 @@
 -- What follows from the lengths of keys and data: where records stand, and what they take.
-use Rattle.std.proofs.Common.{◌≡◌, ◌∙◌, ap, sym, refl, ℕ, ◌+◌, ◌-◌, List, [], ◌∷◌, length, take, map, sum_by, nat_le, if◌then◌else◌, Some}
+use Rattle.std.proofs.Common.{◌≡◌, ◌∙◌, ap, sym, refl, ℕ, ◌+◌, ◌-◌, List, All, [], ◌∷◌, length, take, map, flat_map, sum_by, nat_le, if◌then◌else◌, Some, length-append}
 use Rattle.std.proofs.Common.{None, arith}
 use Rattle.std.proofs.lemmas.List.{take-map}
+use Rattle.std.proofs.lemmas.List.Elements.{All-head, All-tail}
 use Rattle.std.proofs.lemmas.List.Sums.{sum_by-cons}
 use Rattle.ckd_track.specs.declared.model.DriveModel.{DriveModel}
 use Rattle.ckd_track.specs.Model.{capacity_of}
-use Rattle.ckd_track.specs.Track.{Record, Track, record_offsets, offsets_from, record_size}
+use Rattle.ckd_track.specs.Track.{Record, Track, IsRecord, record_bytes, record_offsets, offsets_from, record_size}
+use Rattle.ckd_track.specs.Changes.{end_offset}
+use Rattle.ckd_track.proofs.Places.{length-record_bytes}
 use Rattle.ckd_track.specs.Charges.{charge_of, r0_charge_of, record_charge, kept_charges, capacity_left}
 use Rattle.ckd_slot.specs.Buffer.{lengths_on}
 
@@ -56,3 +59,22 @@ same_left model t' t n same =
     let k = charges_are model t'.records n ∙ ap (λ (ls : List (ℕ × ℕ)). charges_by model (take n ls)) same
     ∙ sym (charges_are model t.records n) in
     ap (λ (k : ℕ). if nat_le k (capacity_of model) then Some (capacity_of model - k) else None) k
+
+-- the bytes of records by the lengths of their keys and data
+abbrev sizes_by : List (ℕ × ℕ) → ℕ
+sizes_by [] = 0
+sizes_by (l ∷ ls) = 8 + (l.0 + l.1) + sizes_by ls
+
+sizes_are : (rs : List Record) → All IsRecord rs → length (flat_map record_bytes rs) ≡ sizes_by (map lengths_of rs)
+sizes_are [] are = refl
+sizes_are (r ∷ rs) are = omega (
+  arith,
+  length-append (record_bytes r) (flat_map record_bytes rs),
+  length-record_bytes r (All-head IsRecord r rs are),
+  sizes_are rs (All-tail IsRecord r rs are),
+)
+
+-- and end where those do
+pub same_end : (t' t : Track) → length t'.home_address ≡ 5 → length t.home_address ≡ 5 → All IsRecord t'.records → All IsRecord t.records
+    → lengths_on t' ≡ lengths_on t → end_offset t' ≡ end_offset t
+same_end t' t five' five are' are same = omega (arith, five', five, sizes_are t'.records are', sizes_are t.records are, ap sizes_by same)

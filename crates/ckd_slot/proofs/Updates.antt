@@ -1,5 +1,5 @@
 -- Slots whose area is written bit by bit.
-use Rattle.std.proofs.Common.{◌≡◌, ◌∙◌, ap, sym, refl, ℕ, ◌+◌, ◌-◌, ◌≤◌, ◌<◌, max, false, Option, Some, None, List, ◌++◌, length, take}
+use Rattle.std.proofs.Common.{◌≡◌, ◌∙◌, ap, sym, refl, ℕ, ◌+◌, ◌-◌, ◌≤◌, ◌<◌, max, false, Option, Some, None, List, ◌++◌, length, take, Bool, true}
 use Rattle.std.proofs.Common.{drop, replicate, length-append, append_assoc, Ok, arith}
 use Rattle.std.proofs.lemmas.List.{length-replicate, replicate-append-replicate, length-take-le, drop_at, take-append-drop}
 use Rattle.ckd_track.specs.Track.{Track, Spells, track_of, track_in, track_or_none, record_in, slot_of, end_mark}
@@ -7,16 +7,18 @@ use Rattle.ckd_track.specs.Changes.{end_offset, overwritten, ended_at, IsZeroFro
 use Rattle.ckd_track.proofs.Slots.{slot_of_spells, slot_of_reads, length-slot_of}
 use Rattle.ckd_track.proofs.Places.{place-le, end_is}
 use Rattle.ckd_track.proofs.Rewritten.{length-overwritten, overwritten-middle, ended}
+use Rattle.ckd_position.specs.declared.areas.Area.{Area}
 use Rattle.ckd_position.specs.declared.areas.Area.TheVariants.{Of}
 use Rattle.ckd_position.specs.declared.areas.RecordPart.{RecordPart}
 use Rattle.ckd_position.specs.declared.extents.AreaBytes.{AreaBytes}
 use Rattle.ckd_position.specs.Contents.{is_readable, padded, replaced, with_record_changed}
-use Rattle.ckd_slot.specs.Buffer.{FitsSlot, IsUpdate, SameRecords, IsIndexed, IsBuffer, lengths_on}
+use Rattle.ckd_slot.specs.Buffer.{FitsSlot, IsUpdate, IsUpdateAt, SameRecords, IsIndexed, IsBuffer, lengths_on}
 use Rattle.ckd_slot.specs.declared.charges.Charged.{Charged}
-use Rattle.ckd_slot.proofs.Lengths.{same_offsets, same_left}
+use Rattle.ckd_slot.specs.declared.windows.Window.{Window}
+use Rattle.ckd_slot.proofs.Lengths.{same_offsets, same_left, same_end}
 use Rattle.ckd_track.proofs.Zeros.{drop_over, zero_over, ended_zeros}
 use Rattle.ckd_slot.proofs.AreaPlaces.{Reads}
-use Rattle.ckd_slot.proofs.Writes.{IsUpdated, update_is, update_offset, update_length}
+use Rattle.ckd_slot.proofs.Writes.{IsUpdated, update_is, update_offset, update_length, padded_whole, replaces}
 
 -- A write before the end mark leaves the end mark and the zeros behind it.
 ended_same : (s : List ℕ) (t : Track) (off : ℕ) (b : List ℕ) → Spells s t → s ≡ slot_of (length s) t → off + length b ≤ end_offset t
@@ -109,30 +111,54 @@ put_indexed {old} {new} {offsets} {records = None} x s long = absurd (let no : i
     ap is_readable s.old_read in cc)
 
 -- a buffer whose slot got other bytes; it names each field that the buffer keeps beside its slot
-pub kept_buffer : {old new offsets : List ℕ} {records : Option ℕ} {zeros_from z : ℕ} {charged : Charged}
-    → IsBuffer old offsets records zeros_from charged → SameRecords old new → length new ≡ length old → IsZeroFrom new z
-    → IsBuffer new offsets records z charged
+pub kept_buffer : {old new offsets : List ℕ} {records : Option ℕ} {zeros_from z : ℕ} {charged : Charged} {exact : Bool}
+    → IsBuffer old offsets records zeros_from charged exact → SameRecords old new → length new ≡ length old → IsZeroFrom new z
+    → IsBuffer new offsets records z charged false
 kept_buffer {old} {new} {charged} x s long cleared = record {
   indexed = put_indexed x.indexed s long;
   cleared = cleared;
   charges = x.charges ∙ sym (same_left charged.model (track_in new) (track_in old) charged.records s.lengths);
+  as_spelled = λ e. absurd (let no : false ≡ true = e in cc);
 }
 
 -- a buffer in whose slot bytes are put; it names each field that the buffer keeps beside its slot
-pub put_buffer : {old offsets : List ℕ} {records : Option ℕ} {zeros_from : ℕ} {charged : Charged} (at : ℕ) (b : List ℕ)
-    → IsBuffer old offsets records zeros_from charged → at + length b ≤ length old → SameRecords old (overwritten old at b)
-    → IsBuffer (overwritten old at b) offsets records (max zeros_from (at + length b)) charged
+pub put_buffer : {old offsets : List ℕ} {records : Option ℕ} {zeros_from : ℕ} {charged : Charged} {exact : Bool} (at : ℕ) (b : List ℕ)
+    → IsBuffer old offsets records zeros_from charged exact → at + length b ≤ length old → SameRecords old (overwritten old at b)
+    → IsBuffer (overwritten old at b) offsets records (max zeros_from (at + length b)) charged false
 put_buffer {old} {zeros_from} at b x room s =
     kept_buffer x s (length-overwritten old at b room) (zero_over old at b zeros_from (max zeros_from (at + length b)) x.cleared
     (omega arith) (omega arith) (omega (arith, x.cleared.within, room)))
 
 -- a buffer whose slot is updated; it names each field that the buffer keeps beside its slot
-pub updated_buffer : {old offsets body : List ℕ} {records : Option ℕ} {zeros_from off : ℕ} {charged : Charged} {t : Track}
-    → IsBuffer old offsets records zeros_from charged → Reads old → IsUpdated old (track_in old) off body t
-    → IsBuffer (slot_of (length old) t) offsets records (end_offset (track_in old) + 8) charged
+pub updated_buffer : {old offsets body : List ℕ} {records : Option ℕ} {zeros_from off : ℕ} {charged : Charged} {exact : Bool} {t : Track}
+    → IsBuffer old offsets records zeros_from charged exact → Reads old → IsUpdated old (track_in old) off body t
+    → IsBuffer (slot_of (length old) t) offsets records (end_offset (track_in old) + 8) charged true
 updated_buffer {old} {body} {off} {t} x r k =
     let room : end_offset (track_in old) + 8 ≤ length old =
     omega (arith, place-le old (track_in old) r.spells (length (track_in old).records), end_is (track_in old)) in
-    kept_buffer x (same_records (length old) old (slot_of (length old) t) t r.read k.fits refl k.lengths)
-    (length-slot_of (length old) t k.fits.room)
-    (ended_zeros old off body (end_offset (track_in old)) (slot_of (length old) t) (omega (arith, k.within, room)) room (sym k.law))
+    let new = slot_of (length old) t in
+    let long : length new ≡ length old = length-slot_of (length old) t k.fits.room in
+    let same : track_in new ≡ t = ap track_or_none (slot_of_reads (length old) t k.fits.home_address k.fits.records) in
+    let y = kept_buffer x (same_records (length old) old new t r.read k.fits refl k.lengths) long
+    (ended_zeros old off body (end_offset (track_in old)) new (omega (arith, k.within, room)) room (sym k.law)) in
+    record {
+      indexed = y.indexed;
+      cleared = y.cleared;
+      charges = y.charges;
+      as_spelled = λ e. record {
+        whole = rw (same, long) refl;
+        zeros = rw same (ap (λ (n : ℕ). n + 8) (sym (same_end t (track_in old) k.fits.home_address r.spells.home_address k.fits.records
+            r.spells.records k.lengths)));
+      };
+    }
+
+-- An exact slot in which as many bytes of a record are replaced as an update changes is the slot that the update leaves.
+pub exact_update : {old body : List ℕ} {off : ℕ} {t : Track} → old ≡ slot_of (length old) (track_in old) → Reads old
+    → IsUpdated old (track_in old) off body t → overwritten old off body ≡ slot_of (length old) t
+exact_update {old} {body} {off} exact r k = sym (ended_same old (track_in old) off body r.spells exact k.within) ∙ k.law
+
+-- as many bytes as an update changes, in their place
+pub whole_update : (slot : List ℕ) (t : Track) (e : AreaBytes) (a : Area) (w : Window) (bytes : List ℕ) → Spells slot t
+    → IsUpdateAt t e a w → length bytes ≡ w.len → IsUpdated slot t w.start bytes (with_record_changed (replaced e bytes) a t)
+whole_update slot t e a w bytes s at same =
+    rw (padded_whole bytes w.len same) at (replaces slot t e a w bytes s at (omega (arith, same)))

@@ -1,5 +1,5 @@
 -- What writes leave of the slot and of the table.
-use Rattle.std.proofs.Common.{◌≡◌, ◌∙◌, ap, sym, subst, refl, ℕ, zero, suc, ◌+◌, ◌-◌, ◌*◌, ◌/◌, ◌^◌, ◌≤◌, ◌<◌, min, List, [], ◌∷◌, ◌++◌}
+use Rattle.std.proofs.Common.{Bool, ◌≡◌, ◌∙◌, ap, sym, subst, refl, ℕ, zero, suc, ◌+◌, ◌-◌, ◌*◌, ◌/◌, ◌^◌, ◌≤◌, ◌<◌, min, List, [], ◌∷◌, ◌++◌}
 use Rattle.std.proofs.Common.{true, false, length, take, drop, set, flat_map, replicate, slice_index, bytes_eq, length-append}
 use Rattle.std.proofs.Common.{length-take, length-set, append-nil, Option, Some, None, Ok, unwrap_or, All, sum_by, arith}
 use Rattle.std.specs.Option.{ForSome}
@@ -91,8 +91,8 @@ bare_fits size ha five room = record {
 
 -- The buffer's records.
 
-pub records_are : {slot offsets : List ℕ} {records : Option ℕ} {zeros_from : ℕ} {charged : Charged} (m : ℕ)
-    → IsBuffer slot offsets records zeros_from charged → is_readable (track_of slot) ≡ true → m ≡ unwrap_or records 0
+pub records_are : {slot offsets : List ℕ} {records : Option ℕ} {zeros_from : ℕ} {charged : Charged} {exact : Bool} (m : ℕ)
+    → IsBuffer slot offsets records zeros_from charged exact → is_readable (track_of slot) ≡ true → m ≡ unwrap_or records 0
     → m ≡ length (track_in slot).records
 records_are {slot} {offsets} {records = Some n} m x r e = e ∙ how_many x.indexed.read
 records_are {slot} {offsets} {records = None} m x r e = absurd (let no : is_readable (track_of slot) ≡ false = x.indexed.read in cc)

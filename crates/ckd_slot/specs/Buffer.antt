@@ -7,7 +7,7 @@ use Rattle.ckd_track.specs.declared.model.DriveModel.{DriveModel}
 use Rattle.ckd_position.specs.declared.areas.Area.{Area}
 use Rattle.ckd_position.specs.declared.areas.Area.TheVariants.{HomeAddress, Of}
 use Rattle.ckd_position.specs.declared.areas.RecordPart.TheVariants as part
-use Rattle.ckd_track.specs.Changes.{IsZeroFrom, overwritten}
+use Rattle.ckd_track.specs.Changes.{IsZeroFrom, end_offset, overwritten}
 use Rattle.ckd_track.specs.Charges.{capacity_left, has_room}
 use Rattle.ckd_slot.specs.declared.windows.Window.{Window}
 use Rattle.ckd_slot.specs.declared.charges.Charged.{Charged}
@@ -43,11 +43,18 @@ pub record IsIndexed (slot offsets : List ℕ) (records : Option ℕ) : Type 0 w
 abbrev pub IsCharged : List Record → Charged → Type 0
 IsCharged rs c = c.left ≡ capacity_left c.model (take c.records rs)
 
--- a slot with its table and what its first records leave of the capacity, of which only the bytes before an offset can be other than zero
-pub record IsBuffer (slot offsets : List ℕ) (records : Option ℕ) (zeros_from : ℕ) (charged : Charged) : Type 0 where
+-- a slot that is just what its track is spelled as, whose zeros begin behind the end mark
+pub record IsExact (slot : List ℕ) (zeros_from : ℕ) : Type 0 where
+  pub whole : slot ≡ slot_of (length slot) (track_in slot)
+  pub zeros : zeros_from ≡ end_offset (track_in slot) + 8
+
+-- a slot with its table and what its first records leave of the capacity, of which only the bytes before an offset can be other than zero,
+-- and which may be known to be exact
+pub record IsBuffer (slot offsets : List ℕ) (records : Option ℕ) (zeros_from : ℕ) (charged : Charged) (exact : Bool) : Type 0 where
   pub indexed : IsIndexed slot offsets records
   pub cleared : IsZeroFrom slot zeros_from
   pub charges : IsCharged (track_in slot).records charged
+  pub as_spelled : exact ≡ true → IsExact slot zeros_from
 
 -- where these bytes of the home address stand
 abbrev pub home_address_place : AreaBytes → Window

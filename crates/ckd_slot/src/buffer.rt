@@ -35,6 +35,8 @@ pub struct TrackBuffer {
     pub(crate) records: Option<usize>,
     /// From here on all bytes of the slot are zero, so that nothing is left there to be cleared.
     pub(crate) zeros_from: usize,
+    /// Whether it is known to be just what its track is spelled as, and the zeros to begin behind the end mark.
+    pub(crate) exact: bool,
     /// What its first records leave of the capacity, as far as it was asked.
     pub(crate) charged: Charged,
 }
@@ -47,7 +49,7 @@ impl Model for TrackBuffer {
 
     ghost view = { λ b. b.slot.items };
 
-    ghost invariant = { λ b. IsBuffer b.slot.items b.offsets.items b.records b.zeros_from b.charged };
+    ghost invariant = { λ b. IsBuffer b.slot.items b.offsets.items b.records b.zeros_from b.charged b.exact };
 }
 
 // Notes where the records stand, and answers how many there are if the slot reads whole.
@@ -228,6 +230,7 @@ impl TrackBuffer {
             offsets,
             records,
             zeros_from: size,
+            exact: false,
             charged: Charged::none(DriveModel::D2314),
         })
     }
@@ -263,6 +266,7 @@ impl TrackBuffer {
     {
         let answer = image.load(track, &mut self.slot);
         self.zeros_from = self.slot.len();
+        self.exact = false;
         self.records = index(&self.slot, &mut self.offsets);
         self.charged.keep(0);
         answer
@@ -371,6 +375,7 @@ impl TrackBuffer {
         put_home_address(&mut self.slot, &home_address, self.zeros_from);
         self.records = Some(0);
         self.zeros_from = RECORDS_START + COUNT_LENGTH;
+        self.exact = false;
         self.charged.keep(0);
     }
 
@@ -416,6 +421,7 @@ impl TrackBuffer {
         self.offsets[number] = (place.start - COUNT_LENGTH) as u32;
         self.records = Some(number + 1);
         self.zeros_from = place.start + place.len + COUNT_LENGTH;
+        self.exact = false;
         self.charged.keep(number);
         write_record(&mut self.slot, &count, place, bytes, zeros_from);
     }
@@ -434,10 +440,30 @@ impl TrackBuffer {
         ensures fitted { FitsSlot (length self.old) (track_in self.old) }
         ensures size { length self.new ≡ length self.old }
     {
+        // mostly there are zeros behind the end mark since an update before it
+        if self.exact && bytes.len() == place.len {
+            overwrite(&mut self.slot, place.start, bytes);
+            return;
+        }
+        self.replace_and_clear(place, bytes);
+    }
+
+    // The same, also where something is to be cleared.
+    // By itself, since that is mostly a track's first update.
+    #[inline(never)]
+    fn replace_and_clear(&mut self, place: Window, bytes: &[u8])
+        requires readable { is_readable (track_of self.old) ≡ true }
+        requires there { HasUpdateAt (track_in self.old) place }
+        requires first { length bytes.now ≤ place.len }
+        ensures slot { (e : AreaBytes) (a : Area) → IsUpdateAt (track_in self.old) e a place → self.new ≡
+            slot_of (length self.old) (with_record_changed (replaced e bytes.now) a (track_in self.old)) }
+        ensures size { length self.new ≡ length self.old }
+    {
         let end = self.end_of(self.count());
         let zeros_from = self.zeros_from;
         // noted first, so that the copy is the last that is done
         self.zeros_from = end + COUNT_LENGTH;
+        self.exact = true;
         write_area(&mut self.slot, place, bytes, end, zeros_from);
     }
 
@@ -450,6 +476,7 @@ impl TrackBuffer {
     {
         // noted first, so that the copy is the last that is done
         self.zeros_from = self.zeros_from.max(at + bytes.len());
+        self.exact = false;
         overwrite(&mut self.slot, at, bytes);
     }
 }

@@ -21,6 +21,7 @@ impl TrackBuffer {
             offsets: Vec::from_slice(alloc, &self.offsets)?,
             records: self.records,
             zeros_from: self.zeros_from,
+            exact: self.exact,
             charged: self.charged,
         })
     }

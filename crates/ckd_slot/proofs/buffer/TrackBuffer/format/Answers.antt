@@ -1,4 +1,4 @@
-use Rattle.std.proofs.Common.{◌≡◌, ◌∙◌, ◌+◌, ◌-◌, max, Some, set, refl, sym, length, arith, rules}
+use Rattle.std.proofs.Common.{◌≡◌, ◌∙◌, ◌+◌, ◌-◌, max, Some, false, true, set, refl, sym, length, arith, rules}
 use Rattle.std.proofs.lemmas.List.{with_items_is}
 use Rattle.ckd_track.specs.Track.{track_in, track_of, slot_of, body_length}
 use Rattle.ckd_track.proofs.Offsets.{are_bytes}
@@ -74,10 +74,11 @@ invariant_of-self c =
     let behind : c.args.place.start - 8 ≡ at = omega (arith, m.start) in
     let last : c.args.place.start + c.args.place.len + 8 ≡ z = omega (arith, m.start, m.len) in
     let room = format_room k in
-    let base : IsBuffer made (set i.offsets.items c.args.number at) (Some (c.args.number + 1)) z c.keep.new.self = record {
+    let base : IsBuffer made (set i.offsets.items c.args.number at) (Some (c.args.number + 1)) z c.keep.new.self false = record {
       indexed = format_indexed k i.offsets.items i.records at x.indexed c.requires.readable refl;
       cleared = new_zeros s at c.args.count (body_length c.args.count) made k.eight room (sym (format_slot k));
       charges = c.keep.ensures.kept (track_in s).records (track_in made).records (format_keeps k) x.charges;
+      as_spelled = λ e. absurd (let no : false ≡ true = e in cc);
     } in
     let long = length-slot_of (length s) (made_on (track_of s) c.args.number c.args.count) (format_fits k).room in
     let most : max z (c.args.place.start + length c.args.bytes.now) ≡ z = omega (arith, last, c.requires.can.room) in

@@ -1,4 +1,4 @@
-use Rattle.std.proofs.Common.{◌≡◌, ◌∙◌, refl, length, arith, rules}
+use Rattle.std.proofs.Common.{◌≡◌, ◌∙◌, false, true, refl, length, arith, rules}
 use Rattle.std.proofs.lemmas.List.{with_items_is}
 use Rattle.ckd_track.specs.Track.{track_in}
 use Rattle.ckd_track.specs.Changes.{bare_track}
@@ -20,6 +20,7 @@ invariant_of-self c =
           (bare_fits (length s) ha five c.requires) x.indexed.room x.indexed.size (omega arith) refl);
       cleared = ended_zeros s 0 ha 5 c.put_home_address.new.slot (omega (arith, five, c.requires)) c.requires made;
       charges = c.keep.ensures.kept (track_in i.slot.items).records _ refl c.self.invariant.charges;
+      as_spelled = λ e. absurd (let no : false ≡ true = e in cc);
     })
 
 pub returns-clause-slot : goal.returns-clause-slot
