@@ -172,19 +172,24 @@ save_lost d h h' m new x f same l image =
           ∙ rw (image, held, left_is) refl;
     }
 
--- What a part of a call comes to that saves the track, if it was written, and meets no fault. Its premises are many, since a look
--- and two ways of beginning come here, each by facts of its own.
+-- where a part of a call stands that has saved the track, if it was written
+pub record BehindSave (d : Parts) (h : HalfDone) (s : DriveStage) : Type 0 where
+  pub saved : h.cache ≡ after_save d.job.cache
+  pub unfilled : is_filled s h ≡ false
+  pub at : IsAtTrack d.job.cache.image.geometry h.registers
+  pub stage : StageIs s h
+
+-- What such a part comes to that meets no fault.
 pub comes_saved : (loads saves : Bool) (d : Parts) (h : HalfDone) (s : DriveStage) (after : Option Fault → DriveState)
-    → Stands d → is_filled d.stage d.job ≡ false → saves ≡ is_written_by d.mark → h.cache ≡ after_save d.job.cache → is_filled s h ≡ false
-    → IsAtTrack d.job.cache.image.geometry h.registers → StageIs s h
+    → Stands d → is_filled d.stage d.job ≡ false → saves ≡ is_written_by d.mark → BehindSave d h s
     → state_of (parts_of h Saved s) ≡ with_image (after None) h.cache.image → Comes loads saves (state_of d) after (parts_of h Saved s)
-comes_saved loads saves d h s after x f must e f' at w state =
+comes_saved loads saves d h s after x f must behind state =
     let now = state_of (parts_of h Saved s) in
-    let image : h.cache.image ≡ (after_save d.job.cache).image = ap (λ (c : CacheState). c.image) e in
+    let image : h.cache.image ≡ (after_save d.job.cache).image = ap (λ (c : CacheState). c.image) behind.saved in
     let none : fault_met (state_of d) now ≡ None = fault_none (state_of d) now (ap (λ (i : ImageState). i.failures) image
     ∙ failures_saved d.job.cache) in
     record {
-      stands = saved_stands d h s x e f' at w;
+      stands = saved_stands d h s x behind.saved behind.unfilled behind.at behind.stage;
       state = rw none state;
       calls = calls_of_save loads saves d.job.cache (state_of d) now refl image (changed_is d x f ∙ sym must);
       at_hand = λ more. absurd (no_more d.job.cache.image.loads (sym (ap (λ (i : ImageState). i.loads) image ∙ loads_saved d.job.cache)

@@ -33,15 +33,18 @@ there half x =
 pub new_slot_at : (c : CacheState) (n : ℕ) (new : List ℕ) → c.held ≡ Some n → n < length c.slots → slot_at (with_held c new).slots n ≡ new
 new_slot_at c n new held lt = rw held (get_or-set_same c.slots n new [] lt)
 
+-- so many bytes more fit: what is left behind them lies in this window, and what passed is counted in 32 bits
+pub record FitsWindow (half : HalfDone) (more : List ℕ) (w : Window) : Type 0 where
+  pub left : half.progress.left - length more ≤ w.len
+  pub small : length half.passed + length more < 2 ^ 32
+
 -- The slot at hand has become another, made of a track.
 pub written_absorbs : (half : HalfDone) (before' : List ℕ) (more new : List ℕ) (w : Window) (u : WrittenArea)
-    → Works half → half.cache.held ≡ Some (own_track half) → length new ≡ half.cache.image.geometry.track_size
-    → half.progress.left - length more ≤ w.len
+    → Works half → half.cache.held ≡ Some (own_track half) → length new ≡ half.cache.image.geometry.track_size → FitsWindow half more w
     → HasFilled (at_work (with_taken half more (with_held half.cache new) before' (Filled w u))) w u
     → slice_set half.cache.slots (own_track half) before' ≡ seen_with half half.before half.progress.place
-    → length half.passed + length more < 2 ^ 32
     → Absorbs half more (with_held half.cache new) before' (Filled w u)
-written_absorbs half before' more new w u x held size le filled seen small =
+written_absorbs half before' more new w u x held size room filled seen =
     let c = half.cache in
     let goes = x.goes in
     record {
@@ -56,7 +59,7 @@ written_absorbs half before' more new w u x held size le filled seen small =
         anchored = λ _. held;
         goes = record {
           moved = rw (← goes.moved) (length-append half.passed more);
-          left = le;
+          left = room.left;
           placed = filled;
           no_credit =
               goes.no_credit;
@@ -66,7 +69,7 @@ written_absorbs half before' more new w u x held size le filled seen small =
       seen_same = rw held (set-set c.slots (own_track half) new before' ∙ seen);
       changed = sym (or-true c.changed);
       still = λ _. refl;
-      small = small;
+      small = room.small;
     }
 
 -- a slot that reads whole reads to its track
@@ -106,35 +109,47 @@ pub record ClosesFilled (job : AtWork) (b : List ℕ) (fill : Filling) : Type 0 
       ≡ Some (filled_with fill (padded (drop fill.lead b) (room_of fill)))
   pub wants : length_after (geometry_in job) (track_of job.before) job.opened job.registers b ≡ fill.lead + room_of fill
 
--- an area is filled once all of these are known of it: three commands come here, each by facts of its own
+-- bytes are written in an area of a record of the track, which a slot of this size holds
+pub record WritesArea (size : ℕ) (fill : Filling) : Type 0 where
+  pub update : IsUpdate fill.extent
+  pub fits : FitsSlot size fill.track
+  pub there : fill.number < length fill.track.records
+
+-- so many bytes have passed, and the rest of the area lies in this window
+pub record LeavesRest (passed : ℕ) (w : Window) (fill : Filling) : Type 0 where
+  pub begins : fill.lead ≤ passed
+  pub lead_small : fill.lead ≤ 8
+  pub start : w.start ≡ update_offset fill.extent fill.track fill.number + (passed - fill.lead)
+  pub rest : w.len + (passed - fill.lead) ≡ room_of fill
+
+-- an area is filled: three commands come here, each by facts of its own
 abbrev pub form_filled : (job : AtWork) (now : List ℕ) (w : Window) (fill : Filling)
-    → IsUpdate fill.extent → FitsSlot (geometry_in job).track_size fill.track → fill.number < length fill.track.records
-    → lengths_on (track_in now) ≡ lengths_on fill.track → fill.lead ≤ length job.passed → fill.lead ≤ 8
-    → w.start ≡ update_offset fill.extent fill.track fill.number + (length job.passed - fill.lead) → w.len + (length job.passed - fill.lead)
-    ≡ room_of fill
+    → WritesArea (geometry_in job).track_size fill → lengths_on (track_in now) ≡ lengths_on fill.track
+    → LeavesRest (length job.passed) w fill
     → ((more : List ℕ) → length more ≤ w.len → ClosesFilled job (job.passed ++ more) fill)
     → IsFilled job now w fill.closes
-form_filled job now w fill upd f lt lens begins small start len k =
+form_filled job now w fill area lens come closes =
     let size = (geometry_in job).track_size in
     let t0 = fill.track in
     let off = update_offset fill.extent t0 fill.number in
     let room = room_of fill in
     let s0 = slot_of size t0 in
-    let long = length-slot_of size t0 f.room in
-    let zeros = form_of size t0 fill.extent fill.part fill.number (replicate room 0) upd f lt (length-replicate {A = ℕ} room 0) in
+    let long = length-slot_of size t0 area.fits.room in
+    let zeros = form_of size t0 fill.extent fill.part fill.number (replicate room 0) area.update area.fits area.there
+    (length-replicate {A = ℕ} room 0) in
     let within : off + room ≤ size = omega (arith, zeros.within, length-replicate {A = ℕ} room 0) in
     record {
       head = take off s0;
       tail = drop (off + room) s0;
       lead = fill.lead;
       room = room;
-      begins = begins;
-      lead_small = small;
-      within = omega (arith, start, len, within);
-      start = omega (arith, start, length-take off s0, long, within);
-      rest = len;
+      begins = come.begins;
+      lead_small = come.lead_small;
+      within = omega (arith, come.start, come.rest, within);
+      start = omega (arith, come.start, length-take off s0, long, within);
+      rest = come.rest;
       closes = λ more le.
-          (let c = k more le in
+          (let c = closes more le in
           let b = job.passed ++ more in
           let body = padded (drop fill.lead b) room in
           let body_long : length body ≡ room = length-padded (drop fill.lead b) room (omega (
@@ -142,10 +157,10 @@ form_filled job now w fill upd f lt lens begins small start len k =
             length-drop fill.lead b,
             length-append job.passed more,
             le,
-            len,
-            begins,
+            come.rest,
+            come.begins,
           )) in
-          let form = form_of size t0 fill.extent fill.part fill.number body upd f lt body_long in
+          let form = form_of size t0 fill.extent fill.part fill.number body area.update area.fits area.there body_long in
           record {
             track = filled_with fill body;
             so = c.so;
@@ -154,7 +169,7 @@ form_filled job now w fill upd f lt lens begins small start len k =
             lengths_stay = form.lengths ∙ sym lens;
             slot_is = form.slot ∙ ap (λ (n : ℕ). take off s0 ++ (body ++ drop (off + n) s0)) body_long;
           });
-      wants = λ more le. (k more le).wants;
+      wants = λ more le. (closes more le).wants;
     }
 
 -- More bytes, which leave the slot so.
@@ -248,6 +263,8 @@ filled_absorbs half more w what may at =
       le = le;
       room = omega (arith, f.within, le);
       records = rw here (same_records g.track_size old new k.track (old_read old h.at_hand.readable) k.fits slot k.lengths_stay);
-      absorbs = rw here (written_absorbs half half.before more new w' what may.works h.at_hand.held read.2 (omega (arith, left, le)) has
-          (rw at refl) (omega (arith, f.start, f.within, f.begins, f.lead_small, le, may.works.volume.geometry.limit)));
+      absorbs = rw here (written_absorbs half half.before more new w' what may.works h.at_hand.held read.2 (record {
+        left = omega (arith, left, le);
+        small = omega (arith, f.start, f.within, f.begins, f.lead_small, le, may.works.volume.geometry.limit);
+      }) has (rw at refl));
     }

@@ -194,17 +194,26 @@ format_absorbs {half} {more} {f} {field} {count} i w k has =
     let place = update_place extent.KeyAndData t0 part.Data i w tt last is_new.place in
     let job = new_work half more new w (written.Record i) in
     let filled : IsFilled job now w (command_end (format_ends half.registers i)) =
-    form_filled job now w (format_filling job part.Data i) tt is_new.spelled last lens (omega (arith, k.eight)) (omega arith)
-    (omega (arith, place.0, k.eight)) (omega (arith, place.1, k.eight))
-    (λ m le. format_filled job m part.Data i k.is k.eight is_new.fits is_new.is_last (omega (arith, le, place.1))) in
+    form_filled job now w (format_filling job part.Data i) (record { update = tt; fits = is_new.spelled; there = last }) lens (record {
+      begins = omega (arith, k.eight);
+      lead_small = omega arith;
+      start = omega (arith, place.0, k.eight);
+      rest = omega (arith, place.1, k.eight);
+    }) (λ m le. format_filled job m part.Data i k.is k.eight is_new.fits is_new.is_last (omega (arith, le, place.1))) in
     let whole : with_record_changed
     (replaced extent.KeyAndData (padded (drop 8 (b ++ [])) (update_length extent.KeyAndData (record_in t0 i)))) (Of part.Data i) t0
     ≡ t0 =
     format_written t a b [] part.Data i k.eight is_new.is_last (omega arith) ∙ ap (λ (y : List ℕ). formatted t a y) (append-nil b) in
-    newly_absorbs half more new w (written.Record i) (omega arith) may.works k.at_hand.held (rw k.collects.placed refl) goes.again
-    may.taking (omega (arith, k.eight, goes.long)) (let left = rw k.is at goes.left in omega (arith, left, k.eight))
-    (omega (arith, k.eight, goes.long))
-    filled (made ∙ ap (slot_of g.track_size) (sym whole))
+    newly_absorbs half more new w (written.Record i) (omega arith) may.works (record {
+      held = k.at_hand.held;
+      plain = rw k.collects.placed refl;
+      again = goes.again;
+      takes = may.taking;
+      some = omega (arith, k.eight, goes.long);
+    }) (record {
+      left = (let left = rw k.is at goes.left in omega (arith, left, k.eight));
+      small = omega (arith, k.eight, goes.long);
+    }) filled (made ∙ ap (slot_of g.track_size) (sym whole))
 
 -- a record that fits is due, and the track stays
 pub due_absorbs : {half : HalfDone} {more f field count : List ℕ} (i : ℕ) (w : Window) → FormatGoes half more f field count

@@ -373,9 +373,12 @@ module _ (old : HalfDone) (was : Mark) (x : Stands (parts_of old was Looking)) w
       let keeps = rw sighted at (sight_keeps old.cache.image.geometry (track_of (own_slot old)) old.opened old.registers x.arm) in
       rw (l.0, l.1)
       (comes_saved _ _ asked (record old { cache = after_save old.cache; registers = q; passed = [] }) Looking _ x refl
-      (rw sighted (and-true (is_written_by was))) refl refl keeps.0
-      (record { transfers = x.work.transfers; credit = rw aimed tt; no_credit = keeps.1 ∙ x.work.no_credit })
-      (rw (sighted, geometry_saved old.cache) refl))
+      (rw sighted (and-true (is_written_by was))) (record {
+        saved = refl;
+        unfilled = refl;
+        at = keeps.0;
+        stage = record { transfers = x.work.transfers; credit = rw aimed tt; no_credit = keeps.1 ∙ x.work.no_credit };
+      }) (rw (sighted, geometry_saved old.cache) refl))
 
   -- The track can't be saved that it goes on from.
   pub lost_looks : (new : HalfDone) (now : Mark) (q : Registers) → sees old.opened ≡ NextHead q → Loses old new now

@@ -1,5 +1,5 @@
 -- Tracks that a command begins to write.
-use Rattle.std.proofs.Common.{◌≡◌, ◌∙◌, ap, sym, refl, ℕ, ◌+◌, ◌-◌, ◌<◌, ◌≤◌, ◌^◌, List, [], ◌∷◌, ◌++◌, true, false, ◌&&◌, ◌==◌, Some}
+use Rattle.std.proofs.Common.{◌≡◌, ◌∙◌, ap, sym, refl, ℕ, ◌+◌, ◌-◌, ◌<◌, ◌≤◌, List, [], ◌∷◌, ◌++◌, true, false, ◌&&◌, ◌==◌, Some}
 use Rattle.std.proofs.Common.{length, take, drop, bytes_eq, length-append, length-take, append-nil, arith}
 use Rattle.std.proofs.lemmas.List.{take-append-drop, drop_all, set-get_or}
 use Rattle.std.proofs.lemmas.Bool.{and_parts, cond_both, eqb-true, false_from_ne_true}
@@ -27,7 +27,7 @@ use Rattle.ckd_drive.specs.Invariant.{HalfDone, own_track, own_slot, action_now,
 use Rattle.ckd_drive.specs.Invariant.{geometry_in, slot_in, action_in, at_work, closes_by}
 use Rattle.ckd_drive.specs.Passing.{Works, Absorbs, whole_of, with_taken}
 use Rattle.ckd_slot.proofs.Writes.{bare_fits}
-use Rattle.ckd_drive.proofs.Fills.{there, new_slot_at, written_absorbs, reads_new}
+use Rattle.ckd_drive.proofs.Fills.{there, new_slot_at, FitsWindow, written_absorbs, reads_new}
 use Rattle.ckd_command.proofs.Closings.{closing_by}
 use Rattle.ckd_command.proofs.Lengths.{length_by}
 use Rattle.ckd_drive.proofs.Takes.{ChangesNothing, Collects, field_goes, field_absorbs}
@@ -37,37 +37,42 @@ use Rattle.ckd_drive.proofs.Standing.{no_filled_seen, slot_is}
 abbrev pub new_work : HalfDone → (more new : List ℕ) → Window → WrittenArea → AtWork
 new_work half more new w what = at_work (with_taken half more (with_held half.cache new) (own_slot half) (Filled w what))
 
--- It goes on. Its premises are many, since three commands come here, each by facts of its own.
+-- a command at whose track the drive stands, and which has written none of it, gets bytes that it writes
+pub record BeginsWriting (half : HalfDone) (more : List ℕ) : Type 0 where
+  pub held : half.cache.held ≡ Some (own_track half)
+  pub plain : is_filled_by half.progress.place ≡ false
+  pub again : sight half.cache.image.geometry (track_of (own_slot half)) half.opened half.registers ≡ Found half.opened
+  pub takes : is_giving (action_now half) ≡ false
+  pub some : 0 < length half.passed + length more
+
+-- It goes on.
 pub newly_absorbs : (half : HalfDone) (more new : List ℕ) (w : Window) (what : WrittenArea) (le0 : length {A = ℕ} [] ≤ w.len)
-    → Works half → half.cache.held ≡ Some (own_track half) → is_filled_by half.progress.place ≡ false
-    → sight half.cache.image.geometry (track_of (own_slot half)) half.opened half.registers ≡ Found half.opened
-    → is_giving (action_now half) ≡ false
-    → 0 < length half.passed + length more → half.progress.left - length more ≤ w.len → length half.passed + length more < 2 ^ 32
+    → Works half → BeginsWriting half more → FitsWindow half more w
     → (f : IsFilled (new_work half more new w what) (slot_in (new_work half more new w what)) w (closes_by half.registers half.opened what))
     → new ≡ slot_of half.cache.image.geometry.track_size (f.closes [] le0).track
     → Absorbs half more (with_held half.cache new) (slot_held half.cache) (Filled w what)
-newly_absorbs half more new w what le0 x held plain again takes some left small f is =
+newly_absorbs half more new w what le0 x begins room f is =
     let c = half.cache in
     let n = own_track half in
     let passed = half.passed in
     let k = f.closes [] le0 in
     let read = reads_new c.image.geometry.track_size k.track new k.fits is in
-    let at_new = new_slot_at c n new held (there half x) in
+    let at_new = new_slot_at c n new begins.held (there half x) in
     let same : (passed ++ more) ++ [] ≡ passed ++ more = append-nil (passed ++ more) in
     let made : new ≡ f.head ++ (padded (drop f.lead (passed ++ more)) f.room ++ f.tail) = rw same at (is ∙ k.slot_is) in
     let wants = rw same at (f.wants [] le0) in
     let far = length-append passed more in
     let has : HasFilled (new_work half more new w what) w what = record {
-      at_hand = record { held = held; readable = rw at_new read.0 };
+      at_hand = record { held = begins.held; readable = rw at_new read.0 };
       size = x.volume.sizes n [] (there half x);
       filled = f;
       slot_is = at_new ∙ made;
-      found = record { again = again; len = omega (arith, wants, f.rest, f.begins) };
-      takes = takes;
-      some = omega (arith, some, far);
+      found = record { again = begins.again; len = omega (arith, wants, f.rest, f.begins) };
+      takes = begins.takes;
+      some = omega (arith, begins.some, far);
     } in
-    rw (slot_is c n (slot_held c) held refl) (written_absorbs half (own_slot half) more new w what x held read.2 left has
-    (set-get_or c.slots n [] ∙ sym (no_filled_seen c.slots n half.before half.progress.place plain)) small)
+    rw (slot_is c n (slot_held c) begins.held refl) (written_absorbs half (own_slot half) more new w what x begins.held read.2 room has
+    (set-get_or c.slots n [] ∙ sym (no_filled_seen c.slots n half.before half.progress.place begins.plain)))
 
 -- What a field is that came whole.
 
@@ -175,6 +180,11 @@ home_absorbs {half} {more} {f} {field} h new x e new_is =
     let lens : lengths_on (track_in now) ≡ lengths_on (bare_track b) =
     ap (λ (y : List ℕ). lengths_on (track_in y)) (new_slot_at c n new held (there half works)) ∙ ap lengths_on read.1 in
     let w : Window = record { start = 5; len = 0 } in
-    newly_absorbs half more new w written.HomeAddress (omega arith) works held (rw x.placed refl) k.again
-    x.may.taking (omega (arith, five, k.long)) (let left = rw home.0 at k.left in omega (arith, left, five)) (omega (arith, five, k.long))
+    newly_absorbs half more new w written.HomeAddress (omega arith) works (record {
+      held = held;
+      plain = rw x.placed refl;
+      again = k.again;
+      takes = x.may.taking;
+      some = omega (arith, five, k.long);
+    }) (record { left = (let left = rw home.0 at k.left in omega (arith, left, five)); small = omega (arith, five, k.long) })
     (home_filled (new_work half more new w written.HomeAddress) now home.0 five (rw come at home.2) room lens) made

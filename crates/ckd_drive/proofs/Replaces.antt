@@ -67,23 +67,29 @@ fill_filling job part i u = record {
   lead = 0;
 }
 
--- how an update of that record closes, by all that a look found of it
-fill_filled : (job : AtWork) (part : RecordPart) (i : ℕ) (b : List ℕ) (u : CommandEnd) → action_in job ≡ action.Update
-    → IsUpdate (extent_of job.opened.command) → track_of job.before ≡ Ok (track_in job.before) → job.opened.area ≡ Some (Of part i)
+-- what a look found of an update: an area of a record of the track, with as many bytes as it gets
+record FindsArea (job : AtWork) (part : RecordPart) (i : ℕ) : Type 0 where
+  pub is : action_in job ≡ action.Update
+  pub update : IsUpdate (extent_of job.opened.command)
+  pub reads : track_of job.before ≡ Ok (track_in job.before)
+  pub area : job.opened.area ≡ Some (Of part i)
+  pub size : length (area_bytes (track_of job.before) job.opened job.registers) ≡ update_length (extent_of job.opened.command)
+      (record_in (track_in job.before) i)
+
+-- how an update of that record closes
+fill_filled : (job : AtWork) (part : RecordPart) (i : ℕ) (b : List ℕ) (u : CommandEnd) → FindsArea job part i
     → 0 < length b → length b ≤ update_length (extent_of job.opened.command) (record_in (track_in job.before) i)
     → command_end (end_of_area (track_of job.before) job.opened job.registers) ≡ u
-    → length (area_bytes (track_of job.before) job.opened job.registers) ≡ update_length (extent_of job.opened.command)
-    (record_in (track_in job.before) i)
     → ClosesFilled job b (fill_filling job part i u)
-fill_filled job part i b u is upd reads there some le so size =
+fill_filled job part i b u found some le so =
     let o = job.opened in
-    let k = update_closes (geometry_in job) job.before o job.registers (Of part i) b is reads there some in
-    let wants = length_by action.Update (geometry_in job) (track_of job.before) o job.registers b is in
+    let k = update_closes (geometry_in job) job.before o job.registers (Of part i) b found.is found.reads found.area some in
+    let wants = length_by action.Update (geometry_in job) (track_of job.before) o job.registers b found.is in
     record {
       so = ap command_end k ∙ so;
       written = ap (λ (y : Closing). y.written) k
-          ∙ ap (λ (y : Track). Some y) (sym (padded_changes (extent_of o.command) part i (track_in job.before) b upd le));
-      wants = omega (arith, wants, size);
+          ∙ ap (λ (y : Track). Some y) (sym (padded_changes (extent_of o.command) part i (track_in job.before) b found.update le));
+      wants = omega (arith, wants, found.size);
     }
 
 -- A command's first bytes that replace others.
@@ -190,15 +196,32 @@ fill_absorbs half more (Of part i) w no_data may at area some k f =
     let none_long : length half.passed ≡ 0 = ap length k.none in
     let w' : Window = record { start = w.start + length more; len = w.len - length more } in
     let job = new_work half more new w' (written.Area no_data) in
+    let found : FindsArea job part i = record {
+      is = k.is;
+      update = upd;
+      reads = old_read old k.hand.readable;
+      area = area;
+      size = k.size ∙ pl.1;
+    } in
     let filled : IsFilled job now w' u =
-    form_filled job now w' (fill_filling job part i u) upd f lt lengths (omega arith) (omega arith) (omega (arith, pl.0, b_long))
-    (omega (arith, pl.1, b_long, k.le))
-    (λ m le. fill_filled job part i (b ++ m) u k.is upd (old_read old k.hand.readable) area (omega (arith, length-append b m, b_long, some))
-    (omega (arith, length-append b m, b_long, le, k.le, pl.1)) k.so (k.size ∙ pl.1)) in
+    form_filled job now w' (fill_filling job part i u) (record { update = upd; fits = f; there = lt }) lengths (record {
+      begins = omega arith;
+      lead_small = omega arith;
+      start = omega (arith, pl.0, b_long);
+      rest = omega (arith, pl.1, b_long, k.le);
+    }) (λ m le. fill_filled job part i (b ++ m) u found (omega (arith, length-append b m, b_long, some))
+    (omega (arith, length-append b m, b_long, le, k.le, pl.1)) k.so) in
     let whole : b ++ [] ≡ more = append-nil b ∙ b_is in
-    newly_absorbs half more new w' (written.Area no_data) (omega arith) may.works k.hand.held (rw at refl) k.again may.taking
-    (omega (arith, some)) (let l = k.left in omega (arith, l)) (omega (arith, none_long, k.le, k.within, may.works.volume.geometry.limit))
-    filled
+    newly_absorbs half more new w' (written.Area no_data) (omega arith) may.works (record {
+      held = k.hand.held;
+      plain = rw at refl;
+      again = k.again;
+      takes = may.taking;
+      some = omega (arith, some);
+    }) (record {
+      left = (let l = k.left in omega (arith, l));
+      small = omega (arith, none_long, k.le, k.within, may.works.volume.geometry.limit);
+    }) filled
     (new_is ∙ ap (λ (y : List ℕ). slot_of size (with_record_changed (replaced e (padded y room)) (Of part i) t)) (sym whole))
 
 -- what such bytes replace, and what they make of the track, by the slot at hand

@@ -110,8 +110,12 @@ module _ (old : HalfDone) (was : Mark) (x : Stands (parts_of old was stage.Idle)
       let w = rw is at well in
       rw (is, l.0, l.1)
       (comes_saved _ _ idle (record old { cache = after_save old.cache; registers = moved_to q 0 0; opened = o }) stage.Looking _ x refl
-      (and-true (is_written_by was)) refl refl (at_zero old.cache q x.volume)
-      (record { transfers = w.1; credit = rw w.2 tt; no_credit = w.0.credit }) (rw (geometry_saved old.cache) refl))
+      (and-true (is_written_by was)) (record {
+        saved = refl;
+        unfilled = refl;
+        at = at_zero old.cache q x.volume;
+        stage = record { transfers = w.1; credit = rw w.2 tt; no_credit = w.0.credit };
+      }) (rw (geometry_saved old.cache) refl))
 
   -- It goes there, and the command is over.
   pub zero_ends : (new : HalfDone) (now : Mark) (q : Registers) → b ≡ ToCylinderZero q None → Leaves old new now (moved_to q 0 0)
@@ -119,8 +123,12 @@ module _ (old : HalfDone) (was : Mark) (x : Stands (parts_of old was stage.Idle)
   zero_ends new now q is l =
       let after : HalfDone = record old { cache = after_save old.cache; registers = moved_to q 0 0 } in
       rw (is, l.0, l.1)
-      (comes_saved _ _ idle after stage.InMotion _ x refl (and-true (is_written_by was)) refl refl (at_zero old.cache q x.volume)
-      (no_credit after.cache after.registers (own_track after) (rw is at well).credit) (rw (geometry_saved old.cache) refl))
+      (comes_saved _ _ idle after stage.InMotion _ x refl (and-true (is_written_by was)) (record {
+        saved = refl;
+        unfilled = refl;
+        at = at_zero old.cache q x.volume;
+        stage = no_credit after.cache after.registers (own_track after) (rw is at well).credit;
+      }) (rw (geometry_saved old.cache) refl))
 
 -- The drive that was called.
 
