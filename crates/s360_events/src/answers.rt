@@ -1,5 +1,7 @@
 //! What a channel answers.
 
+ghost use Rattle.std.specs.Prelude.{◌≡◌, ◌<◌, ◌≤◌, ◌+◌, ◌++◌, ◌∷◌, [], vec_len, vec_capacity};
+
 use crate::conditions::{Condition, Status};
 use arrayvec::ArrayVec;
 use s360_words::Csw;
@@ -31,4 +33,14 @@ pub enum Answer {
     Key(bool),
     /// The bytes from an address on, if they are in storage.
     Show(u32, Option<ArrayVec<u8, 32>>),
+}
+
+/// Puts one answer more behind a list of them, which has room for it.
+pub fn push_answer(answers: &mut Vec<Answer>, answer: Answer)
+    requires { vec_len answers.old < vec_capacity answers.old }
+    ensures items { answers.new.items ≡ answers.old.items ++ answer ∷ [] }
+    ensures len { vec_len answers.new ≡ vec_len answers.old + 1 }
+    ensures capacity { vec_capacity answers.old ≤ vec_capacity answers.new }
+{
+    answers.push(answer).unwrap();
 }

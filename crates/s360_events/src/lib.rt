@@ -5,6 +5,6 @@ mod answers;
 mod conditions;
 mod events;
 
-pub use crate::answers::Answer;
+pub use crate::answers::{Answer, push_answer};
 pub use crate::conditions::{Condition, Status};
 pub use crate::events::{Event, ShowCount, StorageKey};
