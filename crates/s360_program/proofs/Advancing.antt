@@ -13,6 +13,7 @@ use Rattle.s360_runs.specs.Units.{ProgramPhase, Next, EndsIn, standing_in, unit,
 use Rattle.s360_runs.proofs.Walks.{walks_on}
 use Rattle.s360_program.specs.Advances.{IsMet, CameToEnd, Cuts, TellsOf, CutTellsOf}
 use Rattle.s360_program.specs.Steps.{IsMetBy, EndsBy, ToldOf}
+use Rattle.s360_program.proofs.Moments.{LeadsTo, Moment}
 
 -- units behind units; it names both ends and the middle of two walks that it joins
 pub more_units : (key k : ℕ) (phase at next : ProgramPhase) (done n : ℕ) → k ≡ key → walk (units done) key phase ≡ StandsIn at
@@ -26,19 +27,20 @@ met_since None d0 d1 d2 e m = m ∙ e
 met_since (Some LoadFails) d0 d1 d2 e m = m.0 ∙ ap (λ n. n + 1) e
 met_since (Some (SaveFails left)) d0 d1 d2 e m = m ∙ ap (λ n. n + 1) e
 
--- the last unit; it names both ends and the middle of the walk before it and of the unit, which it joins
-pub last_unit : (key k : ℕ) (phase at : ProgramPhase) (done asked : ℕ) (told : Csw × Bool) (s : Storage) (d0 d1 d2 : DriveState) → k ≡ key
-    → walk (units done) key phase ≡ StandsIn at → d1.image.failures ≡ d0.image.failures → done < asked
-    → EndsBy (λ f. unit f k at) told s d1 d2 → CameToEnd key phase asked (done + 1) told s d0 d2
-last_unit key k phase at done asked told s d0 d1 d2 e before same few h = record {
+-- the last unit, behind the moment to which those before it lead
+pub last_unit : (start at : Moment) (done asked : ℕ) (told : Csw × Bool) (s : Storage) (d2 : DriveState) → LeadsTo start done at
+    → at.drive.image.failures ≡ start.drive.image.failures → done < asked → EndsBy (λ f. unit f at.key at.phase) told s at.drive d2
+    → CameToEnd start.key start.phase asked (done + 1) told s start.drive d2
+last_unit start at done asked told s d2 leads same few h = record {
   done = omega (arith, few);
   earlier = done;
   last = refl;
   fault = h.fault;
-  met = met_since h.fault d0 d1 d2 same h.met;
+  met = met_since h.fault start.drive at.drive d2 same h.met;
   ending = h.ending;
-  walk = walks_on (units done) (OneUnit h.fault ∷ []) key phase ∙ ap (λ w. walked_on w key (OneUnit h.fault ∷ [])) before
-      ∙ ap (λ n. on_next [] n (walk [] key)) (subst (λ k. unit h.fault k at ≡ EndsIn s h.ending) e h.ends);
+  walk = walks_on (units done) (OneUnit h.fault ∷ []) start.key start.phase
+      ∙ ap (λ w. walked_on w start.key (OneUnit h.fault ∷ [])) leads.goes
+      ∙ ap (λ n. on_next [] n (walk [] start.key)) (subst (λ k. unit h.fault k at.phase ≡ EndsIn s h.ending) leads.same_key h.ends);
   is_ending = h.is_ending;
 }
 

@@ -117,8 +117,14 @@ module _ (key : ℕ) (p : Place) (s : Storage) (ccw : Ccw) (d0 d1 : DriveState) 
       comes_after (λ f. begin f ccw.code d0.state ≡ Immediate d1.state b.0) (λ f. unit f key (Between before))
       (λ f. next_chosen (choice f key (record { storage = s; ccw = ccw; place = past_ccw p ccw }) (closed_of f d1 d1.work)
       (status_of (condition_for false (closed_of f d1 d1.work).unit)))) key s r1 a d0 d1 d2
-      (λ f at. ap (next_fetched f key before) (sym there) ∙ ap (next_begun f key (requested before ccw)) at ∙ chosen f)
-      none (λ left rose. stable left rose (is_written d1.state) refl) (immediate_same reports) loads calm.quiet
+      (record {
+        same_next = λ f at. ap (next_fetched f key before) (sym there) ∙ ap (next_begun f key (requested before ccw)) at ∙ chosen f;
+        at = none;
+        stable = λ left rose. stable left rose (is_written d1.state) refl;
+        failures = immediate_same reports;
+        loads = loads;
+        quiet = calm.quiet;
+      })
       (subst (λ q. ComesBy key (λ f. next_chosen (choice f key (record { storage = s; ccw = ccw; place = q }) (closed_of f d1 d1.work)
       (status_of (condition_for false (closed_of f d1 d1.work).unit)))) a r1 s d1 d2) past is)
     where

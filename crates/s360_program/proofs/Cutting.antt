@@ -42,7 +42,12 @@ pub cut_untouched : (key : ℕ) (g : Stage) (p : Place) (s : Storage) (d : Drive
 cut_untouched key g p s d w f fits =
     by_stage d.state (λ g w. has_moved w ≡ false → (standing_in key (phase_by g p s d.state w)).cut f ≡ ending f key p
     (untouched d.state) no_channel_status)
-    (λ h. refl) (λ ccw o h. refl) (λ ccw a o l h. refl) (λ ccw a o x b l h. never (sym h)) g w fits
+    (record {
+      between = λ h. refl;
+      looking = λ ccw o h. refl;
+      none_passed = λ ccw a o l h. refl;
+      some_passed = λ ccw a o x b l h. never (sym h);
+    }) g w fits
 
 pub cut_touched : (key : ℕ) (g : Stage) (p : Place) (s : Storage) (d : DriveState) (w : Work) (f : Option Fault) → StageFits g d.state w
     → has_moved w ≡ true
@@ -50,7 +55,12 @@ pub cut_touched : (key : ℕ) (g : Stage) (p : Place) (s : Storage) (d : DriveSt
 cut_touched key g p s d w f fits =
     by_stage d.state (λ g w. has_moved w ≡ true → (standing_in key (phase_by g p s d.state w)).cut f ≡ ending f key p
     (closed_of f d w) no_channel_status)
-    (λ h. never h) (λ ccw o h. never h) (λ ccw a o l h. never h) (λ ccw a o x b l h. refl) g w fits
+    (record {
+      between = λ h. never h;
+      looking = λ ccw o h. never h;
+      none_passed = λ ccw a o l h. never h;
+      some_passed = λ ccw a o x b l h. refl;
+    }) g w fits
 
 -- Whether it saves a track.
 
@@ -65,9 +75,13 @@ joins false false h = refl
 pub untouched_written : (g : Stage) (p : Place) (s : Storage) (st : State) (w : Work) → StageFits g st w → has_moved w ≡ false
     → is_written st ≡ has_written (phase_by g p s st w)
 untouched_written g p s st w fits =
-    by_stage st (λ g w. has_moved w ≡ false → is_written st ≡ has_written (phase_by g p s st w)) (λ h. refl) (λ ccw o h. refl)
-    (λ ccw a o l h. sym (joins (is_written st) _ (untouched_unwritten (record { opened = o; state = st }))))
-    (λ ccw a o x b l h. never (sym h)) g w fits
+    by_stage st (λ g w. has_moved w ≡ false → is_written st ≡ has_written (phase_by g p s st w))
+    (record {
+      between = λ h. refl;
+      looking = λ ccw o h. refl;
+      none_passed = λ ccw a o l h. sym (joins (is_written st) _ (untouched_unwritten (record { opened = o; state = st })));
+      some_passed = λ ccw a o x b l h. never (sym h);
+    }) g w fits
 
 stays_written : (s : State) (c : Closing) (m : Bool) → m ≡ false → is_written s ≡ true → is_written (closed None s c m).state ≡ true
 stays_written s c true e w = never (sym e)
@@ -123,7 +137,12 @@ touched_written g p s d0 d1 fits moved state calls = by_saves (end_saves d0) ref
     written saves e =
         by_stage d0.state (λ g w. has_moved w ≡ true → end_saves_of d0 w ≡ saves → (saves || is_written (closed_of None d0 w).state)
         ≡ has_written (phase_by g p s d0.state w))
-        (λ h. never h) (λ ccw o h. never h) (λ ccw a o l h. never h) (λ ccw a o x b l h. by_end saves o (x ∷ b) l) g d0.work fits moved e
+        (record {
+          between = λ h. never h;
+          looking = λ ccw o h. never h;
+          none_passed = λ ccw a o l h. never h;
+          some_passed = λ ccw a o x b l h. by_end saves o (x ∷ b) l;
+        }) g d0.work fits moved e
       where
         by_end : (saves : Bool) (o : Opened) (b : List ℕ) (l : ℕ) → end_saves_of d0 (Passing o b l) ≡ saves
             → (saves || is_written (close None (record { opened = o; state = d0.state }) b).state)

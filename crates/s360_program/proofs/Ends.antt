@@ -3,6 +3,7 @@ use Rattle.std.proofs.Common.{◌≡◌, ℕ, refl, sym, ap, subst, ◌∙◌, t
 use Rattle.s360_words.specs.Storage.{Storage}
 use Rattle.s360_words.specs.Words.{chains_command}
 use Rattle.s360_words.specs.declared.flags.TheConstants.UnitStatus.{UNIT_CHECK}
+use Rattle.s360_words.specs.declared.flags.UnitStatus.{UnitStatus}
 use Rattle.s360_words.specs.declared.words.Ccw.{Ccw}
 use Rattle.s360_words.specs.declared.words.Csw.{Csw}
 use Rattle.ckd_command.specs.declared.close.DriveEnding.{DriveEnding}
@@ -105,28 +106,37 @@ good_end : (ccw : Ccw) (k : ChannelCondition) (d0 d1 : DriveState) (e : DriveEnd
     → chains_after ccw e.unit k ≡ true → d1.image.failures ≡ d0.image.failures
 good_end ccw k d0 d1 e reports chains = unfailed (e ≡ failed_ending) d0 d1 (not_failed ccw e k chains) reports
 
--- a command that chains goes on to the next; its premises are many, since two answers of the code come here, each with
--- the run, the place and the drive that it comes to
+-- behind a command of this word the channel's condition lets the next one follow
+pub record LetsFollow (ccw : Ccw) (incorrect : Bool) (k : ChannelCondition) (unit : UnitStatus) : Type 0 where
+  pub condition : k ≡ condition_for incorrect unit
+  pub chains : chains_after ccw unit k ≡ true
+
+-- a program goes to its next command, behind one that ended with this status: its key stays, and its place is where the status leads
+pub record GoesToNext (r q : Run) (unit : UnitStatus) : Type 0 where
+  pub in_range : r.key < 16
+  pub key : q.key ≡ r.key
+  pub between : stage_of q ≡ stage.Between
+  pub place : place_of q.place ≡ modified_place (place_of r.place) unit
+  pub within : PlaceWithin (place_of q.place)
+
+-- a command that chains goes on to the next
 pub chains_on : (r q : Run) (s : Storage) (ccw : Ccw) (incorrect : Bool) (k : ChannelCondition) (d0 d1 : DriveState) (e : DriveEnding)
-    → EndsCommand e d0 d1
-    → k ≡ condition_for incorrect e.unit → chains_after ccw e.unit k ≡ true
-    → r.key < 16 → q.key ≡ r.key → stage_of q ≡ stage.Between → place_of q.place ≡ modified_place (place_of r.place) e.unit
-    → PlaceWithin (place_of q.place)
+    → EndsCommand e d0 d1 → LetsFollow ccw incorrect k e.unit → GoesToNext r q e.unit
     → GoesBy r.key (next_chosen (choice None r.key (request_at s ccw r) (closed_of None d0 d0.work)
     (status_of (condition_for incorrect (closed_of None d0 d0.work).unit)))) q s d0 d1
-chains_on r q s ccw incorrect k d0 d1 e over same chains small key between place within = record {
+chains_on r q s ccw incorrect k d0 d1 e over lets on = record {
   failures = good;
-  goes = next ∙ ap (λ g. GoesOn (phase_by g (place_of q.place) s d1.state d1.work)) (sym between);
-  same_key = key;
+  goes = next ∙ ap (λ g. GoesOn (phase_by g (place_of q.place) s d1.state d1.work)) (sym on.between);
+  same_key = on.key;
   fits = record {
     within = record {
-      key = subst (λ k. k < 16) (sym key) small;
-      place = within;
+      key = subst (λ k. k < 16) (sym on.key) on.in_range;
+      place = on.within;
       stage =
-          subst (λ g. StageWithin g (place_of q.place)) (sym between) tt;
+          subst (λ g. StageWithin g (place_of q.place)) (sym on.between) tt;
     };
     stands = record {
-      fits = subst (λ g. StageFits g d1.state d1.work) (sym between) (subst (StageFits stage.Between d1.state)
+      fits = subst (λ g. StageFits g d1.state d1.work) (sym on.between) (subst (StageFits stage.Between d1.state)
           (sym idle) tt);
       saved = subst (λ (c : Closed). unsaved c.state ≡ None) at calm.saved;
     };
@@ -135,7 +145,7 @@ chains_on r q s ccw incorrect k d0 d1 e over same chains small key between place
 }
   where
     good : d1.image.failures ≡ d0.image.failures
-    good = good_end ccw k d0 d1 e over.reports chains
+    good = good_end ccw k d0 d1 e over.reports lets.chains
 
     at : closed_of None d0 d0.work ≡ closed_with d1.state e
     at = ap (λ f. closed_of f d0 d0.work) (sym (met_none d0 d1 good)) ∙ closed_is (fault_met d0 d1) d0 d1 e over.state over.ending
@@ -149,4 +159,4 @@ chains_on r q s ccw incorrect k d0 d1 e over same chains small key between place
     next : next_chosen (choice None r.key (request_at s ccw r) (closed_of None d0 d0.work)
         (status_of (condition_for incorrect (closed_of None d0 d0.work).unit)))
         ≡ GoesOn (Between (record { storage = s; place = place_of q.place; state = d1.state }))
-    next = rw (at, ← same, chains, place)
+    next = rw (at, ← lets.condition, lets.chains, on.place)

@@ -1,4 +1,5 @@
 pub mod Cases
+pub mod Moments
 pub mod Ties
 pub mod Fetches
 pub mod MovingBytes

@@ -226,8 +226,14 @@ module _ (r : Run) (s : Storage) (d0 d1 : DriveState) (k : Looked r d0 d1) where
           goes = goes;
           ends = more_after (λ f. look f O ≡ Ready (record { opened = ready.0; state = d1.state })) (λ f. unit f r.key phase)
               (λ f. unit f r.key w.at) s2 (told_of r2) d0 d1 d2
-              same ready_none (λ left rose. look_stable left O (Ready (record { opened = ready.0; state = d1.state })) ready_none tt)
-              ready_same loads ready_calm.quiet w.ends;
+              (record {
+                same_next = same;
+                at = ready_none;
+                stable = λ left rose. look_stable left O (Ready (record { opened = ready.0; state = d1.state })) ready_none tt;
+                failures = ready_same;
+                loads = loads;
+                quiet = ready_calm.quiet;
+              }) w.ends;
         }
 
         by : (e : ℕ) → n ≡ e + 1 → walk (units e) r.key (phase_by (stage.Moving r.ccw r.ccw.address) (place_of r.place) s d1.state d1.work)

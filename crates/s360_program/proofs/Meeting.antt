@@ -292,44 +292,46 @@ module _ (next : Option Fault → Next) (c : Closed) (key : ℕ) (p : Place) (k 
 
 -- A call of the drive goes well, and more calls follow.
 
--- it names the drive before, between and behind the calls, since it joins what is said of each two
+-- A call goes well, and those that follow it load nothing: the unit comes to what they come to, with no fault or with a save's. `At f`
+-- says that with the fault f the call comes to what it came to.
+pub record GoesWell (At : Option Fault → Type 0) (next later : Option Fault → Next) (d0 d1 d2 : DriveState) : Type 0 where
+  pub same_next : (f : Option Fault) → At f → next f ≡ later f
+  pub at : At None
+  pub stable : (left : List ℕ) → d2.image.failures ≡ d1.image.failures + 1 → At (Some (SaveFails left))
+  pub failures : d1.image.failures ≡ d0.image.failures
+  pub loads : d2.image.loads ≡ d1.image.loads
+  pub quiet : GainsNoCheck (drive_of d0.state) (drive_of d1.state)
+
 pub more_after : (At : Option Fault → Type 0) (next later : Option Fault → Next) (s : Storage) (told : Csw × Bool) (d0 d1 d2 : DriveState)
-    → ((f : Option Fault) → At f → next f ≡ later f) → At None → ((left : List ℕ) → d2.image.failures ≡ d1.image.failures + 1
-    → At (Some (SaveFails left)))
-    → d1.image.failures ≡ d0.image.failures → d2.image.loads ≡ d1.image.loads → GainsNoCheck (drive_of d0.state) (drive_of d1.state)
-    → EndsBy later told s d1 d2 → EndsBy next told s d0 d2
-more_after At next later s told d0 d1 d2 e at stable same loads quiet is = go is.fault is.met is.ends is.told_of
+    → GoesWell At next later d0 d1 d2 → EndsBy later told s d1 d2 → EndsBy next told s d0 d2
+more_after At next later s told d0 d1 d2 well is = go is.fault is.met is.ends is.told_of
   where
     by : (f : Option Fault) → IsMetBy f d0 d2 → next f ≡ EndsIn s is.ending → ToldOf f told.0 d0 d2 → EndsBy next told s d0 d2
     by f m n t = record { fault = f; met = m; ending = is.ending; ends = n; is_ending = is.is_ending; told_of = t }
 
     go : (f : Option Fault) → IsMetBy f d1 d2 → later f ≡ EndsIn s is.ending → ToldOf f told.0 d1 d2 → EndsBy next told s d0 d2
-    go None m n t = by None (m ∙ same) (e None at ∙ n) (record { saved = t.saved; no_check = λ q. t.no_check (quiet q) })
-    go (Some LoadFails) m n t = absurd (omega (arith, m.1, loads))
-    go (Some (SaveFails left)) m n t = by (Some (SaveFails left)) (m ∙ ap (λ n. n + 1) same) (e (Some (SaveFails left)) (stable left m)
-        ∙ n) t
+    go None m n t = by None (m ∙ well.failures) (well.same_next None well.at ∙ n)
+        (record { saved = t.saved; no_check = λ q. t.no_check (well.quiet q) })
+    go (Some LoadFails) m n t = absurd (omega (arith, m.1, well.loads))
+    go (Some (SaveFails left)) m n t = by (Some (SaveFails left)) (m ∙ ap (λ n. n + 1) well.failures)
+        (well.same_next (Some (SaveFails left)) (well.stable left m) ∙ n) t
 
--- the same where the unit goes on; it names the drive before, between and behind the calls, since it joins what is said of each two
+-- the same where the unit goes on
 pub comes_after : (At : Option Fault → Type 0) (next later : Option Fault → Next) (key : ℕ) (s : Storage) (r : Run) (a : Step)
-    (d0 d1 d2 : DriveState)
-    → ((f : Option Fault) → At f → next f ≡ later f) → At None → ((left : List ℕ) → d2.image.failures ≡ d1.image.failures + 1
-    → At (Some (SaveFails left)))
-    → d1.image.failures ≡ d0.image.failures → d2.image.loads ≡ d1.image.loads → GainsNoCheck (drive_of d0.state) (drive_of d1.state)
-    → ComesBy key later a r s d1 d2 → ComesBy key next a r s d0 d2
-comes_after At next later key s r (step.Units n) d0 d1 d2 e at stable same loads quiet is =
+    (d0 d1 d2 : DriveState) → GoesWell At next later d0 d1 d2 → ComesBy key later a r s d1 d2 → ComesBy key next a r s d0 d2
+comes_after At next later key s r (step.Units n) d0 d1 d2 well is =
     let w = is.1 in (
       is.0,
       record {
-        failures = w.failures ∙ same;
-        goes = e None at ∙ w.goes;
+        failures = w.failures ∙ well.failures;
+        goes = well.same_next None well.at ∙ w.goes;
         same_key = w.same_key;
         fits = w.fits;
         no_check =
-            λ q. w.no_check (quiet q);
+            λ q. w.no_check (well.quiet q);
       },
     )
-comes_after At next later key s r (step.Over n) d0 d1 d2 e at stable same loads quiet is =
-    (is.0, more_after At next later s (told_of r) d0 d1 d2 e at stable same loads quiet is.1)
+comes_after At next later key s r (step.Over n) d0 d1 d2 well is = (is.0, more_after At next later s (told_of r) d0 d1 d2 well is.1)
 
 -- How often the store is called.
 

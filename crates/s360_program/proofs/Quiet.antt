@@ -16,9 +16,8 @@ use Rattle.ckd_drive.specs.Work.{after_look, after_look_of, closed_of, is_next, 
 use Rattle.ckd_drive.specs.Work.{look_loads, look_saves, look_saves_of, goes_to_next_head, answer_of_look}
 use Rattle.ckd_drive.specs.declared.answers.Look.TheVariants as seen
 use Rattle.s360_runs.specs.Places.{Place}
-use Rattle.s360_runs.specs.Scripts.{units}
 use Rattle.s360_runs.specs.StoreCalls.{is_next as looks_next}
-use Rattle.s360_runs.specs.Units.{ProgramPhase, walk, StandsIn}
+use Rattle.s360_runs.specs.Units.{ProgramPhase, StandsIn}
 use Rattle.s360_program.specs.Advances.{NeedsNoStore, NeedNoStore}
 use Rattle.s360_program.specs.Place.{place_of}
 use Rattle.s360_program.specs.Stands.{RunningState, StageFits, Stands, phase_by, phase_in}
@@ -30,6 +29,7 @@ use Rattle.s360_program.proofs.Cutting.{untouched_unwritten}
 use Rattle.s360_program.proofs.Looking.{looking_is, look_fits, walks}
 use Rattle.s360_program.proofs.Advancing.{more_units}
 use Rattle.s360_program.proofs.Meeting.{untouched}
+use Rattle.s360_program.proofs.Moments.{LeadsTo, Moment}
 
 -- what holds only where another thing does, does not where that does not
 not_so : (a b : Bool) → (b ≡ true → a ≡ true) → a ≡ false → b ≡ false
@@ -49,10 +49,12 @@ same_next aim_is.Credited = refl
 pub phase_quiet : (r : RunningState) (s : Storage) (d : DriveState) → Stands r d → NeedsNoStore (phase_in r s d) → IsQuiet d
 phase_quiet r s d t =
     by_stage d.state (λ g w. NeedsNoStore (phase_by g r.place s d.state w) → IsQuiet (record d { work = w }))
-    (λ h. record { unwritten = h.unwritten; closes = h.unwritten; looks = refl })
-    (λ ccw o h. record { unwritten = h.unwritten; closes = h.unwritten; looks = sym (same_next (aim o.command)) ∙ h.looks })
-    (λ ccw a o l. moving o [] l) (λ ccw a o x b l. moving o (x ∷ b) l)
-    r.stage d.work t.fits
+    (record {
+      between = λ h. record { unwritten = h.unwritten; closes = h.unwritten; looks = refl };
+      looking = λ ccw o h. record { unwritten = h.unwritten; closes = h.unwritten; looks = sym (same_next (aim o.command)) ∙ h.looks };
+      none_passed = λ ccw a o l. moving o [] l;
+      some_passed = λ ccw a o x b l. moving o (x ∷ b) l;
+    }) r.stage d.work t.fits
   where
     moving : (o : Opened) (b : List ℕ) (l : ℕ) {ccw : Ccw} {a : ℕ}
         → NeedsNoStore (phase_by (stage.Moving ccw a) r.place s d.state (Passing o b l)) → IsQuiet (record d { work = Passing o b l })
@@ -63,14 +65,14 @@ pub first_quiet : (r : RunningState) (s : Storage) (d : DriveState) (n key : ℕ
     → IsQuiet d
 first_quiet r s d n key t some h = phase_quiet r s d t (h 0 (phase_in r s d) some refl)
 
--- and units of which each needs no call make none, where the next ones make none either; it names both ends and the middle of two
--- walks that it joins
-pub still_quiet : (key k : ℕ) (phase at : ProgramPhase) (done n more : ℕ) (d0 d1 d2 : DriveState) → k ≡ key → done + n ≤ more
-    → walk (units done) key phase ≡ StandsIn at
-    → (NeedNoStore key phase done → d1.image ≡ d0.image) → (NeedNoStore k at n → d2.image ≡ d1.image) → NeedNoStore key phase more
-    → d2.image ≡ d0.image
-still_quiet key k phase at done n more d0 d1 d2 e few walked before now h =
-    now (λ j next less w. h (done + j) next (omega (arith, few, less)) (more_units key k phase at next done j e walked w))
+-- and units of which each needs no call make none, where the next ones make none either
+pub still_quiet : (start at : Moment) (done n more : ℕ) (d2 : DriveState) → LeadsTo start done at → done + n ≤ more
+    → (NeedNoStore start.key start.phase done → at.drive.image ≡ start.drive.image)
+    → (NeedNoStore at.key at.phase n → d2.image ≡ at.drive.image) → NeedNoStore start.key start.phase more
+    → d2.image ≡ start.drive.image
+still_quiet start at done n more d2 leads few before now h =
+    now (λ j next less w. h (done + j) next (omega (arith, few, less))
+    (more_units start.key at.key start.phase at.phase next done j leads.same_key leads.goes w))
     ∙ before (λ j next less. h j next (omega (arith, few, less)))
 
 -- a command that begins writes nothing

@@ -10,6 +10,7 @@ use Rattle.s360_program.specs.Steps.{run_of, in_bytes, count_of, ComesBy, Fits, 
 use Rattle.s360_program.specs.declared.run.Run.{Run}
 use Rattle.s360_program.specs.declared.run.Step.{Step}
 use Rattle.s360_program.proofs.Looking.{look_finds}
+use Rattle.s360_program.proofs.Moments.{MachineState}
 use Rattle.s360_program.proofs.Quiet.{finds_quiet, first_quiet}
 use Rattle.s360_program.proofs.Transferring.{counts_some, unit_steps}
 
@@ -29,21 +30,26 @@ quietly r r2 s s2 d0 d2 most a fits keeps quiet steps = record {
       (counts_some r.key (phase_in (run_of r) s d0) most a r2 s2 d0 d2 steps) h);
 }
 
--- one unit; it names run, storage and drive before and behind, since a step is said of all of them
-pub one_unit : (r r2 : Run) (s s2 : Storage) (d0 d2 : DriveState) (most : ℕ) (a : Step) → Fits r d0 → 0 < most → KeepsStorage s s2
-    → (IsQuiet d0 → d2.image ≡ d0.image)
-    → ComesBy r.key (λ f. unit f r.key (phase_in (run_of r) s d0)) a r2 s2 d0 d2 → IsStep r s d0 most a r2 s2 d2
-one_unit r r2 s s2 d0 d2 most a fits some keeps quiet comes =
-    quietly r r2 s s2 d0 d2 most a fits keeps quiet (unit_steps r.key (phase_in (run_of r) s d0) most r2 s2 a d0 d2 some comes)
+-- one unit
+pub one_unit : (before after : MachineState) (most : ℕ) (a : Step) → Fits before.run before.drive → 0 < most
+    → KeepsStorage before.storage after.storage → (IsQuiet before.drive → after.drive.image ≡ before.drive.image)
+    → ComesBy before.run.key (λ f. unit f before.run.key (phase_in (run_of before.run) before.storage before.drive)) a after.run
+    after.storage before.drive after.drive
+    → IsStep before.run before.storage before.drive most a after.run after.storage after.drive
+one_unit before after most a fits some keeps quiet comes =
+    quietly before.run after.run before.storage after.storage before.drive after.drive most a fits keeps quiet
+    (unit_steps before.run.key (phase_in (run_of before.run) before.storage before.drive) most after.run after.storage a before.drive
+    after.drive some comes)
 
--- a look that finds the area, and the step that goes on from there; it names run, storage and drive before, between and behind, since
--- it joins the two
-pub finds : (r r2 : Run) (s s2 : Storage) (left most : ℕ) (d0 d1 d2 : DriveState) {a : Step} → Looked r d0 d1
-    → seen.Ready left ≡ answer_of_look d1.work → d2.image.loads ≡ d1.image.loads
-    → IsStep (in_bytes r) s d1 most a r2 s2 d2 → IsStep r s d0 most a r2 s2 d2
-finds r r2 s s2 left most d0 d1 d2 {a} k answer loads is = record {
-  steps = look_finds r s d0 d1 k left answer most r2 s2 a d2 loads is.steps;
+-- a look that finds the area, and the step that goes on from there
+pub finds : (before after : MachineState) (left most : ℕ) (found : DriveState) {a : Step} → Looked before.run before.drive found
+    → seen.Ready left ≡ answer_of_look found.work → after.drive.image.loads ≡ found.image.loads
+    → IsStep (in_bytes before.run) before.storage found most a after.run after.storage after.drive
+    → IsStep before.run before.storage before.drive most a after.run after.storage after.drive
+finds before after left most found {a} k answer loads is = record {
+  steps = look_finds before.run before.storage before.drive found k left answer most after.run after.storage a after.drive loads is.steps;
   storage = is.storage;
-  quiet = finds_quiet r s left (count_of a) d0 d1 d2 k answer (counts_some r.key (phase_in (run_of (in_bytes r)) s d1) most a r2 s2 d1 d2
-      is.steps) is.quiet;
+  quiet = finds_quiet before.run before.storage left (count_of a) before.drive found after.drive k answer
+      (counts_some before.run.key (phase_in (run_of (in_bytes before.run)) before.storage found) most a after.run after.storage found
+      after.drive is.steps) is.quiet;
 }

@@ -55,8 +55,9 @@ seen s script r st d at = ap (λ l. run l s) (sym (append-nil script)) ∙ at.ru
 changed_by : (r : RunningState) (s : Storage) (c : Change) (d : DriveState) → Stands r d → phase_past (Outside c) (phase_in r s d)
     ≡ phase_in r (changed c s) d
 changed_by r s c d t =
-    by_stage d.state (λ g w. phase_past (Outside c) (phase_by g r.place s d.state w) ≡ phase_by g r.place (changed c s) d.state w) refl
-    (λ ccw o. refl) (λ ccw a o l. refl) (λ ccw a o x b l. refl) r.stage d.work t.fits
+    by_stage d.state (λ g w. phase_past (Outside c) (phase_by g r.place s d.state w) ≡ phase_by g r.place (changed c s) d.state w)
+    (record { between = refl; looking = λ ccw o. refl; none_passed = λ ccw a o l. refl; some_passed = λ ccw a o x b l. refl })
+    r.stage d.work t.fits
 
 pub after_change : law.StandsAfterWalk → StandsAfterChange
 after_change after s script r st d c at = record {

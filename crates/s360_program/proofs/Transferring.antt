@@ -38,6 +38,7 @@ use Rattle.s360_program.specs.declared.run.Step.{Step}
 use Rattle.s360_program.specs.declared.run.Step.TheVariants as step
 use Rattle.s360_program.specs.Advances.{NeedNoStore}
 use Rattle.s360_program.proofs.Meeting.{comes_after}
+use Rattle.s360_program.proofs.Moments.{Moment, moment_of}
 use Rattle.s360_program.proofs.Quiet.{phase_quiet}
 use Rattle.s360_runs.proofs.AtOnce.{at_once}
 
@@ -64,15 +65,25 @@ unit_steps key phase most r s (step.Units n) d0 d1 h c =
 unit_steps key phase most r s (step.Over n) d0 d1 h c = subst (λ n. Steps key phase most (step.Over n) r s d0 d1) (sym c.0)
     (over_once key phase most (told_of r) s d0 d1 h c.1)
 
--- the same from a drive that has only looked again; it names the drive before, between and behind, since it joins that
--- and the unit
+-- a drive has only looked again, which left its image and its state, and nothing is loaded behind that
+pub record LooksAgain (d0 d1 d2 : DriveState) : Type 0 where
+  pub image : d1.image ≡ d0.image
+  pub state : d1.state ≡ d0.state
+  pub loads : d2.image.loads ≡ d1.image.loads
+
+-- one unit, of a drive that has only looked again
 pub unit_comes : (next later : Option Fault → Next) (key : ℕ) (s : Storage) (r : Run) (a : Step) (d0 d1 d2 : DriveState)
-    → ((f : Option Fault) → next f ≡ later f) → d1.image ≡ d0.image → d1.state ≡ d0.state
-    → d2.image.loads ≡ d1.image.loads → ComesBy key later a r s d1 d2 → ComesBy key next a r s d0 d2
-unit_comes next later key s r a d0 d1 d2 e image state loads is =
-    comes_after (λ f. Unit {0}) next later key s r a d0 d1 d2 (λ f at. e f) tt (λ left rose. tt) (ap (λ (i : ImageState). i.failures) image)
-    loads
-    (λ q. ap (λ (s : State). tells_equipment_check (drive_of s).sense) state ∙ q) is
+    → ((f : Option Fault) → next f ≡ later f) → LooksAgain d0 d1 d2 → ComesBy key later a r s d1 d2 → ComesBy key next a r s d0 d2
+unit_comes next later key s r a d0 d1 d2 e looks is =
+    comes_after (λ f. Unit {0}) next later key s r a d0 d1 d2
+    (record {
+      same_next = λ f at. e f;
+      at = tt;
+      stable = λ left rose. tt;
+      failures = ap (λ (i : ImageState). i.failures) looks.image;
+      loads = looks.loads;
+      quiet = λ q. ap (λ (s : State). tells_equipment_check (drive_of s).sense) looks.state ∙ q;
+    }) is
 
 -- The end of a command.
 
@@ -163,23 +174,27 @@ module _ (r r2 : Run) (s : Storage) (a : Step) (d0 d1 d2 : DriveState) (flow : F
       → ComesBy r.key (λ f. next_chosen (choice f r.key (request_at s r.ccw r) (closed_of f d1 d1.work)
       (status_of (condition_for incorrect (closed_of f d1 d1.work).unit)))) a r2 s d1 d2
       → ComesBy r.key (λ f. unit f r.key (phase_in (run_of r) s d0)) a r2 s d0 d2
-  completes incorrect needs spent i =
+  completes incorrect needs spent i loads =
       unit_comes (λ f. unit f r.key (phase_in (run_of r) s d0))
       (λ f. next_chosen (choice f r.key (request_at s r.ccw r) (closed_of f d1 d1.work)
       (status_of (condition_for incorrect (closed_of f d1 d1.work).unit)))) r.key s r2 a d0 d1 d2
       (λ f. unit_there f ∙ completes_by r s d0 d1 flow f incorrect d0.work flows.told
       (no_chain r.place.residual (chains_data r.ccw) needs) (no_more r.place.residual flow.left spent) flows.drive i)
-      (ap (λ (d : DriveState). d.image) flows.drive) (ap (λ (d : DriveState). d.state) flows.drive)
+      (record {
+        image = ap (λ (d : DriveState). d.image) flows.drive;
+        state = ap (λ (d : DriveState). d.state) flows.drive;
+        loads = loads;
+      })
 
   -- a check stops the command
   pub checks : (check : ChannelCondition) (few : ℕ) (s2 : Storage) (d : DriveState) → 0 < r.place.residual → 0 < flow.left
       → MovesBytes (segment_of r few) s d1 (Err check) s2 d → d2.image.loads ≡ d.image.loads
       → ComesBy r.key (λ f. EndsIn s2 (ending f r.key (place_of r.place) (closed_of f d d.work) (status_of check))) a r2 s2 d d2
       → ComesBy r.key (λ f. unit f r.key (phase_in (run_of r) s d0)) a r2 s2 d0 d2
-  checks check few s2 d some more h =
+  checks check few s2 d some more h loads =
       unit_comes (λ f. unit f r.key (phase_in (run_of r) s d0)) (λ f. EndsIn s2 (ending f r.key (place_of r.place) (closed_of f d d.work)
       (status_of check))) r.key s2 r2 a d0 d d2
-      (λ f. unit_there f ∙ k.3 f) k.1 k.2
+      (λ f. unit_there f ∙ k.3 f) (record { image = k.1; state = k.2; loads = loads })
     where
       k : (s2 ≡ s) × (d.image ≡ d0.image) × (d.state ≡ d0.state)
           × ((f : Option Fault) → unit f r.key (phase_by (stage.Moving r.ccw r.address) (place_of r.place) s d0.state d0.work)
@@ -269,23 +284,30 @@ module _ (r : Run) (few m : ℕ) (s s2 : Storage) (d0 d2 : DriveState) (flow : F
           ap (λ u. walk u r.key (Moving O t)) (sym (append-nil (units m))) ∙ at_once m r.key [] O t k.may
           ∙ rw (k.drive, k.storage) refl
 
--- so few that they are asked for, counted and left
-pub record IsLeast (few most residual left : ℕ) : Type 0 where
+-- bytes come next in a program that fits its drive, which was asked: what it says, and the drive behind that
+pub record AsksForBytes (r : Run) (d0 : DriveState) : Type 0 where
+  pub fits : Fits r d0
+  pub at : r.comes ≡ comes.Bytes
+  pub flow : Flow
+  pub drive : DriveState
+  pub flows : Flows flow d0 drive
+
+-- so few bytes that they are asked for, counted and left
+pub record Fewest (most residual left : ℕ) : Type 0 where
+  pub few : ℕ
   pub asked : few ≤ most
   pub counted : few ≤ residual
   pub has : few ≤ left
 
--- so many bytes move at once; it names storage and drive before and behind them, and the drive that was asked, since it joins what is
--- said of each two of them
-pub moves_on : (r : Run) (most few m n : ℕ) (s s2 : Storage) (d0 d1 d2 : DriveState) (flow : Flow) → Fits r d0 → r.comes ≡ comes.Bytes
-    → Flows flow d0 d1
-    → IsLeast few most r.place.residual flow.left → MovesBytes (segment_of r few) s d1 (Ok m) s2 d2 → n ≡ m
+-- so many bytes move at once
+pub moves_on : (r : Run) (most m n : ℕ) (s s2 : Storage) (d0 d2 : DriveState) (asks : AsksForBytes r d0)
+    (least : Fewest most r.place.residual asks.flow.left) → MovesBytes (segment_of r least.few) s asks.drive (Ok m) s2 d2 → n ≡ m
     → WalksBy r.key (phase_in (run_of r) s d0) most m (record r {
       place = record r.place { residual = r.place.residual - m };
       address =
           r.address + n;
     }) s2 d0 d2
-moves_on r most few m n s s2 d0 d1 d2 flow fits at flows least h e =
+moves_on r most m n s s2 d0 d2 asks least h e =
     subst (λ n. WalksBy r.key (phase_in (run_of r) s d0) most m (record r {
       place = record r.place { residual = r.place.residual - m };
       address = r.address + n;
@@ -294,30 +316,30 @@ moves_on r most few m n s s2 d0 d1 d2 flow fits at flows least h e =
       place = record r.place { residual = r.place.residual - m };
       comes = c;
       address = r.address + m;
-    }) s2 d0 d2) (sym at) (record {
+    }) s2 d0 d2) (sym asks.at) (record {
       some = x.4;
       few = omega (arith, x.5, least.asked);
       failures = ap (λ (i : ImageState). i.failures) x.2;
-      goes = ap (λ c. walk (units m) r.key (phase_by (stage_by c r.ccw r.address) (place_of r.place) s d0.state d0.work)) at ∙ x.0;
+      goes = ap (λ c. walk (units m) r.key (phase_by (stage_by c r.ccw r.address) (place_of r.place) s d0.state d0.work)) asks.at ∙ x.0;
       same_key = refl;
       fits = record {
         within = record {
-          key = fits.within.key;
-          place = record { next = fits.within.place.next; last = fits.within.place.last };
+          key = asks.fits.within.key;
+          place = record { next = asks.fits.within.place.next; last = asks.fits.within.place.last };
           stage =
               (narrow.0, smaller r.address r.place.residual m (omega (arith, x.5, least.counted)) narrow.1);
         };
-        stands = record { fits = x.1; saved = ap unsaved x.3 ∙ fits.stands.saved };
+        stands = record { fits = x.1; saved = ap unsaved x.3 ∙ asks.fits.stands.saved };
       };
       no_check = λ q. ap (λ (s : State). tells_equipment_check (drive_of s).sense) x.3 ∙ q;
     }))
   where
-    x : IsMoved r few m s s2 d0 d2 flow d0.work
-    x = moved_by r few m s s2 d0 d2 flow d0.work flows.told least.has least.counted
-        (subst (λ (d : DriveState). MovesBytesBy (segment_of r few) (Ok m) s s2 d d2 d.work) flows.drive h)
+    x : IsMoved r least.few m s s2 d0 d2 asks.flow d0.work
+    x = moved_by r least.few m s s2 d0 d2 asks.flow d0.work asks.flows.told least.has least.counted
+        (subst (λ (d : DriveState). MovesBytesBy (segment_of r least.few) (Ok m) s s2 d d2 d.work) asks.flows.drive h)
 
     narrow : StageWithin (stage.Moving r.ccw r.address) (place_of r.place)
-    narrow = subst (λ c. StageWithin (stage_by c r.ccw r.address) (place_of r.place)) at fits.within.stage
+    narrow = subst (λ c. StageWithin (stage_by c r.ccw r.address) (place_of r.place)) asks.at asks.fits.within.stage
 
     smaller : (a r m : ℕ) → m ≤ r → a + r < 2 ^ 25 → (a + m) + (r - m) < 2 ^ 25
     smaller a r m le h = omega arith
@@ -342,24 +364,24 @@ behind_bytes g m p s s2 d d2 (Passing o b left) q le =
     let k = q.2 p le in
     rw k.drive (ap (λ n. left - n) k.count, length-append b _ ∙ ap (λ n. length b + n) k.count, refl, refl, refl)
 
--- one unit behind so many bytes; it names what stands before the bytes, between, and behind, since it joins two walks
-pub unit_behind : (key m most : ℕ) (phase : ProgramPhase) (r r2 : Run) (s s2 : Storage) (a : Step) (d0 d1 d2 : DriveState) → m < most
-    → walk (units m) key phase ≡ StandsIn (phase_in (run_of r) s d1)
-    → ComesBy key (λ f. unit f key (phase_in (run_of r) s d1)) a r2 s2 d0 d2 → Steps key phase most (behind m a) r2 s2 d0 d2
-unit_behind key m most phase r r2 s s2 (step.Units n) d0 d1 d2 few walked c =
+-- one unit behind so many bytes, which lead to this phase
+pub unit_behind : (start : Moment) (m most : ℕ) (at : ProgramPhase) (r : Run) (s : Storage) (a : Step) (d : DriveState) → m < most
+    → walk (units m) start.key start.phase ≡ StandsIn at → ComesBy start.key (λ f. unit f start.key at) a r s start.drive d
+    → Steps start.key start.phase most (behind m a) r s start.drive d
+unit_behind start m most at r s (step.Units n) d few walked c =
     let w = c.1 in
     record {
       some = omega arith;
       few = omega (arith, few);
       failures = w.failures;
-      goes = more_units key key phase (phase_in (run_of r) s d1) (phase_in (run_of r2) s2 d2) m 1 refl walked
-          (ap (λ n. on_next [] n (walk [] key)) w.goes);
+      goes = more_units start.key start.key start.phase at (phase_in (run_of r) s d) m 1 refl walked
+          (ap (λ n. on_next [] n (walk [] start.key)) w.goes);
       same_key = w.same_key;
       fits = w.fits;
       no_check = w.no_check;
     }
-unit_behind key m most phase r r2 s s2 (step.Over n) d0 d1 d2 few walked c =
-    record { earlier = m; last = refl; few = omega (arith, few); at = phase_in (run_of r) s d1; goes = walked; ends = c.1 }
+unit_behind start m most at r s (step.Over n) d few walked c =
+    record { earlier = m; last = refl; few = omega (arith, few); at = at; goes = walked; ends = c.1 }
 
 -- the drive may end a command whose area it has found
 pub found_ends : (s : State) (w : Work) → FindsBy s w → may_end w ≡ true
@@ -405,9 +427,8 @@ module _ (r : Run) (d0 : DriveState) (fits : Fits (in_bytes r) d0) (some : 0 < r
           address = r.ccw.address + n;
         }) s2 d0 d2
     moves_some most n few e =
-        moves_on (in_bytes r) most r.place.residual m n s s2 d0 d0 d2 (record { gives = gives_now d0.work; left = left_of d0.work }) fits
-        refl flows
-        (record { asked = omega (arith, few); counted = omega arith; has = omega (arith, left) }) h e
+        moves_on (in_bytes r) most m n s s2 d0 d2 (record { fits = fits; at = refl; flow = found; drive = d0; flows = flows })
+        (record { few = r.place.residual; asked = omega (arith, few); counted = omega arith; has = omega (arith, left) }) h e
 
     abbrev pub moved_run : Run
     moved_run = record r { comes = comes.Bytes; place = record r.place { residual = r.place.residual - m }; address = r.ccw.address + m }
@@ -452,10 +473,10 @@ module _ (r : Run) (d0 : DriveState) (fits : Fits (in_bytes r) d0) (some : 0 < r
           (closed_of f d2 d2.work) (status_of (condition_for false (closed_of f d2 d2.work).unit)))) a r3 s2 d2 d3
           → Steps r.key (phase_in (run_of (in_bytes r)) s d0) most (behind m a) r3 s2 d0 d3
       moves_all most r3 a d3 few unchained loads is =
-          unit_behind r.key m most (phase_in (run_of (in_bytes r)) s d0) moved_run r3 s2 s2 a d0 d2 d3 (omega (arith, few, walked.few))
-          walked.goes
+          unit_behind (moment_of (record { run = in_bytes r; storage = s; drive = d0 })) m most (phase_in (run_of moved_run) s2 d2) r3 s2 a
+          d3 (omega (arith, few, walked.few)) walked.goes
           (unit_comes (λ f. unit f r.key (phase_in (run_of moved_run) s2 d2)) (λ f. unit f r.key (phase_in (run_of moved_run) s2 d2)) r.key
-          s2 r3 a d0 d2 d3 (λ f. refl) now.3 now.4 loads
+          s2 r3 a d0 d2 d3 (λ f. refl) (record { image = now.3; state = now.4; loads = loads })
           (completes moved_run r3 s2 a d2 d2 d3 (record { gives = gives_now d2.work; left = left_of d2.work }) refl flows_behind false
           (λ z. unchained) (inl nothing) (told (suppresses_length r.ccw)) loads
           (subst (λ n. ComesBy r.key

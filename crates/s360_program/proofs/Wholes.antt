@@ -25,6 +25,7 @@ use Rattle.s360_program.proofs.Ends.{EndsCommand}
 use Rattle.s360_program.proofs.Looking.{look_finds, look_fits}
 use Rattle.s360_program.proofs.Meeting.{met_none}
 use Rattle.s360_program.proofs.MovingBytes.{gives_so, may_be, ranged}
+use Rattle.s360_program.proofs.Moments.{moment_of}
 use Rattle.s360_program.proofs.Transferring.{again, completes, moves_on, unit_behind, unit_comes}
 
 take_all : (xs : List ℕ) → take (length xs) xs ≡ xs
@@ -171,10 +172,15 @@ module _ (r : Run) (most : ℕ) (s : Storage) (d : DriveState) (given : List ℕ
   says x gives has = again x has (λ z. inl gives)
 
   walked : WalksBy r.key (phase_in (run_of (in_bytes r)) s found) most n moved_run behind_them found passed
-  walked = moves_on (in_bytes r) most n n n s behind_them found found passed
-      (record { gives = gives_now found.work; left = left_of found.work }) fits_found refl
-      (says found p.gives.gives fits_found.stands.fits)
-      (record { asked = omega (arith, p.counts, p.few); counted = p.counts; has = p.has }) moved refl
+  walked = moves_on (in_bytes r) most n n s behind_them found passed
+      (record {
+        fits = fits_found;
+        at = refl;
+        flow = record { gives = gives_now found.work; left = left_of found.work };
+        drive = found;
+        flows = says found p.gives.gives fits_found.stands.fits;
+      })
+      (record { few = n; asked = omega (arith, p.counts, p.few); counted = p.counts; has = p.has }) moved refl
 
   left_is : length given - length (take n given) ≡ length given - n
   left_is = ap (λ k. length given - k) (length-take-le n given p.has)
@@ -193,11 +199,12 @@ module _ (r : Run) (most : ℕ) (s : Storage) (d : DriveState) (given : List ℕ
       → Steps r.key (phase_in (run_of r) s d) most (behind n a) r2 behind_them d d2
   whole_steps incorrect i r2 a d2 loads is =
       look_finds r s d found looked (length given) refl most r2 behind_them (behind n a) d2 loads
-      (unit_behind r.key n most (phase_in (run_of (in_bytes r)) s found) moved_run r2 behind_them behind_them a found passed d2
+      (unit_behind (moment_of (record { run = in_bytes r; storage = s; drive = found })) n most
+      (phase_in (run_of moved_run) behind_them passed) r2 behind_them a d2
       (omega (arith, p.counts, p.few)) walked.goes
       (unit_comes (λ f. unit f r.key (phase_in (run_of moved_run) behind_them passed))
       (λ f. unit f r.key (phase_in (run_of moved_run) behind_them passed)) r.key
-      behind_them r2 a found passed d2 (λ f. refl) refl refl loads
+      behind_them r2 a found passed d2 (λ f. refl) (record { image = refl; state = refl; loads = loads })
       (completes moved_run r2 behind_them a passed passed d2 (record { gives = gives_now passed.work; left = left_of passed.work }) refl
       (says passed p.gives.gives walked.fits.stands.fits) incorrect (λ z. p.unchained) (either_spent p.spent)
       (rw left_is i) loads is)))

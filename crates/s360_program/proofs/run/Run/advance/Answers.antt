@@ -5,6 +5,7 @@ use Rattle.s360_program.specs.Advances.{CameToEnd}
 use Rattle.s360_program.specs.Stands.{phase_in}
 use Rattle.s360_program.specs.Steps.{run_of, told_of}
 use Rattle.s360_program.proofs.Advancing.{more_units, last_unit}
+use Rattle.s360_program.proofs.Moments.{moment_of}
 use Rattle.s360_program.proofs.Quiet.{still_quiet}
 use Rattle.s360_program.proofs.run.Run.advance.Goals as goal
 
@@ -45,9 +46,9 @@ loop-left-preserved g c =
           (more_units a.self.now.key l.self.key (phase_in (run_of a.self.now) (holds a.storage.now) a.drive.now)
           (phase_in (run_of l.self) (holds l.storage) l.drive) (phase_in (run_of c.step.new.self)
           (holds c.step.new.storage) c.step.new.drive) d n i.key i.walked w.goes);
-      quiet = still_quiet a.self.now.key l.self.key (phase_in (run_of a.self.now) (holds a.storage.now) a.drive.now)
-          (phase_in (run_of l.self) (holds l.storage) l.drive) d n (a.units - (l.left - n)) a.drive.now l.drive c.step.new.drive i.key
-          (omega (arith, w.few, i.within)) i.walked i.quiet e.quiet;
+      quiet = still_quiet (moment_of (record { run = a.self.now; storage = holds a.storage.now; drive = a.drive.now }))
+          (moment_of (record { run = l.self; storage = holds l.storage; drive = l.drive })) d n (a.units - (l.left - n)) c.step.new.drive
+          (record { same_key = i.key; goes = i.walked }) (omega (arith, w.few, i.within)) i.quiet e.quiet;
     }
 
 pub returns-in-Over-clause-advances : goal.returns-in-Over-clause-advances
@@ -63,11 +64,14 @@ returns-in-Over-clause-advances g c =
     (subst (λ n. CameToEnd a.self.now.key (phase_in (run_of a.self.now) (holds a.storage.now) a.drive.now) a.units n
     (told_of c.step.new.self) (holds c.step.new.storage) a.drive.now c.step.new.drive)
     (in_all d w.earlier n a.units l.left w.last i.within w.few)
-    (last_unit a.self.now.key l.self.key (phase_in (run_of a.self.now) (holds a.storage.now) a.drive.now) w.at (d + w.earlier) a.units
-    (told_of c.step.new.self) (holds c.step.new.storage) a.drive.now l.drive c.step.new.drive
-    i.key (more_units a.self.now.key l.self.key (phase_in (run_of a.self.now) (holds a.storage.now) a.drive.now)
-    (phase_in (run_of l.self) (holds l.storage) l.drive) w.at d w.earlier i.key i.walked w.goes) i.failures
-    (omega (arith, i.within, w.last, w.few)) w.ends))
+    (last_unit (moment_of (record { run = a.self.now; storage = holds a.storage.now; drive = a.drive.now }))
+    (record { key = l.self.key; phase = w.at; drive = l.drive }) (d + w.earlier) a.units (told_of c.step.new.self)
+    (holds c.step.new.storage) c.step.new.drive
+    (record {
+      same_key = i.key;
+      goes = more_units a.self.now.key l.self.key (phase_in (run_of a.self.now) (holds a.storage.now) a.drive.now)
+          (phase_in (run_of l.self) (holds l.storage) l.drive) w.at d w.earlier i.key i.walked w.goes;
+    }) i.failures (omega (arith, i.within, w.last, w.few)) w.ends))
 
 pub returns-in-Over-clause-quiet : goal.returns-in-Over-clause-quiet
 returns-in-Over-clause-quiet g c =
@@ -75,9 +79,10 @@ returns-in-Over-clause-quiet g c =
     let i = c.loop-left.invariant in
     let l = c.loop-left in
     let a = c.args in
-    still_quiet a.self.now.key l.self.key (phase_in (run_of a.self.now) (holds a.storage.now) a.drive.now)
-    (phase_in (run_of l.self) (holds l.storage) l.drive) (a.units - l.left) c.in-Over.n ((a.units - l.left) + c.in-Over.n) a.drive.now
-    l.drive c.step.new.drive i.key (omega arith) i.walked i.quiet c.in-Over.ensures.step.quiet
+    still_quiet (moment_of (record { run = a.self.now; storage = holds a.storage.now; drive = a.drive.now }))
+    (moment_of (record { run = l.self; storage = holds l.storage; drive = l.drive })) (a.units - l.left) c.in-Over.n
+    ((a.units - l.left) + c.in-Over.n) c.step.new.drive (record { same_key = i.key; goes = i.walked }) (omega arith) i.quiet
+    c.in-Over.ensures.step.quiet
 
 pub returns-clause-tells : goal.returns-clause-tells
 returns-clause-tells g c =

@@ -39,10 +39,13 @@ returns-clause-comes g c = λ s.
             calls = e.ensures.calls;
             reports =
                 e.ensures.reported;
-          }) k.ensures (sym c.chains.ensures ∙ c.if-not-chains.false)
-          c.requires.key refl refl m.ensures.place (record {
-            next = m.ensures.next;
-            last =
-                omega (arith, m.ensures.last, c.requires.last);
+          })
+          (record { condition = k.ensures; chains = sym c.chains.ensures ∙ c.if-not-chains.false })
+          (record {
+            in_range = c.requires.key;
+            key = refl;
+            between = refl;
+            place = m.ensures.place;
+            within = record { next = m.ensures.next; last = omega (arith, m.ensures.last, c.requires.last) };
           }),
     )

@@ -41,10 +41,12 @@ returns-clause-steps g c = λ most s given p i.
           (record r { place = m.new.self; comes = comes.NextCommand }) _ r.ccw a.incorrect k.result
           (passed_drive d given a.read p.gives a.passed) e.new.self e.result
           (passed_ends d given a.read p.gives a.passed e.result e.new.self c.requires.fits.stands.saved e.ensures.ending e.ensures.ended)
-          k.ensures (sym c.chains.ensures ∙ c.if-not-chains.false)
-          c.requires.fits.within.key refl refl m.ensures.place (record {
-            next = m.ensures.next;
-            last =
-                omega (arith, m.ensures.last, c.requires.fits.within.place.last);
+          (record { condition = k.ensures; chains = sym c.chains.ensures ∙ c.if-not-chains.false })
+          (record {
+            in_range = c.requires.fits.within.key;
+            key = refl;
+            between = refl;
+            place = m.ensures.place;
+            within = record { next = m.ensures.next; last = omega (arith, m.ensures.last, c.requires.fits.within.place.last) };
           }),
     ))

@@ -94,8 +94,8 @@ returns-then-not-chains_data g c =
     let l = c.in-Ready.ensures in
     let t = c.complete in
     record {
-      step = finds r t.new.self (holds c.args.storage.now) (holds t.new.storage) c.in-Ready.left c.args.most c.args.drive.now
-          c.look.new.self t.new.drive
+      step = finds (record { run = r; storage = holds c.args.storage.now; drive = c.args.drive.now })
+          (record { run = t.new.self; storage = holds t.new.storage; drive = t.new.drive }) c.in-Ready.left c.args.most c.look.new.self
           (looked_from r c.args.drive.now c.pass_whole.new.drive c.look.new.self same.2 c.requires.fits c.requires.stage l.state l.calls
           l.reported) l.answer
           t.ensures.loads

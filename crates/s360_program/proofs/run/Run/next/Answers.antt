@@ -20,7 +20,8 @@ returns-clause-step g c =
     let r = c.args.self.now in
     let n = c.next_command in
     let same = c.pass_rounds-n.ensures.none (omega (arith, c.if-n-gt0.false)) in
-    one_unit r n.new.self s s c.args.drive.now n.new.drive c.args.most n.result c.requires.fits c.requires.some (kept s)
+    one_unit (record { run = r; storage = s; drive = c.args.drive.now })
+    (record { run = n.new.self; storage = s; drive = n.new.drive }) c.args.most n.result c.requires.fits c.requires.some (kept s)
     (rw same at n.ensures.quiet)
     (subst (λ p. ComesBy r.key (λ f. unit f r.key p) n.result n.new.self s c.args.drive.now n.new.drive)
     (sym (ap (λ k. phase_by (stage_by k r.ccw r.address) (place_of r.place) s c.args.drive.now.state c.args.drive.now.work)

@@ -35,8 +35,9 @@ returns-clause-step g c =
     (λ h. n.ensures.next (omega (arith, h, long))) in
     quietly r _ s (holds n.new.self) d c.pass.new.self a.units (step.Units a.units) c.requires.fits n.ensures.keeps
     (λ quiet. search rules)
-    (moves_on r a.units a.units a.units a.units s (holds n.new.self) d d c.pass.new.self (record { gives = true; left = q.left })
-    c.requires.fits q.at q.flows (record { asked = omega arith; counted = q.counts; has = q.has })
+    (moves_on r a.units a.units a.units s (holds n.new.self) d c.pass.new.self
+    (record { fits = c.requires.fits; at = q.at; flow = record { gives = true; left = q.left }; drive = d; flows = q.flows })
+    (record { few = a.units; asked = omega arith; counted = q.counts; has = q.has })
     (gives_so a.units (segment_of r a.units) s (holds n.new.self) d c.pass.new.self d.work
     (record { moving = f.0; some = q.some; few = omega arith; left = few }) f.2
     (λ i h. inr (may_be s r.key (r.address + i) (q.may i h))) c.pass.ensures

@@ -22,7 +22,8 @@ returns-clause-step g c =
           let a = c.args in
           let t = c.transfer in
           let k = w.in_default.ensures.found in
-          finds a.self.now t.new.self (holds a.storage.now) (holds t.new.storage) k.left a.most a.drive.now w.look.new.drive t.new.drive
+          finds (record { run = a.self.now; storage = holds a.storage.now; drive = a.drive.now })
+          (record { run = t.new.self; storage = holds t.new.storage; drive = t.new.drive }) k.left a.most w.look.new.drive
           k.looked k.answer
           (rw w.drive-is at t.ensures.loads) (rw (w.self-is, w.storage-is, w.drive-is, k.run, k.storage) at t.ensures.step)
       | in-Bytes w ↦ rw (w.self-is, w.storage-is, w.drive-is) at c.transfer.ensures.step
