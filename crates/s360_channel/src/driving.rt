@@ -1,6 +1,6 @@
 //! Lists of events at a channel.
 
-ghost use Rattle.std.specs.Prelude.{◌≡◌, ◌<◌, ◌≤◌, ◌+◌, ◌++◌, ◌∷◌, [], map, IfOk, OnErr, vec_len, vec_capacity};
+ghost use Rattle.std.specs.Prelude.{◌≡◌, map, IfOk, OnErr};
 ghost use Rattle.s360_laws.specs.Machine.{Machine};
 ghost use Rattle.s360_events.specs.Seen.{event_seen, answer_seen};
 ghost use Rattle.s360_channel.specs.Channel.{StandsFor};
@@ -9,7 +9,7 @@ ghost use Rattle.s360_channel.specs.Lists.{Follows};
 
 use crate::channel::Channel;
 use ckd_image::ImageStore;
-use s360_events::{Answer, Event};
+use s360_events::{Answer, Event, push_answer};
 use std::alloc::{AllocError, Global};
 
 /// Drives a channel through a list of events, and answers each.
@@ -34,17 +34,7 @@ pub fn drive<S: ImageStore>(
 {
     let mut answers = Vec::with_capacity(alloc, events.len())?;
     for event in events {
-        push(&mut answers, channel.react(event));
+        push_answer(&mut answers, channel.react(event));
     }
     Ok(answers)
-}
-
-// One answer more, for which there is room.
-fn push(answers: &mut Vec<Answer>, answer: Answer)
-    requires { vec_len answers.old < vec_capacity answers.old }
-    ensures items { answers.new.items ≡ answers.old.items ++ answer ∷ [] }
-    ensures len { vec_len answers.new ≡ vec_len answers.old + 1 }
-    ensures capacity { vec_capacity answers.old ≤ vec_capacity answers.new }
-{
-    answers.push(answer).unwrap();
 }

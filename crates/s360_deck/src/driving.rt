@@ -1,6 +1,6 @@
 //! The events of a deck happen at a channel one after another, and no list of them is kept.
 
-ghost use Rattle.std.specs.Prelude.{◌≡◌, ◌<◌, ◌≤◌, ◌+◌, ◌++◌, ◌∷◌, [], map, length, Ok, Err, IfOk, IfErr, OnErr, vec_len, vec_capacity};
+ghost use Rattle.std.specs.Prelude.{◌≡◌, ◌≤◌, [], map, length, Ok, Err, IfOk, IfErr, OnErr, vec_capacity};
 ghost use Rattle.s360_laws.specs.Machine.{Machine};
 ghost use Rattle.s360_events.specs.Seen.{event_seen, answer_seen};
 ghost use Rattle.s360_events.specs.Answered.{AllAnswered};
@@ -14,7 +14,7 @@ use crate::parsing::Words;
 use crate::passes::{count_events, next_event};
 use ckd_image::ImageStore;
 use s360_channel::Channel;
-use s360_events::Answer;
+use s360_events::{Answer, push_answer};
 use std::alloc::Global;
 
 /// A text in capitals that is a deck, and the room for the answers to its events.
@@ -86,17 +86,7 @@ fn react_to_all<'a, S: ImageStore>(
     let mut words: Words<'a> = Words::new();
     let mut rest = text;
     while let Some((event, behind)) = next_event(&mut words, rest) {
-        push(answers, channel.react(&event));
+        push_answer(answers, channel.react(&event));
         rest = behind;
     }
-}
-
-/// One answer more, for which there is room.
-pub(crate) fn push(answers: &mut Vec<Answer>, answer: Answer)
-    requires { vec_len answers.old < vec_capacity answers.old }
-    ensures items { answers.new.items ≡ answers.old.items ++ answer ∷ [] }
-    ensures len { vec_len answers.new ≡ vec_len answers.old + 1 }
-    ensures capacity { vec_capacity answers.old ≤ vec_capacity answers.new }
-{
-    answers.push(answer).unwrap();
 }

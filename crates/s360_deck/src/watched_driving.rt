@@ -11,13 +11,13 @@ ghost use Rattle.s360_deck.specs.Deck.{lines_of, events_of, events_in_lines, IsR
 ghost use Rattle.s360_deck.specs.Texts.{HasRun};
 ghost use Rattle.s360_deck.specs.Watched.{WatchesDeck};
 
-use crate::driving::{CheckedDeck, check_deck, push};
+use crate::driving::{CheckedDeck, check_deck};
 use crate::fault::DeckFault;
 use crate::parsing::Words;
 use crate::passes::next_event;
 use ckd_image::ImageStore;
 use s360_channel::Channel;
-use s360_events::Answer;
+use s360_events::{Answer, push_answer};
 use s360_trace::{Watcher, watch_event};
 use std::alloc::Global;
 
@@ -67,7 +67,7 @@ fn watch_all<'a, S: ImageStore, V: Watcher>(
     let mut words: Words<'a> = Words::new();
     let mut rest = text;
     while let Some((event, behind)) = next_event(&mut words, rest) {
-        push(answers, watch_event(channel, &event, watcher));
+        push_answer(answers, watch_event(channel, &event, watcher));
         rest = behind;
     }
 }

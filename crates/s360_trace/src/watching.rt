@@ -1,6 +1,6 @@
 //! A list of events at a channel, with looks between its units.
 
-ghost use Rattle.std.specs.Prelude.{◌≡◌, ◌<◌, ◌≤◌, ◌+◌, ◌++◌, ◌∷◌, [], map, true, IfOk, OnErr, vec_len, vec_capacity};
+ghost use Rattle.std.specs.Prelude.{◌≡◌, ◌≤◌, map, true, IfOk, OnErr};
 ghost use Rattle.s360_laws.specs.Events as machine;
 ghost use Rattle.s360_laws.specs.Machine.{Machine, is_working};
 ghost use Rattle.s360_events.specs.Seen.{event_seen, answer_seen};
@@ -12,7 +12,7 @@ ghost use Rattle.s360_trace.specs.Looks.{Look, AllWatched, IsDone, IsWatched, Se
 
 use ckd_image::ImageStore;
 use s360_channel::{Channel, SubchannelView};
-use s360_events::{Answer, Event};
+use s360_events::{Answer, Event, push_answer};
 use std::alloc::{AllocError, Global};
 
 /// When a watcher looks.
@@ -62,7 +62,7 @@ pub fn drive<S: ImageStore, W: Watcher>(
 {
     let mut answers = Vec::with_capacity(alloc, events.len())?;
     for event in events {
-        push(&mut answers, watch_event(channel, event, watcher));
+        push_answer(&mut answers, watch_event(channel, event, watcher));
     }
     Ok(answers)
 }
@@ -138,14 +138,4 @@ fn runs<S: ImageStore>(channel: &Channel<S>) -> bool
     ensures { (m : Machine) → StandsFor channel.now m → result ≡ is_working m.subchannel }
 {
     matches!(channel.state().subchannel, SubchannelView::Working(_, _))
-}
-
-// One answer more, for which there is room.
-fn push(answers: &mut Vec<Answer>, answer: Answer)
-    requires { vec_len answers.old < vec_capacity answers.old }
-    ensures items { answers.new.items ≡ answers.old.items ++ answer ∷ [] }
-    ensures len { vec_len answers.new ≡ vec_len answers.old + 1 }
-    ensures capacity { vec_capacity answers.old ≤ vec_capacity answers.new }
-{
-    answers.push(answer).unwrap();
 }

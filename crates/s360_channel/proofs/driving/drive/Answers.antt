@@ -14,19 +14,19 @@ loop-event-init g c = record {
   driven = λ m stands. rw c.in_ok-answers.ensures.items (drove_none m c.args.channel.now stands);
 }
 
-pub push-requires : goal.push-requires
-push-requires g c = room_for_one _ _ c.loop-event.event-index c.args.events.now c.loop-event-test.true c.loop-event.invariant.room
+pub push_answer-requires : goal.push_answer-requires
+push_answer-requires g c = room_for_one _ _ c.loop-event.event-index c.args.events.now c.loop-event-test.true c.loop-event.invariant.room
 
 pub loop-event-preserved : goal.loop-event-preserved
 loop-event-preserved g c = record {
-  room = rw c.push.ensures.len (room_for_others _ _ _ c.loop-event.event-index c.args.events.now c.loop-event-test.true
-      c.loop-event.invariant.room c.push.ensures.capacity);
+  room = rw c.push_answer.ensures.len (room_for_others _ _ _ c.loop-event.event-index c.args.events.now c.loop-event-test.true
+      c.loop-event.invariant.room c.push_answer.ensures.capacity);
   answered =
-      rw (c.push.ensures.items, take_more c.args.events.now c.loop-event.event-index c.event-item.result c.loop-event-test.true)
+      rw (c.push_answer.ensures.items, take_more c.args.events.now c.loop-event.event-index c.event-item.result c.loop-event-test.true)
       (all_answered_one_more _ _ _ _ c.loop-event.invariant.answered
       (subst (λ e. IsAnswered e c.react.result) c.event-item.is c.react.ensures.answered));
   driven = λ m stands.
-      rw c.push.ensures.items
+      rw c.push_answer.ensures.items
       (goes_on m c.args.events.now c.loop-event.event-index c.event-item.result c.loop-event.answers.items _ _ _ c.react.result
       c.loop-event-test.true
       (λ now is. subst (λ e. Does (event_seen e) now (answer_seen c.react.result) c.loop-event.channel c.react.new.self) c.event-item.is

@@ -9,11 +9,11 @@ loop-event-preserved g c =
     record {
       happened = (
         so_far.0 ++ c.in-Some.event ∷ [],
-        rw c.push.ensures.items
+        rw c.push_answer.ensures.items
             (one_happened _ _ _ _ c.react.result _ _ _ next so_far.0 _ so_far.1
             (λ now is. record { does = c.react.ensures.does now is; calls = c.react.ensures.calls }) c.react.ensures.answered),
       );
-      room = rw c.push.ensures.len (omega (arith, ap length next, c.loop-event.invariant.room, c.push.ensures.capacity));
+      room = rw c.push_answer.ensures.len (omega (arith, ap length next, c.loop-event.invariant.room, c.push_answer.ensures.capacity));
     }
 
 pub returns-clause-follows : goal.returns-clause-follows

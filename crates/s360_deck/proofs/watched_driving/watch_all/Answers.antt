@@ -17,15 +17,15 @@ loop-event-preserved g c =
     record {
       happened = (
         so_far.0 ++ c.in-Some.event ∷ [],
-        rw c.push.ensures.items
+        rw c.push_answer.ensures.items
             (one_happened _ _ _ _ c.watch_event.result _ _ _ next so_far.0 _ so_far.1 (λ now is. c.watch_event.ensures.happens now is)
             c.watch_event.ensures.answered),
         λ m stands.
-            rw c.push.ensures.items
+            rw c.push_answer.ensures.items
             (watched_one_more g.V.Watcher.sees _ _ _ _ _ _ (c.watch_event.ensures.watched _ (so_far.1.drove m stands).stands)
             _ _ _ _ (so_far.2 m stands)),
       );
-      room = rw c.push.ensures.len (omega (arith, ap length next, c.loop-event.invariant.room, c.push.ensures.capacity));
+      room = rw c.push_answer.ensures.len (omega (arith, ap length next, c.loop-event.invariant.room, c.push_answer.ensures.capacity));
     }
 
 pub returns-clause-follows : goal.returns-clause-follows

@@ -17,19 +17,19 @@ loop-event-init g c = record {
   watched = λ m stands. rw c.in_ok-answers.ensures.items (refl, refl);
 }
 
-pub push-requires : goal.push-requires
-push-requires g c = room_for_one _ _ c.loop-event.event-index c.args.events.now c.loop-event-test.true c.loop-event.invariant.room
+pub push_answer-requires : goal.push_answer-requires
+push_answer-requires g c = room_for_one _ _ c.loop-event.event-index c.args.events.now c.loop-event-test.true c.loop-event.invariant.room
 
 pub loop-event-preserved : goal.loop-event-preserved
 loop-event-preserved g c = record {
-  room = rw c.push.ensures.len (room_for_others _ _ _ c.loop-event.event-index c.args.events.now c.loop-event-test.true
-      c.loop-event.invariant.room c.push.ensures.capacity);
+  room = rw c.push_answer.ensures.len (room_for_others _ _ _ c.loop-event.event-index c.args.events.now c.loop-event-test.true
+      c.loop-event.invariant.room c.push_answer.ensures.capacity);
   answered =
-      rw (c.push.ensures.items, take_more c.args.events.now c.loop-event.event-index c.event-item.result c.loop-event-test.true)
+      rw (c.push_answer.ensures.items, take_more c.args.events.now c.loop-event.event-index c.event-item.result c.loop-event-test.true)
       (all_answered_one_more _ _ _ _ c.loop-event.invariant.answered (subst (λ e. IsAnswered e c.watch_event.result) c.event-item.is
       c.watch_event.ensures.answered));
   driven = λ m stands.
-      rw c.push.ensures.items
+      rw c.push_answer.ensures.items
       (let drove = c.loop-event.invariant.driven m stands in
       goes_on m c.args.events.now c.loop-event.event-index c.event-item.result c.loop-event.answers.items _ _ _ c.watch_event.result
       c.loop-event-test.true
@@ -41,7 +41,7 @@ loop-event-preserved g c = record {
   watched = λ m stands.
       let now = (c.loop-event.invariant.driven m stands).stands in
       let new = c.watch_event.new in
-      rw (c.push.ensures.items, take_more c.args.events.now c.loop-event.event-index c.event-item.result c.loop-event-test.true)
+      rw (c.push_answer.ensures.items, take_more c.args.events.now c.loop-event.event-index c.event-item.result c.loop-event-test.true)
       (watched_one_more g.W.Watcher.sees _ _ _ _ _ _
       (subst (λ e. IsWatched g.W.Watcher.sees e c.watch_event.result c.loop-event.channel new.channel c.loop-event.watcher new.watcher)
       c.event-item.is (c.watch_event.ensures.watched _ now))
