@@ -188,7 +188,7 @@ MEASURES = (
     Measure("functions of a crate", 100, 2),
     Measure("columns of a clause", 160, 0),
     Measure("columns of a line of a proof", 140, 0),
-    Measure("binders of a lemma", 12, 13),
+    Measure("binders of a lemma", 12, 5),
     Measure("definitions of the machine without a sentence", 0, 0),
 )
 

@@ -38,18 +38,15 @@ use Rattle.s360_channel.proofs.Works.{seen_there}
 
 -- From what a channel shows after a call to what the call does; the cases of the input/output instructions.
 
--- what a quiet call does, from what the channel shows afterwards; it names the parts of the channel before and behind,
--- since many calls come here, each of which changes other parts
-pub quiet : (e : Event) (m : Machine) (answer : Answer) (number : ℕ) (s : Storage) (sub : Subchannel) (us : List AttachedState)
-    (s' : Storage) (sub' : Subchannel) (us' : List AttachedState)
-    → StandsFor (of_parts number s sub us) m → images us' ≡ images us → ShowsNext (react e None m) answer (of_parts number s' sub' us')
-    → DoesQuietly e m answer (of_parts number s' sub' us')
-quiet e m answer number s sub us s' sub' us' st same h = record {
+-- what a quiet call does, from what the channel shows afterwards
+pub quiet : (e : Event) (m : Machine) (answer : Answer) (old new : ChannelState) → StandsFor old m → new.number ≡ old.number
+    → images new.drives ≡ images old.drives → ShowsNext (react e None m) answer new → DoesQuietly e m answer new
+quiet e m answer old new st number same h = record {
   answers = h.answers;
   stands = record {
-    number = st.number;
-    few = subst (λ n. n ≤ 8) (sym (length-map us (λ (u : AttachedState). u.drive.image)) ∙ ap length (sym same)
-        ∙ length-map us' (λ (u : AttachedState). u.drive.image)) st.few;
+    number = subst (λ n. n < 7) (sym number) st.number;
+    few = subst (λ n. n ≤ 8) (sym (length-map old.drives (λ (u : AttachedState). u.drive.image)) ∙ ap length (sym same)
+        ∙ length-map new.drives (λ (u : AttachedState). u.drive.image)) st.few;
     shows = h.shows;
     sound = stays_sound m ((e, None) ∷ []) st.sound;
   };
@@ -58,7 +55,7 @@ quiet e m answer number s sub us s' sub' us' st same h = record {
 -- and of one that changes nothing
 pub unchanged : (e : Event) (m : Machine) (answer : Answer) (number : ℕ) (s : Storage) (sub : Subchannel) (us : List AttachedState)
     → StandsFor (of_parts number s sub us) m → react e None m ≡ (answer, m) → DoesQuietly e m answer (of_parts number s sub us)
-unchanged e m answer number s sub us st h = quiet e m answer number s sub us s sub us st refl (record {
+unchanged e m answer number s sub us st h = quiet e m answer (of_parts number s sub us) (of_parts number s sub us) st refl refl (record {
   answers = sym (ap (λ (r : Answer × Machine). r.0) h);
   shows = subst (λ m. Shows (of_parts number s sub us) m sub) (sym (ap (λ (r : Answer × Machine). r.1) h)) st.shows;
 })
@@ -118,7 +115,7 @@ module _ (a number : ℕ) (s : Storage) (us : List AttachedState) (m : Machine) 
       → DoesQuietly (Sio a) m answer (of_parts number s' sub' us')
   start_at place answer s' sub' us' h does same =
       let f : FoundAt (a % 256) us place = found_by (a % 256) us place h in
-      quiet (Sio a) m answer number s Idle us s' sub' us' st same
+      quiet (Sio a) m answer (of_parts number s Idle us) (of_parts number s' sub' us') st refl same
       (subst (λ r. ShowsNext r answer (of_parts number s' sub' us'))
       (ap (λ device. start_device device (idle_machine number s us) (Some (device_of f.attached))) f.same_device
       ∙ ap (λ m. start_device (a % 256) m (Some (device_of f.attached))) (sym st.shows.0)
@@ -129,7 +126,7 @@ module _ (a number : ℕ) (s : Storage) (us : List AttachedState) (m : Machine) 
       → DoesIdle (λ m. test_device (a % 256) m (device_at m (a % 256))) answer s us s' Idle us' → images us' ≡ images us
       → DoesQuietly (Tio a) m answer (of_parts number s' Idle us')
   test_at answer s' us' does same =
-      quiet (Tio a) m answer number s Idle us s' Idle us' st same
+      quiet (Tio a) m answer (of_parts number s Idle us) (of_parts number s' Idle us') st refl same
       (subst (λ r. ShowsNext r answer (of_parts number s' Idle us'))
       (ap (λ m. test_device (a % 256) m (device_at m (a % 256))) (sym st.shows.0)
       ∙ sym (at_channel a number s Idle us m st (test_io (a % 256) m m.subchannel) on ∙ ap (test_io (a % 256) m) idle_there))
@@ -155,7 +152,8 @@ module _ (a number : ℕ) (s : Storage) (device : ℕ) (csw : Csw) (us : List At
 
   pub test_pending : a % 256 ≡ device → (s' : Storage) → s' ≡ changed (csw_stored csw) s
       → DoesQuietly (Tio a) m (CswStored csw) (of_parts number s' Idle us)
-  test_pending h s' stored = quiet (Tio a) m (CswStored csw) number s (Pending device csw) us s' Idle us st refl
+  test_pending h s' stored = quiet (Tio a) m (CswStored csw) (of_parts number s (Pending device csw) us) (of_parts number s' Idle us)
+      st refl refl
       (subst (λ r. ShowsNext r (CswStored csw) (of_parts number s' Idle us))
       (sym (there ∙ ap (λ b. cond b (tested csw (with_subchannel machine.Idle m)) (WithCode Two, m)) (eq-eqb (a % 256) device h)))
       (record {
@@ -217,7 +215,7 @@ module _ (a number : ℕ) (s : Storage) (sub : Subchannel) (us : List AttachedSt
 
     pub arrive_moves : (us' : List AttachedState) → arm ≡ InMotion → ArmChanges place Arrived us us'
         → DoesQuietly (Arrive a) m (HasArrived true) (of_parts number s sub us')
-    arrive_moves us' k c = quiet (Arrive a) m (HasArrived true) number s sub us s sub us' st
+    arrive_moves us' k c = quiet (Arrive a) m (HasArrived true) (of_parts number s sub us) (of_parts number s sub us') st refl
         (ap images c.becomes ∙ map_same (λ (u : AttachedState). u.drive.image) us place c.attached (record c.attached {
           arm =
               Arrived;
@@ -244,7 +242,8 @@ pub interrupt_idle : (number : ℕ) (s : Storage) (us : List AttachedState) (m :
     (us' : List AttachedState) → StandsFor (of_parts number s Idle us) m
     → DoesOn number (λ m. interrupt_device m (lowest (filter has_arrived m.devices))) (Interrupted told) s us s' Idle us'
     → images us' ≡ images us → DoesQuietly Interrupt m (Interrupted told) (of_parts number s' Idle us')
-interrupt_idle number s us m told s' us' st does same = quiet Interrupt m (Interrupted told) number s Idle us s' Idle us' st same
+interrupt_idle number s us m told s' us' st does same = quiet Interrupt m (Interrupted told) (of_parts number s Idle us)
+    (of_parts number s' Idle us') st refl same
     (subst (λ m. ShowsNext (react Interrupt None m) (Interrupted told) (of_parts number s' Idle us')) (sym st.shows.0)
     (does st.shows.1 (distinct_drives (of_parts number s Idle us) m (seen_by (of_parts number s Idle us) m Idle st.shows) st.sound)))
 
@@ -253,8 +252,8 @@ pub interrupt_pending : (number : ℕ) (s : Storage) (device : ℕ) (csw : Csw) 
     × Csw) (s' : Storage) → StandsFor (of_parts number s (Pending device csw) us) m
     → told ≡ (256 * number + device, csw) → s' ≡ changed (csw_stored csw) s → DoesQuietly Interrupt m (Interrupted (Some told))
     (of_parts number s' Idle us)
-interrupt_pending number s device csw us m told s' st is stored = quiet Interrupt m (Interrupted (Some told)) number s
-    (Pending device csw) us s' Idle us st refl
+interrupt_pending number s device csw us m told s' st is stored = quiet Interrupt m (Interrupted (Some told))
+    (of_parts number s (Pending device csw) us) (of_parts number s' Idle us) st refl refl
     (subst (λ m. ShowsNext (react Interrupt None m) (Interrupted (Some told)) (of_parts number s' Idle us)) (sym st.shows.0)
     (record { answers = ap (λ t. Interrupted (Some t)) is; shows = (ap (λ s. idle_machine number s us) (sym stored), st.shows.1) }))
 
@@ -340,7 +339,8 @@ module _ (taking : StandsAfterInterruption) (changing : StandsAfterChange) (numb
     }
 
     pub interrupt_working : DoesQuietly Interrupt m (Interrupted told) (of_parts number s' (Working place r') us)
-    interrupt_working = quiet Interrupt m (Interrupted told) number s (Working place r) us s' (Working place r') us st refl
+    interrupt_working = quiet Interrupt m (Interrupted told) (of_parts number s (Working place r) us)
+        (of_parts number s' (Working place r') us) st refl refl
         (subst (λ q. ShowsNext q (Interrupted told) (of_parts number s' (Working place r') us)) (sym (reacts _ refl))
         (by_asked _ refl (t.told s w.attached.drive)))
 

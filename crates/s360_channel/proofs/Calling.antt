@@ -145,9 +145,13 @@ module _ (c : ChannelState) (place : ℕ) (r : RunningState) (m : Machine) (w : 
 
     pub halt_does : Does (Hio a) m (WithCode Two) c now_over
     halt_does = does_this (Hio a) m (WithCode Two) c now_over (met_in 0 how.fault) (ended w.attached.device c.storage ending m) stands
-        (halt_by how.fault refl) refl
-        (few_drives c c.storage (Pending w.attached.device told.0) place w.attached (with_both w.attached told.1 new) w.is_there stands.few)
-        (over_machine_now, over_rest c place r m w stands.sound c.storage (told.0, told.1) new ending how.is_ending)
+        (halt_by how.fault refl)
+        (record {
+          number = refl;
+          few = few_drives c c.storage (Pending w.attached.device told.0) place w.attached (with_both w.attached told.1 new) w.is_there
+              stands.few;
+          shows = (over_machine_now, over_rest c place r m w stands.sound c.storage (told.0, told.1) new ending how.is_ending);
+        })
         (halt_met how.fault how.met) (halt_told how.fault refl how.met)
 
   -- A reset.
@@ -223,9 +227,15 @@ module _ (c : ChannelState) (place : ℕ) (r : RunningState) (m : Machine) (w : 
 
   pub reset_does : Does Reset m (WasReset lost) c (reset_with c drives_then)
   reset_does = does_this Reset m (WasReset lost) c (reset_with c drives_then) (met_in 0 how.fault)
-      (all_at_rest (ended w.attached.device c.storage ending m)) stands (reset_by how.fault refl) refl
-      (rest_few drives_then (few_drives c c.storage Idle place w.attached (with_drive w.attached new) w.is_there stands.few))
-      (reset_machine, rest_all drives_then (all_of_others c.drives place (with_drive w.attached new) w.others how.is_ending.drive.rests))
+      (all_at_rest (ended w.attached.device c.storage ending m)) stands (reset_by how.fault refl)
+      (record {
+        number = refl;
+        few = rest_few drives_then (few_drives c c.storage Idle place w.attached (with_drive w.attached new) w.is_there stands.few);
+        shows = (
+          reset_machine,
+          rest_all drives_then (all_of_others c.drives place (with_drive w.attached new) w.others how.is_ending.drive.rests),
+        );
+      })
       (reset_met how.fault how.met) (reset_told how.fault refl how.met)
 
 -- Steps, cuts and resets at a channel, by what its subchannel is.

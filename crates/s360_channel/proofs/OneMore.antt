@@ -115,26 +115,30 @@ does_one_more m events given old mid new d e a does calls =
       reported = reported_one_more d.inputs i m d.reported does.reports;
     }
 
+-- A channel reacts to an event with this answer, as each machine does that it stands for, and calls its stores no more often than the
+-- event may.
+pub record Reacts (e : Event) (a : Answer) (old new : ChannelState) : Type 0 where
+  pub does : (now : Machine) → StandsFor old now → Does e now a old new
+  pub calls : CallsAtMost (most_calls e a) old new
+
 -- one event more; it names the channel before, between and behind, since it joins a list of events and that one
 pub drove_one_more : (m : Machine) (events : List Event) (given : List Answer) (old mid new : ChannelState) (e : Event) (a : Answer)
-    → ((now : Machine) → StandsFor mid now → Does e now a mid new) → CallsAtMost (most_calls e a) mid new → Drove m events given old mid
-    → Drove m (events ++ e ∷ []) (given ++ a ∷ []) old new
-drove_one_more m events given old mid new e a does calls d =
-    does_one_more m events given old mid new d e a (does (after_all d.inputs m) d.stands) calls
+    → Reacts e a mid new → Drove m events given old mid → Drove m (events ++ e ∷ []) (given ++ a ∷ []) old new
+drove_one_more m events given old mid new e a reacts d =
+    does_one_more m events given old mid new d e a (reacts.does (after_all d.inputs m) d.stands) reacts.calls
 
 -- one event more of a list of a deck's events; it names the channel before, between and behind, since it joins the
 -- events up to there and that one
 pub goes_on : (m : Machine) (events : List deck_event.Event) (i : ℕ) (d : deck_event.Event) (given : List deck_answer.Answer)
     (old mid new : ChannelState) (a : deck_answer.Answer)
-    → i < length events → ((now : Machine) → StandsFor mid now → Does (event_seen (get_or events i d)) now (answer_seen a) mid new)
-    → CallsAtMost (most_calls (event_seen (get_or events i d)) (answer_seen a)) mid new
+    → i < length events → Reacts (event_seen (get_or events i d)) (answer_seen a) mid new
     → Drove m (map event_seen (take i events)) (map answer_seen given) old mid
     → Drove m (map event_seen (take (i + 1) events)) (map answer_seen (given ++ a ∷ [])) old new
-goes_on m events i d given old mid new a within does calls drove =
+goes_on m events i d given old mid new a within reacts drove =
     subst (λ es. Drove m es (map answer_seen (given ++ a ∷ [])) old new) (sym (map_more event_seen events i d within))
     (subst (λ all. Drove m (map event_seen (take i events) ++ event_seen (get_or events i d) ∷ []) all old new)
     (sym (map-append answer_seen given (a ∷ [])))
-    (drove_one_more m _ _ old mid new _ _ does calls drove))
+    (drove_one_more m _ _ old mid new _ _ reacts drove))
 
 -- where no fault is met, the events come without faults
 none_met : (es : List Input) → faults_in es ≡ 0 → es ≡ plain (map (λ i. i.0) es)

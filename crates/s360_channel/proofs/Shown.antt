@@ -218,7 +218,11 @@ working_interrupts c m place r asked s e told =
 -- The drive's state is that of the phase, and so are its command, and the bytes that have passed in that.
 
 state_there : (g : Stage) (p : Place) (s : Storage) (d : State) (w : Work) → d ≡ state_in (phase_by g p s d w)
-state_there g p s d w = by_phase (λ f. d ≡ state_in f) g p s d w refl (λ o ccw. refl) (λ o ccw at bytes. refl)
+state_there g p s d w = by_phase (λ f. d ≡ state_in f) g p s d w (record {
+  between = refl;
+  looking = λ o ccw. refl;
+  moving = λ o ccw at bytes. refl;
+})
 
 work_there : (g : Stage) (p : Place) (s : Storage) (d : State) (w : Work) → StageFits g d w
     → (command_of w ≡ command_in (phase_by g p s d w)) × (passed_of w ≡ moved_in (phase_by g p s d w))

@@ -41,20 +41,24 @@ use Rattle.s360_channel.proofs.Works.{channel_of, devices_of, distinct_drives, d
 
 -- Drives in which the drive and the arm of one of them changed, and a program that is over there.
 
--- What an event that meets this fault does at a channel, from what the machine comes to and what the channel shows
--- then. Its premises are many, since steps, a halt and a reset come here.
+-- Behind an event a channel has the number that it had, no more drives than a channel may have, and shows this machine.
+pub record ShowsThen (old new : ChannelState) (after : Machine) : Type 0 where
+  pub number : new.number ≡ old.number
+  pub few : length new.drives ≤ 8
+  pub shows : Shows new after new.subchannel
+
+-- What an event that meets this fault does at a channel, from what the machine comes to and what the channel shows then.
 pub does_this : (e : Event) (m : Machine) (answer : Answer) (old new : ChannelState) (fault : Option FaultAfter) (after : Machine)
-    → StandsFor old m → react e fault m ≡ (answer, after)
-    → new.number ≡ old.number → length new.drives ≤ 8 → Shows new after new.subchannel → IsMet fault answer old new → Reports e m fault
+    → StandsFor old m → react e fault m ≡ (answer, after) → ShowsThen old new after → IsMet fault answer old new → Reports e m fault
     → Does e m answer old new
-does_this e m answer old new fault after s is same few shows met reports = record {
+does_this e m answer old new fault after s is then met reports = record {
   fault = fault;
   met = met;
   answers = sym (ap (λ (a : Answer × Machine). a.0) is);
   stands = record {
-    number = subst (λ n. n < 7) (sym same) s.number;
-    few = few;
-    shows = subst (λ n. Shows new n new.subchannel) (sym (ap (λ (a : Answer × Machine). a.1) is)) shows;
+    number = subst (λ n. n < 7) (sym then.number) s.number;
+    few = then.few;
+    shows = subst (λ n. Shows new n new.subchannel) (sym (ap (λ (a : Answer × Machine). a.1) is)) then.shows;
     sound = stays m e fault s.sound;
   };
   reports = reports;
@@ -288,8 +292,12 @@ module _ (c : ChannelState) (place : ℕ) (r : RunningState) (m : Machine) (w : 
     }
 
     pub goes_on_does : Does (StepBy k) m (Stepped done) c now
-    goes_on_does = does_this (StepBy k) m (Stepped done) c now None (goes_on w.attached.device w.script (units k) m) stands went refl
-        (few_drives c s (Working place r') place w.attached (with_drive w.attached new) w.is_there stands.few) works_on
+    goes_on_does = does_this (StepBy k) m (Stepped done) c now None (goes_on w.attached.device w.script (units k) m) stands went
+        (record {
+          number = refl;
+          few = few_drives c s (Working place r') place w.attached (with_drive w.attached new) w.is_there stands.few;
+          shows = works_on;
+        })
         (same_failures c s (Working place r') place w.attached (with_drive w.attached new) w.is_there how.failures)
         (no_fault_none_told m (StepBy k) (runs_of m stands.sound))
 
@@ -335,9 +343,13 @@ module _ (c : ChannelState) (place : ℕ) (r : RunningState) (m : Machine) (w : 
 
     pub ends_does : Does (StepBy k) m (Stepped done) c now_over
     ends_does = does_this (StepBy k) m (Stepped done) c now_over (met_in how.earlier how.fault) (ended w.attached.device s how.ending m)
-        stands (came how.fault refl) refl
-        (few_drives c s (Pending w.attached.device told.0) place w.attached (with_both w.attached told.1 new) w.is_there stands.few) (
-          over_machine c place r m w stands.sound s told new how.ending how.is_ending,
-          over_rest c place r m w stands.sound s told new how.ending how.is_ending,
-        )
+        stands (came how.fault refl)
+        (record {
+          number = refl;
+          few = few_drives c s (Pending w.attached.device told.0) place w.attached (with_both w.attached told.1 new) w.is_there stands.few;
+          shows = (
+            over_machine c place r m w stands.sound s told new how.ending how.is_ending,
+            over_rest c place r m w stands.sound s told new how.ending how.is_ending,
+          );
+        })
         (is_met how.fault how.met) (is_told how.fault refl how.met)

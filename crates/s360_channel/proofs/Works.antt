@@ -62,27 +62,34 @@ module _ (c : ChannelState) (place : ℕ) (r : RunningState) (m : Machine) (w : 
       ≡ Some (NotEnded (standing_in r.key (phase_in r c.storage w.attached.drive)))
   seen_there sound = run_at sound w.script ∙ ap Some (seen (start_of m w.drive) w.script r c.storage w.attached.drive w.runs)
 
--- What is so of each phase with this storage is so of the one in which a running program stands beside it.
-pub by_phase : (P : ProgramPhase → Type 0) (g : Stage) (p : Place) (s : Storage) (d : State) (w : work.Work)
-    → P (Between (record { storage = s; place = p; state = d }))
-    → ((o : Opened) (ccw : Ccw) → P (Looking (record { opened = o; state = d }) (record { storage = s; ccw = ccw; place = p })))
-    → ((o : Opened) (ccw : Ccw) (at : ℕ) (bytes : List ℕ)
-    → P (Moving (record { opened = o; state = d }) (record { storage = s; ccw = ccw; place = p; address = at; bytes = bytes })))
+-- What is so of each phase with this place, this storage and this state of the drive.
+pub record HoldsByPhase (P : ProgramPhase → Type 0) (p : Place) (s : Storage) (d : State) : Type 0 where
+  pub between : P (Between (record { storage = s; place = p; state = d }))
+  pub looking : (o : Opened) (ccw : Ccw) → P (Looking (record { opened = o; state = d }) (record { storage = s; ccw = ccw; place = p }))
+  pub moving : (o : Opened) (ccw : Ccw) (at : ℕ) (bytes : List ℕ)
+      → P (Moving (record { opened = o; state = d }) (record { storage = s; ccw = ccw; place = p; address = at; bytes = bytes }))
+
+-- It is so of the one in which a running program stands.
+pub by_phase : (P : ProgramPhase → Type 0) (g : Stage) (p : Place) (s : Storage) (d : State) (w : work.Work) → HoldsByPhase P p s d
     → P (phase_by g p s d w)
-by_phase P stage.Between p s d w between looks moves = between
-by_phase P (stage.Looking ccw) p s d work.Idle between looks moves = between
-by_phase P (stage.Looking ccw) p s d (work.Over e) between looks moves = between
-by_phase P (stage.Looking ccw) p s d (work.Looking o) between looks moves = looks o ccw
-by_phase P (stage.Looking ccw) p s d (work.Passing o b left) between looks moves = between
-by_phase P (stage.Moving ccw a) p s d work.Idle between looks moves = between
-by_phase P (stage.Moving ccw a) p s d (work.Over e) between looks moves = between
-by_phase P (stage.Moving ccw a) p s d (work.Looking o) between looks moves = between
-by_phase P (stage.Moving ccw a) p s d (work.Passing o b left) between looks moves = moves o ccw a b
+by_phase P stage.Between p s d w h = h.between
+by_phase P (stage.Looking ccw) p s d work.Idle h = h.between
+by_phase P (stage.Looking ccw) p s d (work.Over e) h = h.between
+by_phase P (stage.Looking ccw) p s d (work.Looking o) h = h.looking o ccw
+by_phase P (stage.Looking ccw) p s d (work.Passing o b left) h = h.between
+by_phase P (stage.Moving ccw a) p s d work.Idle h = h.between
+by_phase P (stage.Moving ccw a) p s d (work.Over e) h = h.between
+by_phase P (stage.Moving ccw a) p s d (work.Looking o) h = h.between
+by_phase P (stage.Moving ccw a) p s d (work.Passing o b left) h = h.moving o ccw a b
 
 -- what is seen of storage in a phase is storage
 pub storage_seen : (key : ℕ) (g : Stage) (p : Place) (s : Storage) (d : State) (w : work.Work)
     → (standing_in key (phase_by g p s d w)).storage ≡ s
-storage_seen key g p s d w = by_phase (λ f. (standing_in key f).storage ≡ s) g p s d w refl (λ o ccw. refl) (λ o ccw at bytes. refl)
+storage_seen key g p s d w = by_phase (λ f. (standing_in key f).storage ≡ s) g p s d w (record {
+  between = refl;
+  looking = λ o ccw. refl;
+  moving = λ o ccw at bytes. refl;
+})
 
 pub storage_there : (c : ChannelState) (place : ℕ) (r : RunningState) (m : Machine) → WorksFor c place r m → IsSound m
     → storage_of m m.subchannel ≡ c.storage

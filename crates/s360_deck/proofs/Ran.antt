@@ -86,21 +86,34 @@ ran (Err Write) before after old new written_before written text answers is h w 
 ran (Err Read) before after old new written_before written text answers is h w = absurd (subst IsWrite (sym w.0) tt)
 ran (Err (Deck fault)) before after old new written_before written text answers is h w = absurd (subst IsWrite (sym w.0) tt)
 
+-- a text was read whole, and spells these events
+pub record ReadsEvents (before after : Option (List ℕ)) (events : List Event) : Type 0 where
+  pub text : List ℕ
+  pub is_read : ReadsWhole before after text
+  pub are_these : events_of text ≡ Ok events
+
+-- what is seen of a text spells what is seen of the events
+pub spelled_as : (text seen : List ℕ) (events driven : List Event) → seen ≡ text → driven ≡ events → events_of seen ≡ Ok events
+    → events_of text ≡ Ok driven
+spelled_as text seen events driven seen_is driven_is spelled =
+    subst (λ t. events_of t ≡ Ok driven) seen_is (spelled ∙ ap (λ (es : List Event). Ok es) (sym driven_is))
+
+-- these events have happened at the channel, with these answers
+pub record HaveHappened (events : List Event) (answers : List Answer) (old new : ChannelState) : Type 0 where
+  pub answered : AllAnswered events answers
+  pub follows : (m : Machine) → StandsFor old m → Follows m (map event_seen events) (map answer_seen answers) old new
+
 pub has_run : (result : Result (Unit {0}) RunFault) (before after : Option (List ℕ)) (old new : ChannelState)
-    (written_before written : Option (List ℕ))
-    (text seen : List ℕ) (events driven : List Event) (answers told : List Answer)
-    → seen ≡ text → driven ≡ events → told ≡ answers
-    → ReadsWhole before after text → events_of seen ≡ Ok events → AllAnswered driven answers
-    → ((m : Machine) → StandsFor old m → Follows m (map event_seen driven) (map answer_seen answers) old new)
-    → WritesFront result written_before written (lines_text told) → Runs result before after old new written_before written
-has_run result before after old new written_before written text seen events driven answers told seen_is driven_is told_is h spelled answered
-    follows w =
-    ran result before after old new written_before written text answers h
+    (written_before written : Option (List ℕ)) (events : List Event) (answers : List Answer) → ReadsEvents before after events
+    → HaveHappened events answers old new → WritesFront result written_before written (lines_text answers)
+    → Runs result before after old new written_before written
+has_run result before after old new written_before written events answers read happened w =
+    ran result before after old new written_before written read.text answers read.is_read
     (record {
-      size = h.size;
-      events = driven;
-      are_these = subst (λ t. events_of t ≡ Ok driven) seen_is (spelled ∙ ap (λ (es : List Event). Ok es) (sym driven_is));
-      answered = answered;
-      follows = follows;
+      size = read.is_read.size;
+      events = events;
+      are_these = read.are_these;
+      answered = happened.answered;
+      follows = happened.follows;
     })
-    (subst (λ all. WritesFront result written_before written (lines_text all)) told_is w)
+    w

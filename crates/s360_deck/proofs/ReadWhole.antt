@@ -35,21 +35,27 @@ read_failed a b c text h size sound known same failed = record {
   failed = failed ∙ ap (λ n. n + 1) sound;
 }
 
+-- one read that gave a piece, of at most 4,096 bytes
+pub record ReadsPiece (before after : Stream) (piece : List ℕ) : Type 0 where
+  pub known : Consumes before.known after.known piece
+  pub passed : after.passed ≡ before.passed ++ piece
+  pub sound : NoneFailed before after
+  pub size : length piece ≤ 4096
+
 -- a piece that could not be added
 pub not_added : (fault : ReadFault) (a b c : Stream) (text piece : List ℕ) → Gives a b text → length text ≤ 1048576 → NoneFailed a b
-    → Consumes b.known c.known piece → c.passed ≡ b.passed ++ piece → NoneFailed b c
-    → length piece ≤ 4096 → NotAdded fault (text ++ piece) → ReadsFaultily fault a c
-not_added Failed a b c text piece h size sound known passed same few none = absurd none
-not_added TooLong a b c text piece h size sound known passed same few long = record {
+    → ReadsPiece b c piece → NotAdded fault (text ++ piece) → ReadsFaultily fault a c
+not_added Failed a b c text piece h size sound read none = absurd none
+not_added TooLong a b c text piece h size sound read long = record {
   text = text ++ piece;
-  given = gives_more a b c text piece h known passed;
+  given = gives_more a b c text piece h read.known read.passed;
   size = long;
-  one_read = omega (arith, length-append text piece);
-  sound = same ∙ sound;
+  one_read = omega (arith, length-append text piece, read.size);
+  sound = read.sound ∙ sound;
 }
-not_added OutOfMemory a b c text piece h size sound known passed same few short = record {
+not_added OutOfMemory a b c text piece h size sound read short = record {
   text = text ++ piece;
-  given = gives_more a b c text piece h known passed;
+  given = gives_more a b c text piece h read.known read.passed;
   size = short;
-  sound = same ∙ sound;
+  sound = read.sound ∙ sound;
 }

@@ -34,36 +34,33 @@ first_of_two text line behind first rest some = rw (first, rest) (first_line tex
 pub behind_shorter : (text : List ℕ) → 0 < length text → length (after_first (λ b. b == 10) text) < length text
 behind_shorter text some = omega (arith, length-drop (position_or_len (λ b. b == 10) text + 1) text)
 
+-- a text that is not empty, its first line, and what stands behind that
+pub record HasFirstLine (text line behind : List ℕ) : Type 0 where
+  pub some : 0 < length text
+  pub first : line ≡ before_first (λ b. b == 10) text
+  pub rest : behind ≡ after_first (λ b. b == 10) text
+
 -- the events of a text are those of its first line, and of what stands behind it
-first_read : (events : List Event) (number : ℕ) (text line behind : List ℕ) (all : Result (List Event) DeckFault) → 0 < length text
-    → line ≡ before_first (λ b. b == 10) text → behind ≡ after_first (λ b. b == 10) text
-    → events_behind events number (lines_of text) ≡ all
+first_read : (events : List Event) (number : ℕ) (text line behind : List ℕ) (all : Result (List Event) DeckFault)
+    → HasFirstLine text line behind → events_behind events number (lines_of text) ≡ all
     → on_line number (line_read line) (λ e. events_behind (appended events e) (number + 1) (lines_of behind)) ≡ all
-first_read events number text line behind all some first rest is = rw (first_line text some, ← first, ← rest) at is
+first_read events number text line behind all has is = rw (first_line text has.some, ← has.first, ← has.rest) at is
 
 -- a line that spells an event or none
 pub next_read : (events : List Event) (event : Option Event) (number : ℕ) (text line behind : List ℕ) (all : Result (List Event) DeckFault)
-    → 0 < length text
-    → line ≡ before_first (λ b. b == 10) text → behind ≡ after_first (λ b. b == 10) text
-    → Ok event ≡ line_read line
-    → events_behind events number (lines_of text) ≡ all
+    → HasFirstLine text line behind → Ok event ≡ line_read line → events_behind events number (lines_of text) ≡ all
     → events_behind (appended events event) (number + 1) (lines_of behind) ≡ all
-next_read events event number text line behind all some first rest e is =
-    rw (← e) at (first_read events number text line behind all some first rest is)
+next_read events event number text line behind all has e is = rw (← e) at (first_read events number text line behind all has is)
 
 abbrev faulted : LineFault → Result (Option Event) LineFault
 faulted f = Err f
 
 -- a faulty line
 pub faulty_read : (events : List Event) (f : LineFault) (told : DeckFault) (number : ℕ) (text line behind : List ℕ)
-    (all : Result (List Event) DeckFault) → 0 < length text
-    → line ≡ before_first (λ b. b == 10) text → behind ≡ after_first (λ b. b == 10) text
-    → told ≡ fault_at number f
-    → faulted f ≡ line_read line
-    → events_behind events number (lines_of text) ≡ all
-    → all ≡ Err told
-faulty_read events f told number text line behind all some first rest is_told e is =
-    rw is_told (sym (rw (← e) at (first_read events number text line behind all some first rest is)))
+    (all : Result (List Event) DeckFault) → HasFirstLine text line behind → told ≡ fault_at number f → faulted f ≡ line_read line
+    → events_behind events number (lines_of text) ≡ all → all ≡ Err told
+faulty_read events f told number text line behind all has is_told e is =
+    rw is_told (sym (rw (← e) at (first_read events number text line behind all has is)))
 
 -- nothing more is told of a deck where its first faulty line is known
 pub is_read_faultily : (fault : DeckFault) (deck : Result (List Event) DeckFault) → deck ≡ Err fault → IsRead deck (Err fault)

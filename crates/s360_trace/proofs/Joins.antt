@@ -147,32 +147,42 @@ longer_failing (suc k) n zero f h = ap (λ j. units_failing j zero f) (suc-add k
 longer_failing (suc k) n (suc u) f h = ap (λ j. units_failing j (suc u) f) (suc-add k n)
     ∙ ap (λ l. OneUnit None ∷ l) (longer_failing k n u f (omega (arith, h)))
 
-over : (m : Machine) (d : ℕ) (s : Script) (k n : ℕ) (x : FaultAfter) (v : Device) (device : ℕ) (csw : Csw) → x.units < k → (o : Outcome)
+-- a channel status word of a device pends
+record Pends (c : Subchannel) : Type 0 where
+  device : ℕ
+  csw : Csw
+  pends : c ≡ Pending device csw
+
+over : (m : Machine) (d : ℕ) (s : Script) (k n : ℕ) (x : FaultAfter) (v : Device) → x.units < k → (o : Outcome)
     → run (s ++ units_with k (Some x)) (start_of m v.drive) ≡ o
-    → (stepped d s k (record m { subchannel = Working d s }) (Some o)).1.subchannel ≡ Pending device csw
+    → Pends (stepped d s k (record m { subchannel = Working d s }) (Some o)).1.subchannel
     → stepped d s (k + n) (record m { subchannel = Working d s }) (Some (run (s ++ units_with (k + n) (Some x)) (start_of m v.drive)))
     ≡ stepped d s k (record m { subchannel = Working d s }) (Some o)
-over m d s k n x v device csw less (NotEnded seen) h p = absurd (no p)
+over m d s k n x v less (NotEnded seen) h p = absurd (no p.pends)
   where
-    no : Working d (s ++ units k) ≡ Pending device csw → ⊥
+    no : Working d (s ++ units k) ≡ Pending p.device p.csw → ⊥
     no h = cc
-over m d s k n x v device csw less (Ended u st e) h p =
+over m d s k n x v less (Ended u st e) h p =
     ap (λ o. stepped d s (k + n) (record m { subchannel = Working d s }) (Some o))
     (ap (λ l. run (s ++ l) (start_of m v.drive)) (longer_failing k n x.units x.fault less)
     ∙ ap (λ l. run l (start_of m v.drive)) (sym (append_assoc s (units_with k (Some x)) (units n)))
     ∙ ended_stays (start_of m v.drive) (s ++ units_with k (Some x)) (units n) u st e h)
 
-longer : (m : Machine) (c : Subchannel) (k n : ℕ) (x : FaultAfter) (device : ℕ) (csw : Csw) → Runs m c → x.units < k
-    → (react (StepBy k) (Some x) (record m { subchannel = c })).1.subchannel ≡ Pending device csw
+longer : (m : Machine) (c : Subchannel) (k n : ℕ) (x : FaultAfter) → Runs m c → x.units < k
+    → Pends (react (StepBy k) (Some x) (record m { subchannel = c })).1.subchannel
     → react (StepBy (k + n)) (Some x) (record m { subchannel = c }) ≡ react (StepBy k) (Some x) (record m { subchannel = c })
-longer m Idle k n x device csw r less p = refl
-longer m (Pending d w) k n x device csw r less p = refl
-longer m (Working d s) k n x device csw r less p =
+longer m Idle k n x r less p = refl
+longer m (Pending d w) k n x r less p = refl
+longer m (Working d s) k n x r less p =
     let v = working_device m d s (device_at m d) refl r in
     let w = record m { subchannel = Working d s } in
     ap (stepped d s (k + n) w) (run_at m d v.0 (s ++ units_with (k + n) (Some x)) v.1)
-    ∙ over m d s k n x v.0 device csw less (run (s ++ units_with k (Some x)) (start_of m v.0.drive)) refl
-    (ap (λ o. (stepped d s k w o).1.subchannel) (sym (run_at m d v.0 (s ++ units_with k (Some x)) v.1)) ∙ p)
+    ∙ over m d s k n x v.0 less (run (s ++ units_with k (Some x)) (start_of m v.0.drive)) refl
+    (record {
+      device = p.device;
+      csw = p.csw;
+      pends = ap (λ o. (stepped d s k w o).1.subchannel) (sym (run_at m d v.0 (s ++ units_with k (Some x)) v.1)) ∙ p.pends;
+    })
     ∙ ap (stepped d s k w) (sym (run_at m d v.0 (s ++ units_with k (Some x)) v.1))
 
 -- A step whose program is over before its last unit.
@@ -204,7 +214,11 @@ over_before m k n done old new sound h rest = record {
         }
     go (Some x) met answers stands reports =
         let less = less_than x.units _ met.1 answers (steps_at_most m k (Some x) (runs_of m sound)).0 in
-        let same = longer m m.subchannel k n x reports.device reports.csw (runs_of m sound) less reports.pends in
+        let same = longer m m.subchannel k n x (runs_of m sound) less (record {
+          device = reports.device;
+          csw = reports.csw;
+          pends = reports.pends;
+        }) in
         record {
           fault = Some x;
           met = met;

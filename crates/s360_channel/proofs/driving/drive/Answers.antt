@@ -2,9 +2,8 @@ use Rattle.std.proofs.Common.{rules, tests, subst, map}
 use Rattle.std.proofs.lemmas.List.{take_more}
 use Rattle.s360_events.specs.Answered.{IsAnswered, AllAnswered}
 use Rattle.s360_events.specs.Seen.{event_seen, answer_seen}
-use Rattle.s360_channel.specs.Calls.{CallsAtMost, Does, most_calls}
 use Rattle.s360_channel.proofs.AllAnswered.{all_answered_one_more}
-use Rattle.s360_channel.proofs.OneMore.{Drove, drove_none, goes_on, drove_follows, room_for_one, room_for_others, take_past}
+use Rattle.s360_channel.proofs.OneMore.{Drove, Reacts, drove_none, goes_on, drove_follows, room_for_one, room_for_others, take_past}
 use Rattle.s360_channel.proofs.driving.drive.Goals as goal
 
 pub loop-event-init : goal.loop-event-init
@@ -29,10 +28,8 @@ loop-event-preserved g c = record {
       rw c.push_answer.ensures.items
       (goes_on m c.args.events.now c.loop-event.event-index c.event-item.result c.loop-event.answers.items _ _ _ c.react.result
       c.loop-event-test.true
-      (λ now is. subst (λ e. Does (event_seen e) now (answer_seen c.react.result) c.loop-event.channel c.react.new.self) c.event-item.is
-      (c.react.ensures.does now is))
-      (subst (λ e. CallsAtMost (most_calls (event_seen e) (answer_seen c.react.result)) c.loop-event.channel c.react.new.self)
-      c.event-item.is c.react.ensures.calls)
+      (subst (λ e. Reacts (event_seen e) (answer_seen c.react.result) c.loop-event.channel c.react.new.self) c.event-item.is
+      (record { does = c.react.ensures.does; calls = c.react.ensures.calls }))
       (c.loop-event.invariant.driven m stands));
 }
 

@@ -8,5 +8,9 @@ returns-in_err-add-clause-err g c =
     let p = err_from_is_err_and c.from_residual.result c.from_residual.ensures.1 in
     rw (p.1, p.2) (
     not_added c.in_err-add.field-0.0 _ _ _ c.loop.text.items _ c.loop.invariant.given c.loop.invariant.size c.loop.invariant.sound
-    c.in-Ok.ensures.bytes.0 c.in-Ok.ensures.passed c.in-Ok.ensures.counted
-    (omega (arith, c.in-Ok.ensures.bound.0, c.in-Ok.ensures.bound.1)) c.in_err-add.ensures.err)
+    (record {
+      known = c.in-Ok.ensures.bytes.0;
+      passed = c.in-Ok.ensures.passed;
+      sound = c.in-Ok.ensures.counted;
+      size = omega (arith, c.in-Ok.ensures.bound.0, c.in-Ok.ensures.bound.1);
+    }) c.in_err-add.ensures.err)

@@ -13,7 +13,11 @@ loop-words-preserved c =
       spelled = (
         appended so_far.0 c.in-Ok.event,
         one_counted so_far.0 c.in-Ok.event _ _ so_far.1 more,
-        next_read _ _ _ c.loop-words.rest.now _ _ _ some c.split_at_line_feed.ensures.before c.split_at_line_feed.ensures.after
+        next_read _ _ _ c.loop-words.rest.now _ _ _ (record {
+          some = some;
+          first = c.split_at_line_feed.ensures.before;
+          rest = c.split_at_line_feed.ensures.after;
+        })
             c.in-Ok.ensures so_far.2,
       );
       fewer = omega (arith, c.loop-words.invariant.fewer, one_at_most c.in-Ok.event _ more);

@@ -1,5 +1,5 @@
 use Rattle.std.proofs.lemmas.Result.{err_from_is_err_and}
-use Rattle.s360_deck.proofs.Ran.{is_faulty, same_stays, has_run}
+use Rattle.s360_deck.proofs.Ran.{is_faulty, same_stays, has_run, spelled_as}
 use Rattle.s360_deck.proofs.runs.run.Goals as goal
 
 pub returns-in_err-events-clause-runs : goal.returns-in_err-events-clause-runs
@@ -17,7 +17,11 @@ returns-in_err-events-clause-nothing_written g c = same_stays c.from_residual-in
 
 pub returns-clause-runs : goal.returns-clause-runs
 returns-clause-runs g c =
-    has_run c.write_answers.result _ _ _ _ _ _ c.in_ok-text.text.items c.as_slice.result.now c.in_ok-events.events.items
-    c.as_slice-2.result.now c.in-Ok.answers.items c.as_slice-3.result.now
-    c.as_slice.ensures.value c.as_slice-2.ensures.value c.as_slice-3.ensures.value c.in_ok-text.ensures.ok c.in_ok-events.ensures
-    c.in-Ok.ensures.answered c.in-Ok.ensures.follows c.write_answers.ensures
+    has_run c.write_answers.result _ _ _ _ _ _ c.as_slice-2.result.now c.in-Ok.answers.items
+    (record {
+      text = c.in_ok-text.text.items;
+      is_read = c.in_ok-text.ensures.ok;
+      are_these = spelled_as _ _ _ _ c.as_slice.ensures.value c.as_slice-2.ensures.value c.in_ok-events.ensures;
+    })
+    (record { answered = c.in-Ok.ensures.answered; follows = c.in-Ok.ensures.follows })
+    (rw c.as_slice-3.ensures.value at c.write_answers.ensures)
