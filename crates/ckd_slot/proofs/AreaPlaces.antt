@@ -1,6 +1,6 @@
 -- The bytes of an area stand where its record stands.
-use Rattle.std.proofs.Common.{Bool, ◌≡◌, ◌∙◌, ap, sym, refl, ℕ, ◌+◌, ◌-◌, ◌/◌, ◌%◌, ◌≤◌, ◌<◌, List, [], ◌∷◌, ◌++◌, true, false, ◌==◌, length}
-use Rattle.std.proofs.Common.{take, drop, slice_index, length-drop, length-take, length-append, drop-drop, Option, Some, None, Result, Ok}
+use Rattle.std.proofs.Common.{Bool, ◌≡◌, ◌∙◌, ap, sym, refl, ℕ, ◌+◌, ◌-◌, ◌/◌, ◌%◌, ◌≤◌, ◌<◌, List, [], ◌∷◌, ◌++◌, true, false, ◌==◌}
+use Rattle.std.proofs.Common.{length, take, drop, slice_index, length-drop, length-take, length-append, drop-drop, Option, Some, None, Result, Ok}
 use Rattle.std.proofs.Common.{Err, Fits, w8, get_or, IfOk, arith}
 use Rattle.std.specs.Result.{result_ok}
 use Rattle.ckd_track.specs.declared.fault.SlotFault.{SlotFault}

@@ -1,6 +1,6 @@
 -- What follows from the lengths of keys and data: where records stand, and what they take.
-use Rattle.std.proofs.Common.{◌≡◌, ◌∙◌, ap, sym, refl, ℕ, ◌+◌, ◌-◌, List, All, [], ◌∷◌, length, take, map, flat_map, sum_by, nat_le, if◌then◌else◌, Some, length-append}
-use Rattle.std.proofs.Common.{None, arith}
+use Rattle.std.proofs.Common.{◌≡◌, ◌∙◌, ap, sym, refl, ℕ, ◌+◌, ◌-◌, List, All, [], ◌∷◌, length, take, map, flat_map, sum_by, nat_le}
+use Rattle.std.proofs.Common.{if◌then◌else◌, Some, length-append, None, arith}
 use Rattle.std.proofs.lemmas.List.{take-map}
 use Rattle.std.proofs.lemmas.List.Elements.{All-head, All-tail}
 use Rattle.std.proofs.lemmas.List.Sums.{sum_by-cons}

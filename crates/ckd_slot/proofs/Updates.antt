@@ -1,6 +1,6 @@
 -- Slots whose area is written bit by bit.
-use Rattle.std.proofs.Common.{◌≡◌, ◌∙◌, ap, sym, refl, ℕ, ◌+◌, ◌-◌, ◌≤◌, ◌<◌, max, false, Option, Some, None, List, ◌++◌, length, take, Bool, true}
-use Rattle.std.proofs.Common.{drop, replicate, length-append, append_assoc, Ok, arith}
+use Rattle.std.proofs.Common.{◌≡◌, ◌∙◌, ap, sym, refl, ℕ, ◌+◌, ◌-◌, ◌≤◌, ◌<◌, max, false, Option, Some, None, List, ◌++◌, length, take}
+use Rattle.std.proofs.Common.{Bool, true, drop, replicate, length-append, append_assoc, Ok, arith}
 use Rattle.std.proofs.lemmas.List.{length-replicate, replicate-append-replicate, length-take-le, drop_at, take-append-drop}
 use Rattle.ckd_track.specs.Track.{Track, Spells, track_of, track_in, track_or_none, record_in, slot_of, end_mark}
 use Rattle.ckd_track.specs.Changes.{end_offset, overwritten, ended_at, IsZeroFrom}

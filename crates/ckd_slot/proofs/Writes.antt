@@ -1,6 +1,6 @@
 -- What writes leave of the slot and of the table.
-use Rattle.std.proofs.Common.{Bool, ◌≡◌, ◌∙◌, ap, sym, subst, refl, ℕ, zero, suc, ◌+◌, ◌-◌, ◌*◌, ◌/◌, ◌^◌, ◌≤◌, ◌<◌, min, List, [], ◌∷◌, ◌++◌}
-use Rattle.std.proofs.Common.{true, false, length, take, drop, set, flat_map, replicate, slice_index, bytes_eq, length-append}
+use Rattle.std.proofs.Common.{Bool, ◌≡◌, ◌∙◌, ap, sym, subst, refl, ℕ, zero, suc, ◌+◌, ◌-◌, ◌*◌, ◌/◌, ◌^◌, ◌≤◌, ◌<◌, min, List, [], ◌∷◌}
+use Rattle.std.proofs.Common.{◌++◌, true, false, length, take, drop, set, flat_map, replicate, slice_index, bytes_eq, length-append}
 use Rattle.std.proofs.Common.{length-take, length-set, append-nil, Option, Some, None, Ok, unwrap_or, All, sum_by, arith}
 use Rattle.std.specs.Option.{ForSome}
 use Rattle.std.proofs.lemmas.List.{length-replicate, take_min, take_at, take-take, take_more_set, get_or_at}
