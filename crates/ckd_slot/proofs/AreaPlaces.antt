@@ -1,7 +1,7 @@
 -- The bytes of an area stand where its record stands.
 use Rattle.std.proofs.Common.{Bool, ◌≡◌, ◌∙◌, ap, sym, refl, ℕ, ◌+◌, ◌-◌, ◌/◌, ◌%◌, ◌≤◌, ◌<◌, List, [], ◌∷◌, ◌++◌, true, false, ◌==◌}
-use Rattle.std.proofs.Common.{length, take, drop, slice_index, length-drop, length-take, length-append, drop-drop, Option, Some, None, Result, Ok}
-use Rattle.std.proofs.Common.{Err, Fits, w8, get_or, IfOk, arith}
+use Rattle.std.proofs.Common.{length, take, drop, slice_index, length-drop, length-take, length-append, drop-drop, Option, Some}
+use Rattle.std.proofs.Common.{None, Result, Ok, Err, Fits, w8, get_or, IfOk, arith}
 use Rattle.std.specs.Result.{result_ok}
 use Rattle.ckd_track.specs.declared.fault.SlotFault.{SlotFault}
 use Rattle.ckd_track.specs.Track.{number_of_records, offsets_of}
