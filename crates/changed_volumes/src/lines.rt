@@ -56,10 +56,10 @@ pub(crate) fn write_relabelled<W: Write>(
 }
 
 // That line.
-fn relabelled_line(geometry: Geometry) -> ArrayString<40>
+fn relabelled_line(geometry: Geometry) -> ArrayString<48>
     ensures { result.bytes ≡ relabelled_line geometry }
 {
-    let mut line: ArrayString<40> = ArrayString::new();
+    let mut line: ArrayString<48> = ArrayString::new();
     line.push_str("relabelled ");
     put_decimal(&mut line, u32::from(geometry.model.number()));
     line.push_str(" ");

@@ -215,29 +215,35 @@ one_more_opened paths contents path content before between now so_far one = reco
       omega (arith, a, b, c);
 }
 
--- one more file was opened
-pub record NextOpened (paths : List (List ℕ)) (contents : List Content) (heads : List Head) (before now : List SourceFile) : Type 0 where
-  pub opens : OpensPaths paths contents before now
-  pub are : AllZip IsHeadOf contents heads
+-- Files that were opened one after another: what they hold, what their headers say, and all files that were opened until then.
+pub record Opening : Type 0 where
+  pub contents : List Content
+  pub heads : List Head
+  pub opened : List SourceFile
 
-pub next_opened : {P : Type 0} (path : P → List ℕ) (paths : List P) (i : ℕ) (d : P) (contents more : List Content)
-    (heads more_heads : List Head) (before between now : List SourceFile) → i < length paths
-    → OpensPaths (map path (take i paths)) contents before between → AllZip IsHeadOf contents heads
-    → AddsFile (path (get_or paths i d)) contents more heads more_heads between now
-    → NextOpened (map path (take (i + 1) paths)) more more_heads before now
-next_opened path paths i d contents more heads more_heads before between now inside so_far are a =
+-- the files at these paths, and no others, were opened behind those before, and these are their headers
+pub record HasOpened (paths : List (List ℕ)) (before : List SourceFile) (o : Opening) : Type 0 where
+  pub opens : OpensPaths paths o.contents before o.opened
+  pub are : AllZip IsHeadOf o.contents o.heads
+
+-- one more file was opened
+pub next_opened : {P : Type 0} (path : P → List ℕ) (paths : List P) (i : ℕ) (d : P) (before : List SourceFile) (o more : Opening)
+    → i < length paths → HasOpened (map path (take i paths)) before o
+    → AddsFile (path (get_or paths i d)) o.contents more.contents o.heads more.heads o.opened more.opened
+    → HasOpened (map path (take (i + 1) paths)) before more
+next_opened path paths i d before o more inside so_far a =
     let p = path (get_or paths i d) in
     let paths_are : map path (take (i + 1) paths) ≡ map path (take i paths) ++ p ∷ [] = ap (map path) (take_more paths i d inside)
     ∙ map-append path (take i paths) (get_or paths i d ∷ []) in
     record {
       opens =
-          subst (λ (ps : List (List ℕ)). OpensPaths ps more before now) (sym paths_are)
-          (subst (λ (cs : List Content). OpensPaths (map path (take i paths) ++ p ∷ []) cs before now) (sym a.adds.file)
-          (one_more_opened (map path (take i paths)) contents p a.content before between now so_far a.opened));
+          subst (λ (ps : List (List ℕ)). OpensPaths ps more.contents before more.opened) (sym paths_are)
+          (subst (λ (cs : List Content). OpensPaths (map path (take i paths) ++ p ∷ []) cs before more.opened) (sym a.adds.file)
+          (one_more_opened (map path (take i paths)) o.contents p a.content before o.opened more.opened so_far.opens a.opened));
       are =
-          subst (λ (cs : List Content). AllZip IsHeadOf cs more_heads) (sym a.adds.file)
-          (subst (λ (hs : List Head). AllZip IsHeadOf (contents ++ a.content ∷ []) hs) (sym a.adds.headed)
-          (and_both IsHeadOf contents heads a.content a.adds.head are a.adds.is_head));
+          subst (λ (cs : List Content). AllZip IsHeadOf cs more.heads) (sym a.adds.file)
+          (subst (λ (hs : List Head). AllZip IsHeadOf (o.contents ++ a.content ∷ []) hs) (sym a.adds.headed)
+          (and_both IsHeadOf o.contents o.heads a.content a.adds.head so_far.are a.adds.is_head));
     }
 
 at_both : {A B : Type 0} (R : A → B → Type 0) (xs : List A) (ys : List B) (i : ℕ) (x : A) (y : B) → AllZip R xs ys → i < length xs

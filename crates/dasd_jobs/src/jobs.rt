@@ -80,7 +80,7 @@ pub fn write_formatted<W: Write, P: Progress>(
         (formatted_line volume.entry.model volume.entry.cylinders) }
     ensures flushed { OnOk result (IsFlushed (seen_by W.contents writer.new)) }
 {
-    let mut line: ArrayString<40> = ArrayString::new();
+    let mut line: ArrayString<48> = ArrayString::new();
     line.push_str("formatted ");
     put_decimal(&mut line, u32::from(volume.model.number()));
     line.push_str(" ");

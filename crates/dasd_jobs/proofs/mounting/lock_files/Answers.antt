@@ -1,6 +1,6 @@
 use Rattle.std.proofs.Common.{◌≡◌, ◌∙◌, map}
 use Rattle.std.proofs.lemmas.Result.{err_from_is_err_and}
-use Rattle.dasd_jobs.proofs.Volumes.{next_opened}
+use Rattle.dasd_jobs.proofs.Volumes.{Opening, next_opened}
 use Rattle.dasd_jobs.proofs.Unopened.{stopped_locking}
 use Rattle.dasd_jobs.proofs.mounting.lock_files.Goals as goal
 
@@ -9,9 +9,18 @@ loop-path-preserved g c =
     let opened = g.F.ImageFiles.opened in
     let content = g.F.Opened.OpenedFile.content in
     let i = c.loop-path.invariant in
-    let next = next_opened (λ path. path.now) c.args.paths.now c.loop-path.path-index _ (map content c.loop-path.locked.items)
-    (map content c.lock_file.new.locked.items) c.loop-path.heads.items c.lock_file.new.heads.items (opened c.args.files.now)
-    (opened c.loop-path.files) (opened c.lock_file.new.files) c.loop-path-test.true i.opens i.heads c.in_ok-lock_file.ensures.adds in
+    let so_far : Opening = record {
+      contents = map content c.loop-path.locked.items;
+      heads = c.loop-path.heads.items;
+      opened = opened c.loop-path.files;
+    } in
+    let more : Opening = record {
+      contents = map content c.lock_file.new.locked.items;
+      heads = c.lock_file.new.heads.items;
+      opened = opened c.lock_file.new.files;
+    } in
+    let next = next_opened (λ path. path.now) c.args.paths.now c.loop-path.path-index _ (opened c.args.files.now) so_far more
+    c.loop-path-test.true (record { opens = i.opens; are = i.heads }) c.in_ok-lock_file.ensures.adds in
     record { kept = c.lock_file.ensures.kept ∙ i.kept; opens = next.opens; heads = next.are }
 
 -- the next file is not locked

@@ -8,7 +8,7 @@ use Rattle.dasd_jobs.specs.Causes.{mounting_fault}
 use Rattle.dasd_jobs.specs.Sources.{SourceFile, OpenedState, OpensPaths, Mounts}
 use Rattle.dasd_jobs.specs.Unopened.{NotOpened}
 use Rattle.dasd_jobs.specs.Opening.{IsHeadOf}
-use Rattle.dasd_jobs.proofs.Volumes.{next_opened}
+use Rattle.dasd_jobs.proofs.Volumes.{Opening, next_opened}
 use Rattle.dasd_jobs.proofs.Reached.{mounted_files}
 use Rattle.dasd_jobs.proofs.Unopened.{stopped, not_mounted}
 use Rattle.dasd_jobs.proofs.opened.open_volume.Goals as goal
@@ -18,9 +18,18 @@ loop-path-preserved g c =
     let opened = g.F.ImageFiles.opened in
     let content = g.F.Opened.OpenedFile.content in
     let i = c.loop-path.invariant in
-    let next = next_opened (λ path. path.now) c.args.paths.now c.loop-path.path-index _ (map content c.loop-path.opened.items)
-    (map content c.add_file.new.opened.items) c.loop-path.heads.items c.add_file.new.heads.items (opened c.args.files.now)
-    (opened c.loop-path.files) (opened c.add_file.new.files) c.loop-path-test.true i.opens i.heads c.in_ok-add_file.ensures.adds in
+    let so_far : Opening = record {
+      contents = map content c.loop-path.opened.items;
+      heads = c.loop-path.heads.items;
+      opened = opened c.loop-path.files;
+    } in
+    let more : Opening = record {
+      contents = map content c.add_file.new.opened.items;
+      heads = c.add_file.new.heads.items;
+      opened = opened c.add_file.new.files;
+    } in
+    let next = next_opened (λ path. path.now) c.args.paths.now c.loop-path.path-index _ (opened c.args.files.now) so_far more
+    c.loop-path-test.true (record { opens = i.opens; are = i.heads }) c.in_ok-add_file.ensures.adds in
     record {
       kept = c.add_file.ensures.kept ∙ i.kept;
       opens = next.opens;
