@@ -36,18 +36,26 @@ module _ (other_slots : List (List ℕ)) where
       (omega (arith, fits, both, first)) in
       omega (arith, both, first, next)
 
+-- All tracks of a volume were compared beside the known slots of another one, and those that differ were counted, from none on.
+pub record ComparesAll {P : Type 0} (volume : P → KnownVolume) (number : P → ℕ) (p q : P) (tracks : Tracks) (g : Geometry)
+    (slots other_slots : List (List ℕ)) : Type 0 where
+  pub counted : FoldsTo (λ p t q. CountsTrack (volume p) (number p) t (volume q) (number q)) p (tracks_in tracks g slots) q
+  pub all : tracks ≡ all_tracks g
+  pub fits : g.cylinders < 65536
+  pub none_yet : number p ≡ 0
+  pub known : (volume p).slots ≡ Some other_slots
+
 -- the tracks that differ of all were counted
 pub all_counted : {P : Type 0} (volume : P → KnownVolume) (number : P → ℕ) (p q : P) (tracks : Tracks) (g : Geometry)
-    (slots other_slots : List (List ℕ))
-    → g.cylinders < 65536 → number p ≡ 0 → (volume p).slots ≡ Some other_slots → tracks ≡ all_tracks g
-    → FoldsTo (λ p t q. CountsTrack (volume p) (number p) t (volume q) (number q)) p (tracks_in tracks g slots) q
+    (slots other_slots : List (List ℕ)) → ComparesAll volume number p q tracks g slots other_slots
     → number q ≡ length (changed_in g slots other_slots)
-all_counted volume number p q tracks g slots other_slots fits begins known same steps =
+all_counted volume number p q tracks g slots other_slots c =
     let all = tracks_in (all_tracks g) g slots in
-    let most = tracks_few g slots fits in
+    let most = tracks_few g slots c.fits in
     let few = few_of_tracks (changed_beside other_slots) (one_of_track other_slots) all in
-    let is = counted_so other_slots volume number p q all known
-    (subst (λ t. FoldsTo (λ p t q. CountsTrack (volume p) (number p) t (volume q) (number q)) p (tracks_in t g slots) q) same steps)
+    let begins = c.none_yet in
+    let is = counted_so other_slots volume number p q all c.known
+    (subst (λ t. FoldsTo (λ p t q. CountsTrack (volume p) (number p) t (volume q) (number q)) p (tracks_in t g slots) q) c.all c.counted)
     (omega (arith, most, few, begins)) in
     omega (arith, is, begins)
 

@@ -26,7 +26,13 @@ returns-in-Ok-clause-number g c = λ slots other_slots known other_known.
     let v = g.V.SlotReader.volume c.args.one.now in
     let whole = c.all_tracks.ensures.tracks ∙ ap all_tracks c.geometry-geometry.ensures.geometry in
     let fits : v.geometry.cylinders < 65536 = search (rules, tests) in
-    all_counted _ _ _ _ _ v.geometry slots other_slots fits refl other_known whole (c.in_default-each_track.ensures.noted slots known)
+    all_counted _ _ _ _ _ v.geometry slots other_slots (record {
+      counted = c.in_default-each_track.ensures.noted slots known;
+      all = whole;
+      fits = fits;
+      none_yet = refl;
+      known = other_known;
+    })
 
 pub returns-in-Ok-clause-lines : goal.returns-in-Ok-clause-lines
 returns-in-Ok-clause-lines g c = λ slots other_slots known other_known.
@@ -37,8 +43,13 @@ returns-in-Ok-clause-lines g c = λ slots other_slots known other_known.
     let f = comparison_form c.args.form in
     let whole = c.all_tracks.ensures.tracks ∙ ap all_tracks c.geometry-geometry.ensures.geometry in
     let fits : v.geometry.cylinders < 65536 = search (rules, tests) in
-    let is = all_counted _ _ _ _ _ v.geometry slots other_slots fits refl other_known whole
-    (c.in_default-each_track.ensures.noted slots known) in
+    let is = all_counted _ _ _ _ _ v.geometry slots other_slots (record {
+      counted = c.in_default-each_track.ensures.noted slots known;
+      all = whole;
+      fits = fits;
+      none_yet = refl;
+      known = other_known;
+    }) in
     subst (λ n. Takes a d (volume_differences f v.geometry slots other_slots
     ++ number_line f n)) is
     (takes_more a b d _ _
@@ -56,8 +67,13 @@ returns-clause-lines g c = λ slots other_slots known other_known.
     let f = comparison_form c.args.form in
     let whole = c.all_tracks.ensures.tracks ∙ ap all_tracks c.geometry-geometry.ensures.geometry in
     let fits : v.geometry.cylinders < 65536 = search (rules, tests) in
-    let is = all_counted _ _ _ _ _ v.geometry slots other_slots fits refl other_known whole
-    (c.in_default-each_track.ensures.noted slots known) in
+    let is = all_counted _ _ _ _ _ v.geometry slots other_slots (record {
+      counted = c.in_default-each_track.ensures.noted slots known;
+      all = whole;
+      fits = fits;
+      none_yet = refl;
+      known = other_known;
+    }) in
     subst (λ n. TakesFront a d (volume_differences f v.geometry slots other_slots
     ++ number_line f n)) is
     (front_behind a b d _ _
