@@ -4,7 +4,6 @@ use Rattle.std.proofs.Common.{position, is_some, inl, inr, add-one, take-append-
 use Rattle.std.specs.List.{AllZip, position_or_len}
 use Rattle.std.proofs.Math.Seq.{take-suc, drop-cons}
 use Rattle.std.proofs.lemmas.Bool.Decides.{nat_tests}
-use Rattle.s360_words.specs.Storage.{is_size}
 use Rattle.s360_channel.specs.Attaches.{RefusedAs}
 use Rattle.s360_channel.specs.Channel.{ChannelState}
 use Rattle.attached_drives.specs.Drives.{AttachedState, is_at}
@@ -15,9 +14,10 @@ use Rattle.dasd_jobs.specs.Sources.{SourceFile}
 use Rattle.dasd_jobs.specs.declared.faults.JobFault.{JobFault}
 use Rattle.dasd_jobs.specs.declared.faults.JobFault.TheVariants as job
 use Rattle.dasd_run.specs.declared.fault.ProgramFault.{ProgramFault}
-use Rattle.dasd_run.specs.Faults.{attach_fault, volume_fault}
-use Rattle.dasd_run.specs.Built.{IsNewChannel, IsDriveOf, HasImage, OpensVolumes, AttachesOne}
-use Rattle.dasd_run.specs.Built.{HasNoImage, is_addressed, has_address, HasAddressOf, NotAttached, NotBuilt}
+use Rattle.dasd_run.specs.declared.fault.ProgramFault.TheVariants as fault
+use Rattle.dasd_run.specs.Faults.{volume_fault}
+use Rattle.dasd_run.specs.Built.{IsNewChannel, IsDriveOf, HasImage, OpensVolumes, AreOpened, AttachesOne}
+use Rattle.dasd_run.specs.Built.{HasNoImage, is_addressed, has_address, HasAddressOf, NotAttached, NotAllAttached}
 
 -- one volume more: its drive stands behind the others, and its files were opened behind theirs
 opens_more : (vs : List Volume) (us : List AttachedState) (v : Volume) (u : AttachedState) (before between now : List SourceFile)
@@ -28,16 +28,21 @@ opens_more (w ∷ vs) [] v u before between now so_far one = absurd so_far
 opens_more (w ∷ vs) (x ∷ us) v u before between now so_far one =
     (so_far.0, so_far.1, opens_more vs us v u so_far.0 between now so_far.2 one)
 
+-- This volume stands at this place of these.
+pub record IsVolumeAt (vs : List Volume) (i : ℕ) (v : Volume) : Type 0 where
+  pub inside : i < length vs
+  pub is : v ≡ get_or vs i v
+
 -- one more, where the volumes are looked at up to a place
-pub opens_next : (vs : List Volume) (us zs : List AttachedState) (i : ℕ) (v : Volume) (u : AttachedState)
-    (before between now : List SourceFile)
-    → i < length vs → v ≡ get_or vs i v → zs ≡ us ++ u ∷ [] → OpensVolumes (take i vs) us before between → IsDriveOf v u between now
-    → OpensVolumes (take (i + 1) vs) zs before now
-opens_next vs us zs i v u before between now inside is more so_far one =
+pub opens_next : (vs : List Volume) (i : ℕ) (v : Volume) (old new : ChannelState) (before between now : List SourceFile)
+    → IsVolumeAt vs i v → OpensVolumes (take i vs) old.drives before between → AttachesOne v old new between now
+    → OpensVolumes (take (i + 1) vs) new.drives before now
+opens_next vs i v old new before between now there so_far one =
+    let more : new.drives ≡ old.drives ++ one.0 ∷ [] = ap (λ (c : ChannelState). c.drives) one.2 in
     rw more
-    (subst (λ (l : List Volume). OpensVolumes l (us ++ u ∷ []) before now)
-    (sym (rw add-one (take-suc vs i v inside) ∙ ap (λ z. take i vs ++ z ∷ []) (sym is)))
-    (opens_more (take i vs) us v u before between now so_far one))
+    (subst (λ (l : List Volume). OpensVolumes l (old.drives ++ one.0 ∷ []) before now)
+    (sym (rw add-one (take-suc vs i v there.inside) ∙ ap (λ z. take i vs ++ z ∷ []) (sym there.is)))
+    (opens_more (take i vs) old.drives v one.0 before between now so_far one.1))
 
 -- the drives have the addresses of their volumes
 pub addressed : (vs : List Volume) (us : List AttachedState) (before now : List SourceFile) → OpensVolumes vs us before now
@@ -62,24 +67,18 @@ parted {A} xs i x inside is = sym (take-append-drop i xs) ∙ ap (λ l. take i x
     ∙ ap (λ (y : A). y ∷ drop (suc i) xs) (sym is))
 
 -- the volume at a place gets no drive
-pub stops_at : (f : ProgramFault) (size number : ℕ) (vs before : List Volume) (i : ℕ) (v : Volume) (us : List AttachedState)
-    (opened_before between opened : List SourceFile)
-    → before ≡ take i vs → i < length vs → v ≡ get_or vs i v → (is_size size ≡ true) × (number < 7)
-    → OpensVolumes (take i vs) us opened_before between → NotAttached f before v between opened
-    → NotBuilt f size number vs opened_before opened
-stops_at f size number vs before i v us opened_before between opened is inside there sound opens why = inr (
-  sound.0,
-  sound.1,
-  record {
-    before = before;
-    volume = v;
-    behind = drop (suc i) vs;
-    are_all = rw is (parted vs i v inside there);
-    between = between;
-    opens = (us, subst (λ (l : List Volume). OpensVolumes l us opened_before between) (sym is) opens);
-    why = why;
-  },
-)
+pub stops_at : (f : ProgramFault) (vs before : List Volume) (i : ℕ) (v : Volume) (opened_before between opened : List SourceFile)
+    → before ≡ take i vs → IsVolumeAt vs i v → AreOpened (take i vs) opened_before between → NotAttached f before v between opened
+    → NotAllAttached f vs opened_before opened
+stops_at f vs before i v opened_before between opened is there opens why = record {
+  before = before;
+  volume = v;
+  behind = drop (suc i) vs;
+  are_all = rw is (parted vs i v there.inside there.is);
+  between = between;
+  opens = subst (λ (l : List Volume). AreOpened l opened_before between) (sym is) opens;
+  why = why;
+}
 
 -- there are as many drives as volumes
 same_count : (vs : List Volume) (us : List AttachedState) → AllZip HasAddressOf vs us → length us ≡ length vs
@@ -108,6 +107,12 @@ same_addresses device vs us all =
 
 is_eight : (n : ℕ) → (n == 8) ≡ true → n ≡ 8
 is_eight n is = grind (arith, nat_tests)
+
+-- what the fault of a drive that is not attached is to the program
+abbrev pub attach_fault : AttachFault → ProgramFault
+attach_fault UnitTaken = fault.AddressTaken
+attach_fault Full = fault.TooManyDrives
+attach_fault (OutOfMemory e) = fault.OutOfMemory
 
 -- a drive is not attached
 pub is_refused : (f : AttachFault) (vs : List Volume) (c : ChannelState) (v : Volume) (before now : List SourceFile)

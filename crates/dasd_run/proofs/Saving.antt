@@ -56,28 +56,33 @@ none_there r (v ∷ others) ds i before now inside none rest = by (cases_lt i (l
         subst (λ (l : List (Volume × Given)). SavesAll r l before now)
         (no_pair vs ds (i + 1) (omega arith) ∙ sym (no_pair vs ds i past)) rest
 
+-- This image stands beside the volume at a place.
+pub record StandsBeside (vs : List Volume) (ds : List Given) (i : ℕ) (d : ℕ × ImageState) : Type 0 where
+  pub inside : i < length vs
+  pub there : get_or ds i None ≡ Some d
+
 -- the pairs from one on that has an image
-pair_there : (vs : List Volume) (ds : List Given) (i : ℕ) (v : Volume) (d : ℕ × ImageState) → i < length vs → get_or ds i None ≡ Some d
+pair_there : (vs : List Volume) (ds : List Given) (i : ℕ) (v : Volume) (d : ℕ × ImageState) → StandsBeside vs ds i d
     → drop i (zip vs ds) ≡ (get_or vs i v, Some d) ∷ drop (i + 1) (zip vs ds)
-pair_there vs ds i v d inside there =
-    from_pair vs ds i v None inside (is_within ds i d there)
-    ∙ ap (λ (e : Given). (get_or vs i v, e) ∷ drop (i + 1) (zip vs ds)) there
+pair_there vs ds i v d beside =
+    from_pair vs ds i v None beside.inside (is_within ds i d beside.there)
+    ∙ ap (λ (e : Given). (get_or vs i v, e) ∷ drop (i + 1) (zip vs ds)) beside.there
 
 -- a volume that is saved before the others
 pub saved_there : (r : Result (Unit {0}) ProgramFault) (vs : List Volume) (ds : List Given) (i : ℕ) (v : Volume) (d : ℕ
-    × ImageState) (before between now : List Replaced) → i < length vs → get_or ds i None ≡ Some d
+    × ImageState) (before between now : List Replaced) → StandsBeside vs ds i d
     → SavesVolume (Ok tt) (get_or vs i v) d.1 before between → SavesAll r (drop (i + 1) (zip vs ds)) between now
     → SavesAll r (drop i (zip vs ds)) before now
-saved_there r vs ds i v d before between now inside there here rest =
-    subst (λ (l : List (Volume × Given)). SavesAll r l before now) (sym (pair_there vs ds i v d inside there))
+saved_there r vs ds i v d before between now beside here rest =
+    subst (λ (l : List (Volume × Given)). SavesAll r l before now) (sym (pair_there vs ds i v d beside))
     (inl (between, here, rest))
 
 -- a volume that can't be
 pub stops_there : (f : JobFault) (vs : List Volume) (ds : List Given) (i : ℕ) (v : Volume) (d : ℕ × ImageState) (before now : List Replaced)
-    → i < length vs → get_or ds i None ≡ Some d → SavesVolume (Err f) (get_or vs i v) d.1 before now
+    → StandsBeside vs ds i d → SavesVolume (Err f) (get_or vs i v) d.1 before now
     → SavesAll (Err (Save f)) (drop i (zip vs ds)) before now
-stops_there f vs ds i v d before now inside there here =
-    subst (λ (l : List (Volume × Given)). SavesAll (Err (Save f)) l before now) (sym (pair_there vs ds i v d inside there))
+stops_there f vs ds i v d before now beside here =
+    subst (λ (l : List (Volume × Given)). SavesAll (Err (Save f)) l before now) (sym (pair_there vs ds i v d beside))
     (inr (f, refl, here))
 
 -- and behind the last one

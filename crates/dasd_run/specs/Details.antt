@@ -12,8 +12,9 @@ use Rattle.dasd_words.specs.declared.requests.DetailedVolume.{DetailedVolume}
 use Rattle.dasd_words.specs.declared.requests.ListedLibrary.{ListedLibrary}
 use Rattle.dasd_jobs.specs.Sources.{OfVolume}
 use Rattle.dasd_run.specs.declared.commands.Ending.{Ending}
+use Rattle.dasd_run.specs.declared.commands.Ending.TheVariants.{Done}
 use Rattle.dasd_run.specs.declared.fault.ProgramFault.{ProgramFault}
-use Rattle.dasd_run.specs.Ended.{ended, ending_of, worse}
+use Rattle.dasd_run.specs.Ended.{ended, worse}
 use Rattle.dasd_run.specs.Faults.{library_fault}
 use Rattle.dasd_run.specs.Outside.{Outside}
 use Rattle.dasd_run.specs.Held.{held_text, held_ending, CountsFault, json_path}
@@ -58,6 +59,6 @@ ListsDetails result asked before now =
 abbrev pub ListsMembers : Result Ending ProgramFault → ListedLibrary → (before now : Outside) → Type 0
 ListsMembers result asked before now =
     IsUnopened asked.volume.as_far result (paths_of asked.volume) before.opened now.opened before.printed now.printed
-    ⊎ ((listing : Result Bool MemberListFault) × (result ≡ ended library_fault ending_of listing)
+    ⊎ ((listing : Result Bool MemberListFault) × (result ≡ ended library_fault (worse Done) listing)
     × OfVolume asked.volume.as_far (paths_of asked.volume) before.opened now.opened
     (λ v. ListsLibrary listing asked.name.now (json_path asked.volume) v before.printed now.printed))

@@ -6,17 +6,13 @@ use Rattle.dasd_run.specs.declared.fault.ProgramFault.{ProgramFault}
 use Rattle.dasd_run.specs.Faults.{keeps_files}
 use Rattle.dasd_run.specs.Outside.{Outside}
 
--- with findings, where there are some
-abbrev pub ending_of : (found : Bool) → Ending
-ending_of found = if found then Findings else Done
+-- with findings, where something is found, and else as it would
+abbrev pub worse : Ending → (found : Bool) → Ending
+worse ending found = if found then Findings else ending
 
 -- with findings, where it counts some
 abbrev pub counted_ending : ℕ → Ending
-counted_ending found = ending_of (nat_lt 0 found)
-
--- with findings, where something more is found
-abbrev pub worse : Ending → (found : Bool) → Ending
-worse ending found = if found then Findings else ending
+counted_ending found = worse Done (nat_lt 0 found)
 
 -- so, where its job is done; and else with what the fault of the job is to the program
 abbrev pub ended : {A E : Type 0} → (fault : E → ProgramFault) → (ending : A → Ending) → Result A E → Result Ending ProgramFault

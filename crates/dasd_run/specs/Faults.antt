@@ -2,8 +2,6 @@
 use Rattle.std.specs.Prelude.{ℕ, Bool, true, false}
 use Rattle.s360_deck.specs.declared.runs.RunFault.{RunFault}
 use Rattle.s360_deck.specs.declared.runs.RunFault.TheVariants as run
-use Rattle.s360_channel.specs.declared.faults.AttachFault.{AttachFault}
-use Rattle.s360_channel.specs.declared.faults.AttachFault.TheVariants as attach
 use Rattle.dasd_jobs.specs.declared.faults.JobFault.{JobFault}
 use Rattle.dasd_jobs.specs.declared.faults.JobFault.TheVariants as job
 use Rattle.dasd_jobs.specs.declared.files.FileFault.{FileFault}
@@ -104,12 +102,6 @@ status_of (fault.Save _) = 1
 status_of (fault.Run _) = 1
 status_of (fault.Assembly source f) = 1
 status_of (fault.Disassembly source f) = 1
-
--- what a fault of attaching is to the program
-abbrev pub attach_fault : AttachFault → ProgramFault
-attach_fault attach.UnitTaken = fault.AddressTaken
-attach_fault attach.Full = fault.TooManyDrives
-attach_fault (attach.OutOfMemory _) = fault.OutOfMemory
 
 -- what a fault of the file of a trace is to the program
 abbrev pub opening_fault : FileFault → ProgramFault

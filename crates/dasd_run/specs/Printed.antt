@@ -25,7 +25,8 @@ use Rattle.dasd_jobs.specs.Unopened.{NotOpened}
 use Rattle.dasd_run.specs.declared.commands.Ending.{Ending}
 use Rattle.dasd_run.specs.declared.fault.ProgramFault.{ProgramFault}
 use Rattle.dasd_run.specs.declared.fault.ProgramFault.TheVariants as fault
-use Rattle.dasd_run.specs.Ended.{ended, done_or, ending_of}
+use Rattle.dasd_run.specs.declared.commands.Ending.TheVariants.{Done}
+use Rattle.dasd_run.specs.Ended.{ended, done_or, worse}
 use Rattle.dasd_run.specs.Faults.{printing_fault}
 
 -- for whom lines are printed
@@ -91,5 +92,5 @@ PrintsPart result HasPart text v before now =
 -- there are findings where it is not
 abbrev pub HashesWhole : Result Ending ProgramFault → Shown → KnownVolume → (before now : Stream) → Type 0
 HashesWhole result f v before now =
-    (hashing : Result Bool VolumeFault) × (result ≡ ended printing_fault (λ whole. ending_of (not whole)) hashing) × IfOk hashing (TellsWhole f v)
+    (hashing : Result Bool VolumeFault) × (result ≡ ended printing_fault (λ whole. worse Done (not whole)) hashing) × IfOk hashing (TellsWhole f v)
     × IfErr hashing (λ e. e ≡ volume.OutOfMemory → now ≡ before) × PrintsWhole hashing (hashes_text f) v before now

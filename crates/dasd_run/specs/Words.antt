@@ -2,11 +2,10 @@
 use Rattle.std.specs.Prelude.{◌≡◌, ◌⊎◌, ◌<◌, ℕ, List, [], length, take, codes, Option, Some, None, Result, Ok, Err}
 use Rattle.counted_io.specs.Streams.{Stream}
 use Rattle.s360_deck.specs.declared.runs.RunFault.TheVariants as run
-use Rattle.s360_assembler.specs.Assembled.{assembled}
+use Rattle.std.specs.Global.{Vec}
+use Rattle.s360_assembler.specs.Assembled.{assembled, IsAssembled}
 use Rattle.s360_assembler.specs.declared.fault.AssemblyFault.{AssemblyFault}
-use Rattle.s360_assembler.specs.declared.fault.AssemblyFault.TheVariants as assembly
 use Rattle.s360_disassembler.specs.Words.{AreWordsOf, NotDisassembled}
-use Rattle.s360_disassembler.specs.declared.words.DisassemblyFault.{DisassemblyFault}
 use Rattle.dasd_run.specs.declared.commands.Ending.{Ending}
 use Rattle.dasd_run.specs.declared.fault.ProgramFault.{ProgramFault}
 use Rattle.dasd_run.specs.declared.fault.ProgramFault.TheVariants as fault
@@ -27,12 +26,6 @@ source_name None = codes "standard input"
 abbrev pub Printing : Type 1
 Printing = Result Ending ProgramFault → (path : Option (List ℕ)) → (text : List ℕ) → (opened_before opened : List SourceFile)
     → (before printed : Stream) → Type 0
-
--- the fault of a text, as the program tells it
-abbrev pub IsAssemblyFault : ProgramFault → (path : Option (List ℕ)) → AssemblyFault → Type 0
-IsAssemblyFault (fault.Assembly source told) path f = (source.bytes.items ≡ source_name path) × (told ≡ f) × (f ≡ assembly.OutOfMemory → ⊥)
-IsAssemblyFault fault.OutOfMemory path f = Unit {0}
-IsAssemblyFault told path f = ⊥
 
 -- Why a text with these files is not assembled: its own name is told, and the fault that the definitions find; or there is no memory.
 abbrev pub NotAssembled : ProgramFault → (path : Option (List ℕ)) → (loaded : List LoadableFile) → (text : List ℕ) → Type 0
@@ -55,6 +48,14 @@ TellsNotLoaded (fault.Assembly source f) path loaded text = (source.bytes.items 
 TellsNotLoaded fault.OutOfMemory path loaded text = Unit {0}
 TellsNotLoaded f path loaded text = ⊥
 
+-- The files that a text names were loaded, and its deck is made with them, or it is not assembled; or only the first of them were loaded. No
+-- other file was opened.
+abbrev pub MakesDeck : Result (Vec ℕ) AssemblyFault → (text : List ℕ) → (opened_before opened : List SourceFile) → Type 0
+MakesDeck result text opened_before opened =
+    ((loaded : List LoadableFile) × LoadsFiles (files_named text) loaded opened_before opened × IsAssembled (assembled loaded text) result)
+    ⊎ ((f : AssemblyFault) × (number : ℕ) × (loaded : List LoadableFile) × (result ≡ Err f)
+    × LoadsFiles (take number (files_named text)) loaded opened_before opened × NotLoaded f loaded)
+
 -- The files that a text names were loaded, and its deck is printed, or not; or only the first of them were, and nothing is printed. No other
 -- file was opened.
 abbrev pub AssemblesText : Printing
@@ -62,12 +63,6 @@ AssemblesText result path text opened_before opened before printed =
     ((loaded : List LoadableFile) × LoadsFiles (files_named text) loaded opened_before opened × PrintsDeck result path loaded text before printed)
     ⊎ ((f : ProgramFault) × (number : ℕ) × (loaded : List LoadableFile) × (result ≡ Err f)
     × LoadsFiles (take number (files_named text)) loaded opened_before opened × TellsNotLoaded f path loaded text × (printed ≡ before))
-
--- the fault of a deck, as the program tells it
-abbrev pub IsDisassemblyFault : ProgramFault → (path : Option (List ℕ)) → DisassemblyFault → Type 0
-IsDisassemblyFault (fault.Disassembly source told) path f = (source.bytes.items ≡ source_name path) × (told ≡ f)
-IsDisassemblyFault fault.OutOfMemory path f = Unit {0}
-IsDisassemblyFault told path f = ⊥
 
 -- why a deck is not put into words
 abbrev pub NotInWords : ProgramFault → (path : Option (List ℕ)) → (deck : List ℕ) → Type 0

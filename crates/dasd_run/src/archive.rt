@@ -11,7 +11,7 @@ ghost use Rattle.dasd_run.specs.Compared.{shape_text, geometries_line, ComparesV
 ghost use Rattle.dasd_run.specs.Outside.{Looks};
 ghost use Rattle.dasd_run.specs.Printed.{style_of, range_of, asked_part};
 
-use crate::commands::{Ending, ending_of};
+use crate::commands::{Ending, worse};
 use crate::fault::ProgramFault;
 use crate::host::Host;
 use crate::printed_paths::quoted;
@@ -168,7 +168,7 @@ fn compare_opened<V: SlotReader, U: SlotReader, W: Write>(
         return Ok(Ending::Findings);
     }
     let differing = compare(alloc, one, other, writer, form)?;
-    Ok(ending_of(differing > 0))
+    Ok(worse(Ending::Done, differing > 0))
 }
 
 // Prints the line of two geometries that differ, which is made in memory.

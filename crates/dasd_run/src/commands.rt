@@ -2,9 +2,8 @@
 
 ghost use Rattle.std.specs.Prelude.{◌≡◌, true, map, IfErr};
 ghost use Rattle.counted_io.specs.Streams.{seen_by};
-ghost use Rattle.dasd_run.specs.Decks.{NoTrace};
 ghost use Rattle.dasd_run.specs.Answers.{FormatsVolume, ListsVolume, ChecksVolume, Answers};
-ghost use Rattle.dasd_run.specs.Ended.{ending_of, worse, KeepsFiles};
+ghost use Rattle.dasd_run.specs.Ended.{worse, KeepsFiles};
 ghost use Rattle.dasd_run.specs.Faults.{keeps_files};
 ghost use Rattle.dasd_run.specs.Outside.{Looks};
 ghost use Rattle.dasd_run.specs.Runs.{RunsOrStops, Tells};
@@ -36,7 +35,6 @@ use dasd_words::{DeckRun, NewImage, Request, WordFault, read_words};
 use s360_deck::RunFault;
 use std::alloc::Global;
 use std::io::{Read, Write};
-use trace_lines::Tracer;
 
 /// How a command ended that did what it was asked.
 #[derive(Clone, Copy)]
@@ -64,7 +62,10 @@ pub fn obey<F: Traces, R: Read, W: Write, P: Progress>(
     let asked = match read_words(host.alloc, words) {
         Ok(asked) => asked,
         Err(WordFault::Version(text)) => return tell(&mut host.writer, text.as_bytes()),
-        Err(fault) => return Err(fault.into()),
+        Err(WordFault::Help(text)) => return Err(ProgramFault::Help(text)),
+        Err(WordFault::Usage(text)) => return Err(ProgramFault::Words(text)),
+        Err(WordFault::BadVolume) => return Err(ProgramFault::BadVolume),
+        Err(WordFault::OutOfMemory) => return Err(ProgramFault::OutOfMemory),
     };
     if asked.is_verbose {
         host.files.ask_remarks();
@@ -165,7 +166,7 @@ fn check_volume<F: Traces, R: Read, W: Write, P: Progress>(
         &mut host.progress,
         paths,
     )?;
-    Ok(ending_of(findings > 0))
+    Ok(worse(Ending::Done, findings > 0))
 }
 
 // Runs a deck over its volumes. Of the faults of a deck that was run, that of its trace is reported last.
@@ -178,7 +179,8 @@ fn run_volumes<F: Traces, R: Read, W: Write, P: Progress>(
 {
     let alloc = host.alloc;
     let volumes = asked.volumes.as_slice();
-    let mut tracer = begin_run(alloc, &mut host.files, &asked)?;
+    host.files.plan_saving(save_plan(&asked));
+    let mut tracer = begin_trace(alloc, &mut host.files, &asked)?;
     let mut channel = build(
         alloc,
         &mut host.files,
@@ -195,20 +197,6 @@ fn run_volumes<F: Traces, R: Read, W: Write, P: Progress>(
     concluded.and(traced.and(Ok(Ending::Done)))
 }
 
-// Says what becomes of the files, and opens the trace.
-fn begin_run<F: Traces>(
-    alloc: Global,
-    files: &mut F,
-    asked: &DeckRun,
-) -> Result<Option<Tracer<F::Sink>>, ProgramFault>
-    ensures kept { F.written files.new ≡ F.written files.old }
-    ensures same { F.opened files.new ≡ F.opened files.old }
-    ensures no_trace { IfErr result (λ e. NoTrace e asked.now) }
-{
-    files.plan_saving(save_plan(asked));
-    begin_trace(alloc, files, asked)
-}
-
 // What becomes of the files of a run.
 fn save_plan(asked: &DeckRun) -> SavePlan
     ensures { result ≡ plan_of asked.now.saves asked.now.in_place }
@@ -220,13 +208,6 @@ fn save_plan(asked: &DeckRun) -> SavePlan
     } else {
         SavePlan::Replaced
     }
-}
-
-/// How a command ends: with findings, where there are some.
-pub(crate) fn ending_of(found: bool) -> Ending
-    ensures { result ≡ ending_of found }
-{
-    worse(Ending::Done, found)
 }
 
 /// How a command ends that would end so, where something more may be found.

@@ -5,7 +5,7 @@ ghost use Rattle.volume_details.specs.Sections.{shown_by};
 ghost use Rattle.dasd_run.specs.Details.{PrintsDetails, ListsDetails, ListsMembers};
 ghost use Rattle.dasd_run.specs.Outside.{Looks};
 
-use crate::commands::{Ending, ending_of, worse};
+use crate::commands::{Ending, worse};
 use crate::fault::ProgramFault;
 use crate::host::Host;
 use crate::printed_paths::{path_if, quoted};
@@ -81,5 +81,5 @@ pub(crate) fn list_library<F: Traces, R: Read, W: Write, P: Progress>(
     let json = path_if(asked.volume.json, path.as_str());
     let mut volume = open_volume(host.alloc, &mut host.files, paths, asked.volume.as_far)?;
     let is_wrong = print_library(host.alloc, &mut volume, &mut host.writer, name, json)?;
-    Ok(ending_of(is_wrong))
+    Ok(worse(Ending::Done, is_wrong))
 }

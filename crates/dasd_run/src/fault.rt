@@ -8,13 +8,11 @@ use changed_volumes::ChangeFault;
 use dasd_jobs::JobFault;
 use dasd_unload::UnloadFault;
 use dasd_volumes::VolumeFault;
-use dasd_words::WordFault;
 use labelled_volumes::FormatFault;
 use loaded_folders::FolderFault;
 use loaded_sets::{LoadFault, LoadRefusal};
 use new_labels::TableFault;
 use s360_assembler::AssemblyFault;
-use s360_channel::AttachFault;
 use s360_deck::RunFault;
 use s360_disassembler::DisassemblyFault;
 use std::alloc::AllocError;
@@ -113,17 +111,6 @@ impl ProgramFault {
         match self {
             ProgramFault::Words(_) | ProgramFault::Help(_) | ProgramFault::BadVolume => 2,
             _ => 1,
-        }
-    }
-}
-
-impl From<WordFault> for ProgramFault {
-    fn from(fault: WordFault) -> ProgramFault {
-        match fault {
-            WordFault::OutOfMemory => ProgramFault::OutOfMemory,
-            WordFault::BadVolume => ProgramFault::BadVolume,
-            WordFault::Help(text) => ProgramFault::Help(text),
-            WordFault::Usage(text) | WordFault::Version(text) => ProgramFault::Words(text),
         }
     }
 }
@@ -275,21 +262,6 @@ impl From<NewMemberFault> for ProgramFault {
             NewMemberFault::Refused(refusal) => ProgramFault::Member(refusal),
             NewMemberFault::Job(fault) => ProgramFault::Job(fault),
             NewMemberFault::Save(fault) => ProgramFault::Save(fault),
-        }
-    }
-}
-
-impl From<AttachFault> for ProgramFault {
-    ghost use Rattle.std.specs.Prelude.{◌≡◌};
-    ghost use Rattle.dasd_run.specs.Faults.{attach_fault};
-
-    ghost from_gives = { λ f e. e ≡ attach_fault f };
-
-    fn from(fault: AttachFault) -> ProgramFault {
-        match fault {
-            AttachFault::UnitTaken => ProgramFault::AddressTaken,
-            AttachFault::Full => ProgramFault::TooManyDrives,
-            AttachFault::OutOfMemory(_) => ProgramFault::OutOfMemory,
         }
     }
 }

@@ -7,7 +7,7 @@ ghost use Rattle.dasd_run.specs.Answers.{hashed_path, HashesVolume};
 ghost use Rattle.dasd_run.specs.Outside.{Looks};
 ghost use Rattle.dasd_run.specs.Printed.{HashesWhole};
 
-use crate::commands::{Ending, ending_of};
+use crate::commands::{Ending, worse};
 use crate::fault::ProgramFault;
 use crate::host::Host;
 use crate::printed_paths::{joined, quoted};
@@ -66,5 +66,5 @@ fn hash_opened<V: SlotReader, W: Write>(
         HashesWhole result f (V.volume volume.old) (seen_by W.contents writer.old) (seen_by W.contents writer.new) }
 {
     let is_whole = print_hashes(alloc, volume, writer, form)?;
-    Ok(ending_of(!is_whole))
+    Ok(worse(Ending::Done, !is_whole))
 }

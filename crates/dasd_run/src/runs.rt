@@ -14,7 +14,7 @@ use ckd_image::Image;
 use dasd_files::VolumeFile;
 use dasd_jobs::{ImageFiles, JobFault, new_image, read_image};
 use dasd_words::{Volume, VolumeSource};
-use s360_channel::{Channel, Finished, NewFault, SubchannelView};
+use s360_channel::{AttachFault, Channel, Finished, NewFault, SubchannelView};
 use s360_words::{Storage, StorageFault};
 use std::alloc::Global;
 
@@ -85,10 +85,12 @@ fn attach<F: ImageFiles>(
             return Err(of_volume(fault, is_taken));
         }
     };
-    let Err((fault, _)) = channel.attach(alloc, volume.device, image) else {
-        return Ok(());
-    };
-    Err(fault.into())
+    match channel.attach(alloc, volume.device, image) {
+        Ok(()) => Ok(()),
+        Err((AttachFault::UnitTaken, _)) => Err(ProgramFault::AddressTaken),
+        Err((AttachFault::Full, _)) => Err(ProgramFault::TooManyDrives),
+        Err((AttachFault::OutOfMemory(_), _)) => Err(ProgramFault::OutOfMemory),
+    }
 }
 
 // The place of the first of these volumes that has this address.

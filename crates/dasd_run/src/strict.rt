@@ -7,7 +7,7 @@ ghost use Rattle.dasd_run.specs.Outside.{Looks};
 ghost use Rattle.dasd_run.specs.Strict.{found_in, ChecksWhole, ChecksStrictly};
 
 use crate::archive::style;
-use crate::commands::{Ending, ending_of};
+use crate::commands::{Ending, worse};
 use crate::fault::ProgramFault;
 use crate::host::Host;
 use crate::printed_paths::quoted;
@@ -62,7 +62,7 @@ fn check_opened<V: SlotReader, W: Write>(
     let mut tally = Tally::new();
     check_heads(alloc, writer, &mut tally, form, heads)?;
     let counted = check_strict(alloc, volume, writer, form, tally)?;
-    Ok(ending_of(counted.errors > 0))
+    Ok(worse(Ending::Done, counted.errors > 0))
 }
 
 // Prints what is found of these headers, the first of which is number 1, and counts it.

@@ -4,7 +4,7 @@ ghost use Rattle.std.specs.Prelude.{◌≡◌};
 ghost use Rattle.dasd_run.specs.Ended.{KeepsFiles};
 ghost use Rattle.dasd_run.specs.Unloads.{block_form_of, ExtractsSet, ExtractsTracks, ExtractsVolume};
 
-use crate::commands::{Ending, ending_of};
+use crate::commands::{Ending, worse};
 use crate::fault::ProgramFault;
 use crate::host::Host;
 use crate::printed_paths::quoted;
@@ -98,5 +98,5 @@ pub(crate) fn extract_volume<F: Traces, R: Read, W: Write, P: Progress>(
         as_far: asked.as_far,
     };
     let findings = unload_volume(host.alloc, &mut host.files, &mut host.writer, paths, volume)?;
-    Ok(ending_of(findings > 0))
+    Ok(worse(Ending::Done, findings > 0))
 }

@@ -8,7 +8,7 @@ ghost use Rattle.dasd_run.specs.Ended.{counted_ending};
 ghost use Rattle.dasd_run.specs.Held.{SaysAll, PrintsHeld, ListsContents, contents_text};
 ghost use Rattle.dasd_run.specs.Outside.{Looks};
 
-use crate::commands::{Ending, ending_of};
+use crate::commands::{Ending, worse};
 use crate::fault::ProgramFault;
 use crate::host::Host;
 use crate::printed_paths::{path_if, quoted};
@@ -85,7 +85,7 @@ pub(crate) fn write_contents<W: Write>(
 pub(crate) fn held_ending(contents: &Contents) -> Ending
     ensures { result ≡ counted_ending (length contents.now.found.findings.items) }
 {
-    ending_of(contents.found.findings.as_slice().len() > 0)
+    worse(Ending::Done, contents.found.findings.as_slice().len() > 0)
 }
 
 /// What a volume says of itself, with all that is wrong.

@@ -1,8 +1,8 @@
 //! Channel programs in words.
 
-ghost use Rattle.std.specs.Prelude.{◌≡◌, option_map, IfSome};
+ghost use Rattle.std.specs.Prelude.{◌≡◌, option_map, IfOk, IfErr};
 ghost use Rattle.counted_io.specs.Streams.{seen_by};
-ghost use Rattle.dasd_run.specs.Words.{source_name, IsAssemblyFault, IsDisassemblyFault, PrintsDeck, AssemblesText, PrintsOwnWords, PrintsWords, WithText};
+ghost use Rattle.dasd_run.specs.Words.{source_name, MakesDeck, AssemblesText, PrintsOwnWords, PrintsWords, WithText};
 
 use crate::commands::{Ending, tell};
 use crate::decks::read_deck;
@@ -11,7 +11,7 @@ use crate::host::Host;
 use crate::loads::load_files;
 use counted_io::Counted;
 use dasd_jobs::{ImageFiles, Progress, Traces};
-use s360_assembler::{AssemblyFault, LoadableFile, assemble, files_named};
+use s360_assembler::{AssemblyFault, assemble, files_named};
 use s360_deck::RunFault;
 use s360_disassembler::{DisassemblyFault, disassemble};
 use std::alloc::Global;
@@ -21,51 +21,31 @@ use std::io::{Read, Write};
 const MOST_BYTES: usize = 1_048_576;
 
 // What a text is called whose lines are told of.
-fn source_name(alloc: Global, path: Option<&str>) -> Option<String>
-    ensures { IfSome result (λ name. name.bytes.items ≡ source_name (option_map (λ path. path.now) path.entry)) }
+fn source_name(alloc: Global, path: Option<&str>) -> Result<String, ProgramFault>
+    ensures name { IfOk result (λ name. name.bytes.items ≡ source_name (option_map (λ path. path.now) path.entry)) }
+    ensures fault { IfErr result (λ e. e ≡ ProgramFault.OutOfMemory) }
 {
-    path.unwrap_or("standard input").to_string(alloc).ok()
+    Ok(path.unwrap_or("standard input").to_string(alloc)?)
 }
 
-// The fault of a text.
-fn of_assembly(alloc: Global, path: Option<&str>, fault: AssemblyFault) -> ProgramFault
-    ensures { IsAssemblyFault result (option_map (λ path. path.now) path.entry) fault }
-{
-    match (fault, source_name(alloc, path)) {
-        (AssemblyFault::OutOfMemory, _) | (_, None) => ProgramFault::OutOfMemory,
-        (fault, Some(source)) => ProgramFault::Assembly(source, fault),
-    }
-}
-
-// The fault of a deck.
-fn of_disassembly(alloc: Global, path: Option<&str>, fault: DisassemblyFault) -> ProgramFault
-    ensures { IsDisassemblyFault result (option_map (λ path. path.now) path.entry) fault }
-{
-    match (fault, source_name(alloc, path)) {
-        (DisassemblyFault::OutOfMemory, _) | (_, None) => ProgramFault::OutOfMemory,
-        (fault, Some(source)) => ProgramFault::Disassembly(source, fault),
-    }
-}
-
-// Prints the deck of a text that may load these files.
-fn print_deck<W: Write>(
+// The deck of a text, with the files that it names, as far as they can be read.
+fn deck_of<F: ImageFiles>(
     alloc: Global,
-    writer: &mut Counted<W>,
-    path: Option<&str>,
-    loaded: &[LoadableFile],
+    files: &mut F,
     text: &[u8],
-) -> Result<Ending, ProgramFault>
-    ensures { PrintsDeck result (option_map (λ path. path.now) path.entry) loaded.now text.now
-        (seen_by W.contents writer.old) (seen_by W.contents writer.new) }
+) -> Result<Vec<u8>, AssemblyFault>
+    ensures kept { F.written files.new ≡ F.written files.old }
+    ensures made { MakesDeck result text.now (F.opened files.old) (F.opened files.new) }
 {
-    match assemble(alloc, loaded, text) {
-        Ok(deck) => tell(writer, deck.as_slice()),
-        Err(fault) => Err(of_assembly(alloc, path, fault)),
-    }
+    let Ok(names) = files_named(alloc, text) else {
+        return Err(AssemblyFault::OutOfMemory);
+    };
+    let loaded = load_files(alloc, files, names.as_slice())?;
+    assemble(alloc, loaded.as_slice(), text)
 }
 
-// Loads the files that a text names, and prints its deck.
-fn load_and_print<F: ImageFiles, W: Write>(
+// Prints the deck of a text.
+fn print_deck<F: ImageFiles, W: Write>(
     alloc: Global,
     files: &mut F,
     writer: &mut Counted<W>,
@@ -80,11 +60,14 @@ fn load_and_print<F: ImageFiles, W: Write>(
     if text.len() > MOST_BYTES {
         return Err(ProgramFault::Run(RunFault::Read));
     }
-    let names = files_named(alloc, text)?;
-    match load_files(alloc, files, names.as_slice()) {
-        Ok(loaded) => print_deck(alloc, writer, path, loaded.as_slice(), text),
-        Err(fault) => Err(of_assembly(alloc, path, fault)),
+    let fault = match deck_of(alloc, files, text) {
+        Ok(deck) => return tell(writer, deck.as_slice()),
+        Err(fault) => fault,
+    };
+    if fault == AssemblyFault::OutOfMemory {
+        return Err(ProgramFault::OutOfMemory);
     }
+    Err(ProgramFault::Assembly(source_name(alloc, path)?, fault))
 }
 
 // Prints the words of a deck.
@@ -102,7 +85,8 @@ fn print_words<W: Write>(
     }
     match disassemble(alloc, deck) {
         Ok(words) => tell(writer, words.as_slice()),
-        Err(fault) => Err(of_disassembly(alloc, path, fault)),
+        Err(DisassemblyFault::OutOfMemory) => Err(ProgramFault::OutOfMemory),
+        Err(fault) => Err(ProgramFault::Disassembly(source_name(alloc, path)?, fault)),
     }
 }
 
@@ -119,7 +103,7 @@ pub(crate) fn assemble_text<F: Traces, R: Read, W: Write, P: Progress>(
     ensures { WithText AssemblesText result (option_map (λ path. path.now) path.entry) host.old host.new }
 {
     let text = read_deck(host.alloc, &mut host.files, &mut host.reader, path)?;
-    load_and_print(
+    print_deck(
         host.alloc,
         &mut host.files,
         &mut host.writer,

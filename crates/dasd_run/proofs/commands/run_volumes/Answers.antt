@@ -17,35 +17,40 @@ use Rattle.dasd_run.proofs.commands.run_volumes.Goals as goal
 pub returns-in_err-tracer-clause-runs : goal.returns-in_err-tracer-clause-runs
 returns-in_err-tracer-clause-runs g c =
     let p = err_from_is_err_and c.from_residual.result c.from_residual.ensures.1 in
-    let begun = c.begin_run.ensures in
-    rw (p.1, p.2, ← c.host.view_is) (inr (inl (c.in_err-tracer.ensures.no_trace, begun.same, refl), begun.kept, refl))
+    let same_begun = c.begin_trace.ensures.same ∙ c.plan_saving.ensures.same in
+    let kept_begun = c.begin_trace.ensures.kept ∙ c.plan_saving.ensures.kept in
+    rw (p.1, p.2, ← c.host.view_is) (inr (inl (c.in_err-tracer.ensures.no_trace, same_begun, refl), kept_begun, refl))
 
 pub returns-in_err-channel-clause-runs : goal.returns-in_err-channel-clause-runs
 returns-in_err-channel-clause-runs g c =
     let p = err_from_is_err_and c.from_residual-in_err-channel.result c.from_residual-in_err-channel.ensures.1 in
     let f = c.in_err-channel.field-0.0 in
+    let same_begun = c.begin_trace.ensures.same ∙ c.plan_saving.ensures.same in
+    let kept_begun = c.begin_trace.ensures.kept ∙ c.plan_saving.ensures.kept in
     let opened = g.F.ImageFiles.opened in
     let now = opened c.build.new.files in
     let size = c.args.asked.storage in
     let number = c.args.asked.channel in
     let not_built =
     subst (λ (vs : List Volume). NotBuilt f size number vs (opened c.host.inside.files) now) c.as_slice-volumes.ensures.value
-    (subst (λ (l : List SourceFile). NotBuilt f size number c.as_slice-volumes.result.now l now) c.begin_run.ensures.same
+    (subst (λ (l : List SourceFile). NotBuilt f size number c.as_slice-volumes.result.now l now) same_begun
     c.in_err-channel.ensures.not_built) in
-    rw (p.1, p.2, ← c.host.view_is) (inr (inr (inl (not_built, refl)), c.build.ensures.kept ∙ c.begin_run.ensures.kept, refl))
+    rw (p.1, p.2, ← c.host.view_is) (inr (inr (inl (not_built, refl)), c.build.ensures.kept ∙ kept_begun, refl))
 
 pub returns-in_err-text-clause-runs : goal.returns-in_err-text-clause-runs
 returns-in_err-text-clause-runs g c =
     let p = err_from_is_err_and c.from_residual-in_err-text.result c.from_residual-in_err-text.ensures.1 in
+    let same_begun = c.begin_trace.ensures.same ∙ c.plan_saving.ensures.same in
+    let kept_begun = c.begin_trace.ensures.kept ∙ c.plan_saving.ensures.kept in
     let opened = g.F.ImageFiles.opened in
     let built = c.in_ok-channel.channel in
     let now = opened c.read_deck.new.files in
     let opens =
     subst (λ (vs : List Volume). OpensVolumes vs built.drives (opened c.host.inside.files) now) c.as_slice-volumes.ensures.value
-    (subst (λ (l : List SourceFile). OpensVolumes c.as_slice-volumes.result.now built.drives l now) c.begin_run.ensures.same
-    (subst (λ (l : List SourceFile). OpensVolumes c.as_slice-volumes.result.now built.drives (opened c.begin_run.new.files) l)
+    (subst (λ (l : List SourceFile). OpensVolumes c.as_slice-volumes.result.now built.drives l now) same_begun
+    (subst (λ (l : List SourceFile). OpensVolumes c.as_slice-volumes.result.now built.drives (opened c.begin_trace.new.files) l)
     (sym c.in_err-text.ensures.none) c.in_ok-channel.ensures.drives)) in
-    let kept = c.read_deck.ensures.kept ∙ c.build.ensures.kept ∙ c.begin_run.ensures.kept in
+    let kept = c.read_deck.ensures.kept ∙ c.build.ensures.kept ∙ kept_begun in
     rw (p.1, p.2, ← c.host.view_is) (inr (inr (inr ((built.drives, opens), c.in_err-text.ensures.not_read)), kept, refl))
 
 -- a fault of the files is told first, and that of the trace last
@@ -53,13 +58,15 @@ pub returns-clause-runs : goal.returns-clause-runs
 returns-clause-runs g c =
     let written = g.F.ImageFiles.written in
     let opened = g.F.ImageFiles.opened in
+    let same_begun = c.begin_trace.ensures.same ∙ c.plan_saving.ensures.same in
+    let kept_begun = c.begin_trace.ensures.kept ∙ c.plan_saving.ensures.kept in
     let before = opened c.host.inside.files in
     let between = opened c.build.new.files in
     let r = c.run_deck-run.result in
     let built = c.in_ok-channel.channel in
     let text = c.in_ok-text.text.items in
     let same_files : written c.tell_fault.new.files ≡ written c.host.inside.files =
-    c.tell_fault.ensures.kept ∙ c.read_deck.ensures.kept ∙ c.build.ensures.kept ∙ c.begin_run.ensures.kept in
+    c.tell_fault.ensures.kept ∙ c.read_deck.ensures.kept ∙ c.build.ensures.kept ∙ kept_begun in
     let none_behind : opened c.end_run-concluded.new.files ≡ opened c.read_deck.new.files =
     c.end_run-concluded.ensures.same ∙ c.tell_fault.ensures.same in
     rw (← c.host.view_is) (inl (record {
@@ -68,7 +75,7 @@ returns-clause-runs g c =
       opened = between;
       drives =
           subst (λ (vs : List Volume). OpensVolumes vs built.drives before between) c.as_slice-volumes.ensures.value
-          (subst (λ (l : List SourceFile). OpensVolumes c.as_slice-volumes.result.now built.drives l between) c.begin_run.ensures.same
+          (subst (λ (l : List SourceFile). OpensVolumes c.as_slice-volumes.result.now built.drives l between) same_begun
           c.in_ok-channel.ensures.drives);
       text = text;
       reads =
@@ -99,8 +106,9 @@ returns-clause-runs g c =
 pub returns-clause-keeps : goal.returns-clause-keeps
 returns-clause-keeps g c =
     let written = g.F.ImageFiles.written in
+    let kept_begun = c.begin_trace.ensures.kept ∙ c.plan_saving.ensures.kept in
     let same_files : written c.tell_fault.new.files ≡ written c.host.inside.files =
-    c.tell_fault.ensures.kept ∙ c.read_deck.ensures.kept ∙ c.build.ensures.kept ∙ c.begin_run.ensures.kept in
+    c.tell_fault.ensures.kept ∙ c.read_deck.ensures.kept ∙ c.build.ensures.kept ∙ kept_begun in
     let kept = kept_if_told (written c.host.inside.files) (written c.end_run-concluded.new.files) c.end_run-concluded.result
     c.end_trace-traced.result Done
     (subst (λ (before : List Replaced). IfErr c.end_run-concluded.result (λ e. keeps_files e ≡ true

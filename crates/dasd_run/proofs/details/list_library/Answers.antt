@@ -8,7 +8,7 @@ returns-clause-lists g c =
     let v = c.in_ok-volume.volume in
     rw (← c.host.view_is) (inr (
       Ok c.in_ok-is_wrong.is_wrong,
-      ap Ok c.ending_of.ensures,
+      ap Ok c.worse.ensures,
       record {
         geometry = v.geometry;
         contents = v.contents;

@@ -6,7 +6,7 @@ use Rattle.dasd_run.proofs.hash.hash_opened.Goals as goal
 pub returns : goal.returns
 returns g c =
     let hashed = c.in_ok-is_whole.ensures in
-    (Ok c.in_ok-is_whole.is_whole, ap Ok c.ending_of.ensures, hashed.whole, tt, (hashed.lines, hashed.writes, hashed.flushed))
+    (Ok c.in_ok-is_whole.is_whole, ap Ok c.worse.ensures, hashed.whole, tt, (hashed.lines, hashed.writes, hashed.flushed))
 
 pub returns-in_err-is_whole : goal.returns-in_err-is_whole
 returns-in_err-is_whole g c =

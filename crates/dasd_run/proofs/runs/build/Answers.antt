@@ -1,6 +1,6 @@
-use Rattle.std.proofs.Common.{◌∙◌, ◌+◌, take, ap, arith}
+use Rattle.std.proofs.Common.{◌∙◌, ◌+◌, take, inr, arith}
 use Rattle.std.proofs.lemmas.Result.{err_from_is_err_and}
-use Rattle.dasd_run.proofs.Built.{opens_next, addressed, still_new, stops_at}
+use Rattle.dasd_run.proofs.Built.{IsVolumeAt, opens_next, addressed, still_new, stops_at}
 use Rattle.dasd_run.proofs.runs.build.Goals as goal
 
 pub loop-i-preserved : goal.loop-i-preserved
@@ -12,10 +12,9 @@ loop-i-preserved g c =
     let volumes = c.args.volumes.now in
     let i = c.loop-i.i in
     let one = c.in_ok-attach.ensures.drive in
-    let more = ap (λ c. c.drives) one.2 in
     let next =
-    opens_next volumes c.loop-i.channel.drives c.attach.new.channel.drives i c.index-volumes-i.result one.0 before between now
-    c.loop-i-test.true c.index-volumes-i.is more c.loop-i.invariant.drives one.1 in
+    opens_next volumes i c.index-volumes-i.result c.loop-i.channel c.attach.new.channel before between now
+    (record { inside = c.loop-i-test.true; is = c.index-volumes-i.is }) c.loop-i.invariant.drives one in
     record {
       kept = c.attach.ensures.kept ∙ c.loop-i.invariant.kept;
       is_new =
@@ -28,8 +27,12 @@ loop-i-preserved g c =
 pub returns-in_err-attach-clause-not_built : goal.returns-in_err-attach-clause-not_built
 returns-in_err-attach-clause-not_built g c =
     let p = err_from_is_err_and c.from_residual-in_err-attach.result c.from_residual-in_err-attach.ensures.1 in
-    let why = c.in_err-attach.ensures.not_attached in
-    rw (p.1, p.2) (
-    stops_at c.in_err-attach.field-0.0 c.args.storage c.args.number c.args.volumes.now _ c.loop-i.i c.index-volumes-i.result
-    c.loop-i.channel.drives _ _ _ (grind arith) c.loop-i-test.true c.index-volumes-i.is c.in_ok-channel.ensures.sound
-    c.loop-i.invariant.drives why)
+    let sound = c.in_ok-channel.ensures.sound in
+    let there : IsVolumeAt c.args.volumes.now c.loop-i.i c.index-volumes-i.result =
+    record { inside = c.loop-i-test.true; is = c.index-volumes-i.is } in
+    rw (p.1, p.2) (inr (
+      sound.0,
+      sound.1,
+      stops_at c.in_err-attach.field-0.0 c.args.volumes.now _ c.loop-i.i c.index-volumes-i.result _ _ _ (grind arith) there
+          (c.loop-i.channel.drives, c.loop-i.invariant.drives) c.in_err-attach.ensures.not_attached,
+    ))

@@ -20,8 +20,10 @@ returns-in-Err-clause-saves g c =
     (stops_there c.in-Err.fault c.args.volumes.now c.args.images.now c.loop-i.i c.index-volumes-i.result (
       c.in-Some.field-0-0,
       c.in-Some.image,
-    ) before now c.loop-i-test.true
-    (sym (c.in-Some.ensures.taken ∙ c.loop-i.invariant.same c.loop-i.i (omega arith)))
+    ) before now (record {
+      inside = c.loop-i-test.true;
+      there = sym (c.in-Some.ensures.taken ∙ c.loop-i.invariant.same c.loop-i.i (omega arith));
+    })
     (subst (λ (v : Volume). SavesVolume (Err c.in-Err.fault) v c.in-Some.image before now) c.index-volumes-i.is c.in-Err.ensures.saves))
 
 pub loop-i-preserved : goal.loop-i-preserved
@@ -39,8 +41,10 @@ loop-i-preserved g c =
           (elim c.match-take_image.branch [
             | in-Some+in-Ok w ↦
                 saved_there r vs ds i w.index-volumes-i.result (w.in-Some.field-0-0, w.in-Some.image) before
-                (g.F.ImageFiles.written w.save.new.files) now c.loop-i-test.true
-                (sym (w.in-Some.ensures.taken ∙ c.loop-i.invariant.same i (omega arith)))
+                (g.F.ImageFiles.written w.save.new.files) now (record {
+                  inside = c.loop-i-test.true;
+                  there = sym (w.in-Some.ensures.taken ∙ c.loop-i.invariant.same i (omega arith));
+                })
                 (subst (λ (v : Volume). SavesVolume (Ok tt) v w.in-Some.image before (g.F.ImageFiles.written w.save.new.files))
                 w.index-volumes-i.is w.in-Ok.ensures.saves)
                 (rw w.files-is at rest)

@@ -29,7 +29,7 @@ returns g c =
     let found = found_in c.args.heads.now in
     let strict = c.in_ok-counted.ensures in (
       Ok c.in_ok-counted.counted,
-      ap Ok c.ending_of.ensures,
+      ap Ok c.worse.ensures,
       strict.counts found is,
       (λ slots known. takes_more _ _ _ _ _ heads.found.0 (strict.lines found is slots known), strict.writes ∙ heads.writes, strict.flushed),
     )

@@ -7,7 +7,7 @@ returns g c = rw (← c.host.view_is) (
     c.in_ok-text.text.items,
     g.F.ImageFiles.opened c.read_deck.new.files,
     c.in_ok-text.ensures.read,
-    rw c.as_slice.ensures.value at c.load_and_print.ensures.assembles,
+    rw c.as_slice.ensures.value at c.print_deck.ensures.assembles,
   ),
-  c.load_and_print.ensures.kept ∙ c.read_deck.ensures.kept,
+  c.print_deck.ensures.kept ∙ c.read_deck.ensures.kept,
 )
