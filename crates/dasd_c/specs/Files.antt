@@ -3,9 +3,9 @@ use Rattle.std.specs.Prelude.{◌≡◌, ◌⊎◌, ℕ, ◌/◌, ◌%◌, ℤ, 
 use Rattle.s360_channels.specs.Channels.{ChannelsState, channel_at}
 use Rattle.dasd_subsystem.specs.Attaching.{Attaches, Detaches, NotAttached}
 use Rattle.dasd_subsystem.specs.declared.refusal.Refusal.TheVariants.{OutOfMemory}
+use Rattle.subsystem_calls.specs.Attaching.{DoneOrRefused, RefusesDetach, TellsWhy}
+use Rattle.subsystem_calls.specs.Codes.{in_use, no_file, nothing_held, refusal_code}
 use Rattle.dasd_c.specs.declared.storing.StoragePlace.{StoragePlace}
-use Rattle.dasd_c.specs.Attaching.{DoneOrRefused, RefusesDetach, TellsWhy}
-use Rattle.dasd_c.specs.Codes.{in_use, no_file, nothing_held, refusal_code}
 
 -- A file of so many bytes is shown; or there is no such file, and nothing is;
 abbrev pub ShowsSpace : Option (List ℕ) → (code : ℤ) → (before shown : StoragePlace) → Type 0

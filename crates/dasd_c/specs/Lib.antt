@@ -1,14 +1,8 @@
 pub mod Slot
 pub mod FilesSlot
-pub mod Codes
 pub mod Shown
 pub mod Calls
-pub mod Attaching
 pub mod Files
 pub mod Copying
-pub mod Sized
-pub mod Watching
-pub mod Saving
 pub mod Tracing
 pub mod Until
-pub mod States

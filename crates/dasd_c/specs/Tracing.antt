@@ -5,8 +5,8 @@ use Rattle.channel_traces.specs.declared.fault.LookFault.{LookFault}
 use Rattle.channel_traces.specs.declared.fault.LookFault.TheVariants.{NoChannel, BadMoment, NoRoom}
 use Rattle.channel_traces.specs.declared.told.ToldMoment.{ToldMoment}
 use Rattle.channel_traces.specs.Looks.{Puts, is_moment, why_not}
+use Rattle.subsystem_calls.specs.Codes.{bad_moment, no_channel, no_room}
 use Rattle.dasd_c.specs.declared.tracing.Trace.{Trace}
-use Rattle.dasd_c.specs.Codes.{bad_moment, no_channel, no_room}
 
 -- why a look was refused
 abbrev pub look_code : LookFault → ℤ

@@ -6,9 +6,9 @@ use Rattle.dasd_subsystem.specs.Until.{RunsUntil, until_of}
 use Rattle.dasd_subsystem.specs.declared.until.RunProgress.{RunProgress}
 use Rattle.dasd_subsystem.specs.declared.until.Until.{Until}
 use Rattle.dasd_subsystem.specs.declared.until.Wanted.{Wanted}
+use Rattle.subsystem_calls.specs.Codes.{bad_until, no_channel}
+use Rattle.subsystem_calls.specs.Sized.{fitted, progress_bytes}
 use Rattle.dasd_c.specs.declared.until.UnitsWanted.{UnitsWanted}
-use Rattle.dasd_c.specs.Codes.{bad_until, no_channel}
-use Rattle.dasd_c.specs.Sized.{fitted, progress_bytes}
 
 -- a channel's program runs until something happens, and C is told what came of it, as far as it has room
 pub record RunsUntilFor (wanted : Wanted) (code : ℤ) (before told : List ℕ) (old new : ChannelState) : Type 0 where

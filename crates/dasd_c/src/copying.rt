@@ -4,9 +4,9 @@ ghost use Rattle.std.specs.Prelude.{◌≡◌, Some, pos};
 ghost use Rattle.dasd_c.specs.Copying.{TellsCopy};
 
 use crate::handle::{HELD, Handle, hold, put, take};
-use crate::tell::{IN_USE, NOTHING_HELD, of_refusal};
 use dasd_subsystem::Subsystem;
 use std::alloc::Global;
+use subsystem_calls::tell::{IN_USE, NOTHING_HELD, of_refusal};
 
 /// Makes a handle that holds nothing hold a copy of what this one holds, also in the middle of channel programs: channels and drives
 /// with their volumes, and main storage, where it is theirs.

@@ -5,9 +5,9 @@ ghost use Rattle.s360_words.specs.Storage.{Storage as StorageState};
 ghost use Rattle.s360_channels.specs.Selectors.{across};
 ghost use Rattle.dasd_subsystem.specs.Attaching.{NotTaken};
 ghost use Rattle.dasd_subsystem.specs.declared.refusal.Refusal.TheVariants as refusal;
-ghost use Rattle.dasd_c.specs.Attaching.{TellsWhy};
+ghost use Rattle.subsystem_calls.specs.Attaching.{TellsWhy};
+ghost use Rattle.subsystem_calls.specs.Codes.{in_use, nothing_held, refusal_code};
 ghost use Rattle.dasd_c.specs.Calls.{CallsAny};
-ghost use Rattle.dasd_c.specs.Codes.{in_use, nothing_held, refusal_code};
 ghost use Rattle.dasd_c.specs.Files.{AttachesFrom, AttachesHeld, DetachesHeld, DetachesInto, ShowsSpaceIn, ShowsSpaceOf};
 ghost use Rattle.dasd_c.specs.declared.files.TheConstants.{FILES_HELD};
 
@@ -15,10 +15,12 @@ use crate::files_slot::FilesSlot;
 use crate::handle::{Handle, moved, put, take};
 use crate::parts::Parts;
 use crate::storing::StoragePlace;
-use crate::tell::{DONE, IN_USE, NO_FILE, NO_MEMORY, NOTHING_HELD, of_detach, of_refusal};
 use dasd_subsystem::{Files, Subsystem};
 use std::alloc::Global;
 use std::mem;
+use subsystem_calls::tell::{
+    DONE, IN_USE, NO_FILE, NO_MEMORY, NOTHING_HELD, of_detach, of_refusal,
+};
 
 /// The stamp of a handle that holds files.
 pub const FILES_HELD: u64 = 0x4441_5344_4649_4C45;

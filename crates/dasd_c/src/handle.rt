@@ -3,17 +3,17 @@
 ghost use Rattle.std.specs.Prelude.{◌≡◌, ◌==◌, Option, Some, None, IsSome, IfSome, is_some, option_map, pos, true, false, if◌then◌else◌};
 ghost use Rattle.dasd_subsystem.specs.Making.{MadeLent, MadeOwn, NotMade};
 ghost use Rattle.dasd_subsystem.specs.declared.refusal.Refusal.TheVariants as refusal;
-ghost use Rattle.dasd_c.specs.Attaching.{TellsWhy};
-ghost use Rattle.dasd_c.specs.Codes.{nothing_held, in_use, refusal_code};
+ghost use Rattle.subsystem_calls.specs.Attaching.{TellsWhy};
+ghost use Rattle.subsystem_calls.specs.Codes.{nothing_held, in_use, refusal_code};
 ghost use Rattle.dasd_c.specs.declared.handle.TheConstants.{HELD};
 
 use crate::parts::Parts;
 use crate::slot::Slot;
-use crate::tell::{DONE, IN_USE, NO_MEMORY, NOTHING_HELD, of_refusal};
 use dasd_subsystem::Subsystem;
 use std::alloc::Global;
 use std::marker::Send;
 use std::mem;
+use subsystem_calls::tell::{DONE, IN_USE, NO_MEMORY, NOTHING_HELD, of_refusal};
 
 /// The stamp of a handle that holds a subsystem.
 pub const HELD: u64 = 0x4441_5344_4348_414E;

@@ -1,20 +1,14 @@
 //! Which tracks of a volume's file were written, for who saves them.
 
-ghost use Rattle.std.specs.Prelude.{◌≡◌, ◌/◌, ◌%◌, Some};
-ghost use Rattle.s360_words.specs.Storage.{Storage as StorageState};
-ghost use Rattle.s360_channels.specs.Selectors.{across};
-ghost use Rattle.dasd_files.specs.Files.{IsFile};
+ghost use Rattle.std.specs.Prelude.{◌≡◌};
+ghost use Rattle.subsystem_calls.specs.Saving.{TellsNextOf};
 ghost use Rattle.dasd_c.specs.Calls.{CallsAny};
-ghost use Rattle.dasd_c.specs.Saving.{TellsNext, TellsNextIn, TellsNextOf};
 
 use crate::handle::{Handle, put, take};
-use crate::showing::is_at_work;
-use crate::tell::{DONE, NO_CHANNEL, NO_DRIVE, NO_FILE, NOTHING_HELD, PROGRAM_RUNS};
-use ckd_image::Image;
-use dasd_files::VolumeFile;
-use dasd_subsystem::{ShownTrack, next_changed};
-use s360_channels::Selectors;
+use dasd_subsystem::ShownTrack;
 use std::alloc::Global;
+use subsystem_calls::show_next_changed;
+use subsystem_calls::tell::NOTHING_HELD;
 
 /// Shows the next track of a file of a drive's volume, from the one that `track.next` names on, that may have been written since the file's
 /// number of changes was this one: 1, or 0 where there is none. The program that runs on the drive's channel is not the drive's.
@@ -33,50 +27,7 @@ pub extern "C" fn dasd_next_changed(
     let Some(subsystem) = take(handle, alloc) else {
         return NOTHING_HELD;
     };
-    let code = next_of(&subsystem.channels, address, file, since, track);
+    let code = show_next_changed(&subsystem.channels, address, file, since, track);
     put(handle, subsystem);
     code
-}
-
-fn next_of(
-    channels: &Selectors<VolumeFile>,
-    address: u16,
-    file: u8,
-    since: u64,
-    track: &mut ShownTrack,
-) -> i32
-    ensures { (s : StorageState) → TellsNextOf (across channels.now s) address file since result track.old track.new }
-{
-    if is_at_work(channels, address) {
-        return PROGRAM_RUNS;
-    }
-    if !channels.has((address / 256) as u8) {
-        return NO_CHANNEL;
-    }
-    match channels.image(address) {
-        Some(image) => next_in(image, file, since, track),
-        None => NO_DRIVE,
-    }
-}
-
-fn next_in(image: &Image<VolumeFile>, file: u8, since: u64, track: &mut ShownTrack) -> i32
-    ensures { TellsNextIn (Some image.now) file since result track.old track.new }
-{
-    match image.store(file as usize) {
-        Some(store) => tell_next(store, image.geometry().track_size, since, track),
-        None => NO_FILE,
-    }
-}
-
-fn tell_next(file: &VolumeFile, size: u32, since: u64, track: &mut ShownTrack) -> i32
-    ensures next { TellsNext file.now size since result track.old track.new }
-    ensures file { IsFile file.now }
-{
-    match next_changed(file, size, since, track.next) {
-        Some(told) => {
-            *track = told;
-            1
-        }
-        None => DONE,
-    }
 }

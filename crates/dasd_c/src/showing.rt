@@ -4,17 +4,18 @@ ghost use Rattle.std.specs.Prelude.{◌≡◌, ◌/◌, ◌%◌, Some, length};
 ghost use Rattle.s360_words.specs.Storage.{Storage as StorageState};
 ghost use Rattle.s360_channels.specs.Channels.{channel_at};
 ghost use Rattle.s360_channels.specs.Selectors.{across};
+ghost use Rattle.subsystem_calls.specs.Shown.{ShowsDriveOf, ShowsStateOf};
 ghost use Rattle.dasd_c.specs.Calls.{CallsAny};
-ghost use Rattle.dasd_c.specs.Shown.{ShowsDriveOf, ShowsFileIn, ShowsFileOf, ShowsStateOf, WorksAt, is_working};
+ghost use Rattle.dasd_c.specs.Shown.{ShowsFileIn, ShowsFileOf};
 
 use crate::handle::{Handle, put, take};
-use crate::tell::{DONE, NO_CHANNEL, NO_DRIVE, NO_FILE, NOTHING_HELD, PROGRAM_RUNS};
 use ckd_image::{Image, ImageStore};
 use dasd_files::VolumeFile;
 use dasd_subsystem::{ShownChannel, ShownDrive};
-use s360_channel::SubchannelView;
 use s360_channels::Selectors;
 use std::alloc::Global;
+use subsystem_calls::tell::{DONE, NO_CHANNEL, NO_DRIVE, NO_FILE, NOTHING_HELD, PROGRAM_RUNS};
+use subsystem_calls::{is_at_work, show_channel, show_drive};
 
 /// A file of a volume: where its bytes lie, how many there are, and a number that is another after each write that changes one.
 #[repr(C)]
@@ -71,26 +72,6 @@ fn show_file_of(image: &Image<VolumeFile>, file: u8, shown: &mut File) -> i32
     }
 }
 
-// Whether the program that runs on the channel of an address is that of its drive.
-pub(crate) fn is_at_work(channels: &Selectors<VolumeFile>, address: u16) -> bool
-    ensures { (s : StorageState) → WorksAt result s (address % 256) (channel_at (address / 256) (across channels.now s)) }
-{
-    match channels.state((address / 256) as u8) {
-        Some(view) => is_working(view.subchannel, (address % 256) as u8),
-        None => false,
-    }
-}
-
-fn is_working(subchannel: SubchannelView, device: u8) -> bool
-    ensures { result ≡ is_working device subchannel }
-{
-    match subchannel {
-        SubchannelView::Idle => false,
-        SubchannelView::Working(working, _) => working == device,
-        SubchannelView::Pending(_, _) => false,
-    }
-}
-
 fn as_file(store: &VolumeFile) -> File
     ensures len { result.len ≡ length store.now.content }
     ensures changes { result.changes ≡ store.now.changes }
@@ -121,21 +102,6 @@ pub extern "C" fn dasd_show_drive(
     code
 }
 
-fn show_drive(channels: &Selectors<VolumeFile>, address: u16, shown: &mut ShownDrive) -> i32
-    ensures { (s : StorageState) → ShowsDriveOf (channel_at (address / 256) (across channels.now s)) (address % 256) result shown.old shown.new }
-{
-    if !channels.has((address / 256) as u8) {
-        return NO_CHANNEL;
-    }
-    match channels.drive(address) {
-        Some(drive) => {
-            *shown = ShownDrive::of(drive);
-            DONE
-        }
-        None => NO_DRIVE,
-    }
-}
-
 /// Shows a channel.
 #[unsafe(no_mangle)]
 pub extern "C" fn dasd_show_channel(
@@ -153,16 +119,4 @@ pub extern "C" fn dasd_show_channel(
     let code = show_channel(&subsystem.channels, channel, shown);
     put(handle, subsystem);
     code
-}
-
-fn show_channel(channels: &Selectors<VolumeFile>, number: u8, shown: &mut ShownChannel) -> i32
-    ensures { (s : StorageState) → ShowsStateOf (channel_at number (across channels.now s)) s result shown.old shown.new }
-{
-    match channels.state(number) {
-        Some(state) => {
-            *shown = ShownChannel::of(state);
-            DONE
-        }
-        None => NO_CHANNEL,
-    }
 }

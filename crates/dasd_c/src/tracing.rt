@@ -4,16 +4,17 @@ ghost use Rattle.std.specs.Prelude.{◌≡◌, pos};
 ghost use Rattle.s360_storage.specs.Lent.{lent};
 ghost use Rattle.dasd_c.specs.Calls.{Calls, CallsLent};
 ghost use Rattle.dasd_c.specs.declared.tracing.Trace.{Trace as TraceState};
-ghost use Rattle.dasd_c.specs.Tracing.{LooksFor};
+ghost use Rattle.dasd_c.specs.Tracing.{LooksFor, look_code};
 
-use crate::calling::{Call, Memory, with_lent, with_own};
+use crate::calling::{Memory, with_lent, with_own};
 use crate::handle::Handle;
-use crate::tell::{DONE, of_look};
-use channel_traces::{KeptTrace, ToldMoment, look};
+use channel_traces::{KeptTrace, LookFault, ToldMoment, look};
 use dasd_files::VolumeFile;
 use s360_channels::Selectors;
 use s360_storage::MainStorage;
 use std::alloc::Global;
+use subsystem_calls::Call;
+use subsystem_calls::tell::{BAD_MOMENT, DONE, NO_CHANNEL, NO_ROOM};
 
 /// A trace of one channel: where its lines go, how many bytes of them the last look has told, and what is kept until the next look. With
 /// zeros there it has seen nothing.
@@ -86,5 +87,16 @@ impl<'a, 't> Call for Look<'a, 't> {
             }
             Err(fault) => of_look(fault),
         }
+    }
+}
+
+// Why a look was not taken.
+fn of_look(fault: LookFault) -> i32
+    ensures { result ≡ look_code fault }
+{
+    match fault {
+        LookFault::NoChannel => NO_CHANNEL,
+        LookFault::BadMoment => BAD_MOMENT,
+        LookFault::NoRoom => NO_ROOM,
     }
 }

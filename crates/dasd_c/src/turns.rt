@@ -7,20 +7,22 @@ ghost use Rattle.s360_storage.specs.Lent.{lent};
 ghost use Rattle.s360_laws.specs.Events as machine;
 ghost use Rattle.s360_channels.specs.Channels.{OnChannel};
 ghost use Rattle.s360_channels.specs.Selectors.{across};
+ghost use Rattle.subsystem_calls.specs.Calls.{Tells, TellsFirst, TellsPending};
+ghost use Rattle.subsystem_calls.specs.Codes.{code_of, no_channel};
 ghost use Rattle.dasd_c.specs.declared.turns.Ran.{Ran};
-ghost use Rattle.dasd_c.specs.Codes.{code_of, no_channel};
-ghost use Rattle.dasd_c.specs.Calls.{Calls, CallsAny, CallsLent, ResetsFor, RunsFor, StepsFor, Tells, TellsFirst, TellsPending, TellsTaken};
+ghost use Rattle.dasd_c.specs.Calls.{Calls, CallsAny, CallsLent, ResetsFor, RunsFor, StepsFor};
 ghost use Rattle.dasd_c.specs.Shown.{ran_shown, track_shown};
 
-use crate::calling::{Call, Memory, with_lent, with_own};
+use crate::calling::{Memory, with_lent, with_own};
 use crate::handle::{Handle, put, take};
-use crate::tell::{DONE, NO_CHANNEL, NOTHING_HELD, of_answer, of_arrival, of_interruption};
 use dasd_files::VolumeFile;
 use dasd_subsystem::seen;
 use s360_channel::RunOn;
 use s360_channels::Selectors;
 use s360_storage::MainStorage;
 use std::alloc::Global;
+use subsystem_calls::tell::{DONE, NO_CHANNEL, NOTHING_HELD};
+use subsystem_calls::{Call, Interrupt, arrive, is_pending};
 
 /// What came of a run: how many units were done, and the subchannel behind them.
 #[repr(C)]
@@ -268,14 +270,6 @@ pub extern "C" fn dasd_arrive(handle: &mut Handle, alloc: Global, address: u16) 
     code
 }
 
-fn arrive(channels: &mut Selectors<VolumeFile>, address: u16) -> i32
-    ensures does { (s : StorageState) → Tells (address / 256) (machine.Arrive address) (machine.HasArrived false) result (across channels.old s)
-        (across channels.new s) }
-    ensures same { channels.new.size ≡ channels.old.size }
-{
-    of_arrival(channels.arrive(address))
-}
-
 /// Whether an interruption would be taken from one of these channels now: 1 or 0.
 #[unsafe(no_mangle)]
 pub extern "C" fn dasd_is_pending(handle: &mut Handle, alloc: Global, channels: u8) -> i32
@@ -287,14 +281,6 @@ pub extern "C" fn dasd_is_pending(handle: &mut Handle, alloc: Global, channels: 
     let code = is_pending(&mut subsystem.channels, channels);
     put(handle, subsystem);
     code
-}
-
-// Asked again and again while nothing pends, it is to cost little: so what was found is kept.
-fn is_pending(held: &mut Selectors<VolumeFile>, channels: u8) -> i32
-    ensures tells { (s : StorageState) → TellsPending channels result (across held.old s) }
-    ensures stays { held.new ≡ held.old }
-{
-    of_answer(held.poll(channels).is_some())
 }
 
 /// The processor takes an interruption from the first channel by number that is in this set and has one: 1, with the address that
@@ -327,55 +313,6 @@ pub extern "C" fn dasd_lent_interrupt(
     ensures same { memory.new.bytes.ghost_name ≡ memory.old.bytes.ghost_name }
 {
     with_lent(handle, alloc, memory, &mut Interrupt { channels, address })
-}
-
-#[derive(Drop)]
-struct Interrupt<'a> {
-    channels: u8,
-    address: &'a mut u16,
-}
-
-impl<'a> Call for Interrupt<'a> {
-    ghost does = { λ call code after old new. TellsFirst call.channels code call.address.now after.address.now old new };
-
-    ghost tells = { pos 1 };
-
-    ghost Told = { ℕ };
-
-    ghost told = { λ call. call.address.now };
-
-    ghost out = { λ call. call.address.ghost_name };
-
-    #[inline(always)]
-    fn over<M: MainStorage>(
-        &mut self,
-        channels: &mut Selectors<VolumeFile>,
-        storage: &mut M,
-    ) -> i32 {
-        // a poll with nothing pending ends here
-        let Some(number) = channels.poll(self.channels) else {
-            return 0;
-        };
-        taken_at(channels, storage, number, self.address)
-    }
-}
-
-// An interruption of the channel with this number is taken. It stands apart, so that a poll takes no registers for it.
-#[inline(never)]
-fn taken_at<M: MainStorage>(
-    held: &mut Selectors<VolumeFile>,
-    storage: &mut M,
-    number: u8,
-    address: &mut u16,
-) -> i32
-    requires size { length (M.holds storage.old).bytes ≡ held.old.size }
-    ensures does { TellsTaken number result address.old address.new (across held.old (M.holds storage.old)) (across held.new (M.holds storage.new)) }
-    ensures untold { (result ≡ pos 1 → ⊥) → address.new ≡ address.old }
-    ensures same { held.new.size ≡ held.old.size }
-    ensures keeps { KeepsStorage (M.holds storage.old) (M.holds storage.new) }
-    ensures place { M.place storage.new ≡ M.place storage.old }
-{
-    of_interruption(held.interrupt_at(storage, number), address)
 }
 
 /// Address, cylinder and head of a track that was written and could not be saved.

@@ -5,15 +5,15 @@ ghost use Rattle.s360_storage.specs.Lent.{lent};
 ghost use Rattle.dasd_c.specs.Calls.{Calls, CallsLent};
 ghost use Rattle.dasd_c.specs.Until.{RunsUntilBits};
 
-use crate::calling::{Call, Memory, with_lent, with_own};
+use crate::calling::{Memory, with_lent, with_own};
 use crate::handle::Handle;
-use crate::sized::tell_progress;
-use crate::tell::{BAD_UNTIL, DONE, NO_CHANNEL};
 use dasd_files::VolumeFile;
 use dasd_subsystem::{Until, Wanted, run_until};
 use s360_channels::Selectors;
 use s360_storage::MainStorage;
 use std::alloc::Global;
+use subsystem_calls::tell::{BAD_UNTIL, DONE, NO_CHANNEL};
+use subsystem_calls::{Call, tell_progress};
 
 /// Units that C asks for.
 #[repr(C)]

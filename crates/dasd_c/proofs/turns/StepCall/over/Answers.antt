@@ -3,10 +3,10 @@ use Rattle.std.proofs.lemmas.Int.{to_z-of_z}
 use Rattle.s360_channels.specs.Channels.{OnChannel}
 use Rattle.s360_channels.specs.Selectors.{across}
 use Rattle.s360_channels.specs.Turns.{Steps}
+use Rattle.subsystem_calls.specs.Codes.{no_channel}
+use Rattle.subsystem_calls.proofs.Told.{told}
 use Rattle.dasd_c.specs.Calls.{RunsFor, StepsFor}
-use Rattle.dasd_c.specs.Codes.{no_channel}
 use Rattle.dasd_c.specs.declared.turns.Ran.{Ran}
-use Rattle.dasd_c.proofs.Told.{told}
 use Rattle.dasd_c.proofs.turns.StepCall.over.Goals as goal
 
 -- units, told by how many they were

@@ -3,11 +3,11 @@ use Rattle.s360_channel.specs.declared.view.RunOn.{RunOn}
 use Rattle.s360_channel.specs.declared.view.SubchannelView.TheVariants.{Idle}
 use Rattle.s360_channels.specs.Channels.{RunsTo}
 use Rattle.s360_channels.specs.Selectors.{across}
+use Rattle.subsystem_calls.specs.Codes.{no_channel}
+use Rattle.subsystem_calls.proofs.Told.{told}
 use Rattle.dasd_c.specs.declared.turns.Ran.{Ran}
 use Rattle.dasd_c.specs.Calls.{RunsFor}
-use Rattle.dasd_c.specs.Codes.{no_channel}
 use Rattle.dasd_c.specs.Shown.{ran_shown}
-use Rattle.dasd_c.proofs.Told.{told}
 use Rattle.dasd_c.proofs.turns.UnitsCall.over.Goals as goal
 
 abbrev Lacking : (code : ℤ) → (before shown : Ran) → Type 0

@@ -1,0 +1,6 @@
+mod Shown
+mod AtWork
+mod FileTold
+pub mod Told
+mod Owning
+mod Saved
