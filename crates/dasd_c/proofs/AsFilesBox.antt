@@ -8,7 +8,7 @@ use Rattle.std_heap.specs.contracts.GlobalAllocator.TheImpl.{ghosts, dict}
 use Rattle.std_heap.proofs.Global.TheLaws as heap
 use Rattle.dasd_subsystem.specs.contracts.files.Files as Boxed
 use Rattle.dasd_subsystem.proofs.files.Files.TheLaws as boxed
-use Rattle.dasd_c.specs.contracts.parts.Parts as Parts
+use Rattle.box_parts.specs.contracts.parts.Parts as Parts
 use Rattle.dasd_c.specs.contracts.files_slot.FilesSlot as Held
 
 abbrev pub E : Bx

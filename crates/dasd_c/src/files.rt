@@ -13,8 +13,8 @@ ghost use Rattle.dasd_c.specs.declared.files.TheConstants.{FILES_HELD};
 
 use crate::files_slot::FilesSlot;
 use crate::handle::{Handle, moved, put, take};
-use crate::parts::Parts;
 use crate::storing::StoragePlace;
+use box_parts::Parts;
 use dasd_subsystem::{Files, Subsystem};
 use std::alloc::Global;
 use std::mem;

@@ -3,7 +3,7 @@
 ghost use Rattle.std.specs.Prelude.{◌≡◌, List, ℕ, Option, Some, None, IsSome};
 ghost use Rattle.dasd_c.specs.FilesSlot.{files_slot_owns};
 
-use crate::parts::Parts;
+use box_parts::Parts;
 use dasd_subsystem::Files;
 use std::alloc::Global;
 use std::marker::{Model, Send};

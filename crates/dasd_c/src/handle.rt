@@ -7,8 +7,8 @@ ghost use Rattle.subsystem_calls.specs.Attaching.{TellsWhy};
 ghost use Rattle.subsystem_calls.specs.Codes.{nothing_held, in_use, refusal_code};
 ghost use Rattle.dasd_c.specs.declared.handle.TheConstants.{HELD};
 
-use crate::parts::Parts;
 use crate::slot::Slot;
+use box_parts::Parts;
 use dasd_subsystem::Subsystem;
 use std::alloc::Global;
 use std::marker::Send;

@@ -10,7 +10,6 @@ mod files;
 mod files_slot;
 mod handle;
 mod instructions;
-mod parts;
 mod saving;
 mod showing;
 mod slot;

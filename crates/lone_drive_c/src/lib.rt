@@ -7,7 +7,6 @@ mod allowed;
 mod commands;
 mod copying;
 mod handle;
-mod parts;
 mod passing;
 mod showing;
 mod slot;

@@ -4,7 +4,7 @@ ghost use Rattle.std.specs.Prelude.{◌≡◌, Option, Some, None, IsSome};
 ghost use Rattle.lone_drive.specs.declared.drive.LoneDrive.{LoneDrive};
 ghost use Rattle.lone_drive_c.specs.Slot.{slot_owns};
 
-use crate::parts::Parts;
+use box_parts::Parts;
 use lone_drive::LoneDrive;
 use std::alloc::Global;
 use std::marker::{Model, Send};
