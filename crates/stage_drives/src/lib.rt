@@ -14,5 +14,5 @@ mod tables;
 mod verbs;
 
 pub use crate::alone::{Alone, put};
-pub use crate::shown::{model_name, say_geometry, say_program, say_registers};
+pub use crate::shown::{say_geometry, say_program, say_registers};
 pub use crate::storage::{say_key, say_peek};

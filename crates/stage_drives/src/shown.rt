@@ -3,7 +3,7 @@
 use ckd_command::{Credit, Lap, Registers};
 use ckd_position::{Area, Position, RecordPart};
 use ckd_sense::{FileMask, SeekPermission, WritePermission};
-use ckd_track::{DriveModel, Geometry};
+use ckd_track::Geometry;
 use s360_program::view::{AtWork, ProgramView};
 use s360_words::Ccw;
 use stage_files::{Said, Word, yes};
@@ -55,21 +55,13 @@ pub fn say_geometry(geometry: Geometry, said: &mut Said) {
     said.answer(
         "IMAGE",
         &[
-            model_name(geometry.model),
+            Word::Number(geometry.model.number() as u64),
             Word::Text("CYLINDERS"),
             Word::Number(geometry.cylinders as u64),
             Word::Text("SLOTS"),
             Word::Number(geometry.track_size as u64),
         ],
     );
-}
-
-/// A model, as it is spelled.
-pub fn model_name(model: DriveModel) -> Word<'static> {
-    Word::Text(match model {
-        DriveModel::D2311 => "2311",
-        DriveModel::D2314 => "2314",
-    })
 }
 
 /// What a drive remembers beside its volume.

@@ -3,7 +3,7 @@
 use ckd_image::Image;
 use s360_channel::{DriveView, SubchannelView, View, Watched};
 use s360_laws::arm::Arm;
-use stage_drives::{model_name, say_geometry, say_program};
+use stage_drives::{say_geometry, say_program};
 use stage_files::{FileStore, Said, Word};
 
 /// A channel: `STATE working 91, 90 InMotion, 91 AtRest`.
@@ -59,7 +59,7 @@ pub(crate) fn say_drive(view: Option<DriveView>, said: &mut Said) {
     said.answer(
         "UNIT",
         &[
-            model_name(it.model),
+            Word::Number(it.model.number() as u64),
             Word::Text("CYLINDERS"),
             Word::Number(it.cylinders as u64),
             Word::Text("ARM"),

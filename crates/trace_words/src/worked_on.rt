@@ -7,6 +7,7 @@ ghost use Rattle.trace_words.specs.Tracks.{outcome_text, mask_text, worked_on_te
 use crate::line::TraceLine;
 use crate::met::Met;
 use crate::passed::Passed;
+use ckd_command::{Action, tables};
 use ckd_sense::{Command, FileMask, SeekPermission, WritePermission};
 use std::fmt;
 
@@ -138,7 +139,8 @@ pub fn worked_on_at_end(
             _,
         ) => place_of(place),
         (Some(Command::SetFileMask), _, _) => mask_of(passed),
-        (Some(command), _, Some(met)) if passed.count > 0 && is_search(command) => {
+        (Some(command), _, Some(met))
+            if passed.count > 0 && matches!(tables::action_of(command), Action::Search) => {
             WorkedOn::Area(met, outcome_of(command, satisfied))
         }
         _ => worked_on_so_far(line, met),
@@ -160,20 +162,6 @@ fn mask_of(passed: &Passed) -> WorkedOn {
     } else {
         WorkedOn::Nothing
     }
-}
-
-// Whether a command compares bytes.
-fn is_search(command: Command) -> bool {
-    matches!(
-        command,
-        Command::SearchHomeAddressEqual
-            | Command::SearchIdEqual
-            | Command::SearchIdHigh
-            | Command::SearchIdEqualOrHigh
-            | Command::SearchKeyEqual
-            | Command::SearchKeyHigh
-            | Command::SearchKeyEqualOrHigh
-    )
 }
 
 // What a search comes to, by whether it is satisfied.
