@@ -42,7 +42,7 @@ module _ (text rest behind : List ℕ) (event : Event) (answer : Answer) (old mi
         subst (λ es. Drove m es (map answer_seen (answers ++ answer ∷ [])) old new) (sym (map-append event_seen events (event ∷ [])))
         (subst (λ all. Drove m (map event_seen events ++ event_seen event ∷ []) all old new)
         (sym (map-append answer_seen answers (answer ∷ [])))
-        (drove_one_more m _ _ old mid new _ _ (λ now is. (done now is).does) (done _ drove.stands).calls drove));
+        (drove_one_more m _ _ old mid new _ _ (record { does = λ now is. (done now is).does; calls = (done _ drove.stands).calls }) drove));
   }
 
 -- the whole text

@@ -2,9 +2,8 @@ use Rattle.std.proofs.Common.{rules, tests, refl, subst, map}
 use Rattle.std.proofs.lemmas.List.{take_more}
 use Rattle.s360_events.specs.Answered.{IsAnswered, AllAnswered}
 use Rattle.s360_events.specs.Seen.{event_seen, answer_seen}
-use Rattle.s360_channel.specs.Calls.{CallsAtMost, Does, most_calls}
 use Rattle.s360_channel.proofs.AllAnswered.{all_answered_one_more}
-use Rattle.s360_channel.proofs.OneMore.{Drove, drove_none, goes_on, drove_follows, room_for_one, room_for_others, take_past}
+use Rattle.s360_channel.proofs.OneMore.{Drove, Reacts, drove_none, goes_on, drove_follows, room_for_one, room_for_others, take_past}
 use Rattle.s360_trace.specs.Looks.{AllWatched, IsWatched}
 use Rattle.s360_trace.proofs.Watches.{watched_one_more}
 use Rattle.s360_trace.proofs.watching.drive.Goals as goal
@@ -33,10 +32,11 @@ loop-event-preserved g c = record {
       (let drove = c.loop-event.invariant.driven m stands in
       goes_on m c.args.events.now c.loop-event.event-index c.event-item.result c.loop-event.answers.items _ _ _ c.watch_event.result
       c.loop-event-test.true
-      (λ now is. subst (λ e. Does (event_seen e) now (answer_seen c.watch_event.result) c.loop-event.channel c.watch_event.new.channel)
-      c.event-item.is (c.watch_event.ensures.happens now is).does)
-      (subst (λ e. CallsAtMost (most_calls (event_seen e) (answer_seen c.watch_event.result)) c.loop-event.channel
-      c.watch_event.new.channel) c.event-item.is (c.watch_event.ensures.happens _ drove.stands).calls)
+      (subst (λ e. Reacts (event_seen e) (answer_seen c.watch_event.result) c.loop-event.channel c.watch_event.new.channel)
+      c.event-item.is (record {
+        does = λ now is. (c.watch_event.ensures.happens now is).does;
+        calls = (c.watch_event.ensures.happens _ drove.stands).calls;
+      }))
       drove);
   watched = λ m stands.
       let now = (c.loop-event.invariant.driven m stands).stands in
