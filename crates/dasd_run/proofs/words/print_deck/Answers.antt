@@ -1,5 +1,6 @@
 use Rattle.std.proofs.Common.{◌≡◌, ◌∙◌, ◌⊎◌, ℕ, List, Option, Result, Err, inl, inr, refl, sym, subst}
 use Rattle.std.proofs.lemmas.Bool.{false≢true}
+use Rattle.std.proofs.lemmas.Result.{err_from_is_err_and}
 use Rattle.std.specs.Global.{Vec}
 use Rattle.counted_io.specs.Streams.{Stream}
 use Rattle.dasd_jobs.specs.Sources.{SourceFile}
@@ -8,6 +9,7 @@ use Rattle.s360_assembler.specs.declared.fault.AssemblyFault.{AssemblyFault}
 use Rattle.s360_assembler.specs.declared.fault.AssemblyFault.TheVariants as assembly
 use Rattle.s360_assembler.specs.declared.files.LoadableFile.{LoadableFile}
 use Rattle.dasd_run.specs.declared.fault.ProgramFault.{ProgramFault}
+use Rattle.dasd_run.specs.declared.fault.ProgramFault.TheVariants as fault
 use Rattle.dasd_run.specs.Loads.{NotLoaded}
 use Rattle.dasd_run.specs.Words.{NotAssembled, TellsNotLoaded, MakesDeck, AssemblesText}
 use Rattle.dasd_run.proofs.words.print_deck.Goals as goal
@@ -42,3 +44,11 @@ returns-clause-assembles g c =
     let name = c.in_ok-source_name.ensures.name in
     not_made _ _ c.in-Err.fault _ _ _ _ (λ loaded same. (name, same)) (λ loaded why. (name, why))
     (λ memory. false≢true (sym c.if-eq.false ∙ (rw memory at c.eq.ensures))) c.in-Err.ensures.made
+
+-- there is no memory for the text's name
+pub returns-in_err-source_name-clause-assembles : goal.returns-in_err-source_name-clause-assembles
+returns-in_err-source_name-clause-assembles g c =
+    let p = err_from_is_err_and c.from_residual.result c.from_residual.ensures.1 in
+    let why : p.0 ≡ fault.OutOfMemory = p.2 ∙ c.in_err-source_name.ensures.fault in
+    rw (p.1, why) (not_made fault.OutOfMemory _ c.in-Err.fault _ _ _ _ (λ loaded same. tt) (λ loaded why. tt)
+    (λ memory. false≢true (sym c.if-eq.false ∙ (rw memory at c.eq.ensures))) c.in-Err.ensures.made)
