@@ -7,7 +7,7 @@ ghost use Rattle.added_members.specs.Loads.{added_line};
 use arrayvec::ArrayString;
 use counted_io::{Counted, WriteFault, write_flushed};
 use std::io::Write;
-use text_lines::put_decimal;
+use counted_io::put_decimal;
 
 /// The line that says which member was put into which library, and how many tracks that has.
 pub(crate) fn write_added<W: Write>(

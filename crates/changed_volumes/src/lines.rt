@@ -9,7 +9,7 @@ use arrayvec::ArrayString;
 use ckd_track::Geometry;
 use counted_io::{Counted, WriteFault, write_flushed};
 use std::io::Write;
-use text_lines::put_decimal;
+use counted_io::put_decimal;
 
 /// The line that says which data set was renamed.
 pub(crate) fn write_renamed<W: Write>(

@@ -1,2 +1,4 @@
 pub mod Calls
 pub mod Streams
+pub mod Text
+pub mod Quantities

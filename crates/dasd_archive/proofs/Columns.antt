@@ -3,7 +3,7 @@ use Rattle.std.proofs.Common.{ℕ, ◌+◌, ◌-◌, ◌/◌, ◌%◌, ◌^◌, 
 use Rattle.std.proofs.Common.{append-nil, arith}
 use Rattle.std.specs.Fmt.{digit_glyph}
 use Rattle.std.specs.List.{concat}
-use Rattle.text_lines.proofs.Spelling.{last_glyph, last_behind, two_digits}
+use Rattle.counted_io.proofs.Spelling.{last_glyph, last_behind, two_digits}
 use Rattle.dasd_volumes.specs.Lines.{hexadecimal, line_feed}
 use Rattle.dasd_volumes.proofs.Appended.{of_none, of_one_more}
 use Rattle.dasd_archive.specs.Dump.{blanks_text}

@@ -7,7 +7,7 @@ use Rattle.ckd_track.specs.declared.geometries.Geometry.{Geometry}
 use Rattle.ckd_track.specs.declared.fault.SlotFault.{SlotFault}
 use Rattle.ckd_track.specs.Track.{Record, Track, track_of, record_in}
 use Rattle.ckd_track.specs.Changes.{end_offset}
-use Rattle.quantities.specs.Quantities.{quantity_text}
+use Rattle.counted_io.specs.Quantities.{quantity_text}
 use Rattle.dasd_volumes.specs.Lines.{bytes_text, address_text, fault_text, line_feed}
 use Rattle.counted_io.specs.Streams.{Stream}
 use Rattle.dasd_volumes.specs.declared.fault.VolumeFault.{VolumeFault}

@@ -4,7 +4,7 @@ use Rattle.std.specs.Prelude.{count_by, codes, Option, Result, Ok, Err}
 use Rattle.std.specs.List.{concat}
 use Rattle.std.specs.Fmt.{decimal}
 use Rattle.std.specs.Io.KnownBytes.{Appends}
-use Rattle.quantities.specs.Quantities.{quantity_text}
+use Rattle.counted_io.specs.Quantities.{quantity_text}
 use Rattle.counted_io.specs.Streams.{Stream, Takes, TakesFront}
 use Rattle.dasd_volumes.specs.declared.fault.VolumeFault.{VolumeFault}
 use Rattle.dasd_archive.specs.declared.findings.Severity.{Severity}

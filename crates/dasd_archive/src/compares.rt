@@ -18,7 +18,7 @@ use counted_io::Counted;
 use dasd_volumes::{
     EachTrack, PrintedAddress, SlotReader, Style, VolumeFault, VolumeTrack, all_tracks, each_track,
 };
-use quantities::Quantity;
+use counted_io::Quantity;
 use std::alloc::Global;
 use std::io;
 use std::io::Write;

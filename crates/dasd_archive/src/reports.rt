@@ -7,7 +7,7 @@ ghost use Rattle.dasd_archive.specs.Reports.{one_more, shown_line, tally_line, t
 
 use crate::findings::{PlaceMembers, Severity, StrictFinding};
 use dasd_volumes::{Form, Style};
-use quantities::Quantity;
+use counted_io::Quantity;
 use std::io;
 use std::io::Write;
 

@@ -3,7 +3,7 @@ use Rattle.std.specs.Prelude.{ℕ, ◌-◌, true, false, if◌then◌else◌, Li
 use Rattle.std.specs.Prelude.{Option, Some, None}
 use Rattle.std.specs.List.{concat, flat_map}
 use Rattle.std.specs.Fmt.{decimal}
-use Rattle.quantities.specs.Quantities.{quantity_text}
+use Rattle.counted_io.specs.Quantities.{quantity_text}
 use Rattle.ckd_track.specs.declared.geometries.Geometry.{Geometry}
 use Rattle.volume_labels.specs.declared.fields.Extent.{Extent}
 use Rattle.volume_labels.specs.declared.labels.VolumeLabel.{VolumeLabel}

@@ -3,7 +3,7 @@ use Rattle.std.specs.Prelude.{ℕ, ◌+◌, ◌-◌, ◌==◌, Bool, false, ◌&
 use Rattle.std.specs.Prelude.{encode_utf8}
 use Rattle.std.specs.List.{concat, flat_map}
 use Rattle.std.specs.Fmt.{decimal}
-use Rattle.quantities.specs.Quantities.{quantity_text}
+use Rattle.counted_io.specs.Quantities.{quantity_text}
 use Rattle.volume_labels.specs.declared.fields.TrackAddress.{TrackAddress}
 use Rattle.volume_labels.specs.declared.fields.RecordAddress.{RecordAddress}
 use Rattle.volume_labels.specs.declared.fields.Extent.{Extent}

@@ -13,7 +13,7 @@ use crate::words::{Bounds, Day, Format, Organisation, Owner, Place, Text, Wrong,
 use ckd_track::Geometry;
 use counted_io::{Counted, WriteFault, write_flushed};
 use dasd_volumes::VolumeFault;
-use quantities::Quantity;
+use counted_io::Quantity;
 use std::alloc::Global;
 use std::io;
 use std::io::Write;

@@ -3,14 +3,14 @@
 ghost use Rattle.std.specs.Prelude.{◌≡◌, ◌≤◌, [], ◌∷◌, Some, length, codes};
 ghost use Rattle.std.specs.List.{concat};
 ghost use Rattle.std.specs.Fmt.{WritesOnOk, decimal};
-ghost use Rattle.quantities.specs.Quantities.{quantity_text};
+ghost use Rattle.counted_io.specs.Quantities.{quantity_text};
 ghost use Rattle.dasd_volumes.specs.Lines.{hexadecimal};
 ghost use Rattle.dasd_contents.specs.Words.{owner_text, track_text, place_text, extent_text, piece_text, in_text, text_of, is_date, day_text, organisation_of};
 ghost use Rattle.dasd_contents.specs.Words.{unmovable, organisation_text, form_of, where_set, format_text, chain_text, problem_text, kind_text};
 
 use dasd_volumes::{PrintedAddress as Address, Reason};
 use data_sets::without_blanks;
-use quantities::Quantity;
+use counted_io::Quantity;
 use std::fmt;
 use std::fmt::Display;
 use volume_contents::{ChainFault, Problem};

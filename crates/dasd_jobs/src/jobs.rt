@@ -22,7 +22,7 @@ use counted_io::{Counted, WriteFault, write_flushed};
 use dasd_volumes::{Progress, Stage, VolumeFault, is_large};
 use std::alloc::Global;
 use std::io::Write;
-use text_lines::put_decimal;
+use counted_io::put_decimal;
 
 /// What is formatted: a new volume, and whether it may take the place of a file.
 #[derive(Clone, Copy)]

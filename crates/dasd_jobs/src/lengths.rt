@@ -13,7 +13,7 @@ use byteorder::{ByteOrder, LittleEndian};
 use ckd_image::HEADER_LENGTH;
 use ckd_track::Geometry;
 use dasd_volumes::PrintedAddress;
-use quantities::Quantity;
+use counted_io::Quantity;
 use std::fmt;
 
 /// How far files go that hold a volume: how many tracks of it they lack, which are its last ones, and how many bytes they have behind its

@@ -6,7 +6,7 @@ use crate::files::ImageFiles;
 use crate::headers::is_header;
 use byteorder::{ByteOrder, LittleEndian};
 use ckd_image::{HEADER_LENGTH, MountFault};
-use quantities::Quantity;
+use counted_io::Quantity;
 use std::fmt;
 
 /// The header of a file, and the file's length. Of a file that is shorter than a header it has zeros.

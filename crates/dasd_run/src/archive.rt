@@ -22,7 +22,7 @@ use dasd_archive::{Comparison, VolumePart, compare, dump, has_records};
 use dasd_jobs::{Progress, SlotReader, Traces, open_volume};
 use dasd_volumes::{Form, Range, Style, VolumeFault};
 use dasd_words::{ComparedVolumes, DumpedPart, Numbers, PrintedVolume};
-use quantities::Quantity;
+use counted_io::Quantity;
 use std::alloc::Global;
 use std::io::{Read, Write};
 use std::{fmt, io};

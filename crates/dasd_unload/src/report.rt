@@ -16,7 +16,7 @@ use dasd_contents::Broken;
 use dasd_extract::{Members, Stop};
 use dasd_jobs::JobFault;
 use data_sets::DirectoryFault;
-use quantities::Quantity;
+use counted_io::Quantity;
 use std::alloc::Global;
 use std::io::Write;
 use std::{fmt, io};

@@ -19,7 +19,7 @@ use ckd_track::{Geometry, SlotFault, read_slot};
 use counted_io::{Counted, WriteFault, write_flushed};
 use std::alloc::Global;
 use std::io::Write;
-use text_lines::put_decimal;
+use counted_io::put_decimal;
 
 // A check of tracks: where it is shown how far it has come, and how many tracks can't be read.
 #[derive(Drop)]

@@ -22,7 +22,7 @@ use ckd_track::{Geometry, SlotFault, TrackView, read_slot, used};
 use counted_io::{Counted, WriteFault, flush_all, write_whole};
 use std::alloc::Global;
 use std::io::Write;
-use text_lines::{put_bytes, put_decimal};
+use counted_io::{put_bytes, put_decimal};
 
 /// What is listed of a volume, and how.
 #[derive(Clone, Copy)]

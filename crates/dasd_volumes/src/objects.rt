@@ -14,7 +14,7 @@ use arrayvec::ArrayString;
 use ckd_track::{DriveModel, Geometry, SlotFault, TrackView, used};
 use counted_io::{Counted, WriteFault, write_whole};
 use std::io::Write;
-use text_lines::{put_bytes, put_decimal};
+use counted_io::{put_bytes, put_decimal};
 
 /// The volume as an object.
 pub(crate) fn list_volume_object<W: Write>(

@@ -8,7 +8,7 @@ use crate::text::PrintedAddress;
 use arrayvec::ArrayString;
 use ckd_track::SlotFault;
 use itoa::Buffer;
-use text_lines::put_hexadecimal;
+use counted_io::put_hexadecimal;
 
 /// The bytes that a line has room for, or a piece of one that has no path: more than any has.
 pub(crate) const LINE: usize = 128;

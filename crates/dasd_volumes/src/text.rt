@@ -7,7 +7,7 @@ ghost use Rattle.dasd_volumes.specs.Lines.{bytes_text, address_text, fault_text}
 use arrayvec::ArrayString;
 use ckd_track::SlotFault;
 use std::fmt;
-use text_lines::put_bytes;
+use counted_io::put_bytes;
 
 /// So many bytes are spelled at once.
 const PIECE: usize = 32;

@@ -7,7 +7,7 @@ ghost use Rattle.loaded_sets.specs.Loads.{loaded_line};
 use arrayvec::ArrayString;
 use counted_io::{Counted, WriteFault, write_flushed};
 use std::io::Write;
-use text_lines::put_decimal;
+use counted_io::put_decimal;
 
 /// The line that says which data set was loaded, and how many tracks it has.
 pub(crate) fn write_loaded<W: Write>(

@@ -2,7 +2,7 @@
 use Rattle.std.specs.Prelude.{◌≡◌, ◌⊎◌, ℕ, zero, suc, ◌+◌, ◌/◌, List, [], ◌∷◌, ◌++◌, length, take, drop, ◌&&◌, ◌==◌, nat_lt, nat_le, Result, Ok, Err, is_ok}
 use Rattle.std.specs.Prelude.{codes, if◌then◌else◌}
 use Rattle.byteorder.specs.Endian.{big_bytes}
-use Rattle.text_lines.specs.Text.{hexadecimal, bytes_text}
+use Rattle.counted_io.specs.Text.{hexadecimal, bytes_text}
 use Rattle.s360_deck.specs.Deck.{events_of}
 use Rattle.s360_assembler.specs.declared.deck.Deck.{Deck}
 use Rattle.s360_assembler.specs.declared.files.LoadableFile.{LoadableFile}

@@ -1,7 +1,7 @@
 //! A deck in the making.
 
 ghost use Rattle.std.specs.Prelude.{◌≡◌, ◌≤◌, ◌+◌, ◌/◌, ◌++◌, codes, take, drop, length, is_ok, Ok, IfOk, IfErr, OnOk};
-ghost use Rattle.text_lines.specs.Text.{hexadecimal, bytes_text};
+ghost use Rattle.counted_io.specs.Text.{hexadecimal, bytes_text};
 ghost use Rattle.s360_deck.specs.Deck.{events_of};
 ghost use Rattle.s360_assembler.specs.Parts.{closed, with_bytes, with_pieces, with_file, with_event, with_part, seen, Makes};
 
@@ -11,7 +11,7 @@ use crate::parts::DeckPart;
 use arrayvec::{ArrayString, ArrayVec};
 use s360_deck::{DeckFault, parse};
 use std::alloc::Global;
-use text_lines::{put_bytes, put_hexadecimal};
+use counted_io::{put_bytes, put_hexadecimal};
 
 /// The most bytes of a `STORE`.
 const STORE_LENGTH: usize = 128;

@@ -1,7 +1,7 @@
 //! What statements make of a deck.
 
 ghost use Rattle.std.specs.Prelude.{◌≡◌, ◌≤◌, ◌<◌, ◌^◌, ◌++◌, codes, length, Ok, Err, IfOk, IfErr};
-ghost use Rattle.text_lines.specs.Text.{hexadecimal};
+ghost use Rattle.counted_io.specs.Text.{hexadecimal};
 ghost use Rattle.s360_words.specs.Words.{ccw_of};
 ghost use Rattle.s360_assembler.specs.Fields.{operation_of, remark_of};
 ghost use Rattle.s360_assembler.specs.Parts.{word_bytes, stored_of, part_of};
@@ -15,7 +15,7 @@ use crate::symbols::{Symbol, place_of, value_of};
 use arrayvec::{ArrayString, ArrayVec};
 use byteorder::{BigEndian, ByteOrder};
 use s360_words::{Ccw, CcwFlags};
-use text_lines::put_hexadecimal;
+use counted_io::put_hexadecimal;
 
 /// What a statement makes of a deck.
 #[derive(Drop)]

@@ -2,7 +2,7 @@
 use Rattle.std.specs.Prelude.{ℕ, List, [], ◌∷◌, ◌++◌, true, false, Some, None, take, drop, codes}
 use Rattle.std.specs.List.{flat_map}
 use Rattle.std.specs.Fmt.{decimal}
-use Rattle.text_lines.specs.Text.{hexadecimal, bytes_text}
+use Rattle.counted_io.specs.Text.{hexadecimal, bytes_text}
 use Rattle.s360_words.specs.Words.{csw_bytes}
 use Rattle.s360_words.specs.declared.words.Csw.{Csw}
 use Rattle.s360_events.specs.declared.conditions.Status.{Status}

@@ -2,14 +2,14 @@
 
 ghost use Rattle.std.specs.Prelude.{◌≡◌, ◌≤◌, ◌+◌, ◌++◌, ◌∷◌, [], Some, codes, length};
 ghost use Rattle.std.specs.Fmt.{decimal};
-ghost use Rattle.text_lines.specs.Text.{bytes_text, hexadecimal};
+ghost use Rattle.counted_io.specs.Text.{bytes_text, hexadecimal};
 ghost use Rattle.s360_deck.specs.Lines.{status_text, csw_text, condition_text, after_space, answer_text};
 
 use arrayvec::ArrayString;
 use s360_events::{Answer, Condition, Status};
 use s360_words::Csw;
 use std::fmt;
-use text_lines::{put_bytes, put_decimal, put_hexadecimal};
+use counted_io::{put_bytes, put_decimal, put_hexadecimal};
 
 /// The most bytes of an answer's line with its LF. A look at 32 bytes has 77, and 79 where its address has eight digits.
 pub(crate) const LINE_LENGTH: usize = 80;

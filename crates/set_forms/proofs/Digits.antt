@@ -14,7 +14,7 @@ use Rattle.std.proofs.lemmas.List.Folds.{list_all-append}
 use Rattle.std.proofs.lemmas.Bool.Decides.{nat_tests}
 use Rattle.std.proofs.lemmas.Str.Parse.{IsNumeralModel, numerals_by_fold}
 use Rattle.std.proofs.lemmas.Fmt.{digits_decimal, digits_value-decimal, length-decimal-le, decimal_nonempty}
-use Rattle.text_lines.specs.Text.{hexadecimal, bytes_text}
+use Rattle.counted_io.specs.Text.{hexadecimal, bytes_text}
 use Rattle.set_forms.specs.Numbers.{digits_behind, number_of, byte_of, bytes_of, zeros, year_of, day_of, day_text}
 use Rattle.set_forms.specs.Parsing.{is_note}
 use Rattle.set_forms.specs.Laws.{IsDay}

@@ -13,7 +13,7 @@ use Rattle.std.proofs.lemmas.Bool.{le-ltb, lt-ltb, le-leb, lt-leb, and_parts}
 use Rattle.std.proofs.lemmas.List.{get_or-append_right}
 use Rattle.std.proofs.lemmas.List.Concat.{flat_map-append}
 use Rattle.std.proofs.lemmas.List.Elements.{All-head, All-tail}
-use Rattle.text_lines.specs.Text.{hexadecimal, bytes_text}
+use Rattle.counted_io.specs.Text.{hexadecimal, bytes_text}
 use Rattle.data_sets.specs.Names.{safe_name_of}
 use Rattle.set_forms.specs.declared.forms.EntryForm.{EntryForm}
 use Rattle.set_forms.specs.declared.forms.Note.{Note}

@@ -3,7 +3,7 @@ use Rattle.std.specs.Prelude.{ℕ, ◌+◌, ◌-◌, ◌*◌, ◌/◌, ◌%◌, 
 use Rattle.std.specs.Prelude.{bit_and, bit_or}
 use Rattle.std.specs.Prelude.{slice_index, slice_range, bytes_eq, codes, Option, Some, None, option_map, option_and_then}
 use Rattle.std.specs.List.{concat}
-use Rattle.text_lines.specs.Text.{bytes_text}
+use Rattle.counted_io.specs.Text.{bytes_text}
 use Rattle.set_forms.specs.Numbers.{byte_of}
 
 -- Bits in hexadecimal digits, as X'91'.

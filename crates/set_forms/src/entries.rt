@@ -13,7 +13,7 @@ use crate::numbers::{byte_of, bytes_of, number, three_of};
 use arrayvec::{ArrayString, ArrayVec};
 use std::io;
 use std::io::Write;
-use text_lines::{put_bytes, put_decimal, put_hexadecimal};
+use counted_io::{put_bytes, put_decimal, put_hexadecimal};
 
 /// The most notes that an entry has.
 const NOTES: usize = 3;

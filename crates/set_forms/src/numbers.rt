@@ -4,7 +4,7 @@ ghost use Rattle.std.specs.Prelude.{◌≡◌, ◌≤◌, ◌<◌, length, optio
 ghost use Rattle.set_forms.specs.Numbers.{number_of, digit_of, byte_of, bytes_of, three_of, day_of, day_text, zeros, year_of};
 
 use arrayvec::{ArrayString, ArrayVec};
-use text_lines::put_decimal;
+use counted_io::put_decimal;
 use volume_labels::Date;
 
 /// The number that a word spells: one to ten decimal digits, and no more than `most`.

@@ -7,7 +7,7 @@ ghost use Rattle.set_forms.specs.Words.{letter_if, is_lettered, letters_behind, 
 
 use crate::numbers::byte_of;
 use arrayvec::ArrayString;
-use text_lines::put_bytes;
+use counted_io::put_bytes;
 
 /// A word.
 type Word = ArrayString<16>;

@@ -3,7 +3,7 @@ use Rattle.std.specs.Prelude.{ℕ, ◌-◌, ◌==◌, min, Bool, true, false, no
 use Rattle.std.specs.Prelude.{Option, Some, None, bit_and}
 use Rattle.std.specs.List.{concat}
 use Rattle.std.specs.Fmt.{decimal}
-use Rattle.text_lines.specs.Text.{bytes_text}
+use Rattle.counted_io.specs.Text.{bytes_text}
 use Rattle.s360_words.specs.Words.{is_transfer, skips}
 use Rattle.s360_words.specs.declared.words.Ccw.{Ccw}
 use Rattle.s360_explain.specs.Names.{code_name, names_text}

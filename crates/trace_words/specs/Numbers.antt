@@ -1,6 +1,6 @@
 -- Numbers as a trace has them, in hexadecimal digits, which are capitals.
 use Rattle.std.specs.Prelude.{ℕ, List}
-use Rattle.text_lines.specs.Text.{hexadecimal}
+use Rattle.counted_io.specs.Text.{hexadecimal}
 
 -- an address in storage, in six digits
 abbrev pub storage_address : ℕ → List ℕ

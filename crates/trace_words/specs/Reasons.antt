@@ -3,8 +3,8 @@ use Rattle.std.specs.Prelude.{ℕ, ◌/◌, ◌%◌, ◌==◌, Bool, if◌then�
 use Rattle.std.specs.Prelude.{Option, Some, None}
 use Rattle.std.specs.List.{concat}
 use Rattle.std.specs.Fmt.{decimal}
-use Rattle.text_lines.specs.Text.{bytes_text}
-use Rattle.quantities.specs.Quantities.{quantity_text}
+use Rattle.counted_io.specs.Text.{bytes_text}
+use Rattle.counted_io.specs.Quantities.{quantity_text}
 use Rattle.s360_words.specs.Words.{is_transfer, has_reserved_flags}
 use Rattle.s360_words.specs.declared.words.Ccw.{Ccw}
 use Rattle.ckd_sense.specs.Commands.{decoded}

@@ -2,7 +2,7 @@
 use Rattle.std.specs.Prelude.{ℕ, ◌/◌, ◌%◌, ◌==◌, nat_le, if◌then◌else◌, List, [], ◌∷◌, ◌++◌, codes, length, take}
 use Rattle.std.specs.List.{concat}
 use Rattle.std.specs.Fmt.{decimal}
-use Rattle.text_lines.specs.Text.{bytes_text}
+use Rattle.counted_io.specs.Text.{bytes_text}
 use Rattle.ckd_command.specs.declared.registers.Credit.{Credit}
 use Rattle.ckd_command.specs.declared.registers.Credit.TheVariants.{EqualHomeAddress, WroteHomeAddress, EqualId, EqualKey, WroteRecord}
 use Rattle.ckd_sense.specs.declared.sense_bytes.Sense.{Sense}

@@ -2,12 +2,12 @@
 
 ghost use Rattle.std.specs.Prelude.{◌≤◌, Some};
 ghost use Rattle.std.specs.Fmt.{WritesOnOk};
-ghost use Rattle.text_lines.specs.Text.{hexadecimal, bytes_text};
+ghost use Rattle.counted_io.specs.Text.{hexadecimal, bytes_text};
 ghost use Rattle.trace_words.specs.Numbers.{storage_address, device_address, key_digit};
 
 use arrayvec::ArrayString;
 use std::fmt;
-use text_lines::put_hexadecimal;
+use counted_io::put_hexadecimal;
 
 /// An address in storage, in six digits.
 #[derive(Clone, Copy)]

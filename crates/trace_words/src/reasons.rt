@@ -10,7 +10,7 @@ ghost use Rattle.trace_words.specs.Reasons.{block_key_text, program_key_text, ou
 use crate::numbers::{Bytes, KeyDigit, StorageAddress};
 use bitflags::Flags;
 use ckd_sense::{Command, Sense};
-use quantities::Quantity;
+use counted_io::Quantity;
 use s360_explain::cause_text;
 use s360_words::Ccw;
 use std::fmt;

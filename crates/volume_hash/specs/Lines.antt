@@ -4,7 +4,7 @@ use Rattle.std.specs.List.{concat, flat_map}
 use Rattle.std.specs.Fmt.{decimal}
 use Rattle.hex.specs.Hex.{encode_lower}
 use Rattle.ckd_track.specs.declared.geometries.Geometry.{Geometry}
-use Rattle.quantities.specs.Quantities.{quantity_text}
+use Rattle.counted_io.specs.Quantities.{quantity_text}
 use Rattle.dasd_volumes.specs.Lines.{line_feed}
 use Rattle.volume_hash.specs.Message.{volume_hash, unreadable_in}
 

@@ -7,7 +7,7 @@ ghost use Rattle.hex.specs.Hex.{encode_lower};
 ghost use Rattle.volume_hash.specs.Lines.{escaped, path_text, unreadable_kind, volume_kind, volume_line, volume_object, line_or_object};
 
 use crate::volumes::VolumeHash;
-use quantities::Quantity;
+use counted_io::Quantity;
 use std::alloc::{AllocError, Global};
 use std::io::Write;
 use std::{fmt, io};

@@ -1,6 +1,6 @@
 use Rattle.std.proofs.Common.{take}
 use Rattle.std.specs.Fmt.{HasWritten, IsPlainFormatter}
-use Rattle.text_lines.specs.Text.{bytes_text}
+use Rattle.counted_io.specs.Text.{bytes_text}
 use Rattle.trace_words.proofs.numbers.BytesDisplay.fmt.Given as goal
 
 -- the bytes so far are written

@@ -1,4 +1,4 @@
-use Rattle.text_lines.proofs.digits.+put_digits.Given as goal
+use Rattle.counted_io.proofs.digits.+put_digits.Given as goal
 
 -- how many digits are left
 abbrev pub decreases-put_digits : goal.decreases-put_digits

@@ -1,6 +1,6 @@
 use Rattle.std.proofs.Common.{◌≡◌, ◌+◌, ◌*◌, ◌≤◌, ◌++◌, length, take}
-use Rattle.text_lines.specs.Text.{bytes_text}
-use Rattle.text_lines.proofs.digits.put_bytes.Given as goal
+use Rattle.counted_io.specs.Text.{bytes_text}
+use Rattle.counted_io.proofs.digits.put_bytes.Given as goal
 
 -- the bytes so far are spelled
 abbrev pub invariant-loop-byte : goal.invariant-loop-byte

@@ -2,7 +2,7 @@
 
 ghost use Rattle.std.specs.Prelude.{◌≡◌, ◌+◌, ◌*◌, ◌≤◌, ◌<◌, ◌^◌, ◌++◌, true, length};
 ghost use Rattle.std.specs.Fmt.{decimal, digit_glyph};
-ghost use Rattle.text_lines.specs.Text.{hexadecimal, bytes_text};
+ghost use Rattle.counted_io.specs.Text.{hexadecimal, bytes_text};
 
 use arrayvec::ArrayString;
 use itoa::Buffer;

@@ -5,7 +5,7 @@ use Rattle.std.specs.Fmt.{digits, digits_onto, digit_glyph}
 use Rattle.std.proofs.Math.Nat.{pow-suc, pow-le-pow_right}
 use Rattle.std.proofs.DigitsParse.{digits_onto-nil}
 use Rattle.std.proofs.str.Laws.{order}
-use Rattle.text_lines.specs.Text.{hexadecimal}
+use Rattle.counted_io.specs.Text.{hexadecimal}
 
 abbrev spell : ℕ → ℕ → List ℕ → List ℕ
 spell k n acc = digits_onto k 16 true n acc

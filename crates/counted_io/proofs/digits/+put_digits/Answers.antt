@@ -1,7 +1,7 @@
 use Rattle.std.proofs.Common.{◌/◌, ◌≤◌, ◌<◌, ℕ, List, [], ◌∷◌, ◌++◌, ⊎_elim, sym, ap, ◌∙◌, append_assoc, arith}
-use Rattle.text_lines.specs.Text.{hexadecimal}
-use Rattle.text_lines.proofs.Spelling.{last_glyph, last_behind, last_alone, two_at_least, one_fewer, within_eight}
-use Rattle.text_lines.proofs.digits.+put_digits.Goals as goal
+use Rattle.counted_io.specs.Text.{hexadecimal}
+use Rattle.counted_io.proofs.Spelling.{last_glyph, last_behind, last_alone, two_at_least, one_fewer, within_eight}
+use Rattle.counted_io.proofs.digits.+put_digits.Goals as goal
 
 pub returns-then-width-lt2-clause-text : goal.returns-then-width-lt2-clause-text
 returns-then-width-lt2-clause-text t c =

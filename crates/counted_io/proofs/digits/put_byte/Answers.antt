@@ -1,7 +1,7 @@
 use Rattle.std.proofs.Common.{◌≡◌, ◌/◌, ◌++◌, true, ℕ, List, [], ◌∷◌, sym, ap, ◌∙◌, append_assoc}
 use Rattle.std.specs.Fmt.{digit_glyph}
-use Rattle.text_lines.proofs.Spelling.{last_glyph, two_digits}
-use Rattle.text_lines.proofs.digits.put_byte.Goals as goal
+use Rattle.counted_io.proofs.Spelling.{last_glyph, two_digits}
+use Rattle.counted_io.proofs.digits.put_byte.Goals as goal
 
 pub returns-clause-text : goal.returns-clause-text
 returns-clause-text g c =

@@ -1,8 +1,6 @@
 //! Counts with their nouns: `1 track`, `2 tracks`.
-#![tactic(auto)]
-
 ghost use Rattle.std.specs.Prelude.{◌≡◌, ◌==◌, if◌then◌else◌, Some};
-ghost use Rattle.quantities.specs.Quantities.{quantity_text};
+ghost use Rattle.counted_io.specs.Quantities.{quantity_text};
 
 use std::fmt;
 
