@@ -6,7 +6,7 @@ use Rattle.s360_words.specs.declared.words.Csw.{Csw}
 use Rattle.ckd_command.specs.Drive.{drive_of}
 use Rattle.ckd_drive.specs.Work.{DriveState, CallsStore, has_track, new_drive, without_sense}
 use Rattle.ckd_image.specs.Image.{ImageState}
-use Rattle.s360_runs.specs.Unsaved.{has_written}
+use Rattle.s360_laws.specs.Unsaved.{has_written}
 use Rattle.s360_program.specs.Advances.{RunsOn, Cuts, CallsAtMost, Rests, TellsOf, CutTellsOf}
 use Rattle.s360_storage.specs.Kept.{KeepsStorage}
 use Rattle.s360_program.specs.Stands.{RunningState, phase_in}

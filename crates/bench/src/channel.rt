@@ -5,7 +5,7 @@ use crate::tally::ProgramTally;
 use crate::volume::Disk;
 use ckd_image::MemoryStore;
 use s360_channel::Channel;
-use s360_events::Condition;
+use s360_laws::Condition;
 use s360_words::{Csw, Storage};
 use std::alloc::Global;
 

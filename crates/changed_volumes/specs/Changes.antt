@@ -9,7 +9,7 @@ use Rattle.dasd_volumes.specs.declared.fault.VolumeFault.{VolumeFault}
 use Rattle.dasd_volumes.specs.declared.fault.VolumeFault.TheVariants as volume
 use Rattle.volume_changes.specs.declared.refusal.ChangeRefusal.{ChangeRefusal}
 use Rattle.volume_changes.specs.Volumes.{renamed, relabelled}
-use Rattle.deleted_sets.specs.Volumes.{deleted}
+use Rattle.volume_changes.specs.Deletions.{deleted}
 use Rattle.changed_volumes.specs.declared.fault.ChangeFault.{ChangeFault}
 use Rattle.changed_volumes.specs.declared.fault.ChangeFault.TheVariants as fault
 use Rattle.changed_volumes.specs.declared.images.VolumeChange.{VolumeChange}

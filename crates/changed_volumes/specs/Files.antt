@@ -19,7 +19,7 @@ use Rattle.volume_changes.specs.declared.refusal.ChangeRefusal.{ChangeRefusal}
 use Rattle.volume_changes.specs.declared.refusal.ChangeRefusal.TheVariants.{NoName, NoDataSet}
 use Rattle.volume_changes.specs.Names.{is_set_name}
 use Rattle.volume_changes.specs.Volumes.{renamed}
-use Rattle.deleted_sets.specs.Volumes.{deleted}
+use Rattle.volume_changes.specs.Deletions.{deleted}
 use Rattle.changed_volumes.specs.declared.fault.ChangeFault.{ChangeFault}
 use Rattle.changed_volumes.specs.declared.fault.ChangeFault.TheVariants as fault
 use Rattle.changed_volumes.specs.Changes.{Changing, IsSameImage, IsHindered}

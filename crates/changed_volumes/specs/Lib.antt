@@ -1,2 +1,4 @@
 pub mod Changes
 pub mod Files
+pub mod LabelledFiles
+pub mod Formats

@@ -3,8 +3,8 @@
 ghost use Rattle.std.specs.Prelude.{◌≡◌, length, true, Ok, IfOk, IfErr, OnOk};
 ghost use Rattle.volume_contents.specs.Contents.{contents_of, SaysOf};
 ghost use Rattle.volume_changes.specs.Volumes.{said_in};
-ghost use Rattle.deleted_sets.specs.Plans.{deletion_of, IsPlanned};
-ghost use Rattle.deleted_sets.specs.Volumes.{all_changed, confirmed, is_confirmed, deleted_by};
+ghost use Rattle.volume_changes.specs.Plans.{deletion_of, IsPlanned};
+ghost use Rattle.volume_changes.specs.Deletions.{all_changed, confirmed, is_confirmed, deleted_by};
 ghost use Rattle.changed_volumes.specs.Changes.{IsSameImage, IsRefused, IsHinderedBy};
 
 use crate::fault::{ChangeFault, NO_MEMORY};
@@ -12,9 +12,8 @@ use crate::images::{read_said, write_change};
 use ckd_image::Image;
 use dasd_files::VolumeFile;
 use dasd_jobs::JobFault;
-use deleted_sets::{DeletionPlan, PlanFault, is_confirmed, plan_deletion};
+use volume_changes::{BlockChange, ChangeRefusal, DeletionPlan, PlanFault, is_confirmed, plan_deletion};
 use std::alloc::Global;
-use volume_changes::{BlockChange, ChangeRefusal};
 use volume_contents::{Block, Contents};
 
 /// Deletes a data set of the volume of an image that says this, by a slot of its size.

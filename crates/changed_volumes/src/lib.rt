@@ -4,11 +4,14 @@
 
 mod deletions;
 mod fault;
+mod formats;
 mod images;
+mod labelled_writes;
 mod lines;
 mod saves;
 
 pub use crate::fault::ChangeFault;
+pub use crate::formats::{FormatFault, LabelledVolume, format_labelled};
 pub use crate::images::{VolumeChange, change_image, read_said, write_change};
 pub use crate::saves::{
     ChangedVolume, NewName, delete_data_set, relabel_volume, rename_data_set, save_plan,

@@ -7,9 +7,8 @@ ghost use Rattle.changed_volumes.specs.Files.{renamed_line, relabelled_line, del
 use crate::saves::NewName;
 use arrayvec::ArrayString;
 use ckd_track::Geometry;
-use counted_io::{Counted, WriteFault, write_flushed};
+use counted_io::{Counted, WriteFault, put_decimal, write_flushed};
 use std::io::Write;
-use counted_io::put_decimal;
 
 /// The line that says which data set was renamed.
 pub(crate) fn write_renamed<W: Write>(

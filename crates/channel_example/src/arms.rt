@@ -5,7 +5,7 @@ use crate::programs::{SEEK, store_program, store_sense};
 use anyhow::{Result, bail};
 use ckd_image::MemoryStore;
 use s360_channel::Channel;
-use s360_events::Condition;
+use s360_laws::Condition;
 
 /// A seek that ends its program leaves the arm in motion. It arrives while a program runs at the other drive; its device end waits.
 pub(crate) fn arrive_while_another_works(

@@ -3,7 +3,7 @@
 use anyhow::Result;
 use ckd_image::ImageStore;
 use s360_channel::Channel;
-use s360_events::Condition;
+use s360_laws::Condition;
 use s360_words::Csw;
 use std::fmt;
 

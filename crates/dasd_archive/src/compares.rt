@@ -14,11 +14,10 @@ ghost use Rattle.dasd_volumes.specs.Volumes.{IsTrack};
 use crate::compared::{DifferenceForm, compare_track};
 use crate::printed::{print_flushed, print_lines};
 use ckd_image::StoreFault;
-use counted_io::Counted;
+use counted_io::{Counted, Quantity};
 use dasd_volumes::{
     EachTrack, PrintedAddress, SlotReader, Style, VolumeFault, VolumeTrack, all_tracks, each_track,
 };
-use counted_io::Quantity;
 use std::alloc::Global;
 use std::io;
 use std::io::Write;

@@ -1,10 +1,10 @@
 -- What a look of a trace answers, and what it puts into the trace's bytes.
 use Rattle.std.specs.Prelude.{◌≡◌, ℤ, pos, length, nat_lt, is_some, Option, Some, None}
 use Rattle.s360_channels.specs.Channels.{ChannelsState, channel_at}
-use Rattle.channel_traces.specs.declared.fault.LookFault.{LookFault}
-use Rattle.channel_traces.specs.declared.fault.LookFault.TheVariants.{NoChannel, BadMoment, NoRoom}
-use Rattle.channel_traces.specs.declared.told.ToldMoment.{ToldMoment}
-use Rattle.channel_traces.specs.Looks.{Puts, is_moment, why_not}
+use Rattle.subsystem_calls.specs.declared.fault.LookFault.{LookFault}
+use Rattle.subsystem_calls.specs.declared.fault.LookFault.TheVariants.{NoChannel, BadMoment, NoRoom}
+use Rattle.subsystem_calls.specs.declared.told.ToldMoment.{ToldMoment}
+use Rattle.subsystem_calls.specs.Looks.{Puts, is_moment, why_not}
 use Rattle.subsystem_calls.specs.Codes.{bad_moment, no_channel, no_room}
 use Rattle.dasd_c.specs.declared.tracing.Trace.{Trace}
 

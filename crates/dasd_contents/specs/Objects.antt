@@ -9,7 +9,7 @@ use Rattle.volume_labels.specs.declared.labels.VolumeLabel.{VolumeLabel}
 use Rattle.volume_labels.specs.declared.blocks.DataSetBlock.{DataSetBlock}
 use Rattle.volume_labels.specs.declared.blocks.ContentsBlock.{ContentsBlock}
 use Rattle.volume_labels.specs.Labels.{data_set_block_of}
-use Rattle.data_sets.specs.Lines.{without_blanks}
+use Rattle.volume_labels.specs.Lines.{without_blanks}
 use Rattle.dasd_volumes.specs.Lines.{line_feed}
 use Rattle.dasd_volumes.specs.Volumes.{of_each}
 use Rattle.volume_contents.specs.declared.blocks.Block.{Block}

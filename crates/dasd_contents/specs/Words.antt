@@ -10,7 +10,7 @@ use Rattle.volume_labels.specs.declared.fields.Extent.{Extent}
 use Rattle.volume_labels.specs.declared.fields.FreeTracks.{FreeTracks}
 use Rattle.volume_labels.specs.declared.fields.Date.{Date}
 use Rattle.volume_labels.specs.Ebcdic.{shown}
-use Rattle.data_sets.specs.Lines.{without_blanks}
+use Rattle.volume_labels.specs.Lines.{without_blanks}
 use Rattle.dasd_volumes.specs.Lines.{address_text, fault_text, hexadecimal}
 use Rattle.volume_contents.specs.declared.chains.ChainFault.{ChainFault}
 use Rattle.volume_contents.specs.declared.chains.ChainFault.TheVariants.{Missing, OtherFormat, Endless}

@@ -11,9 +11,8 @@ ghost use Rattle.dasd_contents.specs.Lines.{number_columns, set_line, block_line
 
 use crate::words::{Bounds, Day, Format, Organisation, Owner, Place, Text, Wrong, format_width};
 use ckd_track::Geometry;
-use counted_io::{Counted, WriteFault, write_flushed};
+use counted_io::{Counted, Quantity, WriteFault, write_flushed};
 use dasd_volumes::VolumeFault;
-use counted_io::Quantity;
 use std::alloc::Global;
 use std::io;
 use std::io::Write;

@@ -9,12 +9,11 @@ ghost use Rattle.dasd_contents.specs.Words.{owner_text, track_text, place_text, 
 ghost use Rattle.dasd_contents.specs.Words.{unmovable, organisation_text, form_of, where_set, format_text, chain_text, problem_text, kind_text};
 
 use dasd_volumes::{PrintedAddress as Address, Reason};
-use data_sets::without_blanks;
+use volume_labels::{Date, Extent, FreeTracks, RecordAddress, TrackAddress, shown_character, without_blanks};
 use counted_io::Quantity;
 use std::fmt;
 use std::fmt::Display;
 use volume_contents::{ChainFault, Problem};
-use volume_labels::{Date, Extent, FreeTracks, RecordAddress, TrackAddress, shown_character};
 
 /// A track: cylinder and head.
 #[derive(Clone, Copy)]

@@ -2,10 +2,10 @@
 use Rattle.std.proofs.Common.{ℕ, suc, ◌+◌, ◌-◌, ◌<◌, ◌≤◌, ◌≡◌, ◌∙◌, List, [], ◌++◌, length, Option, None, Result, ap, sym, refl, append-nil}
 use Rattle.std.proofs.Common.{append_assoc, arith}
 use Rattle.std.specs.Io.KnownBytes.{Appends}
-use Rattle.data_sets.specs.declared.records.RecordForm.{RecordForm}
-use Rattle.data_sets.specs.declared.records.RecordFault.{RecordFault}
-use Rattle.data_sets.specs.declared.records.Piece.{Piece}
-use Rattle.data_sets.specs.Records.{next_record}
+use Rattle.volume_labels.specs.declared.records.RecordForm.{RecordForm}
+use Rattle.volume_labels.specs.declared.records.RecordFault.{RecordFault}
+use Rattle.volume_labels.specs.declared.records.Piece.{Piece}
+use Rattle.volume_labels.specs.Records.{next_record}
 use Rattle.dasd_extract.specs.declared.stops.Stop.{Stop}
 use Rattle.dasd_extract.specs.Written.{Written, nothing, behind, Writes}
 use Rattle.dasd_extract.specs.Blocks.{lines_from, on_piece}

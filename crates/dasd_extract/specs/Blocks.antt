@@ -3,15 +3,15 @@ use Rattle.std.specs.Prelude.{ℕ, zero, suc, ◌/◌, ◌%◌, Bool, ◌&&◌, 
 use Rattle.std.specs.Prelude.{slice_index, encode_utf8, Option, Some, None, Result, Ok, Err}
 use Rattle.ckd_track.specs.Track.{Record}
 use Rattle.volume_labels.specs.Ebcdic.{character_of}
-use Rattle.data_sets.specs.declared.records.RecordForm.{RecordForm}
-use Rattle.data_sets.specs.declared.records.RecordFault.{RecordFault}
-use Rattle.record_formats.specs.declared.layouts.Layout.{Layout}
-use Rattle.record_formats.specs.Layouts.{is_longer}
-use Rattle.data_sets.specs.declared.records.Segment.{Segment}
-use Rattle.data_sets.specs.declared.records.Segment.TheVariants.{Whole, First, Last, Middle}
-use Rattle.data_sets.specs.declared.records.Piece.{Piece}
-use Rattle.data_sets.specs.Records.{next_record}
-use Rattle.data_sets.specs.Lines.{without_blanks}
+use Rattle.volume_labels.specs.declared.records.RecordForm.{RecordForm}
+use Rattle.volume_labels.specs.declared.records.RecordFault.{RecordFault}
+use Rattle.volume_labels.specs.declared.layouts.Layout.{Layout}
+use Rattle.volume_labels.specs.Layouts.{is_longer}
+use Rattle.volume_labels.specs.declared.records.Segment.{Segment}
+use Rattle.volume_labels.specs.declared.records.Segment.TheVariants.{Whole, First, Last, Middle}
+use Rattle.volume_labels.specs.declared.records.Piece.{Piece}
+use Rattle.volume_labels.specs.Records.{next_record}
+use Rattle.volume_labels.specs.Lines.{without_blanks}
 use Rattle.dasd_extract.specs.declared.stops.Cause.TheVariants.{EndOfFile, NotDirectory, NoRecord, LongBlock}
 use Rattle.dasd_extract.specs.declared.blocks.ExtractedForm.{ExtractedForm}
 use Rattle.dasd_extract.specs.declared.blocks.ExtractedForm.TheVariants.{Raw, Text, Directory, Keyed}

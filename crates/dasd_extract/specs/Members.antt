@@ -1,7 +1,7 @@
 -- The members of a partitioned data set.
 use Rattle.std.specs.Prelude.{◌≡◌, ℕ, List, Some}
 use Rattle.volume_labels.specs.declared.fields.Extent.{Extent}
-use Rattle.data_sets.specs.Directories.{entries_of}
+use Rattle.volume_labels.specs.Directories.{entries_of}
 use Rattle.dasd_volumes.specs.Reading.{KnownVolume}
 use Rattle.dasd_extract.specs.declared.blocks.ExtractedForm.TheVariants.{Directory}
 use Rattle.dasd_extract.specs.declared.members.Members.{Members}

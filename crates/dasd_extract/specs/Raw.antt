@@ -5,9 +5,9 @@ use Rattle.ckd_track.specs.declared.fault.SlotFault.TheVariants.{NoEnd}
 use Rattle.ckd_track.specs.Model.{heads_of}
 use Rattle.ckd_track.specs.Geometry.{tracks_of}
 use Rattle.volume_labels.specs.declared.fields.Extent.{Extent}
-use Rattle.data_sets.specs.declared.addresses.TrackPlace.{TrackPlace}
-use Rattle.data_sets.specs.declared.addresses.TrackPlace.TheVariants as place
-use Rattle.data_sets.specs.Addresses as addresses
+use Rattle.volume_labels.specs.declared.addresses.TrackPlace.{TrackPlace}
+use Rattle.volume_labels.specs.declared.addresses.TrackPlace.TheVariants as place
+use Rattle.volume_labels.specs.Addresses as addresses
 use Rattle.counted_io.specs.Streams.{Stream}
 use Rattle.dasd_volumes.specs.declared.fault.VolumeFault.{VolumeFault}
 use Rattle.dasd_volumes.specs.Reading.{KnownVolume}

@@ -2,8 +2,8 @@
 use Rattle.std.specs.Prelude.{ℕ, ◌==◌, if◌then◌else◌, List, [], ◌∷◌, codes}
 use Rattle.std.specs.List.{concat}
 use Rattle.std.specs.Fmt.{decimal}
-use Rattle.data_sets.specs.declared.records.RecordFault.{RecordFault}
-use Rattle.data_sets.specs.declared.records.RecordFault.TheVariants.{ShortRecord, NoDescriptor, BlockLength, RecordLength, SegmentCode}
+use Rattle.volume_labels.specs.declared.records.RecordFault.{RecordFault}
+use Rattle.volume_labels.specs.declared.records.RecordFault.TheVariants.{ShortRecord, NoDescriptor, BlockLength, RecordLength, SegmentCode}
 use Rattle.dasd_volumes.specs.Lines.{fault_text}
 use Rattle.dasd_extract.specs.declared.stops.Cause.{Cause}
 use Rattle.dasd_extract.specs.declared.stops.Cause.TheVariants.{EndOfFile, EndBehindAlternates, PastExtents, Outside, BadExtent, NoTrack, NoAlternate}

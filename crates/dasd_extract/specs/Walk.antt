@@ -8,9 +8,9 @@ use Rattle.ckd_track.specs.Geometry.{tracks_of}
 use Rattle.ckd_track.specs.Track.{Track, track_of, record_in}
 use Rattle.volume_labels.specs.declared.fields.Extent.{Extent}
 use Rattle.volume_labels.specs.declared.fields.RelativeAddress.{RelativeAddress}
-use Rattle.data_sets.specs.declared.addresses.TrackPlace.{TrackPlace}
-use Rattle.data_sets.specs.declared.addresses.TrackPlace.TheVariants as place
-use Rattle.data_sets.specs.Addresses as addresses
+use Rattle.volume_labels.specs.declared.addresses.TrackPlace.{TrackPlace}
+use Rattle.volume_labels.specs.declared.addresses.TrackPlace.TheVariants as place
+use Rattle.volume_labels.specs.Addresses as addresses
 use Rattle.counted_io.specs.Streams.{Stream}
 use Rattle.dasd_volumes.specs.declared.fault.VolumeFault.{VolumeFault}
 use Rattle.dasd_volumes.specs.Reading.{KnownVolume}

@@ -10,8 +10,7 @@ ghost use Rattle.dasd_extract.specs.Blocks.{number_of};
 use crate::stops::{Cause, Stop, stop_at};
 use crate::texts::{write_text, write_text_line};
 use ckd_track::TrackView;
-use data_sets::{DIRECTORY_BLOCK, Piece, RecordForm, Segment, next_record, without_blanks};
-use record_formats::{Layout, is_longer};
+use volume_labels::{DIRECTORY_BLOCK, Layout, Piece, RecordForm, Segment, is_longer, next_record, without_blanks};
 use std::io;
 use std::io::Write;
 

@@ -9,9 +9,8 @@ use crate::stops::Stop;
 use crate::walks::{Source, extract};
 use counted_io::Counted;
 use dasd_volumes::{SlotReader, VolumeFault};
-use data_sets::{Directory, DirectoryEntry, DirectoryFault, read_directory};
+use volume_labels::{Directory, DirectoryEntry, DirectoryFault, Extent, RelativeAddress, read_directory};
 use std::alloc::Global;
-use volume_labels::{Extent, RelativeAddress};
 
 /// How many tracks of a directory are read at most: some 4 MiB on a 2314.
 const DIRECTORY_TRACKS: u16 = 512;

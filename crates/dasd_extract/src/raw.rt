@@ -12,10 +12,9 @@ use crate::stops::{Cause, Stop, stop_at};
 use ckd_track::SlotFault;
 use counted_io::{Counted, WriteFault, write_whole};
 use dasd_volumes::{SlotReader, VolumeFault};
-use data_sets::{TrackPlace, track_of};
+use volume_labels::{Extent, TrackPlace, track_of};
 use std::alloc::Global;
 use std::io::Write;
-use volume_labels::Extent;
 
 /// How many tracks are copied at most: no data set has more.
 const MOST_TRACKS: u32 = 65535;

@@ -6,7 +6,7 @@ ghost use Rattle.dasd_extract.specs.Written.{stop_at, cause_behind, stop_behind}
 
 use ckd_track::SlotFault;
 use dasd_volumes::Reason;
-use data_sets::RecordFault;
+use volume_labels::RecordFault;
 use std::fmt;
 
 /// Why no more blocks are read.

@@ -18,11 +18,10 @@ use crate::opened::open_volume;
 use arrayvec::ArrayString;
 use ckd_image::{ImageStore, StoreFault, write_new_volume};
 use ckd_track::{DriveModel, Geometry};
-use counted_io::{Counted, WriteFault, write_flushed};
+use counted_io::{Counted, WriteFault, put_decimal, write_flushed};
 use dasd_volumes::{Progress, Stage, VolumeFault, is_large};
 use std::alloc::Global;
 use std::io::Write;
-use counted_io::put_decimal;
 
 /// What is formatted: a new volume, and whether it may take the place of a file.
 #[derive(Clone, Copy)]

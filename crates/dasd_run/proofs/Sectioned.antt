@@ -9,7 +9,7 @@ use Rattle.dasd_volumes.specs.Reading.{KnownVolume}
 use Rattle.dasd_volumes.proofs.Fronts.{begins_with_all, begins_before, front_more, front_behind}
 use Rattle.volume_contents.specs.declared.blocks.Block.{Block}
 use Rattle.volume_contents.specs.declared.reading.Contents.{Contents}
-use Rattle.library_members.specs.Report.{printed, some_wrong}
+use Rattle.library_contents.specs.Report.{printed, some_wrong}
 use Rattle.volume_details.specs.Sections.{Views, sections, TellsWrong}
 use Rattle.dasd_jobs.specs.declared.faults.JobFault.TheVariants as job
 use Rattle.dasd_run.specs.declared.commands.Ending.{Ending}

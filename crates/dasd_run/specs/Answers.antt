@@ -10,7 +10,7 @@ use Rattle.dasd_volumes.specs.Reading.{KnownVolume}
 use Rattle.dasd_words.specs.declared.requests.NewImage.{NewImage}
 use Rattle.dasd_words.specs.declared.requests.HashedVolume.{HashedVolume}
 use Rattle.dasd_words.specs.declared.requests.PrintedVolume.{PrintedVolume}
-use Rattle.set_hash.specs.Lines.{Shown, shown}
+use Rattle.volume_hash.specs.SetLines.{Shown, shown}
 use Rattle.dasd_words.specs.declared.requests.ListedPart.{ListedPart}
 use Rattle.dasd_words.specs.declared.requests.DumpedPart.{DumpedPart}
 use Rattle.dasd_words.specs.declared.requests.Request.{Request}

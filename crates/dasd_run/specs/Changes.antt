@@ -17,7 +17,7 @@ use Rattle.loaded_sets.specs.Loads.{LoadsSet}
 use Rattle.loaded_sets.specs.declared.saves.NewSet.{NewSet}
 use Rattle.loaded_sets.specs.declared.contents.SourceForm.{SourceForm}
 use Rattle.loaded_sets.specs.declared.contents.SourceForm.TheVariants as source
-use Rattle.space_allocation.specs.Blocks.{no_date}
+use Rattle.new_labels.specs.SetBlocks.{no_date}
 use Rattle.dasd_words.specs.declared.requests.FileForm.{FileForm}
 use Rattle.dasd_words.specs.declared.requests.FileForm.TheVariants as words
 use Rattle.volume_changes.specs.Volumes.{relabelled}

@@ -4,7 +4,7 @@ use Rattle.counted_io.specs.Streams.{Stream, Takes, TakesFront, NoneFailed, IsFl
 use Rattle.ckd_track.specs.declared.geometries.Geometry.{Geometry}
 use Rattle.dasd_volumes.specs.Reading.{KnownVolume}
 use Rattle.volume_contents.specs.Contents.{contents_of}
-use Rattle.library_members.specs.Report.{Line, printed, some_wrong}
+use Rattle.library_contents.specs.Report.{Line, printed, some_wrong}
 use Rattle.volume_details.specs.declared.fault.MemberListFault.{MemberListFault}
 use Rattle.volume_details.specs.Libraries.{ListsLibrary}
 use Rattle.volume_details.specs.Sections.{Views, sections}

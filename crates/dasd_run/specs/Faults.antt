@@ -10,16 +10,16 @@ use Rattle.dasd_volumes.specs.declared.fault.VolumeFault.{VolumeFault}
 use Rattle.dasd_volumes.specs.declared.fault.VolumeFault.TheVariants as volume
 use Rattle.dasd_unload.specs.declared.fault.UnloadFault.{UnloadFault}
 use Rattle.dasd_unload.specs.declared.fault.UnloadFault.TheVariants as unload
-use Rattle.labelled_volumes.specs.declared.formats.FormatFault.{FormatFault}
-use Rattle.labelled_volumes.specs.declared.formats.FormatFault.TheVariants as format
+use Rattle.changed_volumes.specs.declared.formats.FormatFault.{FormatFault}
+use Rattle.changed_volumes.specs.declared.formats.FormatFault.TheVariants as format
 use Rattle.changed_volumes.specs.declared.fault.ChangeFault.{ChangeFault}
 use Rattle.changed_volumes.specs.declared.fault.ChangeFault.TheVariants as change
 use Rattle.loaded_sets.specs.declared.fault.LoadFault.{LoadFault}
 use Rattle.loaded_sets.specs.declared.fault.LoadFault.TheVariants as load
 use Rattle.loaded_folders.specs.declared.fault.FolderFault.{FolderFault}
 use Rattle.loaded_folders.specs.declared.fault.FolderFault.TheVariants as folder
-use Rattle.added_members.specs.declared.fault.NewMemberFault.{NewMemberFault}
-use Rattle.added_members.specs.declared.fault.NewMemberFault.TheVariants as add
+use Rattle.loaded_folders.specs.declared.member_fault.NewMemberFault.{NewMemberFault}
+use Rattle.loaded_folders.specs.declared.member_fault.NewMemberFault.TheVariants as add
 use Rattle.volume_details.specs.declared.fault.MemberListFault.{MemberListFault}
 use Rattle.volume_details.specs.declared.fault.MemberListFault.TheVariants as library
 use Rattle.dasd_run.specs.declared.fault.ProgramFault.{ProgramFault}

@@ -1,9 +1,9 @@
 -- What commands do that put the files of a folder onto a volume, or a member into a library.
 use Rattle.std.specs.Prelude.{◌≡◌, map, Result, OnOk}
 use Rattle.counted_io.specs.Streams.{IsFlushed}
-use Rattle.added_members.specs.Loads.{LoadsMember}
-use Rattle.added_members.specs.declared.fault.NewMemberFault.{NewMemberFault}
-use Rattle.added_members.specs.declared.saves.NewMemberFile.{NewMemberFile}
+use Rattle.loaded_folders.specs.MemberLoads.{LoadsMember}
+use Rattle.loaded_folders.specs.declared.member_fault.NewMemberFault.{NewMemberFault}
+use Rattle.loaded_folders.specs.declared.member_saves.NewMemberFile.{NewMemberFile}
 use Rattle.dasd_run.specs.declared.commands.Ending.{Ending}
 use Rattle.dasd_run.specs.declared.fault.ProgramFault.{ProgramFault}
 use Rattle.dasd_run.specs.Changes.{source_of}

@@ -4,8 +4,8 @@ use Rattle.counted_io.specs.Streams.{IsFlushed}
 use Rattle.ckd_track.specs.Geometry.{new_geometry}
 use Rattle.dasd_words.specs.declared.requests.NewImage.{NewImage}
 use Rattle.new_labels.specs.declared.labels.NewLabel.{NewLabel}
-use Rattle.labelled_volumes.specs.declared.formats.FormatFault.{FormatFault}
-use Rattle.labelled_volumes.specs.Formats.{FormatsLabelled}
+use Rattle.changed_volumes.specs.declared.formats.FormatFault.{FormatFault}
+use Rattle.changed_volumes.specs.Formats.{FormatsLabelled}
 use Rattle.dasd_run.specs.declared.commands.Ending.{Ending}
 use Rattle.dasd_run.specs.declared.fault.ProgramFault.{ProgramFault}
 use Rattle.dasd_run.specs.Ended.{done_or}

@@ -12,9 +12,9 @@ use Rattle.dasd_volumes.specs.declared.forms.Style.TheVariants.{Text, Json}
 use Rattle.dasd_volumes.specs.declared.walks.Range.{Range}
 use Rattle.dasd_archive.specs.declared.dumps.VolumePart.{VolumePart}
 use Rattle.dasd_volumes.specs.Listing.{list_text}
-use Rattle.set_hash.specs.Lines.{Shown}
-use Rattle.set_hash.specs.Prints.{TellsWhole}
-use Rattle.set_hash.specs.Sets.{hashes_text}
+use Rattle.volume_hash.specs.SetLines.{Shown}
+use Rattle.volume_hash.specs.Prints.{TellsWhole}
+use Rattle.volume_hash.specs.Sets.{hashes_text}
 use Rattle.dasd_words.specs.declared.requests.Numbers.{Numbers}
 use Rattle.dasd_words.specs.declared.requests.ListedPart.{ListedPart}
 use Rattle.dasd_words.specs.declared.requests.DumpedPart.{DumpedPart}

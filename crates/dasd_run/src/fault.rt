@@ -3,13 +3,11 @@
 ghost use Rattle.std.specs.Prelude.{◌≡◌};
 ghost use Rattle.dasd_run.specs.Faults.{volume_fault};
 
-use added_members::{NewMemberFault, NewMemberRefusal};
-use changed_volumes::ChangeFault;
+use loaded_folders::{FolderFault, NewMemberFault, NewMemberRefusal};
+use changed_volumes::{ChangeFault, FormatFault};
 use dasd_jobs::JobFault;
 use dasd_unload::UnloadFault;
 use dasd_volumes::VolumeFault;
-use labelled_volumes::FormatFault;
-use loaded_folders::FolderFault;
 use loaded_sets::{LoadFault, LoadRefusal};
 use new_labels::TableFault;
 use s360_assembler::AssemblyFault;

@@ -2,7 +2,7 @@
 
 ghost use Rattle.std.specs.Prelude.{◌≡◌, string_bytes, IfOk, IfErr};
 ghost use Rattle.counted_io.specs.Streams.{seen_by};
-ghost use Rattle.set_hash.specs.Lines.{shown};
+ghost use Rattle.volume_hash.specs.SetLines.{shown};
 ghost use Rattle.dasd_run.specs.Answers.{hashed_path, HashesVolume};
 ghost use Rattle.dasd_run.specs.Outside.{Looks};
 ghost use Rattle.dasd_run.specs.Printed.{HashesWhole};
@@ -14,7 +14,7 @@ use crate::printed_paths::{joined, quoted};
 use counted_io::Counted;
 use dasd_jobs::{Progress, SlotReader, Traces, open_volume};
 use dasd_words::{HashedVolume, PrintedVolume};
-use set_hash::{HashesForm, print_hashes};
+use volume_hash::{HashesForm, print_hashes};
 use std::alloc::Global;
 use std::io::{Read, Write};
 

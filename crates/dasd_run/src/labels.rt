@@ -9,7 +9,7 @@ use crate::fault::ProgramFault;
 use crate::host::Host;
 use dasd_jobs::{Progress, Traces};
 use dasd_words::NewImage;
-use labelled_volumes::{LabelledVolume, format_labelled};
+use changed_volumes::{LabelledVolume, format_labelled};
 use new_labels::NewLabel;
 use std::io::{Read, Write};
 

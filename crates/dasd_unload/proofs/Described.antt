@@ -2,11 +2,11 @@
 use Rattle.std.proofs.Common.{ℕ, zero, suc, ◌+◌, ◌-◌, ◌*◌, ◌<◌, ◌≤◌, ◌≡◌, ◌∙◌, List, [], ◌∷◌, ◌++◌}
 use Rattle.std.proofs.Common.{length, take, ap, ap₂, refl, sym, arith, append_assoc, append-nil}
 use Rattle.std.proofs.Common.{◌||◌, true, false, nat_lt, drop, slice_range, ◌⊎◌, inl, inr, Result, Ok, Err, OnOk}
-use Rattle.data_sets.specs.declared.directories.DirectoryEntry.{DirectoryEntry}
-use Rattle.data_sets.specs.declared.directories.DirectoryFault.{DirectoryFault}
-use Rattle.data_sets.specs.declared.directories.DirectoryStep.{DirectoryStep}
-use Rattle.data_sets.specs.declared.directories.DirectoryStep.TheVariants.{End, Fault}
-use Rattle.data_sets.specs.Directories.{step_at}
+use Rattle.volume_labels.specs.declared.directories.DirectoryEntry.{DirectoryEntry}
+use Rattle.volume_labels.specs.declared.directories.DirectoryFault.{DirectoryFault}
+use Rattle.volume_labels.specs.declared.directories.DirectoryStep.{DirectoryStep}
+use Rattle.volume_labels.specs.declared.directories.DirectoryStep.TheVariants.{End, Fault}
+use Rattle.volume_labels.specs.Directories.{step_at}
 use Rattle.set_forms.specs.declared.forms.FormLine.{FormLine}
 use Rattle.set_forms.specs.Forms.{text_of, form_line}
 use Rattle.ckd_track.specs.declared.geometries.Geometry.{Geometry}

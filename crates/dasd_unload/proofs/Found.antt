@@ -2,7 +2,7 @@
 use Rattle.std.proofs.Common.{◌≡◌, ℕ, List, Option, Some, None, sym, find, bytes_eq}
 use Rattle.dasd_volumes.specs.Reading.{KnownVolume}
 use Rattle.volume_labels.specs.declared.fields.Extent.{Extent}
-use Rattle.data_sets.specs.declared.directories.DirectoryEntry.{DirectoryEntry}
+use Rattle.volume_labels.specs.declared.directories.DirectoryEntry.{DirectoryEntry}
 use Rattle.volume_contents.specs.declared.sets.DataSet.{DataSet}
 use Rattle.dasd_extract.specs.declared.members.Members.{Members}
 use Rattle.dasd_extract.specs.Members.{MembersOf}

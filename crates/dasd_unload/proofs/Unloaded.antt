@@ -9,9 +9,9 @@ use Rattle.counted_io.proofs.Written.{takes_more, takes_nothing}
 use Rattle.volume_labels.specs.declared.fields.Extent.{Extent}
 use Rattle.volume_labels.specs.declared.blocks.DataSetBlock.{DataSetBlock}
 use Rattle.volume_labels.specs.Labels.{data_set_block_of}
-use Rattle.data_sets.specs.declared.directories.DirectoryEntry.{DirectoryEntry}
-use Rattle.data_sets.specs.declared.directories.DirectoryFault.{DirectoryFault}
-use Rattle.data_sets.specs.Directories.{entries_of}
+use Rattle.volume_labels.specs.declared.directories.DirectoryEntry.{DirectoryEntry}
+use Rattle.volume_labels.specs.declared.directories.DirectoryFault.{DirectoryFault}
+use Rattle.volume_labels.specs.Directories.{entries_of}
 use Rattle.dasd_volumes.specs.Reading.{KnownVolume}
 use Rattle.dasd_volumes.proofs.Fronts.{front_behind}
 use Rattle.volume_contents.specs.declared.blocks.Block.{Block}

@@ -5,13 +5,13 @@ use Rattle.counted_io.specs.Streams.{Stream, TakesFront, IsFlushed}
 use Rattle.volume_labels.specs.declared.fields.Extent.{Extent}
 use Rattle.volume_labels.specs.declared.fields.RelativeAddress.{RelativeAddress}
 use Rattle.volume_labels.specs.declared.blocks.DataSetBlock.{DataSetBlock}
-use Rattle.data_sets.specs.declared.directories.DirectoryEntry.{DirectoryEntry}
-use Rattle.record_formats.specs.declared.layouts.RecordAttributes.{RecordAttributes}
-use Rattle.record_formats.specs.declared.layouts.Layout.{Layout}
-use Rattle.record_formats.specs.declared.layouts.AttributeFault.{AttributeFault}
-use Rattle.record_formats.specs.declared.layouts.AttributeFault.TheVariants.{NoFormat}
-use Rattle.record_formats.specs.Layouts.{layout, layout_given}
-use Rattle.data_sets.specs.Records as records
+use Rattle.volume_labels.specs.declared.directories.DirectoryEntry.{DirectoryEntry}
+use Rattle.volume_labels.specs.declared.layouts.RecordAttributes.{RecordAttributes}
+use Rattle.volume_labels.specs.declared.layouts.Layout.{Layout}
+use Rattle.volume_labels.specs.declared.layouts.AttributeFault.{AttributeFault}
+use Rattle.volume_labels.specs.declared.layouts.AttributeFault.TheVariants.{NoFormat}
+use Rattle.volume_labels.specs.Layouts.{layout, layout_given}
+use Rattle.volume_labels.specs.Records as records
 use Rattle.dasd_volumes.specs.Reading.{KnownVolume}
 use Rattle.volume_contents.specs.Contents.{contents_of}
 use Rattle.volume_contents.specs.Sets.{FoundOf}

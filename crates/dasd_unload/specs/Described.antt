@@ -9,10 +9,10 @@ use Rattle.volume_labels.specs.declared.fields.RelativeAddress.{RelativeAddress}
 use Rattle.volume_labels.specs.declared.fields.Extent.{Extent}
 use Rattle.volume_labels.specs.declared.blocks.DataSetBlock.{DataSetBlock}
 use Rattle.volume_labels.specs.Labels.{data_set_block_of}
-use Rattle.data_sets.specs.declared.directories.DirectoryEntry.{DirectoryEntry}
-use Rattle.data_sets.specs.declared.directories.DirectoryStep.{DirectoryStep}
-use Rattle.data_sets.specs.declared.directories.DirectoryStep.TheVariants as step
-use Rattle.data_sets.specs.Directories.{step_at, entries_of}
+use Rattle.volume_labels.specs.declared.directories.DirectoryEntry.{DirectoryEntry}
+use Rattle.volume_labels.specs.declared.directories.DirectoryStep.{DirectoryStep}
+use Rattle.volume_labels.specs.declared.directories.DirectoryStep.TheVariants as step
+use Rattle.volume_labels.specs.Directories.{step_at, entries_of}
 use Rattle.dasd_volumes.specs.Reading.{KnownVolume}
 use Rattle.volume_contents.specs.declared.blocks.Block as table
 use Rattle.volume_contents.specs.Sets.{is_data_set, extents_behind}

@@ -5,8 +5,8 @@ use Rattle.std.specs.List.{concat}
 use Rattle.std.specs.Fmt.{decimal}
 use Rattle.counted_io.specs.Streams.{Stream, Takes, TakesFront, NoneFailed, OneFailed}
 use Rattle.counted_io.specs.Quantities.{quantity_text}
-use Rattle.data_sets.specs.declared.directories.DirectoryFault.{DirectoryFault}
-use Rattle.data_sets.specs.declared.directories.DirectoryFault.TheVariants.{UsedBytes, EntryPastUsed}
+use Rattle.volume_labels.specs.declared.directories.DirectoryFault.{DirectoryFault}
+use Rattle.volume_labels.specs.declared.directories.DirectoryFault.TheVariants.{UsedBytes, EntryPastUsed}
 use Rattle.dasd_volumes.specs.Lines.{line_feed}
 use Rattle.volume_contents.specs.declared.chains.ChainFault.{ChainFault}
 use Rattle.dasd_contents.specs.Words.{chain_text}

@@ -1,7 +1,7 @@
 -- What is unloaded from a volume, and where it goes.
 use Rattle.std.specs.Prelude.{◌≡◌, ◌≢◌, ◌⊎◌, ℕ, Bool, true, false, List, [], ◌++◌, length, codes, Option, Some, None, Result, Ok, Err}
 use Rattle.std.specs.List.{All}
-use Rattle.data_sets.specs.Names.{safe_name_of}
+use Rattle.volume_labels.specs.Names.{safe_name_of}
 use Rattle.counted_io.specs.Streams.{Stream, NoneFailed, OneFailed}
 use Rattle.dasd_volumes.specs.declared.fault.VolumeFault.{VolumeFault}
 use Rattle.dasd_volumes.specs.declared.fault.VolumeFault.TheVariants as volume

@@ -14,11 +14,10 @@ use arrayvec::ArrayVec;
 use counted_io::Counted;
 use dasd_extract::{ExtractedForm, Source, extract};
 use dasd_jobs::SlotReader;
-use data_sets::{DirectoryEntry, DirectoryStep, directory_step, read_directory};
+use volume_labels::{DirectoryEntry, DirectoryStep, Extent, RelativeAddress, directory_step, read_directory};
 use set_forms::{EntryForm, FormLine, Note, write_form};
 use std::alloc::Global;
 use volume_contents::DataSet;
-use volume_labels::{Extent, RelativeAddress};
 
 /// A directory whose entries are described.
 #[derive(Clone, Copy)]

@@ -6,7 +6,7 @@ ghost use Rattle.dasd_unload.specs.Unloads.{unload_fault, reading_fault};
 use crate::parts::End;
 use dasd_jobs::JobFault;
 use dasd_volumes::VolumeFault;
-use record_formats::AttributeFault;
+use volume_labels::AttributeFault;
 use thiserror::Error;
 
 /// Why a data set was not unloaded, or not as a whole.

@@ -6,7 +6,7 @@ ghost use Rattle.dasd_unload.specs.Unloads.{file_name, is_of_job};
 ghost use Rattle.dasd_unload.specs.Volumes.{path_in};
 
 use crate::fault::{NO_MEMORY, UnloadFault};
-use data_sets::{DirectoryEntry, safe_name};
+use volume_labels::{DirectoryEntry, safe_name};
 use std::alloc::Global;
 use volume_contents::DataSet;
 

@@ -11,12 +11,11 @@ ghost use Rattle.dasd_unload.specs.Parts.{ended_texts};
 
 use crate::fault::{NO_MEMORY, UnloadFault};
 use crate::parts::{End, is_end, is_whole};
-use counted_io::{Counted, WriteFault, write_flushed, write_whole};
+use counted_io::{Counted, Quantity, WriteFault, write_flushed, write_whole};
 use dasd_contents::Broken;
 use dasd_extract::{Members, Stop};
 use dasd_jobs::JobFault;
-use data_sets::DirectoryFault;
-use counted_io::Quantity;
+use volume_labels::DirectoryFault;
 use std::alloc::Global;
 use std::io::Write;
 use std::{fmt, io};

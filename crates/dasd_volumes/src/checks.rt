@@ -16,10 +16,9 @@ use crate::text::PrintedAddress;
 use crate::walks::{EachTrack, VolumeTrack, all_tracks, each_track};
 use arrayvec::ArrayString;
 use ckd_track::{Geometry, SlotFault, read_slot};
-use counted_io::{Counted, WriteFault, write_flushed};
+use counted_io::{Counted, WriteFault, put_decimal, write_flushed};
 use std::alloc::Global;
 use std::io::Write;
-use counted_io::put_decimal;
 
 // A check of tracks: where it is shown how far it has come, and how many tracks can't be read.
 #[derive(Drop)]

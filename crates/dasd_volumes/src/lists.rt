@@ -19,10 +19,9 @@ use crate::text::PrintedAddress;
 use crate::walks::{EachTrack, Range, Tracks, VolumeTrack, all_heads, all_tracks, each_track};
 use arrayvec::ArrayString;
 use ckd_track::{Geometry, SlotFault, TrackView, read_slot, used};
-use counted_io::{Counted, WriteFault, flush_all, write_whole};
+use counted_io::{Counted, WriteFault, flush_all, put_bytes, put_decimal, write_whole};
 use std::alloc::Global;
 use std::io::Write;
-use counted_io::{put_bytes, put_decimal};
 
 /// What is listed of a volume, and how.
 #[derive(Clone, Copy)]

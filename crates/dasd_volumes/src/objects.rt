@@ -12,9 +12,8 @@ use crate::text::PrintedAddress;
 use crate::walks::VolumeTrack;
 use arrayvec::ArrayString;
 use ckd_track::{DriveModel, Geometry, SlotFault, TrackView, used};
-use counted_io::{Counted, WriteFault, write_whole};
+use counted_io::{Counted, WriteFault, put_bytes, put_decimal, write_whole};
 use std::io::Write;
-use counted_io::{put_bytes, put_decimal};
 
 /// The volume as an object.
 pub(crate) fn list_volume_object<W: Write>(

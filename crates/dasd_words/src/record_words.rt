@@ -4,7 +4,7 @@ use crate::commands::wrong;
 use crate::options::{ArgKind, ArgRow, FILE, Value, not_taken};
 use crate::requests::{FileForm, WordFault};
 use clap::ArgMatches;
-use record_formats::{AttributeFault, RecordAttributes, layout_given};
+use volume_labels::{AttributeFault, RecordAttributes, layout_given};
 use std::alloc::Global;
 
 /// The option for a record format.

@@ -4,7 +4,7 @@ use crate::volumes::Volume;
 use arrayvec::ArrayVec;
 use ckd_track::DriveModel;
 use new_labels::NewLabel;
-use record_formats::RecordAttributes;
+use volume_labels::RecordAttributes;
 use s360_explain::Pasted;
 use std::alloc::AllocError;
 use thiserror::Error;

@@ -2,11 +2,11 @@
 use Rattle.std.proofs.Common.{ℕ, zero, suc, ◌+◌, ◌-◌, ◌<◌, ◌≤◌, ◌≡◌, ◌∙◌, List, []}
 use Rattle.std.proofs.Common.{◌∷◌, ◌++◌, length, map, Option, Some, None, option_map, ap, sym, refl}
 use Rattle.std.proofs.Common.{append-nil, append_assoc, arith}
-use Rattle.data_sets.specs.declared.directories.DirectoryEntry.{DirectoryEntry}
-use Rattle.data_sets.specs.declared.directories.DirectoryFault.{DirectoryFault}
-use Rattle.data_sets.specs.declared.directories.DirectoryStep.{DirectoryStep}
-use Rattle.data_sets.specs.declared.directories.DirectoryStep.TheVariants.{Entry, Skip, End, Fault}
-use Rattle.data_sets.specs.Directories.{Found, from_step, entries_from, step_at}
+use Rattle.volume_labels.specs.declared.directories.DirectoryEntry.{DirectoryEntry}
+use Rattle.volume_labels.specs.declared.directories.DirectoryFault.{DirectoryFault}
+use Rattle.volume_labels.specs.declared.directories.DirectoryStep.{DirectoryStep}
+use Rattle.volume_labels.specs.declared.directories.DirectoryStep.TheVariants.{Entry, Skip, End, Fault}
+use Rattle.volume_labels.specs.Directories.{Found, from_step, entries_from, step_at}
 use Rattle.library_contents.specs.declared.directories.PlacedEntry.{PlacedEntry}
 use Rattle.library_contents.specs.Directories.{and_more, on_step, placed_from, placed_entries, if_right, EntriesAreThoseOfTheDirectory}
 

@@ -1,11 +1,11 @@
 -- The entries of a directory, each with where it ends.
 use Rattle.std.specs.Prelude.{◌≡◌, ℕ, zero, suc, ◌-◌, nat_lt, if◌then◌else◌, List, [], ◌∷◌, length, map, slice_range, Option, Some, None, option_map}
 use Rattle.std.specs.Global.{Vec}
-use Rattle.data_sets.specs.declared.directories.DirectoryEntry.{DirectoryEntry}
-use Rattle.data_sets.specs.declared.directories.DirectoryFault.{DirectoryFault}
-use Rattle.data_sets.specs.declared.directories.DirectoryStep.{DirectoryStep}
-use Rattle.data_sets.specs.declared.directories.DirectoryStep.TheVariants.{Entry, Skip, End, Fault}
-use Rattle.data_sets.specs.Directories.{step_at, entries_of}
+use Rattle.volume_labels.specs.declared.directories.DirectoryEntry.{DirectoryEntry}
+use Rattle.volume_labels.specs.declared.directories.DirectoryFault.{DirectoryFault}
+use Rattle.volume_labels.specs.declared.directories.DirectoryStep.{DirectoryStep}
+use Rattle.volume_labels.specs.declared.directories.DirectoryStep.TheVariants.{Entry, Skip, End, Fault}
+use Rattle.volume_labels.specs.Directories.{step_at, entries_of}
 use Rattle.library_contents.specs.declared.directories.PlacedEntry.{PlacedEntry}
 
 -- an entry, and those behind it, if these can be read

@@ -1,6 +1,6 @@
 -- The entries of a library as they are read, and why one is not.
 use Rattle.std.specs.Prelude.{◌≡◌, ℕ, ◌+◌, ◌*◌, nat_lt, if◌then◌else◌, List, [], ◌∷◌, length, drop, Option, Some, None, Result, Ok, Err}
-use Rattle.data_sets.specs.declared.directories.DirectoryEntry.{DirectoryEntry}
+use Rattle.volume_labels.specs.declared.directories.DirectoryEntry.{DirectoryEntry}
 use Rattle.volume_labels.specs.declared.fields.Extent.{Extent}
 use Rattle.std.specs.List.{position}
 use Rattle.dasd_volumes.specs.declared.fault.VolumeFault.{VolumeFault}

@@ -4,3 +4,7 @@ pub mod Entries
 pub mod Libraries
 pub mod Members
 pub mod Notes
+pub mod ListedBlocks
+pub mod Lines
+pub mod ListedMembers
+pub mod Report

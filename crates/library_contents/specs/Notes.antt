@@ -4,7 +4,7 @@ use Rattle.std.specs.Prelude.{option_map}
 use Rattle.std.specs.Global.{Vec}
 use Rattle.volume_labels.specs.declared.fields.RelativeAddress.{RelativeAddress}
 use Rattle.volume_labels.specs.declared.fields.Extent.{Extent}
-use Rattle.data_sets.specs.Directories.{number_at}
+use Rattle.volume_labels.specs.Directories.{number_at}
 use Rattle.dasd_volumes.specs.Reading.{KnownVolume}
 use Rattle.library_contents.specs.declared.contents.ReadNote.{ReadNote}
 use Rattle.library_contents.specs.Members.{Library, library_on, blocks_at}

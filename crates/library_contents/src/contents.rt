@@ -1,7 +1,7 @@
 //! What is read of a library, and why none is read.
 
 use dasd_volumes::VolumeFault;
-use data_sets::DirectoryEntry;
+use volume_labels::DirectoryEntry;
 use thiserror::Error;
 
 /// A library, as it is read.

@@ -3,7 +3,7 @@
 ghost use Rattle.std.specs.Prelude.{◌≡◌, ◌++◌, ◌∷◌, [], IfOk, option_map, Some};
 ghost use Rattle.library_contents.specs.Directories.{AreEntriesOf, user_data};
 
-use data_sets::{DirectoryEntry, DirectoryStep, directory_step};
+use volume_labels::{DirectoryEntry, DirectoryStep, directory_step};
 use std::alloc::{AllocError, Global};
 
 /// An entry of a directory, and the offset behind it in the directory's blocks.

@@ -7,9 +7,16 @@ mod directories;
 mod entries;
 mod laws;
 mod libraries;
+mod lines;
+mod listed_blocks;
+mod listed_members;
 mod members;
 mod notes;
+mod report;
 
 pub use crate::contents::{LibraryContents, LibraryReadFault, ReadEntry, ReadNote};
 pub use crate::laws::{entries_are_those_of_the_directory, number_is_where_they_begin};
 pub use crate::libraries::read_library;
+pub use crate::lines::MembersForm;
+pub use crate::listed_members::{Library, list_members};
+pub use crate::report::Report;

@@ -9,8 +9,8 @@ use Rattle.loaded_sets.specs.declared.contents.LoadedSet.{LoadedSet}
 use Rattle.loaded_sets.specs.declared.contents.SourceForm.{SourceForm}
 use Rattle.loaded_sets.specs.declared.fault.LoadFault.{LoadFault}
 use Rattle.loaded_sets.specs.Loaded as set
-use Rattle.loaded_libraries.specs.declared.libraries.LoadedLibrary.{LoadedLibrary}
-use Rattle.loaded_libraries.specs.Loaded as library
+use Rattle.loaded_sets.specs.declared.libraries.LoadedLibrary.{LoadedLibrary}
+use Rattle.loaded_sets.specs.LoadedLibraries as library
 use Rattle.loaded_folders.specs.declared.entries.Unled.{Unled}
 use Rattle.loaded_folders.specs.declared.fault.FolderEntryFault.{FolderEntryFault}
 use Rattle.loaded_folders.specs.declared.fault.FolderFault.{FolderFault}

@@ -3,8 +3,8 @@ use Rattle.std.specs.Prelude.{ℕ, ◌-◌, ◌==◌, Bool, is_some, if◌then�
 use Rattle.std.specs.Prelude.{Option, Some, None, option_and_then, Result, Ok, Err}
 use Rattle.std.specs.List.{position}
 use Rattle.std.specs.Option.{unwrap_or}
-use Rattle.library_records.specs.declared.libraries.MemberEntry.{MemberEntry}
-use Rattle.library_records.specs.declared.libraries.MemberNote.{MemberNote}
+use Rattle.record_tracks.specs.declared.libraries.MemberEntry.{MemberEntry}
+use Rattle.record_tracks.specs.declared.libraries.MemberNote.{MemberNote}
 use Rattle.set_forms.specs.declared.forms.EntryForm.{EntryForm}
 use Rattle.set_forms.specs.declared.forms.Note.{Note}
 use Rattle.set_forms.specs.declared.forms.Note.TheVariants.{Block, Address}

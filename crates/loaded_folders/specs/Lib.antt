@@ -3,3 +3,11 @@ pub mod Entries
 pub mod Reading
 pub mod Loads
 pub mod Parts
+pub mod Added
+pub mod Contents
+pub mod MemberEntries
+pub mod Faults
+pub mod Libraries
+pub mod MemberLoads
+pub mod Names
+pub mod MemberParts

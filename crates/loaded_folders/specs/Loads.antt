@@ -19,8 +19,8 @@ use Rattle.loaded_sets.specs.declared.contents.SourceForm.{SourceForm}
 use Rattle.loaded_sets.specs.declared.fault.LoadRefusal.{LoadRefusal}
 use Rattle.loaded_sets.specs.Loaded as set
 use Rattle.loaded_sets.specs.Loads.{loaded_line}
-use Rattle.loaded_libraries.specs.declared.libraries.LoadedLibrary.{LoadedLibrary}
-use Rattle.loaded_libraries.specs.Loaded as library
+use Rattle.loaded_sets.specs.declared.libraries.LoadedLibrary.{LoadedLibrary}
+use Rattle.loaded_sets.specs.LoadedLibraries as library
 use Rattle.loaded_folders.specs.declared.fault.FolderFault.{FolderFault}
 use Rattle.loaded_folders.specs.declared.fault.FolderFault.TheVariants as fault
 use Rattle.loaded_folders.specs.declared.saves.NewFolder.{NewFolder}

@@ -7,7 +7,7 @@ use Rattle.counted_io.specs.declared.writing.WriteFault.{WriteFault}
 use Rattle.ckd_track.specs.declared.geometries.Geometry.{Geometry}
 use Rattle.dasd_jobs.specs.Sources.{SourceFile}
 use Rattle.dasd_unload.specs.Unloads.{file_name}
-use Rattle.library_records.specs.declared.libraries.MemberNote.{MemberNote}
+use Rattle.record_tracks.specs.declared.libraries.MemberNote.{MemberNote}
 use Rattle.set_forms.specs.declared.fault.TextFault.TheVariants as wrong
 use Rattle.set_forms.specs.Parsing.{parsed}
 use Rattle.changed_volumes.specs.Changes.{IsHindered}

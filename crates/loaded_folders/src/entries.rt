@@ -8,7 +8,7 @@ ghost use Rattle.loaded_folders.specs.Parts.{folder_entry, IsUnled, IsNoted, IsN
 
 use crate::fault::{FolderEntryFault, FolderFault, NO_MEMORY};
 use crate::names::name_of_entry;
-use library_records::{MemberEntry, MemberNote};
+use record_tracks::{MemberEntry, MemberNote};
 use set_forms::{EntryForm, Note};
 use std::alloc::{AllocError, Global};
 

@@ -13,10 +13,8 @@ use crate::fault::{FolderFault, NO_MEMORY};
 use crate::sets::FolderSet;
 use ckd_image::Image;
 use dasd_files::VolumeFile;
-use data_sets::safe_name;
-use loaded_libraries::{LoadedLibrary, load_library};
-use loaded_sets::{LoadFault, LoadedSet, NewSetForm, SourceForm, load_image};
-use record_formats::RecordAttributes;
+use volume_labels::{RecordAttributes, safe_name};
+use loaded_sets::{LoadFault, LoadedLibrary, LoadedSet, NewSetForm, SourceForm, load_image, load_library};
 use set_forms::SetForm;
 use std::alloc::{AllocError, Global};
 

@@ -8,7 +8,7 @@ ghost use Rattle.loaded_folders.specs.Sets.{file_names, member_names};
 ghost use Rattle.loaded_folders.specs.Parts.{lines_of};
 
 use crate::sets::SetLines;
-use data_sets::safe_name;
+use volume_labels::safe_name;
 use set_forms::EntryForm;
 use std::alloc::{AllocError, Global};
 

@@ -7,9 +7,9 @@ use Rattle.volume_contents.specs.declared.reading.Contents.{Contents}
 use Rattle.volume_contents.specs.Sets.{has_name}
 use Rattle.volume_contents.specs.Contents.{Said, contents_of, SaysOf as IsSaid}
 use Rattle.volume_changes.specs.Volumes.{said_in}
-use Rattle.placed_sets.specs.declared.fault.PlaceFault.{PlaceFault}
-use Rattle.placed_sets.specs.declared.fault.PlaceFault.TheVariants as place
-use Rattle.placed_sets.specs.Volumes.{Labelled, SaysOf, IsUnfit, all_findings, unfit_of, unfit_on_label, unfit_on_table, unfit_by}
+use Rattle.loaded_sets.specs.declared.place_fault.PlaceFault.{PlaceFault}
+use Rattle.loaded_sets.specs.declared.place_fault.PlaceFault.TheVariants as place
+use Rattle.loaded_sets.specs.Volumes.{Labelled, SaysOf, IsUnfit, all_findings, unfit_of, unfit_on_label, unfit_on_table, unfit_by}
 use Rattle.loaded_sets.specs.declared.fault.LoadFault.{LoadFault}
 use Rattle.loaded_sets.specs.declared.fault.LoadFault.TheVariants as fault
 use Rattle.loaded_sets.specs.declared.contents.LoadedSet.{LoadedSet}

@@ -3,3 +3,13 @@ mod Placed
 mod Read
 mod TextLines
 mod Told
+mod Lost
+mod Put
+mod PlacedRead
+mod Refused
+mod Tracks
+mod Within
+mod LibraryFits
+mod Made
+mod LibraryPlaced
+mod LibraryRead

@@ -7,21 +7,21 @@ use Rattle.record_tracks.specs.Tracks.{Takes}
 use Rattle.record_tracks.specs.ReadBack.{IsLoaded}
 use Rattle.record_tracks.specs.declared.records.NewRecord.{NewRecord}
 use Rattle.record_tracks.proofs.Listed.{length-all}
-use Rattle.data_set_blocks.specs.declared.blocks.Cut.{Cut}
-use Rattle.data_set_blocks.specs.Blocks.{areas_of, block_areas, cut_by}
-use Rattle.data_set_blocks.specs.Extracted.{IsReadBack}
-use Rattle.data_set_blocks.specs.Faults.{block_fault_of}
+use Rattle.record_tracks.specs.declared.blocks.Cut.{Cut}
+use Rattle.record_tracks.specs.Blocks.{areas_of, block_areas, cut_by}
+use Rattle.record_tracks.specs.Extracted.{IsReadBack}
+use Rattle.record_tracks.specs.BlockFaults.{block_fault_of}
 use Rattle.volume_contents.specs.Contents.{contents_of, block_in}
 use Rattle.volume_contents.specs.Sets.{extents_behind, has_name}
 use Rattle.std.specs.List.{position}
-use Rattle.record_formats.specs.declared.layouts.AttributeFault.{AttributeFault}
-use Rattle.record_formats.specs.declared.layouts.Layout.{Layout}
-use Rattle.placed_sets.specs.declared.fault.PlaceFault.{PlaceFault}
-use Rattle.placed_sets.specs.declared.fault.PlaceFault.TheVariants as place
-use Rattle.placed_sets.specs.declared.plans.PlacedSet.{PlacedSet}
-use Rattle.placed_sets.specs.Volumes.{Labelled}
-use Rattle.placed_sets.specs.Sets.{areas, CanBePlaced}
-use Rattle.placed_sets.specs.Placed.{GetsSet, IsNotPlaced}
+use Rattle.volume_labels.specs.declared.layouts.AttributeFault.{AttributeFault}
+use Rattle.volume_labels.specs.declared.layouts.Layout.{Layout}
+use Rattle.loaded_sets.specs.declared.place_fault.PlaceFault.{PlaceFault}
+use Rattle.loaded_sets.specs.declared.place_fault.PlaceFault.TheVariants as place
+use Rattle.loaded_sets.specs.declared.plans.PlacedSet.{PlacedSet}
+use Rattle.loaded_sets.specs.Volumes.{Labelled}
+use Rattle.loaded_sets.specs.Sets.{areas, CanBePlaced}
+use Rattle.loaded_sets.specs.Placed.{GetsSet, IsNotPlaced}
 use Rattle.loaded_sets.specs.declared.contents.LoadedSet.{LoadedSet}
 use Rattle.loaded_sets.specs.declared.fault.LoadFault.{LoadFault}
 use Rattle.loaded_sets.specs.declared.fault.LoadFault.TheVariants as fault

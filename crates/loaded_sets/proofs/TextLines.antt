@@ -7,22 +7,22 @@ use Rattle.std.proofs.lemmas.Nat.{div-add-mod'}
 use Rattle.ckd_track.specs.declared.model.DriveModel.{DriveModel}
 use Rattle.ckd_track.specs.declared.geometries.Geometry.{Geometry}
 use Rattle.ckd_track.specs.Model.{capacity_of}
-use Rattle.data_sets.specs.declared.records.RecordForm.{RecordForm}
-use Rattle.data_sets.specs.declared.records.RecordForm.TheVariants.{Fixed}
+use Rattle.volume_labels.specs.declared.records.RecordForm.{RecordForm}
+use Rattle.volume_labels.specs.declared.records.RecordForm.TheVariants.{Fixed}
 use Rattle.dasd_extract.specs.declared.blocks.ExtractedForm.TheVariants.{Text}
 use Rattle.dasd_extract.specs.Walk.{wanted, source_written}
-use Rattle.data_set_blocks.specs.declared.blocks.Cut.{Cut}
-use Rattle.data_set_blocks.specs.declared.blocks.Cut.TheVariants.{Length}
-use Rattle.data_set_blocks.specs.declared.faults.BlockFault.{BlockFault}
-use Rattle.data_set_blocks.specs.declared.faults.BlockFault.TheVariants as fault
-use Rattle.data_set_blocks.specs.Blocks.{areas_of}
-use Rattle.data_set_blocks.specs.Extracted.{first_block}
-use Rattle.data_set_blocks.specs.Faults.{block_fault_of, cut_fault, length_fault, fixed_fault, lacks_keys}
-use Rattle.record_formats.specs.declared.layouts.Layout.{Layout}
+use Rattle.record_tracks.specs.declared.blocks.Cut.{Cut}
+use Rattle.record_tracks.specs.declared.blocks.Cut.TheVariants.{Length}
+use Rattle.record_tracks.specs.declared.block_faults.BlockFault.{BlockFault}
+use Rattle.record_tracks.specs.declared.block_faults.BlockFault.TheVariants as fault
+use Rattle.record_tracks.specs.Blocks.{areas_of}
+use Rattle.record_tracks.specs.Extracted.{first_block}
+use Rattle.record_tracks.specs.BlockFaults.{block_fault_of, cut_fault, length_fault, fixed_fault, lacks_keys}
+use Rattle.volume_labels.specs.declared.layouts.Layout.{Layout}
 use Rattle.record_tracks.specs.Tracks.{Takes}
 use Rattle.record_tracks.specs.ReadBack.{IsLoaded, ended_by_file}
-use Rattle.text_records.specs.Printed.{layout_of, printed}
-use Rattle.text_records.proofs.Printed.{is_printed}
+use Rattle.record_tracks.specs.Printed.{layout_of, printed}
+use Rattle.record_tracks.proofs.Printed.{is_printed}
 use Rattle.volume_labels.specs.declared.fields.Extent.{Extent}
 use Rattle.loaded_sets.specs.Contents.{FileBlocks}
 use Rattle.loaded_sets.specs.Loaded.{HasLines}

@@ -3,28 +3,28 @@ use Rattle.std.specs.Prelude.{◌≡◌, ℕ, zero, suc, List, Option, Some, Non
 use Rattle.std.specs.List.{position}
 use Rattle.ckd_track.specs.declared.model.DriveModel.{DriveModel}
 use Rattle.ckd_track.specs.declared.geometries.Geometry.{Geometry}
-use Rattle.data_sets.specs.declared.records.RecordForm.{RecordForm}
-use Rattle.data_sets.specs.declared.records.RecordForm.TheVariants as form
-use Rattle.data_set_blocks.specs.declared.blocks.Cut.{Cut}
-use Rattle.data_set_blocks.specs.declared.blocks.Cut.TheVariants as cut
-use Rattle.data_set_blocks.specs.declared.faults.BlockFault.{BlockFault}
-use Rattle.data_set_blocks.specs.Blocks.{cut_by}
-use Rattle.data_set_blocks.specs.Faults.{block_fault_of}
-use Rattle.record_formats.specs.declared.layouts.AttributeFault.{AttributeFault}
-use Rattle.record_formats.specs.declared.layouts.Layout.{Layout}
-use Rattle.record_formats.specs.declared.layouts.RecordAttributes.{RecordAttributes}
-use Rattle.record_formats.specs.Layouts.{layout_given}
-use Rattle.text_records.specs.declared.faults.TextRecordsFault.{TextRecordsFault}
-use Rattle.text_records.specs.declared.faults.TextRecordsFault.TheVariants as text
-use Rattle.text_records.specs.Records.{records_of}
+use Rattle.volume_labels.specs.declared.records.RecordForm.{RecordForm}
+use Rattle.volume_labels.specs.declared.records.RecordForm.TheVariants as form
+use Rattle.record_tracks.specs.declared.blocks.Cut.{Cut}
+use Rattle.record_tracks.specs.declared.blocks.Cut.TheVariants as cut
+use Rattle.record_tracks.specs.declared.block_faults.BlockFault.{BlockFault}
+use Rattle.record_tracks.specs.Blocks.{cut_by}
+use Rattle.record_tracks.specs.BlockFaults.{block_fault_of}
+use Rattle.volume_labels.specs.declared.layouts.AttributeFault.{AttributeFault}
+use Rattle.volume_labels.specs.declared.layouts.Layout.{Layout}
+use Rattle.volume_labels.specs.declared.layouts.RecordAttributes.{RecordAttributes}
+use Rattle.volume_labels.specs.Layouts.{layout_given}
+use Rattle.record_tracks.specs.declared.text_faults.TextRecordsFault.{TextRecordsFault}
+use Rattle.record_tracks.specs.declared.text_faults.TextRecordsFault.TheVariants as text
+use Rattle.record_tracks.specs.TextRecords.{records_of}
 use Rattle.volume_contents.specs.declared.blocks.Block.{Block}
 use Rattle.volume_contents.specs.Contents.{Said}
 use Rattle.volume_contents.specs.Sets.{has_name}
 use Rattle.loaded_sets.specs.declared.fault.Unmade.{Unmade}
 use Rattle.loaded_sets.specs.declared.fault.Unmade.TheVariants as unmade
-use Rattle.placed_sets.specs.declared.fault.PlaceRefusal.{PlaceRefusal}
-use Rattle.placed_sets.specs.declared.plans.SetLabel.{SetLabel}
-use Rattle.placed_sets.specs.Volumes.{unfit_of}
+use Rattle.loaded_sets.specs.declared.place_fault.PlaceRefusal.{PlaceRefusal}
+use Rattle.loaded_sets.specs.declared.plans.SetLabel.{SetLabel}
+use Rattle.loaded_sets.specs.Volumes.{unfit_of}
 use Rattle.loaded_sets.specs.declared.contents.LoadedSet.{LoadedSet}
 use Rattle.loaded_sets.specs.declared.contents.NewSetForm.{NewSetForm}
 use Rattle.loaded_sets.specs.declared.contents.SourceForm.{SourceForm}

@@ -1,7 +1,7 @@
 -- What faults say of a volume that gets nothing.
 use Rattle.changed_volumes.specs.Changes.{IsHindered}
-use Rattle.placed_sets.specs.declared.fault.PlaceFault.{PlaceFault}
-use Rattle.placed_sets.specs.declared.fault.PlaceFault.TheVariants as place
+use Rattle.loaded_sets.specs.declared.place_fault.PlaceFault.{PlaceFault}
+use Rattle.loaded_sets.specs.declared.place_fault.PlaceFault.TheVariants as place
 use Rattle.loaded_sets.specs.declared.fault.LoadFault.{LoadFault}
 use Rattle.loaded_sets.specs.declared.fault.LoadFault.TheVariants as fault
 use Rattle.loaded_sets.specs.declared.fault.LoadRefusal.TheVariants as refusal

@@ -3,3 +3,11 @@ pub mod Contents
 pub mod Loaded
 pub mod Loads
 pub mod Parts
+pub mod Volumes
+pub mod Sets
+pub mod Tables
+pub mod Placed
+pub mod PlacedParts
+pub mod Members
+pub mod LoadedLibraries
+pub mod LibraryParts

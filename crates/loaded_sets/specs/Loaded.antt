@@ -4,21 +4,21 @@ use Rattle.ckd_track.specs.declared.geometries.Geometry.{Geometry}
 use Rattle.dasd_extract.specs.declared.blocks.ExtractedForm.{ExtractedForm}
 use Rattle.dasd_extract.specs.declared.blocks.ExtractedForm.TheVariants as form
 use Rattle.dasd_extract.specs.Walk.{wanted, source_written}
-use Rattle.data_set_blocks.specs.Blocks.{areas_of, block_areas}
-use Rattle.data_set_blocks.specs.Extracted.{first_block, form_of}
+use Rattle.record_tracks.specs.Blocks.{areas_of, block_areas}
+use Rattle.record_tracks.specs.Extracted.{first_block, form_of}
 use Rattle.record_tracks.specs.ReadBack.{ended_by_file}
-use Rattle.data_sets.specs.declared.records.RecordForm.TheVariants.{Fixed}
-use Rattle.data_set_blocks.specs.declared.blocks.Cut.TheVariants.{Length}
-use Rattle.text_records.specs.Records.{records_of}
-use Rattle.text_records.specs.Printed.{printed}
+use Rattle.volume_labels.specs.declared.records.RecordForm.TheVariants.{Fixed}
+use Rattle.record_tracks.specs.declared.blocks.Cut.TheVariants.{Length}
+use Rattle.record_tracks.specs.TextRecords.{records_of}
+use Rattle.record_tracks.specs.Printed.{printed}
 use Rattle.volume_contents.specs.declared.blocks.Block.{Block}
 use Rattle.volume_contents.specs.Contents.{contents_of, block_in}
 use Rattle.volume_contents.specs.Sets.{extents_behind}
 use Rattle.changed_volumes.specs.Changes.{IsHindered}
-use Rattle.placed_sets.specs.declared.plans.PlacedSet.{PlacedSet}
-use Rattle.placed_sets.specs.Volumes.{Labelled, SaysOf}
-use Rattle.placed_sets.specs.Sets.{areas}
-use Rattle.placed_sets.specs.Placed.{GetsSet, HasNoPlace}
+use Rattle.loaded_sets.specs.declared.plans.PlacedSet.{PlacedSet}
+use Rattle.loaded_sets.specs.Volumes.{Labelled, SaysOf}
+use Rattle.loaded_sets.specs.Sets.{areas}
+use Rattle.loaded_sets.specs.Placed.{GetsSet, HasNoPlace}
 use Rattle.loaded_sets.specs.declared.contents.LoadedSet.{LoadedSet}
 use Rattle.loaded_sets.specs.declared.fault.LoadFault.{LoadFault}
 use Rattle.loaded_sets.specs.declared.fault.LoadFault.TheVariants as fault

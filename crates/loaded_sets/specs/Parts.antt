@@ -6,8 +6,8 @@ use Rattle.dasd_jobs.specs.declared.faults.JobFault.TheVariants as job
 use Rattle.dasd_jobs.specs.declared.files.FileFault.{FileFault}
 use Rattle.dasd_jobs.specs.declared.files.FileFault.TheVariants as file
 use Rattle.volume_contents.specs.Sets.{has_name}
-use Rattle.placed_sets.specs.declared.plans.PlacedSet.{PlacedSet}
-use Rattle.placed_sets.specs.Volumes.{Labelled}
+use Rattle.loaded_sets.specs.declared.plans.PlacedSet.{PlacedSet}
+use Rattle.loaded_sets.specs.Volumes.{Labelled}
 use Rattle.loaded_sets.specs.declared.contents.LoadedSet.{LoadedSet}
 use Rattle.loaded_sets.specs.declared.fault.LoadFault.{LoadFault}
 use Rattle.loaded_sets.specs.declared.fault.LoadFault.TheVariants as fault
@@ -18,7 +18,7 @@ use Rattle.loaded_sets.specs.declared.fault.Unmade.TheVariants as unmade
 use Rattle.loaded_sets.specs.declared.images.FileBlocks as declared
 use Rattle.loaded_sets.specs.Faults.{IsHinderedBy}
 use Rattle.loaded_sets.specs.Contents.{FileBlocks, blocks_fitting, blocks_unless_taken}
-use Rattle.placed_sets.specs.Placed.{HasNoPlace}
+use Rattle.loaded_sets.specs.Placed.{HasNoPlace}
 use Rattle.loaded_sets.specs.Loaded.{IsSetOf, GetsBlocks, HasNone}
 
 -- the blocks that the code has

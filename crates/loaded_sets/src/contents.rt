@@ -1,16 +1,14 @@
 //! What a file has for a data set: its blocks, and how they are told apart.
 
 ghost use Rattle.std.specs.Prelude.{◌≡◌, IfOk, IfErr, Ok};
-ghost use Rattle.data_set_blocks.specs.Faults.{IsCutFor};
+ghost use Rattle.record_tracks.specs.BlockFaults.{IsCutFor};
 ghost use Rattle.loaded_sets.specs.Contents.{layout_of_set, length_said, label_of, text_size, text_bytes, IsNoText};
 
 use crate::fault::{ContentFault, Unmade};
-use data_sets::RecordForm;
-use placed_sets::SetLabel;
-use record_formats::{AttributeFault, Layout, RecordAttributes, layout_given};
+use volume_labels::{AttributeFault, Date, Layout, RecordAttributes, RecordForm, layout_given};
+use crate::SetLabel;
 use std::alloc::Global;
-use text_records::{TextRecordsFault, text_records};
-use volume_labels::Date;
+use record_tracks::{TextRecordsFault, text_records};
 
 /// A label that says nothing of its records.
 const SILENT: RecordAttributes = RecordAttributes {

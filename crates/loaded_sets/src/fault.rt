@@ -8,11 +8,9 @@ ghost use Rattle.changed_volumes.specs.Changes.{IsHinderedBy as IsChangeHindered
 use changed_volumes::ChangeFault;
 use counted_io::WriteFault;
 use dasd_jobs::{FileFault, JobFault};
-use data_set_blocks::BlockFault;
-use library_records::LibraryFault;
-use placed_sets::{PlaceFault, PlaceRefusal};
-use record_formats::AttributeFault;
-use text_records::TextLineFault;
+use record_tracks::{BlockFault, LibraryFault, TextLineFault};
+use crate::{PlaceFault, PlaceRefusal};
+use volume_labels::AttributeFault;
 use thiserror::Error;
 
 /// Why a file has no blocks for a data set or a member.

@@ -3,10 +3,10 @@
 ghost use Rattle.std.specs.Prelude.{◌≡◌, None, IfOk, IfErr};
 ghost use Rattle.std.specs.List.{position};
 ghost use Rattle.volume_contents.specs.Sets.{has_name};
-ghost use Rattle.data_set_blocks.specs.Blocks.{AreBlocks};
-ghost use Rattle.data_set_blocks.specs.Faults.{IsCutFor, block_fault_of};
+ghost use Rattle.record_tracks.specs.Blocks.{AreBlocks};
+ghost use Rattle.record_tracks.specs.BlockFaults.{IsCutFor, block_fault_of};
 ghost use Rattle.changed_volumes.specs.Changes.{IsSameImage};
-ghost use Rattle.placed_sets.specs.Volumes.{labelled};
+ghost use Rattle.loaded_sets.specs.Volumes.{labelled};
 ghost use Rattle.loaded_sets.specs.Loaded.{Loaded, IsNotLoaded};
 ghost use Rattle.loaded_sets.specs.Parts.{file_blocks, IsPut, IsNotPut, IsSet, IsNotSet};
 
@@ -17,9 +17,9 @@ use crate::fault::{
 use changed_volumes::read_said;
 use ckd_image::Image;
 use dasd_files::VolumeFile;
-use data_set_blocks::{Blocks, Cut, block_fault, block_records, cut_of};
-use placed_sets::{PlacedSet, SoundVolume, judge, place_records, position_of};
-use record_formats::Layout;
+use record_tracks::{Blocks, Cut, block_fault, block_records, cut_of};
+use crate::{PlacedSet, SoundVolume, judge, place_records, position_of};
+use volume_labels::Layout;
 use std::alloc::Global;
 
 /// The blocks of a data set, and how its records lie in them.

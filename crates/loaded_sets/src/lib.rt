@@ -2,15 +2,32 @@
 //! read whole, and those that changed are saved as a run saves them.
 #![tactic(auto)]
 
+mod confirms;
 mod contents;
 mod fault;
 mod images;
+mod libraries;
+mod library_fault;
+mod library_images;
 mod lines;
+mod members;
+mod place_fault;
+mod placed_images;
+mod placing;
+mod plans;
 mod saves;
+mod tables;
+mod volumes;
 
 pub use crate::contents::{LoadedSet, NewSetForm, SourceForm, label_of, layout_of_set, text_bytes};
 pub use crate::fault::{
     ContentFault, LoadFault, LoadRefusal, NO_MEMORY, Unmade, of_placing, of_reading, refused,
 };
 pub use crate::images::load_image;
+pub use crate::libraries::LoadedLibrary;
+pub use crate::library_images::load_library;
+pub use crate::place_fault::{PlaceFault, PlaceRefusal};
+pub use crate::placed_images::place_records;
+pub use crate::plans::{PlacedSet, SetLabel};
 pub use crate::saves::{NewSet, load_set};
+pub use crate::volumes::{SoundVolume, judge, position_of};

@@ -5,9 +5,8 @@ ghost use Rattle.counted_io.specs.Streams.{seen_by, WritesWhole, IsFlushed};
 ghost use Rattle.loaded_sets.specs.Loads.{loaded_line};
 
 use arrayvec::ArrayString;
-use counted_io::{Counted, WriteFault, write_flushed};
+use counted_io::{Counted, WriteFault, put_decimal, write_flushed};
 use std::io::Write;
-use counted_io::put_decimal;
 
 /// The line that says which data set was loaded, and how many tracks it has.
 pub(crate) fn write_loaded<W: Write>(

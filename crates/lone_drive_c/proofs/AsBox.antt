@@ -6,8 +6,8 @@ use Rattle.std_alloc.proofs.BoxSteps.Form.{Bx}
 use Rattle.std_heap.specs.contracts.Global as Heap
 use Rattle.std_heap.specs.contracts.GlobalAllocator.TheImpl.{ghosts, dict}
 use Rattle.std_heap.proofs.Global.TheLaws as heap
-use Rattle.lone_drive.specs.contracts.drive.LoneDrive as Boxed
-use Rattle.lone_drive.proofs.drive.LoneDrive.TheLaws as boxed
+use Rattle.lone_drive_c.specs.contracts.drive.LoneDrive as Boxed
+use Rattle.lone_drive_c.proofs.drive.LoneDrive.TheLaws as boxed
 use Rattle.box_parts.specs.contracts.parts.Parts as Parts
 use Rattle.lone_drive_c.specs.contracts.slot.Slot as Held
 

@@ -11,9 +11,9 @@ use Rattle.ckd_drive.specs.Work.{answer_of_begin, answer_of_look, begin_saves, l
 use Rattle.ckd_drive.specs.Work.{is_idle, is_working, may_end, gives_now, takes_now, left_of, passed_of, given_now, moved_on, new_drive}
 use Rattle.ckd_drive.specs.declared.answers.Begun.{Begun}
 use Rattle.ckd_drive.specs.declared.answers.Begun.TheVariants.{Rejected}
-use Rattle.lone_drive.specs.Making.{NotFormatted, new_volume}
-use Rattle.lone_drive.specs.declared.drive.LoneDrive.{LoneDrive}
-use Rattle.lone_drive.specs.declared.refusal.NotMade.{NotMade}
+use Rattle.lone_drive_c.specs.Making.{NotFormatted, new_volume}
+use Rattle.lone_drive_c.specs.declared.drive.LoneDrive.{LoneDrive}
+use Rattle.lone_drive_c.specs.declared.refusal.NotMade.{NotMade}
 use Rattle.lone_drive_c.specs.Codes.{nothing_held, bad_model, command_open, no_command, no_end, gives_none, takes_none, too_many, bytes_passed}
 use Rattle.lone_drive_c.specs.Phases.{is_untouched}
 use Rattle.lone_drive_c.specs.Codes.{begun_code, look_code, made_code, settled_code}

@@ -9,8 +9,8 @@ use Rattle.ckd_drive.specs.declared.answers.Look.{Look}
 use Rattle.ckd_drive.specs.declared.answers.Look.TheVariants as look
 use Rattle.ckd_drive.specs.declared.answers.Phase.{Phase}
 use Rattle.ckd_drive.specs.declared.answers.Phase.TheVariants as phase
-use Rattle.lone_drive.specs.declared.refusal.NotMade.{NotMade}
-use Rattle.lone_drive.specs.declared.refusal.NotMade.TheVariants.{NoCylinders, Mount, OutOfMemory}
+use Rattle.lone_drive_c.specs.declared.refusal.NotMade.{NotMade}
+use Rattle.lone_drive_c.specs.declared.refusal.NotMade.TheVariants.{NoCylinders, Mount, OutOfMemory}
 
 -- DASD_NOTHING_HELD, DASD_IN_USE, DASD_BAD_MODEL
 abbrev pub nothing_held : ℤ

@@ -5,3 +5,4 @@ pub mod Calls
 pub mod Shown
 pub mod Volume
 pub mod Copying
+pub mod Making

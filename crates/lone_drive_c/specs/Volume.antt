@@ -3,7 +3,7 @@ use Rattle.std.specs.Prelude.{◌≡◌, ℤ, pos, ℕ, ◌==◌, Bool, not, Lis
 use Rattle.ckd_image.specs.Image.{IsFileAt}
 use Rattle.ckd_command.specs.Drive.{is_written}
 use Rattle.ckd_drive.specs.Work.{DriveState, is_idle}
-use Rattle.lone_drive.specs.declared.drive.LoneDrive.{LoneDrive}
+use Rattle.lone_drive_c.specs.declared.drive.LoneDrive.{LoneDrive}
 use Rattle.lone_drive_c.specs.declared.volume.File.{File}
 use Rattle.lone_drive_c.specs.Calls.{Allowed}
 use Rattle.lone_drive_c.specs.Codes.{nothing_held, command_open, not_saved, other_length}

@@ -2,8 +2,8 @@
 
 ghost use Rattle.std.specs.Prelude.{◌≡◌, ◌==◌, Option, Some, None, IsSome, IfSome, is_some, option_map, pos, true, false, if◌then◌else◌};
 ghost use Rattle.ckd_track.specs.Model.{model_numbered};
-ghost use Rattle.lone_drive.specs.Making.{IsOver, NotMounted};
-ghost use Rattle.lone_drive.specs.declared.refusal.NotMade.TheVariants as made;
+ghost use Rattle.lone_drive_c.specs.Making.{IsOver, NotMounted};
+ghost use Rattle.lone_drive_c.specs.declared.refusal.NotMade.TheVariants as made;
 ghost use Rattle.lone_drive_c.specs.Calls.{IsNewOf, TellsWhy, WhyNone};
 ghost use Rattle.lone_drive_c.specs.Codes.{nothing_held, in_use, made_code};
 ghost use Rattle.lone_drive_c.specs.declared.handle.TheConstants.{HELD};
@@ -12,7 +12,7 @@ use crate::slot::Slot;
 use crate::tell::{BAD_MODEL, DONE, IN_USE, NO_MEMORY, NOTHING_HELD, of_not_made};
 use box_parts::Parts;
 use ckd_track::DriveModel;
-use lone_drive::LoneDrive;
+use crate::LoneDrive;
 use std::alloc::Global;
 use std::marker::Send;
 use std::mem;

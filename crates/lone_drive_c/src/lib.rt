@@ -6,9 +6,14 @@
 mod allowed;
 mod commands;
 mod copying;
+mod drive;
 mod handle;
 mod passing;
+mod refusal;
 mod showing;
 mod slot;
 mod tell;
 mod volume;
+
+pub use crate::drive::LoneDrive;
+pub use crate::refusal::NotMade;

@@ -1,11 +1,11 @@
 //! A place for a drive that C holds.
 
 ghost use Rattle.std.specs.Prelude.{◌≡◌, Option, Some, None, IsSome};
-ghost use Rattle.lone_drive.specs.declared.drive.LoneDrive.{LoneDrive};
+ghost use Rattle.lone_drive_c.specs.declared.drive.LoneDrive.{LoneDrive};
 ghost use Rattle.lone_drive_c.specs.Slot.{slot_owns};
 
 use box_parts::Parts;
-use lone_drive::LoneDrive;
+use crate::LoneDrive;
 use std::alloc::Global;
 use std::marker::{Model, Send};
 

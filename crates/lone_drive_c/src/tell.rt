@@ -6,7 +6,7 @@ ghost use Rattle.lone_drive_c.specs.Codes.{begun_code, look_code, made_code, pha
 
 use ckd_drive::{Begun, Look, Phase};
 use ckd_image::{MountFault, StoreFault};
-use lone_drive::NotMade;
+use crate::NotMade;
 
 /// It was done.
 pub(crate) const DONE: i32 = 0;

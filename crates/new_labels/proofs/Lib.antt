@@ -1,3 +1,9 @@
 mod Fields
 mod Filled
 mod Codes
+pub mod Apart
+pub mod SetFields
+pub mod Places
+pub mod Reached
+pub mod Rewritten
+pub mod Walked

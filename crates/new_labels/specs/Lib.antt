@@ -2,3 +2,8 @@ pub mod Labels
 pub mod Records
 pub mod Texts
 pub mod Tracks
+pub mod Runs
+pub mod SetBlocks
+pub mod Tables
+pub mod Extents
+pub mod FreeSpace

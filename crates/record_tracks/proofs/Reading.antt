@@ -10,9 +10,9 @@ use Rattle.ckd_track.specs.Model.{heads_of}
 use Rattle.ckd_track.specs.Geometry.{tracks_of}
 use Rattle.ckd_track.specs.Track.{track_of}
 use Rattle.volume_labels.specs.declared.fields.Extent.{Extent}
-use Rattle.data_sets.specs.declared.addresses.TrackPlace.{TrackPlace}
-use Rattle.data_sets.specs.declared.addresses.TrackPlace.TheVariants as place
-use Rattle.data_sets.specs.Addresses as addresses
+use Rattle.volume_labels.specs.declared.addresses.TrackPlace.{TrackPlace}
+use Rattle.volume_labels.specs.declared.addresses.TrackPlace.TheVariants as place
+use Rattle.volume_labels.specs.Addresses as addresses
 use Rattle.dasd_extract.specs.declared.blocks.ExtractedForm.{ExtractedForm}
 use Rattle.dasd_extract.specs.Written.{Written, these_bytes, told_behind, until_stop}
 use Rattle.dasd_extract.specs.Blocks.{block_written}

@@ -5,9 +5,9 @@ use Rattle.ckd_track.specs.declared.geometries.Geometry.{Geometry}
 use Rattle.ckd_track.specs.Model.{heads_of}
 use Rattle.ckd_track.specs.Geometry.{tracks_of}
 use Rattle.volume_labels.specs.declared.fields.Extent.{Extent}
-use Rattle.data_sets.specs.declared.addresses.TrackPlace.{TrackPlace}
-use Rattle.data_sets.specs.declared.addresses.TrackPlace.TheVariants as place
-use Rattle.data_sets.specs.Addresses as addresses
+use Rattle.volume_labels.specs.declared.addresses.TrackPlace.{TrackPlace}
+use Rattle.volume_labels.specs.declared.addresses.TrackPlace.TheVariants as place
+use Rattle.volume_labels.specs.Addresses as addresses
 use Rattle.dasd_extract.specs.declared.stops.Cause.TheVariants.{EndOfFile}
 use Rattle.dasd_extract.specs.declared.blocks.ExtractedForm.{ExtractedForm}
 use Rattle.dasd_extract.specs.declared.blocks.ExtractedForm.TheVariants as form

@@ -13,7 +13,7 @@ use Rattle.s360_assembler.specs.declared.fault.Cause.TheVariants as cause
 use Rattle.s360_assembler.specs.declared.fault.Mistake.{Mistake}
 use Rattle.s360_assembler.specs.declared.statements.Statement.{Statement}
 use Rattle.s360_assembler.specs.declared.statements.Statement.TheVariants as statement
-use Rattle.s360_mnemonics.specs.Mnemonics.{code_named}
+use Rattle.s360_explain.specs.Mnemonics.{code_named}
 use Rattle.s360_assembler.specs.Numbers.{number_to, address_of, flags_of}
 use Rattle.s360_assembler.specs.Fields.{is_byte, label_of, operation_of, operation_at, operands_of, operands_at}
 use Rattle.s360_assembler.specs.Constants.{constant_of, unit_of, boundary_of_unit, area_of}

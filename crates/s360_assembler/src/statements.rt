@@ -15,7 +15,7 @@ use crate::files::{LoadableFile, bytes_at, file_name_of, place_named};
 use crate::numbers::{Address, address_of, flags_of, number_to};
 use arrayvec::ArrayVec;
 use s360_deck::{EventName, event_name, number};
-use s360_mnemonics::code_named;
+use s360_explain::code_named;
 
 /// The most bytes of a line.
 const LINE_LENGTH: usize = 512;

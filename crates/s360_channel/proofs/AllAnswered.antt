@@ -1,8 +1,8 @@
 -- Answers to a list of events, one event more at a time.
 use Rattle.std.proofs.Common.{List, [], ◌∷◌, ◌++◌}
-use Rattle.s360_events.specs.declared.answers.Answer.{Answer}
-use Rattle.s360_events.specs.declared.events.Event.{Event}
-use Rattle.s360_events.specs.Answered.{IsAnswered, AllAnswered}
+use Rattle.s360_laws.specs.declared.answers.Answer.{Answer}
+use Rattle.s360_laws.specs.declared.events.Event.{Event}
+use Rattle.s360_laws.specs.Answered.{IsAnswered, AllAnswered}
 
 pub all_answered_one_more : (events : List Event) (answers : List Answer) (e : Event) (a : Answer) → AllAnswered events answers
     → IsAnswered e a → AllAnswered (events ++ e ∷ []) (answers ++ a ∷ [])

@@ -7,9 +7,9 @@ use Rattle.std.proofs.lemmas.Option.{slice_get_within}
 use Rattle.std.specs.Prelude.{find, position, slice_get, slice_set, option_map, filter}
 use Rattle.s360_words.specs.declared.words.Csw.{Csw}
 use Rattle.s360_words.specs.Storage.{Storage, changed, csw_stored}
-use Rattle.s360_runs.specs.Places.{Place}
-use Rattle.s360_runs.specs.Scripts.{TakesInterruption, Outside}
-use Rattle.s360_runs.specs.Units.{standing_in, phase_past, StandsAt, ProgramPhase, Between, Looking, Moving}
+use Rattle.s360_laws.specs.Places.{Place}
+use Rattle.s360_laws.specs.Scripts.{TakesInterruption, Outside}
+use Rattle.s360_laws.specs.Units.{standing_in, phase_past, StandsAt, ProgramPhase, Between, Looking, Moving}
 use Rattle.s360_program.specs.Advances.{Rests}
 use Rattle.s360_program.specs.Laws.{StandsAtRun, StandsAfterChange, StandsAfterInterruption}
 use Rattle.s360_program.specs.Stands.{RunningState, phase_in}

@@ -10,9 +10,9 @@ use Rattle.s360_words.specs.declared.words.Csw.{Csw}
 use Rattle.s360_words.specs.Storage.{Storage}
 use Rattle.ckd_command.specs.Drive.{Fault}
 use Rattle.ckd_drive.specs.Work.{DriveState}
-use Rattle.s360_runs.specs.Endings.{Ending}
-use Rattle.s360_runs.specs.Status.{no_unit_status, no_channel_status}
-use Rattle.s360_runs.specs.Units.{standing_in}
+use Rattle.s360_laws.specs.Endings.{Ending}
+use Rattle.s360_laws.specs.Status.{no_unit_status, no_channel_status}
+use Rattle.s360_laws.specs.Units.{standing_in}
 use Rattle.s360_program.specs.Advances.{Cuts, CutTellsOf, AdvancesTo, TellsOf}
 use Rattle.s360_program.specs.Advances as program
 use Rattle.s360_program.specs.declared.program.LongAdvance.{LongAdvance}
@@ -28,9 +28,9 @@ use Rattle.s360_laws.proofs.FindDevices.{different}
 use Rattle.s360_laws.proofs.LedgerLists.{stays}
 use Rattle.s360_laws.proofs.MachineFaults.{fault_told_by_reset}
 use Rattle.s360_laws.proofs.NoFaultTold.{no_fault_none_told}
-use Rattle.s360_events.specs.declared.conditions.Condition.{Condition}
-use Rattle.s360_events.specs.declared.conditions.Status.{Status}
-use Rattle.s360_events.specs.Seen.{condition_seen, status_seen}
+use Rattle.s360_laws.specs.declared.status.Condition.{Condition}
+use Rattle.s360_laws.specs.declared.status.Status.{Status}
+use Rattle.s360_laws.specs.Seen.{condition_seen, status_seen}
 use Rattle.s360_channel.specs.Calls.{Does, IsMet, Reports, CallsAtMost}
 use Rattle.s360_channel.specs.Channel.{ChannelState, WorksFor, StandsFor, machine_of, Shows}
 use Rattle.attached_drives.specs.Drives.{AttachedState, AllRest, device_of, is_at}

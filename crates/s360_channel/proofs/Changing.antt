@@ -10,8 +10,8 @@ use Rattle.s360_words.specs.declared.flags.TheConstants.UnitStatus.{DEVICE_END}
 use Rattle.ckd_image.specs.Image.{ImageState}
 use Rattle.ckd_command.specs.Drive.{IdleDrive}
 use Rattle.ckd_drive.specs.Work.{DriveState}
-use Rattle.s360_runs.specs.Runs.{run}
-use Rattle.s360_runs.specs.Status.{tells}
+use Rattle.s360_laws.specs.Runs.{run}
+use Rattle.s360_laws.specs.Status.{tells}
 use Rattle.s360_program.specs.Advances.{Rests}
 use Rattle.s360_program.specs.Laws.{StandsAtRun}
 use Rattle.s360_program.specs.Stands.{RunningState}

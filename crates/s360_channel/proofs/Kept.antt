@@ -6,10 +6,10 @@ use Rattle.std.proofs.lemmas.List.{length-set}
 use Rattle.std.specs.Prelude.{nat_lt, nat_le, slice_set, ◌||◌}
 use Rattle.s360_words.specs.Storage.{Storage, Change, Bytes, KeyOf, changed, is_within, is_size, overwritten}
 use Rattle.s360_words.proofs.Overwriting.{length-overwritten}
-use Rattle.s360_runs.proofs.Sizes.{keeps_size}
-use Rattle.s360_runs.proofs.Standing.{goes_by}
-use Rattle.s360_runs.specs.Scripts.{Outside}
-use Rattle.s360_runs.specs.Writes.{OutcomeKeepsSize}
+use Rattle.s360_laws.proofs.Sizes.{keeps_size}
+use Rattle.s360_laws.proofs.Standing.{goes_by}
+use Rattle.s360_laws.specs.Scripts.{Outside}
+use Rattle.s360_laws.specs.RunWrites.{OutcomeKeepsSize}
 use Rattle.s360_program.proofs.Ties.{after_change, seen}
 use Rattle.s360_laws.specs.Events.{Event, Store, SetKey, Show, Shown, WasKept, Answer}
 use Rattle.s360_laws.specs.Machine.{Machine, react, keep, change, part_of, storage_of, start_of, with_device, with_subchannel, after_all}

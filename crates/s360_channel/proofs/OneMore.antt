@@ -6,9 +6,9 @@ use Rattle.s360_laws.specs.Events.{Shown, FaultAfter, Input}
 use Rattle.s360_laws.specs.Machine.{Machine, react, answers, after_all, plain}
 use Rattle.s360_laws.proofs.Headlines.{headline}
 use Rattle.std.proofs.lemmas.List.{append-nil, map-append, map_more, take_all}
-use Rattle.s360_events.specs.Seen.{event_seen, answer_seen}
-use Rattle.s360_events.specs.declared.answers.Answer as deck_answer
-use Rattle.s360_events.specs.declared.events.Event as deck_event
+use Rattle.s360_laws.specs.Seen.{event_seen, answer_seen}
+use Rattle.s360_laws.specs.declared.answers.Answer as deck_answer
+use Rattle.s360_laws.specs.declared.events.Event as deck_event
 use Rattle.s360_channel.specs.Calls.{CallsAtMost, Does, IsMet, Reports, most_calls}
 use Rattle.s360_channel.specs.Channel.{ChannelState, StandsFor, failures_of}
 use Rattle.attached_drives.specs.Drives.{AttachedState}

@@ -7,7 +7,7 @@ use Rattle.std.specs.Prelude.{find, is_some, not, option_map, position}
 use Rattle.s360_words.specs.Storage.{Storage}
 use Rattle.s360_words.specs.declared.words.Csw.{Csw}
 use Rattle.s360_words.specs.declared.flags.TheConstants.UnitStatus.{CHANNEL_END, DEVICE_END}
-use Rattle.s360_runs.specs.Status.{tells}
+use Rattle.s360_laws.specs.Status.{tells}
 use Rattle.s360_laws.specs.Machine as machine
 use Rattle.s360_laws.specs.Machine.{Device, Machine, device_at}
 use Rattle.s360_laws.specs.Soundness.{AreDistinct, arm_owes, device_owes}

@@ -11,8 +11,8 @@ use Rattle.ckd_image.specs.Image.{ImageState}
 use Rattle.ckd_command.specs.Drive.{IdleDrive, is_written, State}
 use Rattle.ckd_drive.specs.Work.{DriveState, is_idle, Work, command_of, passed_of}
 use Rattle.ckd_drive.specs.Work as work
-use Rattle.s360_runs.specs.Places.{Place}
-use Rattle.s360_runs.specs.Units.{standing_in, state_in}
+use Rattle.s360_laws.specs.Places.{Place}
+use Rattle.s360_laws.specs.Units.{standing_in, state_in}
 use Rattle.s360_program.specs.Advances.{Rests}
 use Rattle.s360_program.specs.declared.view.ProgramView.{ProgramView}
 use Rattle.s360_program.specs.Seen.{seen_in}

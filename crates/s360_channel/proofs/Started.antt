@@ -12,10 +12,10 @@ use Rattle.s360_words.specs.Storage.{Storage, changed, status_stored, caw_word, 
 use Rattle.ckd_command.specs.declared.close.DriveEnding.{DriveEnding}
 use Rattle.ckd_command.specs.Drive.{drive_of}
 use Rattle.ckd_drive.specs.Work.{DriveState}
-use Rattle.s360_runs.specs.Runs.{Start}
-use Rattle.s360_runs.specs.Scripts.{units}
-use Rattle.s360_runs.specs.Starts.{First, first}
-use Rattle.s360_runs.specs.Status.{no_channel_status, no_unit_status, with_interruption, busy_device_end}
+use Rattle.s360_laws.specs.Runs.{Start}
+use Rattle.s360_laws.specs.Scripts.{units}
+use Rattle.s360_laws.specs.Starts.{First, first}
+use Rattle.s360_laws.specs.Status.{no_channel_status, no_unit_status, with_interruption, busy_device_end}
 use Rattle.s360_program.specs.declared.program.Start.TheVariants as start
 use Rattle.s360_program.specs.Laws.{AcceptedStands}
 use Rattle.s360_program.specs.Stands.{RunningState}
@@ -29,10 +29,10 @@ use Rattle.s360_laws.specs.Machine.{csw_of_unit, with_arm, lower, lowest, has_ar
 use Rattle.s360_laws.specs.Machine as machine
 use Rattle.s360_laws.specs.Soundness.{AreDistinct}
 use Rattle.s360_laws.proofs.FindDevices.{distinct_map, keeps_one, set_drive, set_both, set_arm}
-use Rattle.s360_events.specs.declared.conditions.Condition.{Condition}
-use Rattle.s360_events.specs.declared.conditions.Condition.TheVariants.{Stored}
-use Rattle.s360_events.specs.declared.conditions.Status.{Status}
-use Rattle.s360_events.specs.Seen.{condition_seen, status_seen, csw_seen}
+use Rattle.s360_laws.specs.declared.status.Condition.{Condition}
+use Rattle.s360_laws.specs.declared.status.Condition.TheVariants.{Stored}
+use Rattle.s360_laws.specs.declared.status.Status.{Status}
+use Rattle.s360_laws.specs.Seen.{condition_seen, status_seen, csw_seen}
 use Rattle.s360_channel.specs.Channel.{machine_of, Shows}
 use Rattle.attached_drives.specs.Drives.{AttachedState, AllRest, OthersRest, device_of, is_at}
 use Rattle.s360_channel.specs.declared.subchannel.Subchannel.{Subchannel}

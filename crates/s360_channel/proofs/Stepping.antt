@@ -9,12 +9,12 @@ use Rattle.s360_words.specs.declared.words.Csw.{Csw}
 use Rattle.s360_words.specs.Storage.{Storage}
 use Rattle.ckd_command.specs.Drive.{Fault, IdleDrive, drive_of, tells_equipment_check}
 use Rattle.ckd_drive.specs.Work.{DriveState, CallsStore}
-use Rattle.s360_runs.proofs.Standing.{goes_by, ends_by}
-use Rattle.s360_runs.proofs.Walks.{ended_stays}
-use Rattle.s360_runs.specs.Endings.{Ending}
-use Rattle.s360_runs.specs.Runs.{run}
-use Rattle.s360_runs.specs.Scripts.{units, units_in, OneUnit}
-use Rattle.s360_runs.specs.Status.{tells}
+use Rattle.s360_laws.proofs.Standing.{goes_by, ends_by}
+use Rattle.s360_laws.proofs.Walks.{ended_stays}
+use Rattle.s360_laws.specs.Endings.{Ending}
+use Rattle.s360_laws.specs.Runs.{run}
+use Rattle.s360_laws.specs.Scripts.{units, units_in, OneUnit}
+use Rattle.s360_laws.specs.Status.{tells}
 use Rattle.s360_program.proofs.Ties.{after_units, ends_after, seen}
 use Rattle.s360_program.specs.Advances.{IsEnding, TellsOf, EndsWithFault, WentOn, CameToEnd}
 use Rattle.s360_program.specs.Advances as program

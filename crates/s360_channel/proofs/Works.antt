@@ -7,11 +7,11 @@ use Rattle.s360_words.specs.declared.words.Ccw.{Ccw}
 use Rattle.ckd_command.specs.Drive.{State}
 use Rattle.ckd_command.specs.declared.begin.Opened.{Opened}
 use Rattle.ckd_drive.specs.Work as work
-use Rattle.s360_runs.specs.Endings.{NotEnded}
-use Rattle.s360_runs.specs.Places.{Place}
-use Rattle.s360_runs.specs.Runs.{run}
-use Rattle.s360_runs.specs.Scripts.{Script}
-use Rattle.s360_runs.specs.Units.{Between, Looking, Moving, ProgramPhase, standing_in}
+use Rattle.s360_laws.specs.Endings.{NotEnded}
+use Rattle.s360_laws.specs.Places.{Place}
+use Rattle.s360_laws.specs.Runs.{run}
+use Rattle.s360_laws.specs.Scripts.{Script}
+use Rattle.s360_laws.specs.Units.{Between, Looking, Moving, ProgramPhase, standing_in}
 use Rattle.s360_program.specs.Stands.{RunningState, phase_in, phase_by}
 use Rattle.s360_program.specs.Stage.{Stage}
 use Rattle.s360_program.specs.Stage as stage

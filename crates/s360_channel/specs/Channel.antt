@@ -4,7 +4,7 @@ use Rattle.s360_words.specs.Storage.{Storage}
 use Rattle.ckd_command.specs.Drive.{IdleDrive, drive_of, first_drive}
 use Rattle.ckd_drive.specs.Work.{DriveState, new_drive}
 use Rattle.ckd_image.specs.Image.{ImageState}
-use Rattle.s360_runs.specs.Scripts.{Script}
+use Rattle.s360_laws.specs.Scripts.{Script}
 use Rattle.s360_program.specs.Advances.{Rests}
 use Rattle.s360_program.specs.Laws.{StandsAtRun}
 use Rattle.s360_program.specs.Stands.{RunningState}

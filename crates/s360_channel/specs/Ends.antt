@@ -2,13 +2,13 @@
 use Rattle.std.specs.Prelude.{◌≡◌, ℕ, ◌+◌, ◌*◌, List, Bool, Option, Some, None, option_map, slice_get, slice_set, if◌then◌else◌}
 use Rattle.s360_words.specs.Storage.{Storage, changed, status_stored}
 use Rattle.s360_words.specs.declared.words.Csw.{Csw}
-use Rattle.s360_runs.specs.Status.{no_unit_status, no_channel_status}
+use Rattle.s360_laws.specs.Status.{no_unit_status, no_channel_status}
 use Rattle.s360_program.specs.Stands.{RunningState, Stands}
 use Rattle.s360_laws.specs.declared.arm.Arm.{Arm}
 use Rattle.s360_laws.specs.declared.arm.Arm.TheVariants.{AtRest, InMotion}
-use Rattle.s360_events.specs.declared.conditions.Status.{Status}
-use Rattle.s360_events.specs.declared.conditions.Condition.{Condition}
-use Rattle.s360_events.specs.declared.conditions.Condition.TheVariants.{Stored, Three}
+use Rattle.s360_laws.specs.declared.status.Status.{Status}
+use Rattle.s360_laws.specs.declared.status.Condition.{Condition}
+use Rattle.s360_laws.specs.declared.status.Condition.TheVariants.{Stored, Three}
 use Rattle.attached_drives.specs.Drives.{AttachedState}
 use Rattle.attached_drives.specs.DriveCalls.{DriveChanges, DriveIs, CutsAt}
 use Rattle.s360_channel.specs.declared.subchannel.Subchannel.{Subchannel}

@@ -3,8 +3,8 @@ use Rattle.std.specs.Prelude.{◌≡◌, ℕ, ◌+◌, ◌*◌, List, map, Optio
 use Rattle.s360_words.specs.Storage.{Storage, changed, csw_stored}
 use Rattle.s360_words.specs.declared.words.Csw.{Csw}
 use Rattle.ckd_drive.specs.Work.{DriveState}
-use Rattle.s360_runs.specs.Scripts.{TakesInterruption}
-use Rattle.s360_runs.specs.Units.{standing_in, phase_past}
+use Rattle.s360_laws.specs.Scripts.{TakesInterruption}
+use Rattle.s360_laws.specs.Units.{standing_in, phase_past}
 use Rattle.s360_program.specs.Stands.{RunningState, Stands, phase_in}
 use Rattle.s360_laws.specs.Events.{Answer}
 use Rattle.s360_laws.specs.Machine as machine

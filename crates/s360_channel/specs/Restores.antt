@@ -3,7 +3,7 @@ use Rattle.std.specs.Prelude.{◌≡◌, ℕ, ◌+◌, ◌==◌, ◌&&◌, Bool,
 use Rattle.s360_words.specs.declared.words.Csw.{Csw}
 use Rattle.s360_words.specs.declared.flags.TheConstants.UnitStatus.{CHANNEL_END, DEVICE_END}
 use Rattle.ckd_drive.specs.Work.{has_track, restored}
-use Rattle.s360_runs.specs.Status.{tells}
+use Rattle.s360_laws.specs.Status.{tells}
 use Rattle.s360_laws.specs.Machine as machine
 use Rattle.s360_laws.specs.Machine.{Machine, Device, device_at, with_device, with_subchannel}
 use Rattle.s360_laws.specs.Soundness.{device_owes}

@@ -5,7 +5,7 @@ use Rattle.s360_words.specs.declared.words.Csw.{Csw}
 use Rattle.s360_words.specs.declared.flags.TheConstants.UnitStatus.{CHANNEL_END, DEVICE_END}
 use Rattle.ckd_track.specs.declared.geometries.Geometry.{Geometry}
 use Rattle.ckd_drive.specs.Work.{has_track}
-use Rattle.s360_runs.specs.Status.{tells}
+use Rattle.s360_laws.specs.Status.{tells}
 use Rattle.s360_laws.specs.Machine as machine
 use Rattle.s360_laws.specs.Machine.{Device, Machine}
 use Rattle.s360_laws.specs.Soundness.{arm_owes}

@@ -2,8 +2,8 @@
 use Rattle.std.specs.Prelude.{◌≡◌, ℕ, List, [], false, Option, Some, None}
 use Rattle.ckd_command.specs.declared.begin.Opened.{Opened}
 use Rattle.ckd_drive.specs.Work.{DriveState, command_of, passed_of}
-use Rattle.s360_runs.specs.Scripts.{Script}
-use Rattle.s360_runs.specs.Units.{ProgramPhase, Between, Looking, Moving, StandsAt, state_in}
+use Rattle.s360_laws.specs.Scripts.{Script}
+use Rattle.s360_laws.specs.Units.{ProgramPhase, Between, Looking, Moving, StandsAt, state_in}
 use Rattle.s360_program.specs.Seen.{seen_in}
 use Rattle.s360_laws.specs.Machine as machine
 use Rattle.s360_laws.specs.Machine.{Machine, Device, device_at, is_working, start_of}

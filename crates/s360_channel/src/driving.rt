@@ -2,14 +2,14 @@
 
 ghost use Rattle.std.specs.Prelude.{◌≡◌, map, IfOk, OnErr};
 ghost use Rattle.s360_laws.specs.Machine.{Machine};
-ghost use Rattle.s360_events.specs.Seen.{event_seen, answer_seen};
+ghost use Rattle.s360_laws.specs.Seen.{event_seen, answer_seen};
 ghost use Rattle.s360_channel.specs.Channel.{StandsFor};
-ghost use Rattle.s360_events.specs.Answered.{AllAnswered};
+ghost use Rattle.s360_laws.specs.Answered.{AllAnswered};
 ghost use Rattle.s360_channel.specs.Lists.{Follows};
 
 use crate::channel::Channel;
 use ckd_image::ImageStore;
-use s360_events::{Answer, Event, push_answer};
+use s360_laws::{Answer, Event, push_answer};
 use std::alloc::{AllocError, Global};
 
 /// Drives a channel through a list of events, and answers each.

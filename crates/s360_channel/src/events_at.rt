@@ -3,15 +3,15 @@
 ghost use Rattle.std.specs.Prelude.{◌≡◌, ◌≤◌, length, option_map};
 ghost use Rattle.s360_laws.specs.Events as machine;
 ghost use Rattle.s360_laws.specs.Machine.{Machine};
-ghost use Rattle.s360_events.specs.Seen.{event_seen, answer_seen};
-ghost use Rattle.s360_events.specs.Answered.{IsAnswered};
+ghost use Rattle.s360_laws.specs.Seen.{event_seen, answer_seen};
+ghost use Rattle.s360_laws.specs.Answered.{IsAnswered};
 ghost use Rattle.s360_channel.specs.Channel.{StandsFor};
 ghost use Rattle.s360_channel.specs.Calls.{CallsAtMost, Does, DoesQuietly, most_calls};
 
 use crate::channel::Channel;
 use arrayvec::ArrayVec;
 use ckd_image::ImageStore;
-use s360_events::{Answer, Event, ShowCount};
+use s360_laws::{Answer, Event, ShowCount};
 
 impl<S: ImageStore> Channel<S> {
     /// Does what an event asks, and answers it. It takes no memory, and calls a store at most twice for each unit of a step or run, and

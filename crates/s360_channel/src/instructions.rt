@@ -3,14 +3,14 @@
 ghost use Rattle.std.specs.Prelude.{◌≡◌};
 ghost use Rattle.s360_laws.specs.Events as machine;
 ghost use Rattle.s360_laws.specs.Machine.{Machine};
-ghost use Rattle.s360_events.specs.Seen.{condition_seen, status_seen, csw_seen, answer_seen};
-ghost use Rattle.s360_events.specs.declared.answers.Answer.TheVariants as answer;
+ghost use Rattle.s360_laws.specs.Seen.{condition_seen, status_seen, csw_seen, answer_seen};
+ghost use Rattle.s360_laws.specs.declared.answers.Answer.TheVariants as answer;
 ghost use Rattle.s360_channel.specs.Channel.{StandsFor};
 ghost use Rattle.s360_channel.specs.Calls.{DoesQuietly, Does, CallsNoStore, CallsAtMost};
 
 use crate::channel::Channel;
 use ckd_image::ImageStore;
-use s360_events::{Condition, Status};
+use s360_laws::{Condition, Status};
 use s360_words::Csw;
 
 impl<S: ImageStore> Channel<S> {

@@ -4,8 +4,8 @@ ghost use Rattle.std.specs.Prelude.{◌≡◌, option_map};
 ghost use Rattle.s360_words.specs.Storage.{Storage as StorageState};
 ghost use Rattle.s360_laws.specs.Events as machine;
 ghost use Rattle.s360_laws.specs.Machine.{Machine};
-ghost use Rattle.s360_events.specs.Seen.{answer_seen};
-ghost use Rattle.s360_events.specs.declared.answers.Answer.TheVariants as answer;
+ghost use Rattle.s360_laws.specs.Seen.{answer_seen};
+ghost use Rattle.s360_laws.specs.declared.answers.Answer.TheVariants as answer;
 ghost use Rattle.s360_channel.specs.Channel.{StandsFor};
 ghost use Rattle.attached_drives.specs.Drives.{device_of};
 ghost use Rattle.s360_channel.specs.Calls.{DoesQuietly};
@@ -20,7 +20,7 @@ use crate::view::{SubchannelView, View, Watched};
 use attached_drives::DriveView;
 use ckd_drive::Drive;
 use ckd_image::{Image, ImageStore};
-use s360_events::Condition;
+use s360_laws::Condition;
 
 impl<S: ImageStore> Selector<S> {
     /// Test Channel, as `Channel::tch`.

@@ -2,10 +2,10 @@
 use Rattle.std.proofs.Common.{◌≡◌, ◌∙◌, ◌≤◌, ℕ, zero, suc, refl, ap, arith, subst, sym, List, [], ◌∷◌, Option, Some, None}
 use Rattle.std.specs.Prelude.{slice_set}
 use Rattle.s360_words.specs.Storage.{Storage}
-use Rattle.s360_events.specs.Seen.{answer_seen}
-use Rattle.s360_events.specs.declared.answers.Answer.TheVariants as answer
-use Rattle.s360_events.specs.declared.conditions.Condition.{Condition}
-use Rattle.s360_events.specs.declared.conditions.Condition.TheVariants as code
+use Rattle.s360_laws.specs.Seen.{answer_seen}
+use Rattle.s360_laws.specs.declared.answers.Answer.TheVariants as answer
+use Rattle.s360_laws.specs.declared.status.Condition.{Condition}
+use Rattle.s360_laws.specs.declared.status.Condition.TheVariants as code
 use Rattle.s360_laws.specs.Events.{StepBy, Stepped, Tch, WithCode}
 use Rattle.s360_laws.specs.Machine.{Machine, Subchannel, Idle, Pending, Working, react, step, test_channel}
 use Rattle.s360_laws.specs.declared.condition.ConditionCode.TheVariants.{Zero}

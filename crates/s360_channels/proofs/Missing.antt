@@ -3,7 +3,7 @@ use Rattle.std.proofs.Common.{◌≡◌, ℕ, refl, sym, ap, ◌∙◌, true, fa
 use Rattle.std.proofs.lemmas.Bool.{eq-eqb}
 use Rattle.std.specs.Prelude.{find, is_some, option_map}
 use Rattle.ckd_command.specs.Drive.{Fault}
-use Rattle.s360_runs.specs.Starts.{First, BadStart, RejectedStart, ImmediateStart, AcceptedStart, first}
+use Rattle.s360_laws.specs.Starts.{First, BadStart, RejectedStart, ImmediateStart, AcceptedStart, first}
 use Rattle.s360_laws.proofs.FindDevices.{found_map}
 use Rattle.s360_laws.specs.Events.{Answer, FaultAfter, Sio, Tio, Hio, WithCode}
 use Rattle.s360_laws.specs.Machine.{Machine, Device, Subchannel, Idle, Working, Pending, device_at, halt_io, on_channel, react}

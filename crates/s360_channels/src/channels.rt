@@ -2,15 +2,15 @@
 
 ghost use Rattle.std.specs.Prelude.{◌≡◌, ◌/◌, None, replicate, false};
 ghost use Rattle.s360_laws.specs.Events as machine;
-ghost use Rattle.s360_events.specs.Seen.{answer_seen};
-ghost use Rattle.s360_events.specs.declared.answers.Answer.TheVariants as answer;
-ghost use Rattle.s360_events.specs.declared.conditions.Condition.TheVariants.{Three};
+ghost use Rattle.s360_laws.specs.Seen.{answer_seen};
+ghost use Rattle.s360_laws.specs.declared.answers.Answer.TheVariants as answer;
+ghost use Rattle.s360_laws.specs.declared.status.Condition.TheVariants.{Three};
 ghost use Rattle.s360_channels.specs.Asked.{TestsAt, is_attached};
 ghost use Rattle.s360_channels.specs.Channels.{OnChannel, Quietly, AtMost, channel_at};
 
 use crate::selectors::Selectors;
 use ckd_image::ImageStore;
-use s360_events::{Condition, Status};
+use s360_laws::{Condition, Status};
 use s360_words::{Csw, Storage};
 use std::marker::Model;
 

@@ -14,7 +14,7 @@ use crate::interrupting::still_quiet;
 use crate::selectors::Selectors;
 use ckd_image::ImageStore;
 use s360_channel::{Reset, RunOn};
-use s360_events::Condition;
+use s360_laws::Condition;
 use s360_storage::MainStorage;
 
 impl<S: ImageStore> Selectors<S> {

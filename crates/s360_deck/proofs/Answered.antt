@@ -1,10 +1,10 @@
 -- An answer that is given to an event is one of its kind.
 use Rattle.std.proofs.Common.{List, [], ◌∷◌}
-use Rattle.s360_events.specs.declared.events.Event.{Event}
-use Rattle.s360_events.specs.declared.events.Event.TheVariants as event
-use Rattle.s360_events.specs.declared.answers.Answer.{Answer}
-use Rattle.s360_events.specs.declared.answers.Answer.TheVariants as answer
-use Rattle.s360_events.specs.Answered.{IsAnswered, AllAnswered}
+use Rattle.s360_laws.specs.declared.events.Event.{Event}
+use Rattle.s360_laws.specs.declared.events.Event.TheVariants as event
+use Rattle.s360_laws.specs.declared.answers.Answer.{Answer}
+use Rattle.s360_laws.specs.declared.answers.Answer.TheVariants as answer
+use Rattle.s360_laws.specs.Answered.{IsAnswered, AllAnswered}
 use Rattle.s360_deck.specs.Serial.{Fits, AllFit}
 
 fits : (e : Event) (a : Answer) → IsAnswered e a → Fits e a

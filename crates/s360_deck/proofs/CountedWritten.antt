@@ -3,7 +3,7 @@ use Rattle.std.proofs.Common.{◌≡◌, ◌<◌, get_or, arith, ℕ, zero, suc,
 use Rattle.std.proofs.Common.{append_assoc}
 use Rattle.counted_io.specs.Streams.{Stream, Takes, TakesFront}
 use Rattle.counted_io.proofs.Written.{takes_more}
-use Rattle.s360_events.specs.declared.answers.Answer.{Answer}
+use Rattle.s360_laws.specs.declared.answers.Answer.{Answer}
 use Rattle.s360_deck.specs.Lines.{lines_text, answer_text}
 
 -- lines were written, and then the first bytes of those behind them

@@ -2,10 +2,10 @@
 use Rattle.std.proofs.Common.{◌≡◌, ◌≤◌, ℕ, List, [], ◌∷◌, ◌++◌, Ok, length, map, refl, sym, ap, subst, ◌∙◌, append_assoc, append-nil}
 use Rattle.std.proofs.lemmas.List.{map-append}
 use Rattle.s360_laws.specs.Machine.{Machine}
-use Rattle.s360_events.specs.declared.answers.Answer.{Answer}
-use Rattle.s360_events.specs.declared.events.Event.{Event}
-use Rattle.s360_events.specs.Answered.{IsAnswered, AllAnswered}
-use Rattle.s360_events.specs.Seen.{event_seen, answer_seen}
+use Rattle.s360_laws.specs.declared.answers.Answer.{Answer}
+use Rattle.s360_laws.specs.declared.events.Event.{Event}
+use Rattle.s360_laws.specs.Answered.{IsAnswered, AllAnswered}
+use Rattle.s360_laws.specs.Seen.{event_seen, answer_seen}
 use Rattle.s360_channel.specs.Channel.{ChannelState, StandsFor}
 use Rattle.s360_channel.specs.Lists.{Follows}
 use Rattle.s360_channel.proofs.AllAnswered.{all_answered_one_more}

@@ -6,9 +6,9 @@ use Rattle.s360_laws.specs.Events.{Exchange, Event, StepBy}
 use Rattle.s360_laws.specs.SerialLists.{that_change, steps_of, whole_step, ArePlain, serial_list}
 use Rattle.s360_laws.specs.History.{acts}
 use Rattle.s360_laws.proofs.AlikeLists.{same_acts}
-use Rattle.s360_events.specs.Seen.{event_seen}
-use Rattle.s360_events.specs.declared.events.Event.{Event as Value}
-use Rattle.s360_events.specs.declared.answers.Answer.{Answer}
+use Rattle.s360_laws.specs.Seen.{event_seen}
+use Rattle.s360_laws.specs.declared.events.Event.{Event as Value}
+use Rattle.s360_laws.specs.declared.answers.Answer.{Answer}
 use Rattle.s360_deck.specs.Serial.{exchanges_of, events_in}
 
 none_of_events : (events : List Value) (answers : List Answer) → length events < 1 → exchanges_of events answers ≡ []

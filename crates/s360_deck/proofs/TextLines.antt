@@ -6,7 +6,7 @@ use Rattle.std.specs.Char.{to_ascii_uppercase}
 use Rattle.std.specs.Option.{is_some}
 use Rattle.std.proofs.Math.Numerals.{one-add}
 use Rattle.std.specs.List.{before_first, after_first, position_or_len}
-use Rattle.s360_events.specs.declared.events.Event.{Event}
+use Rattle.s360_laws.specs.declared.events.Event.{Event}
 use Rattle.s360_deck.specs.declared.fault.DeckFault.{DeckFault}
 use Rattle.s360_deck.specs.declared.fault.DeckFault.TheVariants as told
 use Rattle.s360_deck.specs.declared.spelling.LineFault.{LineFault}

@@ -6,7 +6,7 @@ use Rattle.std.specs.Io.KnownBytes.{Appends, Keeps}
 use Rattle.std.proofs.KnownBytes.{Appends-trans, Appends-nil, Appends-kept}
 use Rattle.s360_deck.specs.declared.runs.RunFault.{RunFault}
 use Rattle.s360_deck.specs.declared.runs.RunFault.TheVariants.{Write}
-use Rattle.s360_events.specs.declared.answers.Answer.{Answer}
+use Rattle.s360_laws.specs.declared.answers.Answer.{Answer}
 use Rattle.s360_deck.specs.Lines.{lines_text, answer_text}
 use Rattle.s360_deck.specs.Runs.{WritesFront}
 

@@ -5,8 +5,8 @@ use Rattle.std.specs.Char.{to_ascii_uppercase}
 use Rattle.std.specs.List.{slice_split, onto_first}
 use Rattle.std.specs.Str.{bytes_eq}
 use Rattle.std.specs.Global.{Vec}
-use Rattle.s360_events.specs.declared.events.Event.{Event}
-use Rattle.s360_events.specs.declared.events.Event.TheVariants as event
+use Rattle.s360_laws.specs.declared.events.Event.{Event}
+use Rattle.s360_laws.specs.declared.events.Event.TheVariants as event
 use Rattle.s360_deck.specs.declared.fault.DeckFault.{DeckFault}
 use Rattle.s360_deck.specs.declared.fault.DeckFault.TheVariants as fault
 use Rattle.s360_deck.specs.declared.spelling.EventName.{EventName}

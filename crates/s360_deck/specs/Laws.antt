@@ -5,8 +5,8 @@ use Rattle.s360_laws.specs.Headline.{Headline}
 use Rattle.s360_laws.specs.History.{world_of, history, all_acts}
 use Rattle.s360_laws.specs.Machine as machine
 use Rattle.s360_laws.specs.Machine.{Machine, after_all, exchanges, plain, is_working}
-use Rattle.s360_events.specs.Seen.{event_seen, answer_seen}
-use Rattle.s360_events.specs.declared.answers.Answer.{Answer}
+use Rattle.s360_laws.specs.Seen.{event_seen, answer_seen}
+use Rattle.s360_laws.specs.declared.answers.Answer.{Answer}
 use Rattle.s360_channel.specs.Channel.{ChannelState, StandsFor, failures_of}
 use Rattle.s360_channel.specs.Lists.{AllReported, faults_in}
 use Rattle.s360_deck.specs.Texts.{HasRun}

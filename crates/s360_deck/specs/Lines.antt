@@ -5,11 +5,11 @@ use Rattle.std.specs.Fmt.{decimal}
 use Rattle.counted_io.specs.Text.{hexadecimal, bytes_text}
 use Rattle.s360_words.specs.Words.{csw_bytes}
 use Rattle.s360_words.specs.declared.words.Csw.{Csw}
-use Rattle.s360_events.specs.declared.conditions.Status.{Status}
-use Rattle.s360_events.specs.declared.conditions.Condition.{Condition}
-use Rattle.s360_events.specs.declared.conditions.Condition.TheVariants as condition
-use Rattle.s360_events.specs.declared.answers.Answer.{Answer}
-use Rattle.s360_events.specs.declared.answers.Answer.TheVariants.{Sio, Tio, Hio, Tch, Step, Run, Arrive, Interrupt, Reset, Store, Key, Show}
+use Rattle.s360_laws.specs.declared.status.Status.{Status}
+use Rattle.s360_laws.specs.declared.status.Condition.{Condition}
+use Rattle.s360_laws.specs.declared.status.Condition.TheVariants as condition
+use Rattle.s360_laws.specs.declared.answers.Answer.{Answer}
+use Rattle.s360_laws.specs.declared.answers.Answer.TheVariants.{Sio, Tio, Hio, Tch, Step, Run, Arrive, Interrupt, Reset, Store, Key, Show}
 
 -- unit and channel status, in four digits
 abbrev pub status_text : Status → List ℕ

@@ -2,8 +2,8 @@
 use Rattle.std.specs.Prelude.{◌≡◌, ◌≤◌, ◌++◌, ℕ, List, length, Option, Result, Ok, Err}
 use Rattle.std.specs.Global.{Vec}
 use Rattle.std.specs.Io.KnownBytes.{Appends, Consumes, IsAtEnd}
-use Rattle.s360_events.specs.declared.events.Event.{Event}
-use Rattle.s360_events.specs.declared.answers.Answer.{Answer}
+use Rattle.s360_laws.specs.declared.events.Event.{Event}
+use Rattle.s360_laws.specs.declared.answers.Answer.{Answer}
 use Rattle.s360_channel.specs.Channel.{ChannelState}
 use Rattle.s360_deck.specs.declared.fault.DeckFault.{DeckFault}
 use Rattle.s360_deck.specs.declared.fault.DeckFault.TheVariants.{OutOfMemory}

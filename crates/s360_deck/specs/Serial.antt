@@ -2,12 +2,12 @@
 use Rattle.std.specs.Prelude.{◌≡◌, ◌≤◌, ℕ, ◌+◌, List, [], ◌∷◌, ◌++◌, Bool, map, Option, Some, None, if◌then◌else◌}
 use Rattle.s360_laws.specs.Events as machine
 use Rattle.s360_laws.specs.SerialLists.{serial_list, is_step, steps_ahead, arrivals_last, steps_joined}
-use Rattle.s360_events.specs.declared.events.Event.{Event}
-use Rattle.s360_events.specs.declared.events.Event.TheVariants as event
-use Rattle.s360_events.specs.declared.answers.Answer.{Answer}
-use Rattle.s360_events.specs.declared.answers.Answer.TheVariants as answer
+use Rattle.s360_laws.specs.declared.events.Event.{Event}
+use Rattle.s360_laws.specs.declared.events.Event.TheVariants as event
+use Rattle.s360_laws.specs.declared.answers.Answer.{Answer}
+use Rattle.s360_laws.specs.declared.answers.Answer.TheVariants as answer
 use Rattle.s360_deck.specs.declared.serial_lists.Exchange.{Exchange}
-use Rattle.s360_events.specs.Seen.{event_seen, answer_seen}
+use Rattle.s360_laws.specs.Seen.{event_seen, answer_seen}
 
 -- an event with its answer, which met no fault
 abbrev pub exchange_of : Event → Answer → machine.Exchange

@@ -2,10 +2,10 @@
 use Rattle.std.specs.Prelude.{◌≡◌, ◌≤◌, ◌<◌, ℕ, List, length, map, Result, Ok, Err}
 use Rattle.counted_io.specs.Streams.{Stream, Takes, TakesFront, NoneFailed, OneFailed}
 use Rattle.s360_laws.specs.Machine.{Machine}
-use Rattle.s360_events.specs.Seen.{event_seen, answer_seen}
-use Rattle.s360_events.specs.Answered.{AllAnswered}
-use Rattle.s360_events.specs.declared.events.Event.{Event}
-use Rattle.s360_events.specs.declared.answers.Answer.{Answer}
+use Rattle.s360_laws.specs.Seen.{event_seen, answer_seen}
+use Rattle.s360_laws.specs.Answered.{AllAnswered}
+use Rattle.s360_laws.specs.declared.events.Event.{Event}
+use Rattle.s360_laws.specs.declared.answers.Answer.{Answer}
 use Rattle.s360_channel.specs.Channel.{ChannelState, StandsFor}
 use Rattle.s360_channel.specs.Lists.{Follows}
 use Rattle.s360_deck.specs.declared.fault.DeckFault.TheVariants.{OutOfMemory}

@@ -1,8 +1,8 @@
 -- What a watcher is told of a deck that is run.
 use Rattle.std.specs.Prelude.{◌≡◌, ℕ, List, Result, Ok, Err}
 use Rattle.counted_io.specs.Streams.{Stream}
-use Rattle.s360_events.specs.declared.events.Event.{Event}
-use Rattle.s360_events.specs.declared.answers.Answer.{Answer}
+use Rattle.s360_laws.specs.declared.events.Event.{Event}
+use Rattle.s360_laws.specs.declared.answers.Answer.{Answer}
 use Rattle.s360_channel.specs.Channel.{ChannelState}
 use Rattle.s360_trace.specs.Looks.{AllWatched, Sees}
 use Rattle.s360_deck.specs.CountedRuns.{ReadsWhole}

@@ -7,7 +7,7 @@ ghost use Rattle.s360_deck.specs.Lines.{answer_text, lines_text};
 use crate::lines::put_answer;
 use arrayvec::ArrayString;
 use counted_io::{Counted, WriteFault, write_whole};
-use s360_events::Answer;
+use s360_laws::Answer;
 use std::io::Write;
 
 // Writes the line of each answer.

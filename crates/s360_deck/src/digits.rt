@@ -4,7 +4,7 @@ ghost use Rattle.std.specs.Prelude.{◌≡◌, ◌^◌, ◌≤◌, ◌<◌, opti
 ghost use Rattle.s360_deck.specs.Digits.{digit_of, number_of, device_address_of, storage_address_of, key_of, count_within, run_units_of, bytes_of};
 
 use arrayvec::ArrayVec;
-use s360_events::{ShowCount, StorageKey};
+use s360_laws::{ShowCount, StorageKey};
 
 /// An input/output address: three hexadecimal digits.
 pub(crate) fn device_address(word: &[u8]) -> Option<u16>

@@ -2,8 +2,8 @@
 
 ghost use Rattle.std.specs.Prelude.{◌≡◌, ◌≤◌, [], map, length, Ok, Err, IfOk, IfErr, OnErr, vec_capacity};
 ghost use Rattle.s360_laws.specs.Machine.{Machine};
-ghost use Rattle.s360_events.specs.Seen.{event_seen, answer_seen};
-ghost use Rattle.s360_events.specs.Answered.{AllAnswered};
+ghost use Rattle.s360_laws.specs.Seen.{event_seen, answer_seen};
+ghost use Rattle.s360_laws.specs.Answered.{AllAnswered};
 ghost use Rattle.s360_channel.specs.Channel.{StandsFor};
 ghost use Rattle.s360_channel.specs.Lists.{Follows};
 ghost use Rattle.s360_deck.specs.Deck.{lines_of, events_of, events_in_lines, IsRead};
@@ -14,7 +14,7 @@ use crate::parsing::Words;
 use crate::passes::{count_events, next_event};
 use ckd_image::ImageStore;
 use s360_channel::Channel;
-use s360_events::{Answer, push_answer};
+use s360_laws::{Answer, push_answer};
 use std::alloc::Global;
 
 /// A text in capitals that is a deck, and the room for the answers to its events.

@@ -32,4 +32,4 @@ pub use crate::spelling::EventName;
 pub use crate::texts::run_text;
 pub use crate::watched_runs::{run_text_watched, run_watched};
 pub use s360_channel::drive;
-pub use s360_events::{Answer, Event};
+pub use s360_laws::{Answer, Event};

@@ -6,7 +6,7 @@ ghost use Rattle.counted_io.specs.Text.{bytes_text, hexadecimal};
 ghost use Rattle.s360_deck.specs.Lines.{status_text, csw_text, condition_text, after_space, answer_text};
 
 use arrayvec::ArrayString;
-use s360_events::{Answer, Condition, Status};
+use s360_laws::{Answer, Condition, Status};
 use s360_words::Csw;
 use std::fmt;
 use counted_io::{put_bytes, put_decimal, put_hexadecimal};

@@ -13,7 +13,7 @@ use crate::digits::{
 use crate::fault::DeckFault;
 use crate::spelling::{EventName, LineFault};
 use arrayvec::ArrayVec;
-use s360_events::Event;
+use s360_laws::Event;
 use std::alloc::Global;
 
 /// The most bytes of a line, without LF and a CR before it.

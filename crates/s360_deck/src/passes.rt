@@ -6,7 +6,7 @@ ghost use Rattle.s360_deck.specs.Deck.{lines_of, events_behind, count_in, events
 
 use crate::fault::DeckFault;
 use crate::parsing::{Words, read_line, split_at_line_feed, told_on};
-use s360_events::Event;
+use s360_laws::Event;
 
 // How many events a text in capitals spells. It takes no memory.
 pub(crate) fn count_events<'a>(text: &'a [u8]) -> Result<usize, DeckFault>

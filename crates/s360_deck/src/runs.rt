@@ -8,7 +8,7 @@ use crate::reading::read_deck;
 use crate::writing::write_answers;
 use ckd_image::ImageStore;
 use s360_channel::{Channel, drive};
-use s360_events::Event;
+use s360_laws::Event;
 use std::alloc::Global;
 use std::io::{Read, Write};
 use thiserror::Error;

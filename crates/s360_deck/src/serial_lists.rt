@@ -5,10 +5,10 @@ ghost use Rattle.s360_laws.specs.Events as machine;
 ghost use Rattle.s360_laws.specs.SerialLists.{changes_nothing, that_change, is_step, is_arrival, is_between, steps_ahead, arrivals_last, steps_of};
 ghost use Rattle.s360_laws.specs.SerialLists.{steps_joined, serial_list};
 ghost use Rattle.s360_laws.specs.History.{acts};
-ghost use Rattle.s360_events.specs.Seen.{event_seen, condition_seen, status_seen, csw_seen};
+ghost use Rattle.s360_laws.specs.Seen.{event_seen, condition_seen, status_seen, csw_seen};
 ghost use Rattle.s360_deck.specs.Serial.{exchange_seen, exchanges_seen, exchanges_of, events_in, serial_events, Fits, AllFit, Places, Joins};
 
-use s360_events::{Answer, Condition, Event, Status};
+use s360_laws::{Answer, Condition, Event, Status};
 use s360_words::Csw;
 use std::alloc::{AllocError, Global};
 

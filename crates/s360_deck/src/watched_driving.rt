@@ -2,8 +2,8 @@
 
 ghost use Rattle.std.specs.Prelude.{◌≡◌, ◌≤◌, [], map, length, Ok, Err, IfOk, IfErr, OnErr, vec_capacity};
 ghost use Rattle.s360_laws.specs.Machine.{Machine};
-ghost use Rattle.s360_events.specs.Seen.{event_seen, answer_seen};
-ghost use Rattle.s360_events.specs.Answered.{AllAnswered};
+ghost use Rattle.s360_laws.specs.Seen.{event_seen, answer_seen};
+ghost use Rattle.s360_laws.specs.Answered.{AllAnswered};
 ghost use Rattle.s360_channel.specs.Channel.{StandsFor};
 ghost use Rattle.s360_channel.specs.Lists.{Follows};
 ghost use Rattle.s360_trace.specs.Looks.{AllWatched};
@@ -17,7 +17,7 @@ use crate::parsing::Words;
 use crate::passes::next_event;
 use ckd_image::ImageStore;
 use s360_channel::Channel;
-use s360_events::{Answer, push_answer};
+use s360_laws::{Answer, push_answer};
 use s360_trace::{Watcher, watch_event};
 use std::alloc::Global;
 

@@ -7,7 +7,7 @@ ghost use Rattle.s360_deck.specs.Runs.{WritesFront};
 use crate::lines::put_answer;
 use crate::runs::RunFault;
 use arrayvec::ArrayString;
-use s360_events::Answer;
+use s360_laws::Answer;
 use std::io::Write;
 
 // Writes the line of each answer.

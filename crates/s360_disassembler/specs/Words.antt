@@ -1,7 +1,7 @@
 -- A deck in words.
 use Rattle.std.specs.Prelude.{◌≡◌, List, [], ℕ, Result, Ok, Err}
 use Rattle.std.specs.Global.{Vec}
-use Rattle.s360_events.specs.declared.events.Event.{Event}
+use Rattle.s360_laws.specs.declared.events.Event.{Event}
 use Rattle.s360_deck.specs.Deck.{events_of}
 use Rattle.s360_assembler.specs.Assembled.{assembled}
 use Rattle.s360_disassembler.specs.declared.words.DisassemblyFault.{DisassemblyFault}

@@ -2,7 +2,7 @@
 
 ghost use Rattle.std.specs.Prelude.{◌≡◌, true};
 
-use s360_events::Event;
+use s360_laws::Event;
 
 // Whether two events are the same.
 fn is_same(one: &Event, other: &Event) -> bool

@@ -2,7 +2,7 @@
 
 ghost use Rattle.std.specs.Prelude.{◌<◌, ◌≤◌, length};
 
-use s360_mnemonics::word_of;
+use s360_explain::word_of;
 use s360_words::{CAW_ADDRESS, Ccw};
 use std::alloc::{AllocError, Global};
 

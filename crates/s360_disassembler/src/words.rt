@@ -11,7 +11,7 @@ use crate::word_lines::{
 };
 use s360_assembler::{AssemblyFault, assemble};
 use s360_deck::{DeckFault, parse};
-use s360_events::Event;
+use s360_laws::Event;
 use std::alloc::{AllocError, Global};
 use std::collections::BTreeMap;
 use thiserror::Error;

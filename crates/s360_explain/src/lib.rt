@@ -5,7 +5,9 @@
 mod bits;
 mod causes;
 mod commands;
+pub mod laws;
 mod lines;
+mod mnemonics;
 mod names;
 mod pasted;
 mod text;
@@ -14,5 +16,6 @@ pub use crate::bits::{Field, name_of};
 pub use crate::causes::cause_text;
 pub use crate::commands::{Code, code_name, code_of, command_name};
 pub use crate::lines::{Line, Lines, of_ccw, of_csw, of_ending, of_sense, of_status, of_traced};
+pub use crate::mnemonics::{code_named, word_of};
 pub use crate::names::{ChannelNames, SenseNames, UnitNames};
 pub use crate::pasted::{Pasted, of_pasted, read_pasted};

@@ -5,7 +5,7 @@ use Rattle.std.proofs.lemmas.Bool.{and_parts, cond_both, eqb-true, not-false}
 use Rattle.std.specs.Prelude.{replicate, filter}
 use Rattle.s360_words.specs.Storage.{Change}
 use Rattle.s360_words.specs.declared.flags.UnitStatus.{UnitStatus}
-use Rattle.s360_runs.specs.Scripts.{units}
+use Rattle.s360_laws.specs.Scripts.{units}
 use Rattle.s360_laws.specs.Arms.{arrives}
 use Rattle.s360_laws.specs.Events.{Exchange, StepBy, Stepped, FaultAfter}
 use Rattle.s360_laws.specs.History.{units_ahead, script_ahead, fate_ahead, acts, own_change, where_over, Changes, acts_of, turns_of}

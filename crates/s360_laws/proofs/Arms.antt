@@ -6,10 +6,10 @@ use Rattle.std.specs.Prelude.{find, option_map, is_some, filter}
 use Rattle.s360_words.specs.Storage.{Storage}
 use Rattle.s360_words.specs.declared.flags.TheConstants.UnitStatus.{DEVICE_END}
 use Rattle.s360_words.specs.declared.words.Csw.{Csw}
-use Rattle.s360_runs.specs.Endings.{Ending}
-use Rattle.s360_runs.specs.Starts.{First, BadStart, RejectedStart, ImmediateStart, AcceptedStart}
-use Rattle.s360_runs.specs.Status.{tells, no_unit_status}
-use Rattle.s360_runs.proofs.EndStatus.{AsksGood}
+use Rattle.s360_laws.specs.Endings.{Ending}
+use Rattle.s360_laws.specs.Starts.{First, BadStart, RejectedStart, ImmediateStart, AcceptedStart}
+use Rattle.s360_laws.specs.Status.{tells, no_unit_status}
+use Rattle.s360_laws.proofs.EndStatus.{AsksGood}
 use Rattle.s360_laws.specs.Arms.{arm_for, arrives, ends_owing, arm_next, ArmFollows, arm_along, ArmStays, ArrivedInterrupts}
 use Rattle.s360_laws.specs.Arms.{HaltOfPendingStays}
 use Rattle.s360_laws.specs.Events.{Answer, Event, Exchange, FaultAfter, Sio, Interrupt, WithCode, Interrupted}

@@ -5,9 +5,9 @@ use Rattle.std.proofs.lemmas.Bool.{ne_eqb, eqb-true, cond_both}
 use Rattle.std.specs.Prelude.{find, option_map}
 use Rattle.s360_words.specs.declared.words.Csw.{Csw}
 use Rattle.ckd_command.specs.Drive.{IdleDrive}
-use Rattle.s360_runs.specs.Endings.{Outcome}
-use Rattle.s360_runs.specs.Runs.{run}
-use Rattle.s360_runs.specs.Scripts.{Script}
+use Rattle.s360_laws.specs.Endings.{Outcome}
+use Rattle.s360_laws.specs.Runs.{run}
+use Rattle.s360_laws.specs.Scripts.{Script}
 use Rattle.s360_laws.specs.Machine.{Device, Machine, address_of, device_at, run_of, start_of, Idle, Pending, Working}
 use Rattle.s360_laws.specs.Soundness.{AreDistinct, device_for, IsRunning}
 use Rattle.s360_laws.specs.declared.arm.Arm.{Arm}

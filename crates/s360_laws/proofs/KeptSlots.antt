@@ -7,16 +7,16 @@ use Rattle.std.specs.Prelude.{find, option_map}
 use Rattle.s360_words.specs.Words.{caw_of}
 use Rattle.s360_words.specs.declared.words.Caw.{Caw}
 use Rattle.ckd_command.specs.Drive.{IdleDrive, no_sense}
-use Rattle.s360_runs.specs.Endings.{Outcome, Ended, NotEnded, Ending}
-use Rattle.s360_runs.specs.Laws.{IsFirstUnit}
-use Rattle.s360_runs.specs.Runs.{Start, run, start_point, run_from}
-use Rattle.s360_runs.specs.Scripts.{Script, units}
-use Rattle.s360_runs.specs.Starts.{First, RejectedStart, first}
-use Rattle.s360_runs.specs.Units.{Next, Between, unit, walk, outcome_of, on_next}
-use Rattle.s360_runs.specs.Writes.{OutcomeKeeps, slot_in, NextKeeps}
-use Rattle.s360_runs.proofs.FirstUnits.{first_is_unit}
-use Rattle.s360_runs.proofs.Walks.{run_walk}
-use Rattle.s360_runs.proofs.Writes.{run_keeps, writes_under_arm}
+use Rattle.s360_laws.specs.Endings.{Outcome, Ended, NotEnded, Ending}
+use Rattle.s360_laws.specs.Laws.{IsFirstUnit}
+use Rattle.s360_laws.specs.Runs.{Start, run, start_point, run_from}
+use Rattle.s360_laws.specs.Scripts.{Script, units}
+use Rattle.s360_laws.specs.Starts.{First, RejectedStart, first}
+use Rattle.s360_laws.specs.Units.{Next, Between, unit, walk, outcome_of, on_next}
+use Rattle.s360_laws.specs.RunWrites.{OutcomeKeeps, slot_in, NextKeeps}
+use Rattle.s360_laws.proofs.FirstUnits.{first_is_unit}
+use Rattle.s360_laws.proofs.Walks.{run_walk}
+use Rattle.s360_laws.proofs.Writes.{run_keeps, writes_under_arm}
 use Rattle.s360_laws.specs.History.{Act, Program, RejectedCommand, Changes, ClearsSense, Fate, ByItself, IsCut, World, after_first}
 use Rattle.s360_laws.specs.History.{after_program, after_rejection, after_run, does, drive_in, history, start_in, with_drive, world_of}
 use Rattle.s360_laws.specs.History.{all_acts}

@@ -10,14 +10,14 @@ use Rattle.s360_words.specs.declared.flags.TheConstants.UnitStatus.{CHANNEL_END,
 use Rattle.s360_words.specs.declared.flags.UnitStatus.{UnitStatus}
 use Rattle.s360_words.specs.declared.words.Csw.{Csw}
 use Rattle.ckd_command.specs.Drive.{unsaved}
-use Rattle.s360_runs.specs.Endings.{NotEnded, Ending}
-use Rattle.s360_runs.specs.Laws.{IsFirstUnit}
-use Rattle.s360_runs.specs.Runs.{Start, run}
-use Rattle.s360_runs.specs.Scripts.{units, Script}
-use Rattle.s360_runs.specs.Starts.{first, First, ImmediateStart, BadStart, RejectedStart, AcceptedStart}
-use Rattle.s360_runs.specs.Status.{tells, normal_end, no_unit_status}
-use Rattle.s360_runs.proofs.EndStatus.{IsGood, RunGood, good_run, AsksGood, StandingGood}
-use Rattle.s360_runs.proofs.FirstUnits.{first_is_unit}
+use Rattle.s360_laws.specs.Endings.{NotEnded, Ending}
+use Rattle.s360_laws.specs.Laws.{IsFirstUnit}
+use Rattle.s360_laws.specs.Runs.{Start, run}
+use Rattle.s360_laws.specs.Scripts.{units, Script}
+use Rattle.s360_laws.specs.Starts.{first, First, ImmediateStart, BadStart, RejectedStart, AcceptedStart}
+use Rattle.s360_laws.specs.Status.{tells, normal_end, no_unit_status}
+use Rattle.s360_laws.proofs.EndStatus.{IsGood, RunGood, good_run, AsksGood, StandingGood}
+use Rattle.s360_laws.proofs.FirstUnits.{first_is_unit}
 use Rattle.s360_laws.specs.Events.{Exchange, Event, FaultAfter, Answer, Reset, WasReset, Sio, StatusStored, WithCode, Input, Tio, Tch}
 use Rattle.s360_laws.specs.Events.{Interrupt}
 use Rattle.s360_laws.specs.History.{Runs}

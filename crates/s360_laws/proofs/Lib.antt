@@ -10,3 +10,15 @@ pub mod NoFaultTold
 pub mod Headlines
 pub mod Arms
 pub mod KeptSlots
+pub mod Walks
+pub mod Units
+pub mod Standing
+pub mod AtOnce
+pub mod Rounds
+pub mod DriveFacts
+pub mod EndStatus
+pub mod FaultsMet
+pub mod FirstUnits
+pub mod UnsavedTracks
+pub mod Writes
+pub mod Sizes

@@ -4,13 +4,13 @@ use Rattle.std.proofs.Common.{◌++◌, Some, None, ◌⊎◌, inl, inr, append_
 use Rattle.std.specs.Prelude.{option_map, map}
 use Rattle.s360_words.specs.Storage.{Storage}
 use Rattle.ckd_command.specs.Drive.{Fault, IdleDrive, SaveFails, LoadFails}
-use Rattle.s360_runs.specs.Endings.{Outcome, Ended, Ending, NotEnded}
-use Rattle.s360_runs.specs.Faults.{cut_drive, OutcomeByFault, EndsByFault}
-use Rattle.s360_runs.specs.Runs.{Start, run}
-use Rattle.s360_runs.specs.Scripts.{Script, OneUnit, units, units_in}
-use Rattle.s360_runs.proofs.FaultsMet.{fault_ends_cut, run_by_fault}
-use Rattle.s360_runs.proofs.Standing.{stands_somewhere}
-use Rattle.s360_runs.proofs.Walks.{units_in_two, ended_stays}
+use Rattle.s360_laws.specs.Endings.{Outcome, Ended, Ending, NotEnded}
+use Rattle.s360_laws.specs.Faults.{cut_drive, OutcomeByFault, EndsByFault}
+use Rattle.s360_laws.specs.Runs.{Start, run}
+use Rattle.s360_laws.specs.Scripts.{Script, OneUnit, units, units_in}
+use Rattle.s360_laws.proofs.FaultsMet.{fault_ends_cut, run_by_fault}
+use Rattle.s360_laws.proofs.Standing.{stands_somewhere}
+use Rattle.s360_laws.proofs.Walks.{units_in_two, ended_stays}
 use Rattle.s360_laws.specs.Events.{Answer, FaultAfter, Stepped, StepBy, WithCode, Hio, WasReset, Reset, Event}
 use Rattle.s360_laws.specs.History.{Runs}
 use Rattle.s360_laws.specs.Machine.{cut, ended, units_failing, Machine, arm_after, stepped, start_of, react, Subchannel, Working, run_of}

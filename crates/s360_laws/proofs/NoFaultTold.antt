@@ -6,16 +6,16 @@ use Rattle.std.proofs.lemmas.Option.{same_Some}
 use Rattle.std.specs.Prelude.{find, option_map, is_some}
 use Rattle.s360_words.specs.Storage.{Storage}
 use Rattle.ckd_command.specs.Drive.{tells_equipment_check}
-use Rattle.s360_runs.specs.Endings.{Ended, Ending, NotEnded, Outcome}
-use Rattle.s360_runs.specs.Faults.{without_faults}
-use Rattle.s360_runs.specs.Runs.{run}
-use Rattle.s360_runs.specs.Scripts.{Script, OneUnit, units}
-use Rattle.s360_runs.specs.Starts.{First, RejectedStart, ImmediateStart}
-use Rattle.s360_runs.specs.Units.{standing_in}
-use Rattle.s360_runs.specs.Unsaved.{GainsNoCheck, TellsNoFault, OutcomeTellsNoFault, FirstTellsNoFault}
-use Rattle.s360_runs.proofs.FaultsMet.{goes_on_without_faults}
-use Rattle.s360_runs.proofs.UnsavedTracks.{no_fault_nothing_told, unsaved_was_written}
-use Rattle.s360_runs.proofs.Standing.{stands_by_walk}
+use Rattle.s360_laws.specs.Endings.{Ended, Ending, NotEnded, Outcome}
+use Rattle.s360_laws.specs.Faults.{without_faults}
+use Rattle.s360_laws.specs.Runs.{run}
+use Rattle.s360_laws.specs.Scripts.{Script, OneUnit, units}
+use Rattle.s360_laws.specs.Starts.{First, RejectedStart, ImmediateStart}
+use Rattle.s360_laws.specs.Units.{standing_in}
+use Rattle.s360_laws.specs.Unsaved.{GainsNoCheck, TellsNoFault, OutcomeTellsNoFault, FirstTellsNoFault}
+use Rattle.s360_laws.proofs.FaultsMet.{goes_on_without_faults}
+use Rattle.s360_laws.proofs.UnsavedTracks.{no_fault_nothing_told, unsaved_was_written}
+use Rattle.s360_laws.proofs.Standing.{stands_by_walk}
 use Rattle.s360_laws.specs.Events.{Answer, Event, WasReset, Reset}
 use Rattle.s360_laws.specs.Machine.{ended, Device, Machine, device_at, arm_after, started, with_arm, with_ending, start_of, react}
 use Rattle.s360_laws.specs.Machine.{Subchannel, Working, unsaved_at, address_of, all_at_rest, at_rest, fault_in}

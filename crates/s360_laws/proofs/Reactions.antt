@@ -7,11 +7,11 @@ use Rattle.std.specs.Prelude.{option_map, is_some, filter}
 use Rattle.s360_words.specs.Storage.{Storage, Change, Bytes, KeyOf, is_within}
 use Rattle.s360_words.specs.declared.flags.TheConstants.UnitStatus.{BUSY, DEVICE_END}
 use Rattle.s360_words.specs.declared.words.Csw.{Csw}
-use Rattle.s360_runs.specs.Endings.{Outcome, Ended, NotEnded, Ending, Standing}
-use Rattle.s360_runs.specs.Runs.{run}
-use Rattle.s360_runs.specs.Scripts.{Script, units, units_in, Outside}
-use Rattle.s360_runs.specs.Starts.{First, first}
-use Rattle.s360_runs.specs.Status.{no_channel_status, no_unit_status, busy_device_end}
+use Rattle.s360_laws.specs.Endings.{Outcome, Ended, NotEnded, Ending, Standing}
+use Rattle.s360_laws.specs.Runs.{run}
+use Rattle.s360_laws.specs.Scripts.{Script, units, units_in, Outside}
+use Rattle.s360_laws.specs.Starts.{First, first}
+use Rattle.s360_laws.specs.Status.{no_channel_status, no_unit_status, busy_device_end}
 use Rattle.s360_laws.specs.Events.{Answer, Event, FaultAfter, Sio, Tio, Hio, Tch, StepBy, Arrive, Interrupt, Reset, Store, SetKey, Show}
 use Rattle.s360_laws.specs.Events.{WithCode, StatusStored, Stepped, HasArrived, Interrupted, WasReset, WasKept, Shown}
 use Rattle.s360_laws.specs.History.{Runs}

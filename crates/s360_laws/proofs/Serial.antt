@@ -7,15 +7,15 @@ use Rattle.std.specs.Prelude.{find, option_map}
 use Rattle.s360_words.specs.Storage.{Change, status_stored, csw_stored, Storage, changed}
 use Rattle.s360_words.specs.declared.flags.TheConstants.UnitStatus.{DEVICE_END, UNIT_CHECK}
 use Rattle.ckd_command.specs.Drive.{IdleDrive, no_sense, Fault}
-use Rattle.s360_runs.specs.Endings.{Outcome, Ending, Ended, NotEnded, Standing}
-use Rattle.s360_runs.specs.Laws.{IsFirstUnit}
-use Rattle.s360_runs.specs.Runs.{run, Start}
-use Rattle.s360_runs.specs.Scripts.{units, Script, units_in, Outside, TakesInterruption}
-use Rattle.s360_runs.specs.Starts.{First, first, BadStart, AcceptedStart, RejectedStart, ImmediateStart}
-use Rattle.s360_runs.specs.Status.{no_channel_status, busy_device_end}
-use Rattle.s360_runs.specs.Units.{ProgramPhase, walk, StandsIn, standing_in, Between, phase_past, StandsAt}
-use Rattle.s360_runs.proofs.FirstUnits.{first_is_unit}
-use Rattle.s360_runs.proofs.Standing.{seen_there, goes_by, stands_somewhere}
+use Rattle.s360_laws.specs.Endings.{Outcome, Ending, Ended, NotEnded, Standing}
+use Rattle.s360_laws.specs.Laws.{IsFirstUnit}
+use Rattle.s360_laws.specs.Runs.{run, Start}
+use Rattle.s360_laws.specs.Scripts.{units, Script, units_in, Outside, TakesInterruption}
+use Rattle.s360_laws.specs.Starts.{First, first, BadStart, AcceptedStart, RejectedStart, ImmediateStart}
+use Rattle.s360_laws.specs.Status.{no_channel_status, busy_device_end}
+use Rattle.s360_laws.specs.Units.{ProgramPhase, walk, StandsIn, standing_in, Between, phase_past, StandsAt}
+use Rattle.s360_laws.proofs.FirstUnits.{first_is_unit}
+use Rattle.s360_laws.proofs.Standing.{seen_there, goes_by, stands_somewhere}
 use Rattle.s360_laws.specs.Events.{Exchange, Event, FaultAfter, Answer, Arrive, Sio, StepBy, Input, HasArrived, Stepped}
 use Rattle.s360_laws.specs.History.{with_drive, units_ahead, history, world_of, all_acts, acts, Runs, World, does, Changes, own_change}
 use Rattle.s360_laws.specs.History.{where_over, drive_in, after_first, after_rejection, Program, ByItself, after_run, after_program}

@@ -4,11 +4,11 @@ use Rattle.std.proofs.Common.{zero-add, add-zero, suc-add, append_assoc, append-
 use Rattle.std.proofs.lemmas.List.Sums.{sum_by-cons}
 use Rattle.std.specs.Prelude.{sum}
 use Rattle.ckd_command.specs.Drive.{Fault}
-use Rattle.s360_runs.specs.Endings.{Outcome, Ended, NotEnded, Standing}
-use Rattle.s360_runs.specs.Runs.{run, Start}
-use Rattle.s360_runs.specs.Scripts.{units, OneUnit, Script, units_in}
-use Rattle.s360_runs.proofs.Standing.{stands_somewhere}
-use Rattle.s360_runs.proofs.Walks.{ended_stays, units_in_two}
+use Rattle.s360_laws.specs.Endings.{Outcome, Ended, NotEnded, Standing}
+use Rattle.s360_laws.specs.Runs.{run, Start}
+use Rattle.s360_laws.specs.Scripts.{units, OneUnit, Script, units_in}
+use Rattle.s360_laws.proofs.Standing.{stands_somewhere}
+use Rattle.s360_laws.proofs.Walks.{ended_stays, units_in_two}
 use Rattle.s360_laws.specs.Events.{FaultAfter, Answer, StepBy, Stepped}
 use Rattle.s360_laws.specs.History.{Runs}
 use Rattle.s360_laws.specs.Machine.{units_failing, units_with, Machine, react, run_of, start_of, stepped, Subchannel, Working, is_working}

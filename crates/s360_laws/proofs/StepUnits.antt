@@ -3,14 +3,14 @@ use Rattle.std.proofs.Common.{◌≡◌, ℕ, zero, suc, ◌+◌, ◌-◌, refl,
 use Rattle.std.proofs.Common.{Some, None, List}
 use Rattle.s360_words.specs.Storage.{Storage}
 use Rattle.ckd_command.specs.Drive.{Fault}
-use Rattle.s360_runs.specs.Endings.{Ended, NotEnded, Ending, Standing}
-use Rattle.s360_runs.specs.Faults.{without_faults}
-use Rattle.s360_runs.specs.Runs.{Start, run}
-use Rattle.s360_runs.specs.Scripts.{Script, units, units_in, OneUnit}
-use Rattle.s360_runs.specs.Units.{ProgramPhase, StandsAt, walk, Walk, StandsIn, outcome_of, EndsWith}
-use Rattle.s360_runs.proofs.FaultsMet.{unmet_walk, same_outcome}
-use Rattle.s360_runs.proofs.Standing.{ends_by, goes_by}
-use Rattle.s360_runs.proofs.Walks.{exact, units_in_two}
+use Rattle.s360_laws.specs.Endings.{Ended, NotEnded, Ending, Standing}
+use Rattle.s360_laws.specs.Faults.{without_faults}
+use Rattle.s360_laws.specs.Runs.{Start, run}
+use Rattle.s360_laws.specs.Scripts.{Script, units, units_in, OneUnit}
+use Rattle.s360_laws.specs.Units.{ProgramPhase, StandsAt, walk, Walk, StandsIn, outcome_of, EndsWith}
+use Rattle.s360_laws.proofs.FaultsMet.{unmet_walk, same_outcome}
+use Rattle.s360_laws.proofs.Standing.{ends_by, goes_by}
+use Rattle.s360_laws.proofs.Walks.{exact, units_in_two}
 use Rattle.s360_laws.specs.Events.{FaultAfter, Exchange}
 use Rattle.s360_laws.specs.History.{units_ahead, script_ahead, where_over, turns_of}
 use Rattle.s360_laws.specs.Machine.{units_with}

@@ -4,11 +4,11 @@ use Rattle.s360_words.specs.Storage.{Change, Bytes, KeyOf, csw_stored, status_st
 use Rattle.s360_words.specs.declared.flags.TheConstants.UnitStatus.{BUSY, CHANNEL_END, UNIT_CHECK}
 use Rattle.s360_words.specs.declared.flags.UnitStatus.{UnitStatus}
 use Rattle.ckd_command.specs.Drive.{Fault, IdleDrive, no_sense}
-use Rattle.s360_runs.specs.Endings.{Outcome, Ended, NotEnded}
-use Rattle.s360_runs.specs.Runs.{run, Start}
-use Rattle.s360_runs.specs.Scripts.{Script, units, Outside, TakesInterruption, OneUnit}
-use Rattle.s360_runs.specs.Starts.{first, First, RejectedStart}
-use Rattle.s360_runs.specs.Status.{tells}
+use Rattle.s360_laws.specs.Endings.{Outcome, Ended, NotEnded}
+use Rattle.s360_laws.specs.Runs.{run, Start}
+use Rattle.s360_laws.specs.Scripts.{Script, units, Outside, TakesInterruption, OneUnit}
+use Rattle.s360_laws.specs.Starts.{first, First, RejectedStart}
+use Rattle.s360_laws.specs.Status.{tells}
 use Rattle.s360_laws.specs.Events.{Exchange, StepBy, Stepped, Hio, WithCode, Reset, Sio, Store, WasKept, SetKey, Interrupt, Interrupted, StatusStored, Tio}
 use Rattle.s360_laws.specs.Events.{CswStored, Input}
 use Rattle.s360_laws.specs.Machine.{units_with, fault_in, Subchannel, Working, Machine, run_of, is_working, after_all, exchanges}

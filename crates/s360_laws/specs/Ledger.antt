@@ -3,7 +3,7 @@ use Rattle.std.specs.Prelude.{◌≡◌, ◌≤◌, ℕ, ◌+◌, ◌*◌, ◌/�
 use Rattle.s360_words.specs.declared.flags.TheConstants.UnitStatus.{CHANNEL_END, BUSY, DEVICE_END}
 use Rattle.s360_words.specs.declared.flags.UnitStatus.{UnitStatus}
 use Rattle.s360_words.specs.declared.words.Csw.{Csw}
-use Rattle.s360_runs.specs.Status.{tells}
+use Rattle.s360_laws.specs.Status.{tells}
 use Rattle.s360_laws.specs.Events.{Exchange, Sio, WithCode, StatusStored, Reset, Tio, CswStored, Interrupt, Interrupted, Input, FaultAfter, Tch}
 use Rattle.s360_laws.specs.Machine.{exchanges, Machine, react, after_all, is_working, Pending}
 use Rattle.s360_laws.specs.Soundness.{IsSound, owes_channel_end, owes_device_end}

@@ -10,11 +10,11 @@ use Rattle.s360_words.specs.declared.flags.TheConstants.UnitStatus.{UNIT_CHECK, 
 use Rattle.s360_words.specs.declared.flags.UnitStatus.{UnitStatus}
 use Rattle.s360_words.specs.declared.words.Csw.{Csw}
 use Rattle.ckd_command.specs.Drive.{IdleDrive, Fault, no_sense}
-use Rattle.s360_runs.specs.Endings.{Outcome, Ending, Ended, NotEnded}
-use Rattle.s360_runs.specs.Runs.{Start, run}
-use Rattle.s360_runs.specs.Scripts.{Script, units, OneUnit, units_in, TakesInterruption, Outside}
-use Rattle.s360_runs.specs.Starts.{First, BadStart, RejectedStart, ImmediateStart, AcceptedStart, first}
-use Rattle.s360_runs.specs.Status.{no_channel_status, no_unit_status, busy_device_end}
+use Rattle.s360_laws.specs.Endings.{Outcome, Ending, Ended, NotEnded}
+use Rattle.s360_laws.specs.Runs.{Start, run}
+use Rattle.s360_laws.specs.Scripts.{Script, units, OneUnit, units_in, TakesInterruption, Outside}
+use Rattle.s360_laws.specs.Starts.{First, BadStart, RejectedStart, ImmediateStart, AcceptedStart, first}
+use Rattle.s360_laws.specs.Status.{no_channel_status, no_unit_status, busy_device_end}
 use Rattle.s360_laws.specs.Events.{Answer, StatusStored, Store, WithCode, Arrive, CswStored, FaultAfter, Stepped, HasArrived, Interrupt, Interrupted, WasReset}
 use Rattle.s360_laws.specs.Events.{Reset, WasKept, Event, Sio, Tio, Hio, Tch, StepBy, SetKey, Show, Shown, Input, Exchange}
 use Rattle.s360_laws.specs.declared.arm.Arm.{Arm}

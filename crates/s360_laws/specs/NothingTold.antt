@@ -1,10 +1,10 @@
 -- Which tracks a reset may report as not saved, and that without a fault no event reports one.
 use Rattle.std.specs.Prelude.{◌≡◌, ℕ, true, Option, Some, None}
 use Rattle.s360_words.specs.declared.words.Caw.{Caw}
-use Rattle.s360_runs.specs.Runs.{start_point}
-use Rattle.s360_runs.specs.Scripts.{Script}
-use Rattle.s360_runs.specs.Units.{ProgramPhase, Between, walk, StandsIn}
-use Rattle.s360_runs.specs.Unsaved.{GainsNoCheck, has_written}
+use Rattle.s360_laws.specs.Runs.{start_point}
+use Rattle.s360_laws.specs.Scripts.{Script}
+use Rattle.s360_laws.specs.Units.{ProgramPhase, Between, walk, StandsIn}
+use Rattle.s360_laws.specs.Unsaved.{GainsNoCheck, has_written}
 use Rattle.s360_laws.specs.Events.{Answer, WasReset, Event, Reset, FaultAfter}
 use Rattle.s360_laws.specs.History.{Runs}
 use Rattle.s360_laws.specs.Machine.{Machine, Device, device_at, react, start_of, Working}

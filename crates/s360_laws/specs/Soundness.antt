@@ -2,8 +2,8 @@
 use Rattle.std.specs.Prelude.{◌≡◌, ℕ, ◌+◌, ◌==◌, ◌&&◌, List, [], ◌∷◌, true, Option, Some, None, find, if◌then◌else◌}
 use Rattle.s360_words.specs.declared.flags.TheConstants.UnitStatus.{CHANNEL_END, DEVICE_END}
 use Rattle.s360_words.specs.declared.flags.UnitStatus.{UnitStatus}
-use Rattle.s360_runs.specs.Endings.{Outcome, RunsOn}
-use Rattle.s360_runs.specs.Status.{tells}
+use Rattle.s360_laws.specs.Endings.{Outcome, RunsOn}
+use Rattle.s360_laws.specs.Status.{tells}
 use Rattle.s360_laws.specs.Events.{Input}
 use Rattle.s360_laws.specs.Machine.{Device, Machine, Subchannel, Idle, Working, run_of, address_of, device_at, Pending, after_all}
 use Rattle.s360_laws.specs.declared.arm.Arm.{Arm}

@@ -3,8 +3,8 @@ use Rattle.std.specs.Prelude.{◌≡◌, ◌≤◌, ◌⊎◌, ℕ, suc, ◌+◌
 use Rattle.s360_words.specs.declared.flags.TheConstants.UnitStatus.{UNIT_CHECK}
 use Rattle.s360_words.specs.declared.words.Csw.{Csw}
 use Rattle.ckd_command.specs.Drive.{tells_equipment_check}
-use Rattle.s360_runs.specs.Scripts.{Script}
-use Rattle.s360_runs.specs.Status.{tells}
+use Rattle.s360_laws.specs.Scripts.{Script}
+use Rattle.s360_laws.specs.Status.{tells}
 use Rattle.s360_laws.specs.Events.{Answer, Stepped, FaultAfter, StepBy, Input, Hio, WithCode, Reset, WasReset, Event}
 use Rattle.s360_laws.specs.History.{Runs}
 use Rattle.s360_laws.specs.Machine.{Machine, react, is_working, after_all, answers, Pending, Device, device_at, Working, address_of}

@@ -1,8 +1,8 @@
 -- Which tracks the programs of a list of events may write: all others keep their bytes.
 use Rattle.std.specs.Prelude.{◌≡◌, ◌==◌, ◌&&◌, ◌||◌, ℕ, List, [], ◌∷◌, Bool, false, Option, Some, None, option_map}
 use Rattle.ckd_command.specs.Drive.{IdleDrive}
-use Rattle.s360_runs.specs.Scripts.{Script}
-use Rattle.s360_runs.specs.Writes.{run_writes, slot_in}
+use Rattle.s360_laws.specs.Scripts.{Script}
+use Rattle.s360_laws.specs.RunWrites.{run_writes, slot_in}
 use Rattle.s360_laws.specs.Events.{Input}
 use Rattle.s360_laws.specs.History.{Act, Program, Runs, World, all_acts, does, drive_in, start_in, world_of}
 use Rattle.s360_laws.specs.Machine.{Machine, after_all, exchanges, is_working}

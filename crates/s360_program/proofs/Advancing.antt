@@ -6,11 +6,11 @@ use Rattle.s360_words.specs.Storage.{Storage}
 use Rattle.s360_words.specs.declared.words.Csw.{Csw}
 use Rattle.ckd_command.specs.Drive.{Fault, LoadFails, SaveFails, unsaved}
 use Rattle.ckd_drive.specs.Work.{DriveState}
-use Rattle.s360_runs.specs.Endings.{Ending}
-use Rattle.s360_runs.specs.Laws.{walked_on}
-use Rattle.s360_runs.specs.Scripts.{units, OneUnit}
-use Rattle.s360_runs.specs.Units.{ProgramPhase, Next, EndsIn, standing_in, unit, walk, on_next, StandsIn}
-use Rattle.s360_runs.proofs.Walks.{walks_on}
+use Rattle.s360_laws.specs.Endings.{Ending}
+use Rattle.s360_laws.specs.Laws.{walked_on}
+use Rattle.s360_laws.specs.Scripts.{units, OneUnit}
+use Rattle.s360_laws.specs.Units.{ProgramPhase, Next, EndsIn, standing_in, unit, walk, on_next, StandsIn}
+use Rattle.s360_laws.proofs.Walks.{walks_on}
 use Rattle.s360_program.specs.Advances.{IsMet, CameToEnd, Cuts, TellsOf, CutTellsOf}
 use Rattle.s360_program.specs.Steps.{IsMetBy, EndsBy, ToldOf}
 use Rattle.s360_program.proofs.Moments.{LeadsTo, Moment}

@@ -9,11 +9,11 @@ use Rattle.ckd_command.specs.Drive.{Fault, SaveFails, AfterBegin, Rejected, Imme
 use Rattle.ckd_command.specs.Drive.{tells_equipment_check}
 use Rattle.ckd_command.proofs.Marks.{Calm, BegunCalm, begin_calm}
 use Rattle.ckd_command.proofs.Stable.{begin_stable}
-use Rattle.s360_runs.specs.Commands.{choice, requested, Point}
-use Rattle.s360_runs.specs.Endings.{ending, failed, untouched, immediate, Ending}
-use Rattle.s360_runs.specs.Places.{Place, fetch, NoCcw, GoodCcw, past_ccw, past_no_ccw}
-use Rattle.s360_runs.specs.Status.{no_channel_status, with_interruption, tells}
-use Rattle.s360_runs.specs.Units.{Between, unit, next_fetched, next_begun, next_chosen, GoesOn}
+use Rattle.s360_laws.specs.Commands.{choice, requested, Point}
+use Rattle.s360_laws.specs.Endings.{ending, failed, untouched, immediate, Ending}
+use Rattle.s360_laws.specs.Places.{Place, fetch, NoCcw, GoodCcw, past_ccw, past_no_ccw}
+use Rattle.s360_laws.specs.Status.{no_channel_status, with_interruption, tells}
+use Rattle.s360_laws.specs.Units.{Between, unit, next_fetched, next_begun, next_chosen, GoesOn}
 use Rattle.ckd_drive.specs.Work.{DriveState, Over, fault_met, with_image, CallsStore, Reports, after_begun, after_begin, answer_of_begin}
 use Rattle.ckd_drive.specs.Work.{immediate_ending, closed_of, begin_saves, goes_to_cylinder_zero}
 use Rattle.s360_program.specs.Steps.{EndsBy, ComesBy, Settles, status_of, condition_for}
@@ -27,9 +27,9 @@ use Rattle.std.specs.Prelude.{if◌then◌else◌}
 use Rattle.s360_words.specs.Words.{chains_command}
 use Rattle.s360_words.specs.declared.flags.TheConstants.UnitStatus.{UNIT_CHECK}
 use Rattle.ckd_command.specs.Commands.{beginning}
-use Rattle.s360_runs.specs.Starts.{first_begun, AcceptedStart, ImmediateStart}
-use Rattle.s360_runs.specs.Transfers.{Request}
-use Rattle.s360_runs.specs.Unsaved.{GainsNoCheck}
+use Rattle.s360_laws.specs.Starts.{first_begun, AcceptedStart, ImmediateStart}
+use Rattle.s360_laws.specs.Transfers.{Request}
+use Rattle.s360_laws.specs.Unsaved.{GainsNoCheck}
 use Rattle.s360_program.specs.Place.{place_of}
 use Rattle.s360_program.specs.Stands.{RunningState, StageFits, Stands, Within, phase_in}
 use Rattle.s360_program.specs.Starting.{ImmediateDone, FirstBegun, StartsQuietly, request_for}

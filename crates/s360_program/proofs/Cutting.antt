@@ -11,11 +11,11 @@ use Rattle.ckd_command.proofs.Marks.{close_writes}
 use Rattle.ckd_command.proofs.Stable.{close_moved}
 use Rattle.ckd_drive.specs.Work.{DriveState, Work, Idle, Over, Looking, Passing, fault_met, with_image, closed_of, after_end, end_saves}
 use Rattle.ckd_drive.specs.Work.{end_saves_of, CallsStore}
-use Rattle.s360_runs.specs.Endings.{ending, untouched}
-use Rattle.s360_runs.specs.Places.{Place}
-use Rattle.s360_runs.specs.Status.{no_channel_status}
-use Rattle.s360_runs.specs.Units.{Next, standing_in}
-use Rattle.s360_runs.specs.Unsaved.{has_written}
+use Rattle.s360_laws.specs.Endings.{ending, untouched}
+use Rattle.s360_laws.specs.Places.{Place}
+use Rattle.s360_laws.specs.Status.{no_channel_status}
+use Rattle.s360_laws.specs.Units.{Next, standing_in}
+use Rattle.s360_laws.specs.Unsaved.{has_written}
 use Rattle.s360_program.specs.Stands.{StageFits, phase_by}
 use Rattle.s360_program.specs.Steps.{EndsBy, has_moved}
 use Rattle.s360_program.specs.Stage.{Stage}

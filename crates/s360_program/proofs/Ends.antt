@@ -10,12 +10,12 @@ use Rattle.ckd_command.specs.declared.close.DriveEnding.{DriveEnding}
 use Rattle.ckd_command.specs.Drive.{Closed, Fault, SaveFails, drive_of, is_written, unsaved, tells_equipment_check}
 use Rattle.ckd_command.proofs.Marks.{Calm, close_calm}
 use Rattle.ckd_command.proofs.Stable.{close_stable}
-use Rattle.s360_runs.specs.Commands.{choice}
-use Rattle.s360_runs.specs.Endings.{ending}
-use Rattle.s360_runs.specs.Places.{Place}
-use Rattle.s360_runs.specs.Status.{tells, is_clear}
-use Rattle.s360_runs.specs.Units.{Between, Next, GoesOn, EndsIn, next_chosen}
-use Rattle.s360_runs.specs.Unsaved.{GainsNoCheck}
+use Rattle.s360_laws.specs.Commands.{choice}
+use Rattle.s360_laws.specs.Endings.{ending}
+use Rattle.s360_laws.specs.Places.{Place}
+use Rattle.s360_laws.specs.Status.{tells, is_clear}
+use Rattle.s360_laws.specs.Units.{Between, Next, GoesOn, EndsIn, next_chosen}
+use Rattle.s360_laws.specs.Unsaved.{GainsNoCheck}
 use Rattle.ckd_drive.specs.Work.{DriveState, Work, Idle, Over, Looking, Passing, fault_met, with_image, CallsStore, Reports, after_end}
 use Rattle.ckd_drive.specs.Work.{closed_of, ending_of, end_saves, failed_ending}
 use Rattle.s360_program.specs.Place.{place_of, modified_place}

@@ -6,7 +6,7 @@ use Rattle.std.proofs.lemmas.Bool.Decides.{nat_tests}
 use Rattle.s360_words.specs.Storage.{Storage, is_inside, ccw_at}
 use Rattle.s360_words.specs.Words.{is_transfer}
 use Rattle.s360_words.specs.declared.words.Ccw.{Ccw}
-use Rattle.s360_runs.specs.Places.{Place, TransferTo, GoodCcw, fetch, fetched_at, read_ccw, unless_transfer, is_invalid}
+use Rattle.s360_laws.specs.Places.{Place, TransferTo, GoodCcw, fetch, fetched_at, read_ccw, unless_transfer, is_invalid}
 
 some_at : (xs : List ℕ) (i : ℕ) → nat_le (i + 8) (length xs) ≡ true → is_some (slice_get xs (i + 7)) ≡ true
 some_at xs i h = ap is_some (slice_get-get_or xs (i + 7) 0 (grind (arith, nat_tests)))

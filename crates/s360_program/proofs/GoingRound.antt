@@ -12,11 +12,11 @@ use Rattle.ckd_command.specs.declared.registers.Registers.{Registers}
 use Rattle.ckd_command.specs.Drive.{State, unsaved, unsaved_by}
 use Rattle.std.specs.Prelude.{min, slice_range, true}
 use Rattle.ckd_drive.specs.Work.{DriveState, Work, Idle, Over, Looking, Passing, PassesBy, PassesOn, is_idle, state_past}
-use Rattle.s360_runs.specs.Rounds.{LeadsBack}
-use Rattle.s360_runs.specs.Rounds as rounds
-use Rattle.s360_runs.specs.Scripts.{units}
-use Rattle.s360_runs.specs.Units.{Between, walk, StandsIn}
-use Rattle.s360_runs.proofs.Rounds.{round_is_units}
+use Rattle.s360_laws.specs.Rounds.{LeadsBack}
+use Rattle.s360_laws.specs.Rounds as rounds
+use Rattle.s360_laws.specs.Scripts.{units}
+use Rattle.s360_laws.specs.Units.{Between, walk, StandsIn}
+use Rattle.s360_laws.proofs.Rounds.{round_is_units}
 use Rattle.s360_program.specs.Place.{place_of}
 use Rattle.s360_program.specs.Stands.{StageFits, phase_by, phase_in}
 use Rattle.s360_program.specs.Stage.{stage_by, stage_of}

@@ -9,11 +9,11 @@ use Rattle.ckd_command.proofs.Stable.{look_stable}
 use Rattle.ckd_drive.specs.declared.answers.Look.TheVariants as seen
 use Rattle.ckd_drive.specs.Work.{DriveState, Work, Idle, Over, Looking, Passing, fault_met, with_image, after_sight, after_look_of}
 use Rattle.ckd_drive.specs.Work.{answer_of_look, failed_ending, look_loads, look_saves, left_of, passed_of}
-use Rattle.s360_runs.specs.Endings.{failed}
-use Rattle.s360_runs.specs.Scripts.{units}
-use Rattle.s360_runs.specs.Transfers.{Request}
-use Rattle.s360_runs.specs.Units.{ProgramPhase, unit, next_looked, walk, on_next, StandsIn}
-use Rattle.s360_runs.specs.Units as phase
+use Rattle.s360_laws.specs.Endings.{failed}
+use Rattle.s360_laws.specs.Scripts.{units}
+use Rattle.s360_laws.specs.Transfers.{Request}
+use Rattle.s360_laws.specs.Units.{ProgramPhase, unit, next_looked, walk, on_next, StandsIn}
+use Rattle.s360_laws.specs.Units as phase
 use Rattle.s360_program.specs.Place.{place_of}
 use Rattle.s360_program.specs.Stands.{StageFits, StageWithin, phase_by, phase_in}
 use Rattle.s360_program.specs.Steps.{run_of, Fits, EndsBy, Looked, OverBy, Settles, Steps, WalksBy, told_of}

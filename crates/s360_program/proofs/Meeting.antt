@@ -16,11 +16,11 @@ use Rattle.ckd_command.specs.declared.registers.Mark.TheVariants.{Saved, Written
 use Rattle.ckd_command.specs.Drive.{IdleDrive, Closed, Fault, LoadFails, SaveFails, drive_of, is_written, is_written_by, left_by, saving}
 use Rattle.ckd_command.specs.Drive.{settled, with_unit_check, unsaved, tells_equipment_check}
 use Rattle.ckd_command.proofs.Marks.{Calm}
-use Rattle.s360_runs.specs.Endings.{ending}
-use Rattle.s360_runs.specs.Places.{Place}
-use Rattle.s360_runs.specs.Status.{tells, beside, with_interruption}
-use Rattle.s360_runs.specs.Units.{Next, EndsIn}
-use Rattle.s360_runs.specs.Unsaved.{GainsNoCheck}
+use Rattle.s360_laws.specs.Endings.{ending}
+use Rattle.s360_laws.specs.Places.{Place}
+use Rattle.s360_laws.specs.Status.{tells, beside, with_interruption}
+use Rattle.s360_laws.specs.Units.{Next, EndsIn}
+use Rattle.s360_laws.specs.Unsaved.{GainsNoCheck}
 use Rattle.ckd_drive.specs.Work.{DriveState, fault_met, CallsStore, Reports}
 use Rattle.s360_program.specs.Advances.{IsEnding, TellsFault, CallsAtMost}
 use Rattle.s360_program.specs.Steps.{IsMetBy, ToldOf, EndsBy, ComesBy, Settles, told_of, status_of}

@@ -2,8 +2,8 @@
 use Rattle.std.proofs.Common.{◌≡◌, ℕ}
 use Rattle.s360_words.specs.Storage.{Storage}
 use Rattle.ckd_drive.specs.Work.{DriveState}
-use Rattle.s360_runs.specs.Scripts.{units}
-use Rattle.s360_runs.specs.Units.{ProgramPhase, walk, StandsIn}
+use Rattle.s360_laws.specs.Scripts.{units}
+use Rattle.s360_laws.specs.Units.{ProgramPhase, walk, StandsIn}
 use Rattle.s360_program.specs.Stands.{phase_in}
 use Rattle.s360_program.specs.Steps.{run_of}
 use Rattle.s360_program.specs.declared.run.Run.{Run}

@@ -13,9 +13,9 @@ use Rattle.s360_words.proofs.Overwriting.{length-overwritten, overwritten-none}
 use Rattle.ckd_command.specs.Drive.{State, Open, gives, given, length_of}
 use Rattle.ckd_command.specs.Tables.{is_giving, action_of}
 use Rattle.ckd_command.proofs.Lengths.{length_grows, gives_length}
-use Rattle.s360_runs.specs.Laws.{MayMove}
-use Rattle.s360_runs.specs.Status.{no_channel_status, is_clear}
-use Rattle.s360_runs.specs.Transfers.{Transfer, Moves, transfer_unit, check_of, after_bytes, next_bytes}
+use Rattle.s360_laws.specs.Laws.{MayMove}
+use Rattle.s360_laws.specs.Status.{no_channel_status, is_clear}
+use Rattle.s360_laws.specs.Transfers.{Transfer, Moves, transfer_unit, check_of, after_bytes, next_bytes}
 use Rattle.ckd_drive.specs.Work.{DriveState, Work, Idle, Over, Looking, Passing, takes_now, gives_now, given_now, passed_of, left_of}
 use Rattle.ckd_drive.specs.Work.{moved_on}
 use Rattle.s360_program.specs.Steps.{MovesBy, MovesBytesBy, transfer_by, status_of, refused}

@@ -15,9 +15,9 @@ use Rattle.ckd_drive.specs.Work.{DriveState, Work, Idle, Over, Looking, Passing,
 use Rattle.ckd_drive.specs.Work.{after_look, after_look_of, closed_of, is_next, CallsStore, fault_met, begin_saves, goes_to_cylinder_zero}
 use Rattle.ckd_drive.specs.Work.{look_loads, look_saves, look_saves_of, goes_to_next_head, answer_of_look}
 use Rattle.ckd_drive.specs.declared.answers.Look.TheVariants as seen
-use Rattle.s360_runs.specs.Places.{Place}
-use Rattle.s360_runs.specs.StoreCalls.{is_next as looks_next}
-use Rattle.s360_runs.specs.Units.{ProgramPhase, StandsIn}
+use Rattle.s360_laws.specs.Places.{Place}
+use Rattle.s360_laws.specs.StoreCalls.{is_next as looks_next}
+use Rattle.s360_laws.specs.Units.{ProgramPhase, StandsIn}
 use Rattle.s360_program.specs.Advances.{NeedsNoStore, NeedNoStore}
 use Rattle.s360_program.specs.Place.{place_of}
 use Rattle.s360_program.specs.Stands.{RunningState, StageFits, Stands, phase_by, phase_in}

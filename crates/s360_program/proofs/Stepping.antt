@@ -3,7 +3,7 @@ use Rattle.std.proofs.Common.{◌≡◌, ℕ, ◌<◌, refl}
 use Rattle.s360_words.specs.Storage.{Storage}
 use Rattle.ckd_drive.specs.Work.{DriveState, answer_of_look}
 use Rattle.ckd_drive.specs.declared.answers.Look.TheVariants as seen
-use Rattle.s360_runs.specs.Units.{unit}
+use Rattle.s360_laws.specs.Units.{unit}
 use Rattle.s360_storage.specs.Kept.{KeepsStorage}
 use Rattle.s360_program.specs.Stands.{phase_in}
 use Rattle.s360_program.specs.Steps.{run_of, in_bytes, count_of, ComesBy, Fits, IsQuiet, IsStep, Looked, Steps}

@@ -2,11 +2,11 @@
 use Rattle.std.proofs.Common.{◌≡◌, refl, sym, ap, subst, ◌∙◌, arith, ℕ, ◌+◌, [], ◌∷◌, ◌++◌, append_assoc, append-nil, zero, suc, Option}
 use Rattle.s360_words.specs.Storage.{Storage, Change, changed}
 use Rattle.ckd_command.specs.Drive.{Fault}
-use Rattle.s360_runs.specs.Endings.{Ended}
-use Rattle.s360_runs.specs.Laws as law
-use Rattle.s360_runs.specs.Runs.{run, start_point}
-use Rattle.s360_runs.specs.Scripts.{Script, units, OneUnit, Outside, TakesInterruption, units_in}
-use Rattle.s360_runs.specs.Units.{StandsAt, phase_past, walk, on_next, Between}
+use Rattle.s360_laws.specs.Endings.{Ended}
+use Rattle.s360_laws.specs.Laws as law
+use Rattle.s360_laws.specs.Runs.{run, start_point}
+use Rattle.s360_laws.specs.Scripts.{Script, units, OneUnit, Outside, TakesInterruption, units_in}
+use Rattle.s360_laws.specs.Units.{StandsAt, phase_past, walk, on_next, Between}
 use Rattle.s360_program.specs.Laws.{AcceptedStands, StandsAfterUnits, EndsAfterUnits, SeenOfRun, StandsAfterChange, StandsAfterInterruption}
 use Rattle.s360_program.specs.Stands.{RunningState, Stands, phase_in, phase_by}
 use Rattle.ckd_drive.specs.Work.{DriveState}

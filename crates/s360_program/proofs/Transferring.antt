@@ -14,13 +14,13 @@ use Rattle.ckd_command.proofs.Lengths.{length_grows, length_stays, gives_length}
 use Rattle.ckd_drive.specs.Work.{DriveState, Work, Idle, Over, Looking, Passing, closed_of, left_of, gives_now, passed_of, may_end}
 use Rattle.ckd_command.specs.Tables.{action_of, is_giving}
 use Rattle.s360_program.proofs.Advancing.{more_units}
-use Rattle.s360_runs.specs.Commands.{choice}
-use Rattle.s360_runs.specs.Endings.{ending}
-use Rattle.s360_runs.specs.Places.{Place}
-use Rattle.s360_runs.specs.Scripts.{units}
-use Rattle.s360_runs.specs.Status.{no_channel_status, tells}
-use Rattle.s360_runs.specs.Transfers.{Transfer, next_bytes}
-use Rattle.s360_runs.specs.Units.{ProgramPhase, Moving, Next, EndsIn, unit, next_chosen, walk, on_next, StandsIn}
+use Rattle.s360_laws.specs.Commands.{choice}
+use Rattle.s360_laws.specs.Endings.{ending}
+use Rattle.s360_laws.specs.Places.{Place}
+use Rattle.s360_laws.specs.Scripts.{units}
+use Rattle.s360_laws.specs.Status.{no_channel_status, tells}
+use Rattle.s360_laws.specs.Transfers.{Transfer, next_bytes}
+use Rattle.s360_laws.specs.Units.{ProgramPhase, Moving, Next, EndsIn, unit, next_chosen, walk, on_next, StandsIn}
 use Rattle.s360_program.specs.Place.{place_of}
 use Rattle.s360_program.specs.Stands.{LeftFits, StageFits, StageWithin, phase_by, phase_in}
 use Rattle.s360_program.specs.Steps.{run_of, in_bytes, count_of, HasFound, FindsBy, Fits, ComesBy, EndsBy, OverBy, Steps, WalksBy, told_of}
@@ -40,7 +40,7 @@ use Rattle.s360_program.specs.Advances.{NeedNoStore}
 use Rattle.s360_program.proofs.Meeting.{comes_after}
 use Rattle.s360_program.proofs.Moments.{Moment, moment_of}
 use Rattle.s360_program.proofs.Quiet.{phase_quiet}
-use Rattle.s360_runs.proofs.AtOnce.{at_once}
+use Rattle.s360_laws.proofs.AtOnce.{at_once}
 
 -- One unit.
 

@@ -13,8 +13,8 @@ use Rattle.ckd_drive.specs.declared.answers.WholeRead.{WholeRead}
 use Rattle.ckd_drive.specs.Work.{DriveState, Passing, Idle, Over, GivesWhole, state_behind, whole_ending, after_look, after_look_of}
 use Rattle.ckd_drive.specs.Work.{after_sight, after_end, closed_of, ending_of, fault_met, with_image, look_loads, look_saves, look_saves_of}
 use Rattle.ckd_drive.specs.Work.{end_saves, failed_ending, CallsStore, Reports, open_at, given_now, moved_on, gives_now, left_of}
-use Rattle.s360_runs.specs.Commands.{choice}
-use Rattle.s360_runs.specs.Units.{next_chosen, unit}
+use Rattle.s360_laws.specs.Commands.{choice}
+use Rattle.s360_laws.specs.Units.{next_chosen, unit}
 use Rattle.s360_program.specs.Stands.{phase_in}
 use Rattle.s360_program.specs.Steps.{run_of, in_bytes, segment_of, behind, request_at, status_of, condition_for, Fits, ComesBy, MovesBytes}
 use Rattle.s360_program.specs.Steps.{PassesWhole, Looked, Steps, WalksBy, Flows, HasFound, differs}

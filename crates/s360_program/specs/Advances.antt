@@ -7,12 +7,12 @@ use Rattle.s360_words.specs.declared.flags.TheConstants.UnitStatus.{UNIT_CHECK}
 use Rattle.s360_words.specs.declared.words.Csw.{Csw}
 use Rattle.ckd_command.specs.Drive.{Fault, drive_of, is_written, unsaved, tells_equipment_check}
 use Rattle.ckd_drive.specs.Work.{DriveState, is_idle}
-use Rattle.s360_runs.specs.Endings.{Ending}
-use Rattle.s360_runs.specs.Scripts.{units, OneUnit}
-use Rattle.s360_runs.specs.Status.{tells}
-use Rattle.s360_runs.specs.StoreCalls.{loads}
-use Rattle.s360_runs.specs.Units.{ProgramPhase, walk, StandsIn, EndsWith, standing_in}
-use Rattle.s360_runs.specs.Unsaved.{GainsNoCheck, has_written}
+use Rattle.s360_laws.specs.Endings.{Ending}
+use Rattle.s360_laws.specs.Scripts.{units, OneUnit}
+use Rattle.s360_laws.specs.Status.{tells}
+use Rattle.s360_laws.specs.StoreCalls.{loads}
+use Rattle.s360_laws.specs.Units.{ProgramPhase, walk, StandsIn, EndsWith, standing_in}
+use Rattle.s360_laws.specs.Unsaved.{GainsNoCheck, has_written}
 use Rattle.s360_program.specs.Stands.{RunningState, Stands, phase_in}
 use Rattle.s360_program.specs.declared.program.Advance.{Advance}
 use Rattle.s360_program.specs.declared.program.LongAdvance.{LongAdvance}

@@ -2,8 +2,8 @@
 use Rattle.std.specs.Prelude.{◌+◌, ◌≤◌, ◌<◌, ◌^◌, if◌then◌else◌}
 use Rattle.s360_words.specs.declared.flags.TheConstants.UnitStatus.{STATUS_MODIFIER}
 use Rattle.s360_words.specs.declared.flags.UnitStatus.{UnitStatus}
-use Rattle.s360_runs.specs.Status.{tells}
-use Rattle.s360_runs.specs.Places.{Place, Fetched, NoCcw, TransferTo, GoodCcw}
+use Rattle.s360_laws.specs.Status.{tells}
+use Rattle.s360_laws.specs.Places.{Place, Fetched, NoCcw, TransferTo, GoodCcw}
 use Rattle.s360_program.specs.declared.place.Place.{Place as KeptPlace}
 use Rattle.s360_program.specs.declared.place.Fetched.{Fetched as KeptFetched}
 use Rattle.s360_program.specs.declared.place.Fetched.TheVariants as kept

@@ -1,7 +1,7 @@
 -- What is seen of a running program: it is read off the phase in which the program stands.
 use Rattle.std.specs.Prelude.{ℕ}
-use Rattle.s360_runs.specs.Places.{Place}
-use Rattle.s360_runs.specs.Units.{ProgramPhase, Between, Looking, Moving}
+use Rattle.s360_laws.specs.Places.{Place}
+use Rattle.s360_laws.specs.Units.{ProgramPhase, Between, Looking, Moving}
 use Rattle.s360_program.specs.Stage.{Stage}
 use Rattle.s360_program.specs.Stage as stage
 use Rattle.s360_program.specs.declared.view.AtWork.{AtWork}

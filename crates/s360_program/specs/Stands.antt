@@ -3,9 +3,9 @@ use Rattle.std.specs.Prelude.{◌≡◌, ℕ, ◌+◌, ◌≤◌, ◌<◌, ◌^�
 use Rattle.s360_words.specs.Storage.{Storage}
 use Rattle.ckd_command.specs.Drive.{State, Open, gives, length_of, unsaved}
 use Rattle.ckd_drive.specs.Work.{DriveState, Work, Idle, Looking, Passing}
-use Rattle.s360_runs.specs.Places.{Place}
-use Rattle.s360_runs.specs.Units.{ProgramPhase, Between}
-use Rattle.s360_runs.specs.Units as phase
+use Rattle.s360_laws.specs.Places.{Place}
+use Rattle.s360_laws.specs.Units.{ProgramPhase, Between}
+use Rattle.s360_laws.specs.Units as phase
 use Rattle.s360_program.specs.Stage.{Stage}
 use Rattle.s360_program.specs.Stage as stage
 

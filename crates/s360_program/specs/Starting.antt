@@ -7,13 +7,13 @@ use Rattle.s360_words.specs.declared.words.Caw.{Caw}
 use Rattle.ckd_command.specs.Drive.{AfterBegin, begin, drive_of}
 use Rattle.ckd_command.specs.declared.close.DriveEnding.{DriveEnding}
 use Rattle.ckd_drive.specs.Work.{DriveState, Idle}
-use Rattle.s360_runs.specs.Endings.{Ending, ending, immediate}
-use Rattle.s360_runs.specs.Runs.{Start, start_point}
-use Rattle.s360_runs.specs.Starts.{BadStart, RejectedStart, ImmediateStart, AcceptedStart, first, first_begun}
-use Rattle.s360_runs.specs.Status.{no_channel_status, with_interruption}
-use Rattle.s360_runs.specs.Units.{Between, GoesOn, unit, next_begun}
-use Rattle.s360_runs.specs.Transfers.{Request}
-use Rattle.s360_runs.specs.Unsaved.{GainsNoCheck}
+use Rattle.s360_laws.specs.Endings.{Ending, ending, immediate}
+use Rattle.s360_laws.specs.Runs.{Start, start_point}
+use Rattle.s360_laws.specs.Starts.{BadStart, RejectedStart, ImmediateStart, AcceptedStart, first, first_begun}
+use Rattle.s360_laws.specs.Status.{no_channel_status, with_interruption}
+use Rattle.s360_laws.specs.Units.{Between, GoesOn, unit, next_begun}
+use Rattle.s360_laws.specs.Transfers.{Request}
+use Rattle.s360_laws.specs.Unsaved.{GainsNoCheck}
 use Rattle.s360_program.specs.Advances.{Rests, Leaves}
 use Rattle.s360_program.specs.Stands.{RunningState, Stands, phase_in}
 use Rattle.s360_program.specs.Place.{place_of}

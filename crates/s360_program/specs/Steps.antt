@@ -16,15 +16,15 @@ use Rattle.ckd_drive.specs.Work.{DriveState, Work, Over, Passing, passed_of, lef
 use Rattle.ckd_drive.specs.Work.{failed_ending, look_loads, look_saves, CallsStore, Reports, GivesWhole}
 use Rattle.ckd_drive.specs.declared.answers.Look.TheVariants as seen
 use Rattle.ckd_drive.specs.declared.answers.WholeRead.{WholeRead}
-use Rattle.s360_runs.specs.Commands.{Point}
-use Rattle.s360_runs.specs.Endings.{Ending, ending, csw_at}
-use Rattle.s360_runs.specs.Laws.{MayMove}
-use Rattle.s360_runs.specs.Places.{Place}
-use Rattle.s360_runs.specs.Scripts.{units}
-use Rattle.s360_runs.specs.Status.{tells, no_channel_status, is_clear, stops_chaining}
-use Rattle.s360_runs.specs.Transfers.{Request, Transfer, next_bytes, storage_after, check_of}
-use Rattle.s360_runs.specs.Units.{ProgramPhase, Next, GoesOn, EndsIn, unit, walk, StandsIn}
-use Rattle.s360_runs.specs.Unsaved.{GainsNoCheck}
+use Rattle.s360_laws.specs.Commands.{Point}
+use Rattle.s360_laws.specs.Endings.{Ending, ending, csw_at}
+use Rattle.s360_laws.specs.Laws.{MayMove}
+use Rattle.s360_laws.specs.Places.{Place}
+use Rattle.s360_laws.specs.Scripts.{units}
+use Rattle.s360_laws.specs.Status.{tells, no_channel_status, is_clear, stops_chaining}
+use Rattle.s360_laws.specs.Transfers.{Request, Transfer, next_bytes, storage_after, check_of}
+use Rattle.s360_laws.specs.Units.{ProgramPhase, Next, GoesOn, EndsIn, unit, walk, StandsIn}
+use Rattle.s360_laws.specs.Unsaved.{GainsNoCheck}
 use Rattle.s360_program.specs.Advances.{IsEnding, NeedNoStore, TellsFault, TellsNoFault}
 use Rattle.s360_storage.specs.Kept.{KeepsStorage}
 use Rattle.s360_program.specs.Place.{place_of}

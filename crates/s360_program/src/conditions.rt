@@ -2,8 +2,8 @@
 //! 'Channel Status Conditions').
 
 ghost use Rattle.std.specs.Prelude.{◌≡◌};
-ghost use Rattle.s360_runs.specs.Endings.{csw_at};
-ghost use Rattle.s360_runs.specs.Status.{beside, with_interruption};
+ghost use Rattle.s360_laws.specs.Endings.{csw_at};
+ghost use Rattle.s360_laws.specs.Status.{beside, with_interruption};
 ghost use Rattle.s360_program.specs.Place.{place_of};
 ghost use Rattle.s360_program.specs.Steps.{status_of, condition_for, chains_after};
 

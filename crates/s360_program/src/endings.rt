@@ -2,7 +2,7 @@
 
 ghost use Rattle.std.specs.Prelude.{◌≡◌, false, [], Some};
 ghost use Rattle.ckd_command.specs.Drive.{is_written, unsaved};
-ghost use Rattle.s360_runs.specs.Endings.{ending};
+ghost use Rattle.s360_laws.specs.Endings.{ending};
 ghost use Rattle.ckd_drive.specs.Work.{passed_of, fault_met, CallsStore, Reports};
 ghost use Rattle.s360_program.specs.Advances.{IsEnding};
 ghost use Rattle.s360_program.specs.Place.{place_of};

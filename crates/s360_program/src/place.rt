@@ -2,8 +2,8 @@
 //! Operations: 'Channel Command Word', 'Chaining', 'Transfer in Channel').
 
 ghost use Rattle.std.specs.Prelude.{◌≡◌, ◌+◌, ◌≤◌, ◌^◌};
-ghost use Rattle.s360_runs.specs.Places.{fetch, past_ccw, past_transfer, past_no_ccw, is_invalid};
-ghost use Rattle.s360_runs.specs.Runs.{first_place};
+ghost use Rattle.s360_laws.specs.Places.{fetch, past_ccw, past_transfer, past_no_ccw, is_invalid};
+ghost use Rattle.s360_laws.specs.Runs.{first_place};
 ghost use Rattle.s360_program.specs.Place.{place_of, fetched_of, FetchedWithin, modified_place};
 
 use bitflags::Flags;

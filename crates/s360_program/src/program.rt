@@ -4,9 +4,9 @@ ghost use Rattle.std.specs.Prelude.{◌≡◌, ◌*◌, ◌≤◌, true, false, 
 ghost use Rattle.s360_words.specs.Storage.{Storage as StorageState};
 ghost use Rattle.ckd_command.specs.Drive.{drive_of, is_written};
 ghost use Rattle.ckd_drive.specs.Work.{DriveState, CallsStore};
-ghost use Rattle.s360_runs.specs.Scripts.{TakesInterruption};
-ghost use Rattle.s360_runs.specs.Units.{standing_in, phase_past};
-ghost use Rattle.s360_runs.specs.Unsaved.{has_written};
+ghost use Rattle.s360_laws.specs.Scripts.{TakesInterruption};
+ghost use Rattle.s360_laws.specs.Units.{standing_in, phase_past};
+ghost use Rattle.s360_laws.specs.Unsaved.{has_written};
 ghost use Rattle.s360_program.specs.Advances.{Rests, Advances, RunsOn, Cuts, CallsAtMost, NeedNoStore, TellsOf, CutTellsOf};
 ghost use Rattle.s360_storage.specs.Kept.{KeepsStorage};
 ghost use Rattle.s360_program.specs.Stands.{Stands, phase_in};

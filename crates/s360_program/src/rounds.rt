@@ -4,7 +4,7 @@
 ghost use Rattle.std.specs.Prelude.{◌≡◌, ◌≤◌, ◌+◌, ◌<◌, ◌^◌, length, take, drop, IfSome};
 ghost use Rattle.s360_program.specs.Place.{place_of};
 ghost use Rattle.s360_program.specs.Steps.{Fits, GoesRound};
-ghost use Rattle.s360_runs.specs.Rounds.{LeadsBack};
+ghost use Rattle.s360_laws.specs.Rounds.{LeadsBack};
 
 use crate::place::{Fetched, Place};
 use crate::run::{Comes, Run};

@@ -3,10 +3,10 @@
 ghost use Rattle.std.specs.Prelude.{ℕ, ◌≡◌, ◌⊎◌, ◌<◌, ◌≤◌, ◌+◌, ◌*◌, ◌^◌, ◌==◌, ◌&&◌, ◌||◌, [], not, true, false, None, is_some, IfSome, IfNone};
 ghost use Rattle.s360_words.specs.Words.{chains_data, suppresses_length};
 ghost use Rattle.ckd_command.specs.Drive.{is_written, unsaved};
-ghost use Rattle.s360_runs.specs.Commands.{choice};
-ghost use Rattle.s360_runs.specs.Endings.{ending};
-ghost use Rattle.s360_runs.specs.Units.{unit, next_chosen, Between, EndsIn, standing_in};
-ghost use Rattle.s360_runs.specs.Unsaved.{has_written};
+ghost use Rattle.s360_laws.specs.Commands.{choice};
+ghost use Rattle.s360_laws.specs.Endings.{ending};
+ghost use Rattle.s360_laws.specs.Units.{unit, next_chosen, Between, EndsIn, standing_in};
+ghost use Rattle.s360_laws.specs.Unsaved.{has_written};
 ghost use Rattle.s360_words.specs.Storage.{Storage as StorageState};
 ghost use Rattle.ckd_drive.specs.Work.{is_idle, may_end, closed_of, left_of, passed_of, CallsStore};
 ghost use Rattle.s360_program.specs.Advances.{RunsOn, CallsAtMost, NeedNoStore, TellsOf};

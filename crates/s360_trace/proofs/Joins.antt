@@ -3,10 +3,10 @@ use Rattle.std.proofs.Common.{◌≡◌, ℕ, zero, suc, ◌+◌, ◌-◌, ◌*�
 use Rattle.std.proofs.Common.{Option, Some, None, add-zero, suc-add, append_assoc, ◌⊎◌, inl}
 use Rattle.ckd_command.specs.Drive.{Fault}
 use Rattle.s360_words.specs.declared.words.Csw.{Csw}
-use Rattle.s360_runs.specs.Endings.{Outcome, Ended, NotEnded}
-use Rattle.s360_runs.specs.Runs.{run}
-use Rattle.s360_runs.specs.Scripts.{Script, units, OneUnit}
-use Rattle.s360_runs.proofs.Walks.{ended_stays}
+use Rattle.s360_laws.specs.Endings.{Outcome, Ended, NotEnded}
+use Rattle.s360_laws.specs.Runs.{run}
+use Rattle.s360_laws.specs.Scripts.{Script, units, OneUnit}
+use Rattle.s360_laws.proofs.Walks.{ended_stays}
 use Rattle.s360_laws.specs.Events.{Answer, FaultAfter, StepBy, Stepped}
 use Rattle.s360_laws.specs.History.{Runs}
 use Rattle.s360_laws.specs.Machine.{Machine, Device, Subchannel, Idle, Working, Pending, react, is_working, units_with, units_failing}

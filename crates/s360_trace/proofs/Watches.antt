@@ -2,11 +2,11 @@
 use Rattle.std.proofs.Common.{◌≡◌, ℕ, suc, ◌+◌, ◌≤◌, refl, sym, ap, subst, ◌∙◌, arith, true, Option, Some, None}
 use Rattle.std.proofs.Common.{List, [], ◌∷◌, ◌++◌, length}
 use Rattle.s360_words.specs.Storage.{Storage}
-use Rattle.s360_runs.specs.Endings.{Outcome, Ended, NotEnded, Ending}
-use Rattle.s360_runs.specs.Runs.{Start, run}
-use Rattle.s360_runs.specs.Scripts.{Script, units_in}
-use Rattle.s360_runs.specs.Units.{ProgramPhase, walk, EndsWith}
-use Rattle.s360_runs.proofs.Standing.{stands_somewhere}
+use Rattle.s360_laws.specs.Endings.{Outcome, Ended, NotEnded, Ending}
+use Rattle.s360_laws.specs.Runs.{Start, run}
+use Rattle.s360_laws.specs.Scripts.{Script, units_in}
+use Rattle.s360_laws.specs.Units.{ProgramPhase, walk, EndsWith}
+use Rattle.s360_laws.proofs.Standing.{stands_somewhere}
 use Rattle.s360_laws.specs.Events as machine
 use Rattle.s360_laws.specs.Events.{Answer, FaultAfter, StepBy, Stepped}
 use Rattle.s360_laws.specs.History.{Runs}
@@ -17,8 +17,8 @@ use Rattle.s360_laws.specs.Steps.{units_of}
 use Rattle.s360_laws.proofs.FindDevices.{by_device, working}
 use Rattle.s360_laws.proofs.Reactions.{Stands, stands_in}
 use Rattle.s360_laws.proofs.StepUnits.{ended_in, units_count, units_front}
-use Rattle.s360_events.specs.declared.events.Event.{Event}
-use Rattle.s360_events.specs.declared.answers.Answer.{Answer as Answered}
+use Rattle.s360_laws.specs.declared.events.Event.{Event}
+use Rattle.s360_laws.specs.declared.answers.Answer.{Answer as Answered}
 use Rattle.s360_channel.specs.Calls.{Does, IsMet}
 use Rattle.s360_channel.specs.Channel.{ChannelState}
 use Rattle.s360_channel.proofs.Stepping.{runs_of}

@@ -2,9 +2,9 @@
 use Rattle.std.specs.Prelude.{◌≡◌, ℕ, zero, suc, List, [], ◌∷◌}
 use Rattle.s360_laws.specs.Events as machine
 use Rattle.s360_laws.specs.Machine.{Machine}
-use Rattle.s360_events.specs.Seen.{event_seen, answer_seen}
-use Rattle.s360_events.specs.declared.events.Event.{Event}
-use Rattle.s360_events.specs.declared.answers.Answer.{Answer}
+use Rattle.s360_laws.specs.Seen.{event_seen, answer_seen}
+use Rattle.s360_laws.specs.declared.events.Event.{Event}
+use Rattle.s360_laws.specs.declared.answers.Answer.{Answer}
 use Rattle.s360_channel.specs.Channel.{ChannelState, StandsFor}
 use Rattle.s360_trace.specs.Happens.{Happens}
 use Rattle.s360_trace.specs.declared.watching.Moment.{Moment}

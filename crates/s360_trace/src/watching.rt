@@ -3,8 +3,8 @@
 ghost use Rattle.std.specs.Prelude.{◌≡◌, ◌≤◌, map, true, IfOk, OnErr};
 ghost use Rattle.s360_laws.specs.Events as machine;
 ghost use Rattle.s360_laws.specs.Machine.{Machine, is_working};
-ghost use Rattle.s360_events.specs.Seen.{event_seen, answer_seen};
-ghost use Rattle.s360_events.specs.Answered.{AllAnswered, IsAnswered};
+ghost use Rattle.s360_laws.specs.Seen.{event_seen, answer_seen};
+ghost use Rattle.s360_laws.specs.Answered.{AllAnswered, IsAnswered};
 ghost use Rattle.s360_channel.specs.Channel.{ChannelState, StandsFor};
 ghost use Rattle.s360_channel.specs.Lists.{Follows};
 ghost use Rattle.s360_trace.specs.Happens.{Happens};
@@ -12,7 +12,7 @@ ghost use Rattle.s360_trace.specs.Looks.{Look, AllWatched, IsDone, IsWatched, Se
 
 use ckd_image::ImageStore;
 use s360_channel::{Channel, SubchannelView};
-use s360_events::{Answer, Event, push_answer};
+use s360_laws::{Answer, Event, push_answer};
 use std::alloc::{AllocError, Global};
 
 /// When a watcher looks.

@@ -3,7 +3,7 @@ use Rattle.std.specs.Prelude.{ℕ, List, [], ◌∷◌, ◌++◌, replicate}
 use Rattle.byteorder.specs.Endian.{big_bytes}
 use Rattle.s360_words.specs.Storage.{Storage, cleared, stored}
 use Rattle.ckd_command.specs.Drive.{IdleDrive}
-use Rattle.s360_runs.specs.Runs.{Start}
+use Rattle.s360_laws.specs.Runs.{Start}
 
 -- a channel command word: its code, data address, flags and count
 abbrev pub ccw : (code address flags count : ℕ) → List ℕ

@@ -5,7 +5,7 @@ use Rattle.ckd_track.specs.declared.fault.SlotFault.{SlotFault}
 use Rattle.ckd_sense.specs.SenseBytes.{sense_bytes}
 use Rattle.ckd_command.specs.Drive.{IdleDrive, slots_of, track_number}
 use Rattle.s360_words.specs.declared.words.Csw.{Csw}
-use Rattle.s360_runs.specs.Endings.{Outcome, Ended, NotEnded}
+use Rattle.s360_laws.specs.Endings.{Outcome, Ended, NotEnded}
 
 -- how many units it took, the first one of Start I/O among them; its CSW; the sense bytes; and bytes of storage
 pub record Seen : Type 0 where

@@ -1,13 +1,13 @@
 -- A drive with two short tracks, and channel programs over it that show one rule each.
 use Rattle.std.specs.Prelude.{ℕ, List, [], ◌∷◌, ◌++◌, replicate, Option, Some, None, Result}
 use Rattle.ckd_track.specs.declared.fault.SlotFault.{SlotFault}
-use Rattle.s360_runs.specs.Endings.{Outcome, Ended, NotEnded}
+use Rattle.s360_laws.specs.Endings.{Outcome, Ended, NotEnded}
 use Rattle.s360_worked.specs.Seen.{track_under_arm}
 use Rattle.ckd_track.specs.Track.{Track, slot_of}
 use Rattle.ckd_track.specs.declared.model.DriveModel.TheVariants.{D2311}
 use Rattle.ckd_command.specs.Drive.{Fault, IdleDrive, SaveFails, no_sense}
 use Rattle.s360_words.specs.Storage.{Storage, cleared, stored, with_key}
-use Rattle.s360_runs.specs.Runs.{Start}
+use Rattle.s360_laws.specs.Runs.{Start}
 use Rattle.s360_laws.specs.Events.{Input, Sio, Tio, Hio, Tch, StepBy, Arrive, Interrupt, Reset, Show}
 use Rattle.s360_laws.specs.Machine.{plain}
 use Rattle.s360_worked.specs.ChannelPrograms.{ccw, program}

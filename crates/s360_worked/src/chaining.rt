@@ -4,8 +4,8 @@
 ghost use Rattle.std.specs.Prelude.{◌≡◌, replicate, [], ◌∷◌, ◌++◌, None};
 ghost use Rattle.s360_laws.specs.Events.{StatusStored, Stepped, Interrupted};
 ghost use Rattle.s360_laws.specs.Machine.{answers};
-ghost use Rattle.s360_runs.specs.Runs.{run};
-ghost use Rattle.s360_runs.specs.Scripts.{units};
+ghost use Rattle.s360_laws.specs.Runs.{run};
+ghost use Rattle.s360_laws.specs.Scripts.{units};
 ghost use Rattle.s360_worked.specs.ChannelPrograms.{start, transfer_first, transfer_to_transfer, read_next_word, read_into_two};
 ghost use Rattle.s360_worked.specs.Channels.{channel, whole_program};
 ghost use Rattle.s360_worked.specs.Seen.{sense_of, seen, saw, csw};

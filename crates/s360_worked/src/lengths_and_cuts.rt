@@ -5,8 +5,8 @@ ghost use Rattle.std.specs.Prelude.{◌≡◌, [], ◌∷◌, ◌++◌, Some, No
 ghost use Rattle.s360_laws.specs.Events.{Hio, WithCode, StatusStored, Stepped, Interrupted};
 ghost use Rattle.s360_laws.specs.Machine.{answers};
 ghost use Rattle.s360_laws.specs.declared.condition.ConditionCode.TheVariants.{Zero, Two};
-ghost use Rattle.s360_runs.specs.Runs.{run};
-ghost use Rattle.s360_runs.specs.Scripts.{units};
+ghost use Rattle.s360_laws.specs.Runs.{run};
+ghost use Rattle.s360_laws.specs.Scripts.{units};
 ghost use Rattle.s360_worked.specs.ChannelPrograms.{ccw, program, start};
 ghost use Rattle.s360_worked.specs.Channels.{channel, glance_after, glanced, steps_and, whole_program};
 ghost use Rattle.s360_worked.specs.Seen.{sense_of, seen, saw, csw};

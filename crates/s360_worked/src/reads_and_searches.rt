@@ -3,8 +3,8 @@
 //! Input/Output Operations: 'Incorrect Length', 'Program Check', 'Protection Check'.
 
 ghost use Rattle.std.specs.Prelude.{◌≡◌, replicate, [], ◌∷◌};
-ghost use Rattle.s360_runs.specs.Runs.{run};
-ghost use Rattle.s360_runs.specs.Scripts.{units};
+ghost use Rattle.s360_laws.specs.Runs.{run};
+ghost use Rattle.s360_laws.specs.Scripts.{units};
 ghost use Rattle.s360_worked.specs.ChannelPrograms.{start, start_with_key_1, search_and_read, read, read_at_end, read_without_data, search_key_from_head_8};
 ghost use Rattle.s360_worked.specs.ChannelPrograms.{seek_cylinder_2};
 ghost use Rattle.s360_worked.specs.Seen.{sense_of, seen, saw, csw, csw_with_key};

@@ -3,9 +3,9 @@
 
 ghost use Rattle.std.specs.Prelude.{◌≡◌, replicate, [], ◌∷◌};
 ghost use Rattle.s360_words.specs.Storage.{cleared, stored};
-ghost use Rattle.s360_runs.specs.Runs.{run};
-ghost use Rattle.s360_runs.specs.Scripts.{units};
-ghost use Rattle.s360_runs.specs.Starts.{first, BadStart, AcceptedStart};
+ghost use Rattle.s360_laws.specs.Runs.{run};
+ghost use Rattle.s360_laws.specs.Scripts.{units};
+ghost use Rattle.s360_laws.specs.Starts.{first, BadStart, AcceptedStart};
 ghost use Rattle.s360_worked.specs.ChannelPrograms.{ccw, program, start};
 ghost use Rattle.s360_worked.specs.Seen.{sense_of, seen, saw, csw};
 ghost use Rattle.s360_worked.specs.Small.{transfer_to_last_word, transfer_by_another_code, bad_flag_in_data, small_drive, start_at, transfer_to_414};

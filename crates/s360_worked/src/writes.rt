@@ -6,8 +6,8 @@ ghost use Rattle.std.specs.Prelude.{◌≡◌, replicate, [], ◌∷◌, ◌++�
 ghost use Rattle.s360_laws.specs.Events.{Hio, Reset, WithCode, StatusStored, Stepped, Interrupted, WasReset};
 ghost use Rattle.s360_laws.specs.Machine.{answers};
 ghost use Rattle.s360_laws.specs.declared.condition.ConditionCode.TheVariants.{Zero, Two};
-ghost use Rattle.s360_runs.specs.Runs.{run};
-ghost use Rattle.s360_runs.specs.Scripts.{units};
+ghost use Rattle.s360_laws.specs.Runs.{run};
+ghost use Rattle.s360_laws.specs.Scripts.{units};
 ghost use Rattle.s360_worked.specs.ChannelPrograms.{start, format_record_1, update_record_1, write_at_once, write_under_mask};
 ghost use Rattle.s360_worked.specs.Channels.{channel, glance_after, glance_after_programs, glanced, steps_and, whole_program};
 ghost use Rattle.s360_worked.specs.Seen.{sense_of, seen, saw, csw};

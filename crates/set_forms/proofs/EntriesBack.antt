@@ -14,7 +14,7 @@ use Rattle.std.proofs.lemmas.List.{get_or-append_right}
 use Rattle.std.proofs.lemmas.List.Concat.{flat_map-append}
 use Rattle.std.proofs.lemmas.List.Elements.{All-head, All-tail}
 use Rattle.counted_io.specs.Text.{hexadecimal, bytes_text}
-use Rattle.data_sets.specs.Names.{safe_name_of}
+use Rattle.volume_labels.specs.Names.{safe_name_of}
 use Rattle.set_forms.specs.declared.forms.EntryForm.{EntryForm}
 use Rattle.set_forms.specs.declared.forms.Note.{Note}
 use Rattle.set_forms.specs.declared.forms.Note.TheVariants.{Block, Address}

@@ -3,7 +3,7 @@ use Rattle.std.proofs.Common.{ℕ, ◌≡◌, List, [], ◌∷◌, ◌++◌, Boo
 use Rattle.std.proofs.Common.{append-nil, ap, refl, lit<, arith}
 use Rattle.std.specs.Fmt.{decimal}
 use Rattle.std.proofs.lemmas.List.Concat.{flat_map-append}
-use Rattle.data_sets.specs.Names.{safe_name_of}
+use Rattle.volume_labels.specs.Names.{safe_name_of}
 use Rattle.set_forms.specs.declared.forms.SetForm.{SetForm}
 use Rattle.set_forms.specs.declared.forms.FormLine.{FormLine}
 use Rattle.set_forms.specs.declared.forms.FormLine.TheVariants.{Set}

@@ -10,8 +10,8 @@ use Rattle.std.proofs.lemmas.List.{same_lists, get_or-reverse, take-append-drop,
 use Rattle.std.proofs.lemmas.List.Sums.{suffix_len-le-length, prefix_len_passes}
 use Rattle.std.proofs.lemmas.List.Elements.{All-head, All-tail, All-take}
 use Rattle.volume_labels.specs.Ebcdic.{code_page_037}
-use Rattle.data_sets.specs.Lines.{is_blank, without_blanks}
-use Rattle.data_sets.specs.Names.{byte_name, bytes_names, safe_name_of}
+use Rattle.volume_labels.specs.Lines.{is_blank, without_blanks}
+use Rattle.volume_labels.specs.Names.{byte_name, bytes_names, safe_name_of}
 use Rattle.set_forms.specs.Numbers.{byte_of}
 use Rattle.set_forms.specs.Names.{plain_byte, and_more, bytes_within, name_bytes, in_room, name_of}
 use Rattle.set_forms.specs.Laws.{AreBytes}

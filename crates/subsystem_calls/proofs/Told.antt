@@ -1,9 +1,9 @@
 -- What a call at one of several channels does, told in other words.
 use Rattle.std.proofs.Common.{◌≡◌, ap, arith, refl, sym, ◌∙◌, subst, ℕ, Option, Some, None}
 use Rattle.std.specs.Prelude.{ℤ, pos}
-use Rattle.s360_events.specs.Seen.{condition_seen}
-use Rattle.s360_events.specs.declared.conditions.Condition.{Condition}
-use Rattle.s360_events.specs.declared.conditions.Condition.TheVariants as condition
+use Rattle.s360_laws.specs.Seen.{condition_seen}
+use Rattle.s360_laws.specs.declared.status.Condition.{Condition}
+use Rattle.s360_laws.specs.declared.status.Condition.TheVariants as condition
 use Rattle.s360_words.specs.declared.words.Csw.{Csw}
 use Rattle.s360_laws.specs.Events.{Answer, Interrupted}
 use Rattle.subsystem_calls.specs.Codes.{address_from, code_of}

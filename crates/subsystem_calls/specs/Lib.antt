@@ -6,3 +6,4 @@ pub mod Sized
 pub mod Watching
 pub mod Saving
 pub mod States
+pub mod Looks

@@ -3,14 +3,14 @@
 ghost use Rattle.std.specs.Prelude.{◌≡◌, pos, if◌then◌else◌};
 ghost use Rattle.s360_laws.specs.Events as machine;
 ghost use Rattle.s360_laws.specs.declared.condition.ConditionCode.TheVariants as code;
-ghost use Rattle.s360_events.specs.Seen.{condition_seen, status_seen, csw_seen};
+ghost use Rattle.s360_laws.specs.Seen.{condition_seen, status_seen, csw_seen};
 ghost use Rattle.subsystem_calls.specs.Codes.{code_of, address_from, detach_code, refusal_code};
 
 use ckd_image::MountFault;
 use dasd_subsystem::Refusal;
 use s360_channel::DetachFault as WhyStays;
 use s360_channels::DetachFault;
-use s360_events::{Condition, Status};
+use s360_laws::{Condition, Status};
 use s360_words::Csw;
 
 /// It was done.

@@ -4,7 +4,7 @@ use crate::stage::{NO_CHANNEL, Stage};
 use ckd_image::Image;
 use s360_channel::{Channel, Finished, Reset};
 use s360_deck::{AnswerLine, DeckFault, parse};
-use s360_events::Answer;
+use s360_laws::Answer;
 use s360_words::Storage;
 use stage_drives::put;
 use stage_files::{FileStore, Files, Line, Said, Word};

@@ -5,7 +5,7 @@ use crate::channels_shown::show;
 use crate::stage::Stage;
 use crate::verbs::OfChannels;
 use s360_channels::{Channels, Removed};
-use s360_events::Answer;
+use s360_laws::Answer;
 use s360_words::Storage;
 use stage_drives::put;
 use stage_files::{FileStore, Line, Said};

@@ -1,6 +1,6 @@
 //! Decks: their lines, how they are read and written, and what they come to at the channel.
 
-ghost use Rattle.s360_events.specs.Answered.{AllAnswered};
+ghost use Rattle.s360_laws.specs.Answered.{AllAnswered};
 
 use crate::channel::Disks;
 use crate::deck_lines::{say_answers, say_events};
@@ -10,7 +10,7 @@ use crate::verbs::OfDeck;
 use counted_io::Counted;
 use s360_channel::drive;
 use s360_deck::{DeckFault, RunFault, parse, run, run_counted, run_watched, serial};
-use s360_events::{Answer, Event};
+use s360_laws::{Answer, Event};
 use stage_files::{Line, MEMORY, Said, Word};
 use std::alloc::{AllocError, Global};
 use std::mem;

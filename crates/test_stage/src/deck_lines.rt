@@ -1,7 +1,7 @@
 //! Events and answers as lines.
 
 use crate::channel::answered;
-use s360_events::{Answer, Event};
+use s360_laws::{Answer, Event};
 use stage_files::{Said, Word};
 
 /// Events as lines of a deck, with a bar behind each.

@@ -254,3 +254,10 @@ impl KeptBytes {
         }
     }
 }
+
+mod last_lines;
+mod output;
+mod rounds;
+mod selected;
+
+pub use crate::output::{TraceFault, TraceOutput, TracedLines};

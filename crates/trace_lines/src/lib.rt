@@ -16,4 +16,4 @@ pub use crate::kept::KeptTrace;
 pub use crate::seen::{Shown, Work, ending_of};
 pub use crate::trace::Trace;
 pub use crate::tracer::Tracer;
-pub use trace_output::{TraceFault, TracedLines};
+pub use trace_kept::{TraceFault, TracedLines};

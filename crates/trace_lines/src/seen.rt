@@ -7,7 +7,7 @@ use ckd_drive::Drive;
 use ckd_image::ImageStore;
 use ckd_position::{Area, Position};
 use s360_channel::{DriveView, SubchannelView, Watched};
-use s360_events::Answer;
+use s360_laws::Answer;
 use s360_program::view::{AtWork, ProgramView};
 use s360_trace::Moment;
 use s360_words::{Csw, UnitStatus};

@@ -3,7 +3,7 @@
 use crate::seen::{Seen, has_unit_check, place_in};
 use crate::trace::{Leave, Trace};
 use bitflags::Flags;
-use s360_events::{Condition, Status};
+use s360_laws::{Condition, Status};
 use s360_program::view::{AtWork, ProgramView};
 use s360_words::{Ccw, ChannelStatus, UnitStatus};
 use trace_words::{

@@ -1,7 +1,7 @@
 //! What a look finds in main storage, whoever keeps that.
 
 use crate::seen::Went;
-use s360_events::Event;
+use s360_laws::Event;
 use s360_program::view::{AtWork, ProgramView};
 use s360_storage::MainStorage;
 use s360_trace::Moment;

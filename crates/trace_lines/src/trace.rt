@@ -9,7 +9,7 @@ use ckd_command::Credit;
 use ckd_position::Area;
 use s360_channel::DriveView;
 use s360_deck::AnswerLine;
-use s360_events::{Answer, Condition, Event};
+use s360_laws::{Answer, Condition, Event};
 use s360_program::view::{AtWork, ProgramView};
 use s360_storage::MainStorage;
 use s360_trace::Moment;

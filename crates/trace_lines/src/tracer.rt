@@ -7,7 +7,7 @@ use s360_channel::{Channel, DriveView};
 use s360_trace::{Moment, Watcher};
 use std::alloc::{AllocError, Global};
 use std::io::Write;
-use trace_output::{TraceFault, TraceOutput, TracedLines};
+use trace_kept::{TraceFault, TraceOutput, TracedLines};
 
 /// Writes a trace of what it sees. A write that fails is its last, and is told at the end; what is watched goes on.
 #[derive(Drop)]

@@ -6,11 +6,11 @@ use Rattle.s360_words.specs.Words.{has}
 use Rattle.s360_words.specs.declared.words.Csw.{Csw}
 use Rattle.s360_explain.specs.Names.{names_text}
 use Rattle.s360_explain.specs.declared.bits.Field.TheVariants as field
-use Rattle.s360_events.specs.declared.conditions.Status.{Status}
-use Rattle.s360_events.specs.declared.conditions.Condition.{Condition}
-use Rattle.s360_events.specs.declared.conditions.Condition.TheVariants.{Zero, Stored, Two, Three}
-use Rattle.s360_events.specs.declared.answers.Answer.{Answer}
-use Rattle.s360_events.specs.declared.answers.Answer.TheVariants.{Sio, Tio, Hio, Tch, Step, Run, Arrive, Interrupt, Reset}
+use Rattle.s360_laws.specs.declared.status.Status.{Status}
+use Rattle.s360_laws.specs.declared.status.Condition.{Condition}
+use Rattle.s360_laws.specs.declared.status.Condition.TheVariants.{Zero, Stored, Two, Three}
+use Rattle.s360_laws.specs.declared.answers.Answer.{Answer}
+use Rattle.s360_laws.specs.declared.answers.Answer.TheVariants.{Sio, Tio, Hio, Tch, Step, Run, Arrive, Interrupt, Reset}
 use Rattle.trace_words.specs.Numbers.{storage_address, device_address, key_digit}
 
 -- Status.

@@ -3,13 +3,19 @@
 #![tactic(auto)]
 
 mod blocks;
+mod confirms;
+mod free_blocks;
 mod labels;
 mod names;
+mod plans;
 mod refusal;
 mod renames;
+mod runs;
 
 pub use crate::blocks::{BlockChange, write_block};
+pub use crate::confirms::is_confirmed;
 pub use crate::labels::{LabelFields, serial_change, write_label};
 pub use crate::names::new_set_name;
+pub use crate::plans::{DeletionPlan, PlanFault, plan_deletion};
 pub use crate::refusal::ChangeRefusal;
 pub use crate::renames::{find_set, plan_rename};

@@ -7,7 +7,7 @@ ghost use Rattle.volume_changes.specs.Volumes.{said_in, rename_of, rename_at};
 
 use crate::blocks::BlockChange;
 use crate::refusal::ChangeRefusal;
-use data_sets::without_blanks;
+use volume_labels::without_blanks;
 use volume_contents::{Block, Contents, is_data_set};
 
 // Whether a block is that of a data set with this name, which has blanks behind it or not.

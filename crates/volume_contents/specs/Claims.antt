@@ -4,7 +4,7 @@ use Rattle.std.specs.List.{position}
 use Rattle.ckd_track.specs.declared.geometries.Geometry.{Geometry}
 use Rattle.ckd_track.specs.Model.{heads_of}
 use Rattle.volume_labels.specs.declared.fields.Extent.{Extent}
-use Rattle.data_sets.specs.Addresses.{number_of_track, is_split, is_run, heads_in}
+use Rattle.volume_labels.specs.Addresses.{number_of_track, is_split, is_run, heads_in}
 use Rattle.volume_contents.specs.declared.runs.Run.{Run}
 use Rattle.volume_contents.specs.declared.findings.Problem.{Problem}
 use Rattle.volume_contents.specs.declared.findings.Problem.TheVariants.{BadExtent, ExtentOutside, Overlap}

@@ -5,7 +5,7 @@ use Rattle.ckd_track.specs.Geometry.{tracks_of}
 use Rattle.ckd_track.specs.Model.{heads_of}
 use Rattle.volume_labels.specs.declared.fields.TrackAddress.{TrackAddress}
 use Rattle.volume_labels.specs.declared.fields.Extent.{Extent}
-use Rattle.data_sets.specs.Addresses.{number_of_track, is_run, tracks_of_extent}
+use Rattle.volume_labels.specs.Addresses.{number_of_track, is_run, tracks_of_extent}
 use Rattle.volume_contents.specs.declared.runs.Run.{Run}
 
 -- the volume has this track

@@ -12,7 +12,7 @@ use Rattle.volume_labels.specs.declared.blocks.BlockKind.TheVariants.{Unknown}
 use Rattle.volume_labels.specs.declared.blocks.DataSetBlock.{DataSetBlock}
 use Rattle.volume_labels.specs.Labels.{data_set_block_of}
 use Rattle.volume_labels.specs.Blocks.{extents_block_of, free_space_block_of}
-use Rattle.data_sets.specs.Lines.{without_blanks}
+use Rattle.volume_labels.specs.Lines.{without_blanks}
 use Rattle.volume_contents.specs.declared.blocks.Block.{Block}
 use Rattle.volume_contents.specs.declared.sets.DataSet as set
 use Rattle.volume_contents.specs.declared.sets.FreeSpace as space

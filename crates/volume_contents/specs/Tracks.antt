@@ -4,7 +4,7 @@ use Rattle.ckd_track.specs.declared.geometries.Geometry.{Geometry}
 use Rattle.ckd_track.specs.Model.{heads_of}
 use Rattle.volume_labels.specs.declared.fields.Extent.{Extent}
 use Rattle.volume_labels.specs.declared.fields.RelativeAddress.{RelativeAddress}
-use Rattle.data_sets.specs.Addresses.{tracks_of_extent}
+use Rattle.volume_labels.specs.Addresses.{tracks_of_extent}
 use Rattle.volume_contents.specs.declared.blocks.Block.{Block}
 use Rattle.volume_contents.specs.Runs.{is_on}
 use Rattle.volume_contents.specs.Sets.{pieces_behind, number_of_free}

@@ -4,15 +4,14 @@ ghost use Rattle.std.specs.Prelude.{◌≡◌, ◌≤◌, ◌<◌, ◌+◌, ◌-
 ghost use Rattle.std.specs.List.{position};
 ghost use Rattle.ckd_track.specs.Geometry.{tracks_of};
 ghost use Rattle.ckd_track.specs.Model.{heads_of};
-ghost use Rattle.data_sets.specs.Addresses.{number_of_track, is_split};
+ghost use Rattle.volume_labels.specs.Addresses.{number_of_track, is_split};
 ghost use Rattle.volume_contents.specs.Runs.{is_on};
 ghost use Rattle.volume_contents.specs.Claims.{is_taken, first_taken, claimed, claim_of, claimed_by, run_of, run_on, split_claimed, tracks_claimed};
 
 use crate::findings::Problem;
 use crate::runs::{Run, exists_on, is_run, number_of};
 use ckd_track::Geometry;
-use data_sets::is_split;
-use volume_labels::{Extent, TrackAddress};
+use volume_labels::{Extent, TrackAddress, is_split};
 
 // Whether a track is some extent's.
 fn is_taken(mark: u8) -> bool
@@ -114,7 +113,7 @@ fn claim_split(marks: &mut [u8], geometry: Geometry, extent: Extent) -> Option<u
 }
 
 // Marks the tracks of an extent up to the first one that is some extent's already, whose number it answers.
-#[tactic(auto, using(data_sets::proofs::Orders::numbers_in_order))]
+#[tactic(auto, using(volume_labels::proofs::Orders::numbers_in_order))]
 fn claim_tracks(marks: &mut [u8], geometry: Geometry, extent: Extent) -> Option<u32>
     requires size { length marks.old ≡ tracks_of geometry }
     requires is_on { is_on geometry extent ≡ true }

@@ -3,11 +3,11 @@
 ghost use Rattle.std.specs.Prelude.{◌≡◌, ◌<◌, ◌+◌, ◌^◌, ◌≤◌, true};
 ghost use Rattle.ckd_track.specs.Geometry.{tracks_of, track_at};
 ghost use Rattle.ckd_track.specs.Model.{heads_of};
-ghost use Rattle.data_sets.specs.Addresses.{number_of_track, is_run};
+ghost use Rattle.volume_labels.specs.Addresses.{number_of_track, is_run};
 ghost use Rattle.volume_contents.specs.Runs.{exists_on, is_on, is_table_extent, walked_of, address_of_number};
 
 use ckd_track::Geometry;
-use data_sets::is_run as is_run_of;
+use volume_labels::is_run as is_run_of;
 use volume_labels::{Extent, TrackAddress};
 
 /// Tracks that stand one behind another.
@@ -62,7 +62,7 @@ pub(crate) fn is_table_extent(geometry: Geometry, block: TrackAddress, extent: E
 
 /// The tracks of a volume table of contents that are read: those of its extent that are on the volume, or the track of its
 /// format 4 block.
-#[tactic(auto, using(data_sets::proofs::Orders::numbers_in_order))]
+#[tactic(auto, using(volume_labels::proofs::Orders::numbers_in_order))]
 pub(crate) fn walked(geometry: Geometry, block: TrackAddress, extent: Extent) -> Run
     requires { exists_on geometry block ≡ true }
     ensures value { result ≡ walked_of geometry block extent }

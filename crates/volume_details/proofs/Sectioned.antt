@@ -3,10 +3,10 @@ use Rattle.std.proofs.Common.{◌≡◌, ◌∙◌, ℕ, ◌+◌, ◌<◌, ◌�
 use Rattle.std.proofs.Common.{Bool, true, false, ◌||◌, append-nil, Result, Ok, Err, OnOk}
 use Rattle.std.proofs.lemmas.List.{flat_map_more, take_more, take_all}
 use Rattle.dasd_volumes.specs.Reading.{KnownVolume}
-use Rattle.library_members.specs.declared.report.Report.{Report}
-use Rattle.library_members.specs.Report.{Line, plain, printed, Adds, AddsOf}
-use Rattle.library_members.specs.Members.{library_lines}
-use Rattle.library_members.proofs.Added.{adds_none, adds_both}
+use Rattle.library_contents.specs.declared.report.Report.{Report}
+use Rattle.library_contents.specs.Report.{Line, plain, printed, Adds, AddsOf}
+use Rattle.library_contents.specs.ListedMembers.{library_lines}
+use Rattle.library_contents.proofs.Added.{adds_none, adds_both}
 use Rattle.volume_details.specs.Long.{Said, long_text}
 use Rattle.volume_details.specs.Sections.{Views, name_lines, front_lines, library_shown, described_lines}
 

@@ -2,7 +2,7 @@
 use Rattle.std.specs.Prelude.{◌≡◌, ◌≢◌, ◌⊎◌, ℕ, Bool, true, false, List, [], Option, None, Result, Ok, Err, IfOk, IfErr, OnOk}
 use Rattle.counted_io.specs.Streams.{Stream, IsFlushed}
 use Rattle.volume_labels.specs.declared.blocks.DataSetBlock.{DataSetBlock}
-use Rattle.data_sets.specs.Names.{safe_name_of}
+use Rattle.volume_labels.specs.Names.{safe_name_of}
 use Rattle.dasd_volumes.specs.declared.fault.VolumeFault.{VolumeFault}
 use Rattle.dasd_volumes.specs.declared.fault.VolumeFault.TheVariants as volume
 use Rattle.dasd_volumes.specs.Printing.{PrintsText, CountsWrites}
@@ -11,9 +11,9 @@ use Rattle.volume_contents.specs.declared.sets.DataSet.{DataSet}
 use Rattle.dasd_unload.specs.Asked.{SetOf}
 use Rattle.dasd_unload.specs.Parts.{is_partitioned}
 use Rattle.dasd_unload.specs.Causes.{HasSet}
-use Rattle.library_members.specs.Report.{printed}
-use Rattle.library_members.specs.Lines.{Shown}
-use Rattle.library_members.specs.Members.{library_lines}
+use Rattle.library_contents.specs.Report.{printed}
+use Rattle.library_contents.specs.Lines.{Shown}
+use Rattle.library_contents.specs.ListedMembers.{library_lines}
 use Rattle.volume_details.specs.declared.fault.MemberListFault.{MemberListFault}
 use Rattle.volume_details.specs.declared.fault.MemberListFault.TheVariants as fault
 use Rattle.volume_details.specs.Sections.{TellsWrong}

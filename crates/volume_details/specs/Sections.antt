@@ -4,15 +4,15 @@ use Rattle.std.specs.Option.{option_copied}
 use Rattle.std.specs.List.{concat, flat_map}
 use Rattle.ckd_track.specs.declared.geometries.Geometry.{Geometry}
 use Rattle.volume_labels.specs.Labels.{data_set_block_of}
-use Rattle.data_sets.specs.Names.{safe_name_of}
+use Rattle.volume_labels.specs.Names.{safe_name_of}
 use Rattle.dasd_volumes.specs.Lines.{line_feed}
 use Rattle.dasd_volumes.specs.Reading.{KnownVolume}
 use Rattle.volume_contents.specs.declared.blocks.Block.{Block}
 use Rattle.volume_contents.specs.Sets.{is_data_set, extents_behind}
 use Rattle.dasd_unload.specs.Parts.{is_partitioned}
-use Rattle.library_members.specs.Report.{Line, plain, some_wrong}
-use Rattle.library_members.specs.Lines.{Shown}
-use Rattle.library_members.specs.Members.{library_lines}
+use Rattle.library_contents.specs.Report.{Line, plain, some_wrong}
+use Rattle.library_contents.specs.Lines.{Shown}
+use Rattle.library_contents.specs.ListedMembers.{library_lines}
 use Rattle.volume_details.specs.declared.sections.DetailForm.{DetailForm}
 use Rattle.volume_details.specs.Long.{Said, long_text}
 use Rattle.volume_details.specs.Indicators.{is_last_volume, protection_of}

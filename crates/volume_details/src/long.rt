@@ -5,13 +5,13 @@ ghost use Rattle.std.specs.List.{flat_map};
 ghost use Rattle.std.specs.Option.{option_copied};
 ghost use Rattle.std.specs.Io.KnownBytes.{Appends};
 ghost use Rattle.dasd_contents.specs.Words.{extent_text};
-ghost use Rattle.library_members.specs.Report.{Adds, plain};
+ghost use Rattle.library_contents.specs.Report.{Adds, plain};
 ghost use Rattle.volume_details.specs.Long.{last_words, protection_words, last_member, protection_member, extent_line, volume_line, key_line, lines_text};
 ghost use Rattle.volume_details.specs.Long.{object_text, long_text, described_by};
 
 use crate::indicators::{Protection, is_last_volume, protection_of, type_text};
 use dasd_volumes::{PrintedAddress as Address, VolumeFault};
-use library_members::Report;
+use library_contents::Report;
 use std::io::Write;
 use std::{fmt, io};
 use volume_contents::{Block, DataSet};

@@ -6,7 +6,7 @@ ghost use Rattle.dasd_volumes.specs.Printing.{CountsWrites};
 
 use counted_io::{Counted, WriteFault, write_flushed};
 use dasd_volumes::VolumeFault;
-use library_members::Report;
+use library_contents::Report;
 use std::io::Write;
 
 /// Writes the lines of a report, and flushes them.

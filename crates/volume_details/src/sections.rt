@@ -8,7 +8,7 @@ ghost use Rattle.dasd_volumes.specs.Printing.{PrintsText, CountsWrites};
 ghost use Rattle.dasd_volumes.specs.Reading.{IsRead};
 ghost use Rattle.volume_contents.specs.Sets.{is_data_set};
 ghost use Rattle.dasd_unload.specs.Parts.{is_partitioned};
-ghost use Rattle.library_members.specs.Report.{printed, Adds, AddsOf};
+ghost use Rattle.library_contents.specs.Report.{printed, Adds, AddsOf};
 ghost use Rattle.volume_details.specs.Long.{described_by};
 ghost use Rattle.volume_details.specs.Sections.{shown_by, name_line, name_lines, front_lines, described_lines, block_lines, sections, TellsWrong};
 
@@ -16,13 +16,12 @@ use crate::long::{Described, add_long};
 use crate::printing::print_report;
 use counted_io::Counted;
 use dasd_volumes::{SlotReader, VolumeFault};
-use data_sets::safe_name;
-use library_members::{Library, MembersForm, Report, list_members};
+use volume_labels::{BlockKind, DataSetBlock, safe_name};
+use library_contents::{Library, MembersForm, Report, list_members};
 use std::alloc::Global;
 use std::io;
 use std::io::Write;
 use volume_contents::{Block, Contents, DataSet, data_set_of};
-use volume_labels::{BlockKind, DataSetBlock};
 
 /// The bit of a data set's organisation that says that it is partitioned (IBM System/360 Operating System, System Control Blocks,
 /// 'Data Set Control Block', format 1, DS1DSORG).

@@ -1,0 +1,5 @@
+mod Blanks
+mod Entries
+mod StepsOver
+mod Sharing
+pub mod Orders

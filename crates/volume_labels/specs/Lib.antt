@@ -2,3 +2,10 @@ pub mod Blocks
 pub mod Ebcdic
 pub mod Fields
 pub mod Labels
+pub mod Addresses
+pub mod Directories
+pub mod Lines
+pub mod Names
+pub mod Records
+pub mod Sharing
+pub mod Layouts

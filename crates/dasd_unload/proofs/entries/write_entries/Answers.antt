@@ -1,5 +1,5 @@
 use Rattle.std.proofs.Common.{ℕ, ◌∙◌, List, sym}
-use Rattle.data_sets.specs.declared.directories.DirectoryEntry.{DirectoryEntry}
+use Rattle.volume_labels.specs.declared.directories.DirectoryEntry.{DirectoryEntry}
 use Rattle.set_forms.specs.declared.forms.FormLine.TheVariants.{Entry}
 use Rattle.dasd_unload.specs.Described.{entry_in, user_data}
 use Rattle.dasd_unload.proofs.Described.{this_step, last_step, at_end, one_form_more, none_left}

@@ -1,6 +1,6 @@
 use Rattle.std.proofs.Common.{◌∙◌, ◌+◌, ap, map, get_or, [], false, Err, rules, tests}
 use Rattle.std.proofs.lemmas.List.{take_all}
-use Rattle.data_sets.specs.declared.directories.DirectoryEntry.{DirectoryEntry}
+use Rattle.volume_labels.specs.declared.directories.DirectoryEntry.{DirectoryEntry}
 use Rattle.library_contents.specs.Members.{library_on, blocks_at}
 use Rattle.library_contents.specs.Libraries.{member_of}
 use Rattle.library_contents.proofs.Read.{that_fault, one_more_entry, all_entries, next_starts, one_more_number, all_starts, of_same_volume}

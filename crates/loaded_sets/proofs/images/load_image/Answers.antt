@@ -2,7 +2,7 @@ use Rattle.std.proofs.Common.{◌≡◌, subst, [], rules}
 use Rattle.ckd_track.specs.declared.geometries.Geometry.{Geometry}
 use Rattle.volume_contents.specs.Contents.{Said, contents_of}
 use Rattle.volume_changes.specs.Volumes.{said_in}
-use Rattle.placed_sets.specs.Volumes.{labelled, SaysOf, IsUnfit, all_findings}
+use Rattle.loaded_sets.specs.Volumes.{labelled, SaysOf, IsUnfit, all_findings}
 use Rattle.loaded_sets.specs.Loaded.{Loaded, IsNotLoaded}
 use Rattle.loaded_sets.specs.Parts.{IsPut, IsNotPut}
 use Rattle.loaded_sets.proofs.Fits.{same_said, loaded, not_put, unfit, if_ok, if_err}

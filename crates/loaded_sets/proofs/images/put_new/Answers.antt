@@ -1,10 +1,10 @@
 use Rattle.std.proofs.Common.{◌∙◌, ap, sym}
-use Rattle.data_set_blocks.specs.Blocks.{cut_by}
-use Rattle.data_set_blocks.specs.declared.blocks.Cut.TheVariants as cut
+use Rattle.record_tracks.specs.Blocks.{cut_by}
+use Rattle.record_tracks.specs.declared.blocks.Cut.TheVariants as cut
 use Rattle.loaded_sets.specs.declared.contents.SourceForm.{SourceForm}
 use Rattle.loaded_sets.specs.Contents.{blocks_by, cut_so}
 use Rattle.loaded_sets.specs.Parts.{file_blocks}
-use Rattle.placed_sets.specs.Volumes.{labelled}
+use Rattle.loaded_sets.specs.Volumes.{labelled}
 use Rattle.loaded_sets.proofs.Placed.{put, made_so}
 use Rattle.loaded_sets.proofs.images.put_new.Goals as goal
 

@@ -1,6 +1,6 @@
 use Rattle.std.proofs.Common.{rules, ◌∙◌, w32}
 use Rattle.std.proofs.lemmas.Int.{to_z-of_z}
-use Rattle.lone_drive.specs.declared.refusal.NotMade.TheVariants.{OutOfMemory}
+use Rattle.lone_drive_c.specs.declared.refusal.NotMade.TheVariants.{OutOfMemory}
 use Rattle.lone_drive_c.proofs.handle.dasd_drive_attach.Goals as goal
 
 -- what was made found no place

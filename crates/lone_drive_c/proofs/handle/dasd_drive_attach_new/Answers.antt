@@ -1,8 +1,8 @@
 use Rattle.std.proofs.Common.{rules, ◌∙◌, sym, subst, w32, Option, to_z, of_z}
 use Rattle.std.proofs.lemmas.Int.{to_z-of_z}
 use Rattle.ckd_track.specs.declared.model.DriveModel.{DriveModel}
-use Rattle.lone_drive.specs.Making.{NotFormatted}
-use Rattle.lone_drive.specs.declared.refusal.NotMade.TheVariants.{OutOfMemory}
+use Rattle.lone_drive_c.specs.Making.{NotFormatted}
+use Rattle.lone_drive_c.specs.declared.refusal.NotMade.TheVariants.{OutOfMemory}
 use Rattle.lone_drive_c.specs.Calls.{TellsWhy, WhyNone}
 use Rattle.lone_drive_c.proofs.handle.dasd_drive_attach_new.Goals as goal
 

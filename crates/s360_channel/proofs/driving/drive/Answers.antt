@@ -1,7 +1,7 @@
 use Rattle.std.proofs.Common.{rules, tests, subst, map}
 use Rattle.std.proofs.lemmas.List.{take_more}
-use Rattle.s360_events.specs.Answered.{IsAnswered, AllAnswered}
-use Rattle.s360_events.specs.Seen.{event_seen, answer_seen}
+use Rattle.s360_laws.specs.Answered.{IsAnswered, AllAnswered}
+use Rattle.s360_laws.specs.Seen.{event_seen, answer_seen}
 use Rattle.s360_channel.proofs.AllAnswered.{all_answered_one_more}
 use Rattle.s360_channel.proofs.OneMore.{Drove, Reacts, drove_none, goes_on, drove_follows, room_for_one, room_for_others, take_past}
 use Rattle.s360_channel.proofs.driving.drive.Goals as goal

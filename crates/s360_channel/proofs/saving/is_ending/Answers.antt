@@ -2,7 +2,7 @@ use Rattle.std.proofs.Common.{◌≡◌, ◌∙◌, ap, sym, true, not, ◌&&◌
 use Rattle.std.proofs.lemmas.Bool.{ne_eqb}
 use mathlib.Core.Bool.{beq}
 use Rattle.s360_words.specs.declared.flags.TheConstants.UnitStatus.{CHANNEL_END, DEVICE_END}
-use Rattle.s360_runs.specs.Status.{tells}
+use Rattle.s360_laws.specs.Status.{tells}
 use Rattle.s360_channel.proofs.Saved.{ending_is}
 use Rattle.s360_channel.proofs.saving.is_ending.Goals as goal
 

@@ -1,7 +1,7 @@
 use Rattle.std.proofs.Common.{◌∙◌, ap}
 use Rattle.s360_words.specs.Storage.{changed, status_stored}
-use Rattle.s360_runs.specs.Status.{no_channel_status}
-use Rattle.s360_events.specs.declared.conditions.Condition.TheVariants.{Stored}
+use Rattle.s360_laws.specs.Status.{no_channel_status}
+use Rattle.s360_laws.specs.declared.status.Condition.TheVariants.{Stored}
 use Rattle.attached_drives.proofs.Places.{arm_there}
 use Rattle.s360_channel.proofs.Started.{armed_images, start_arrived, start_at_rest}
 use Rattle.s360_channel.proofs.starting.start_device.Goals as goal

@@ -1,6 +1,6 @@
 use Rattle.std.proofs.Common.{◌∙◌, sym, ap, arith}
 use Rattle.s360_words.specs.Storage.{changed, csw_stored}
-use Rattle.s360_events.specs.declared.conditions.Condition.TheVariants.{Stored}
+use Rattle.s360_laws.specs.declared.status.Condition.TheVariants.{Stored}
 use Rattle.s360_channel.proofs.Started.{armed_images, within, test_none, test_in_motion, test_arrived, test_at_rest}
 use Rattle.s360_channel.proofs.testing.test_device.Goals as goal
 

@@ -1,5 +1,5 @@
 use Rattle.std.proofs.Common.{◌+◌, ◌≤◌, List, length, vec_len, vec_capacity}
-use Rattle.s360_events.specs.declared.events.Event.{Event}
+use Rattle.s360_laws.specs.declared.events.Event.{Event}
 use Rattle.s360_deck.proofs.Happened.{Happened, spelled_by}
 use Rattle.s360_deck.proofs.driving.react_to_all.Given as goal
 

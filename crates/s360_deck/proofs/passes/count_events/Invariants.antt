@@ -1,5 +1,5 @@
 use Rattle.std.proofs.Common.{◌≡◌, ◌+◌, ◌≤◌, ◌<◌, List, [], length}
-use Rattle.s360_events.specs.declared.events.Event.{Event}
+use Rattle.s360_laws.specs.declared.events.Event.{Event}
 use Rattle.s360_deck.specs.Deck.{events_behind, lines_of}
 use Rattle.s360_deck.proofs.passes.count_events.Given as goal
 

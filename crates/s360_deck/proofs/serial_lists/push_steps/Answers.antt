@@ -1,5 +1,5 @@
 use Rattle.std.proofs.Common.{rules, tests, ◌≡◌, ◌/◌, ◌%◌, ◌==◌, ◌++◌, ◌∷◌, [], true, false}
-use Rattle.s360_events.specs.declared.events.Event.TheVariants.{Step}
+use Rattle.s360_laws.specs.declared.events.Event.TheVariants.{Step}
 use Rattle.s360_deck.proofs.SerialParts.{exact_steps, more_steps, seen_more}
 use Rattle.s360_deck.proofs.serial_lists.push_steps.Goals as goal
 

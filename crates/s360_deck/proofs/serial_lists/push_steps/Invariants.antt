@@ -1,6 +1,6 @@
 use Rattle.std.proofs.Common.{◌≡◌, ◌++◌, map, replicate}
 use Rattle.s360_laws.specs.Events.{StepBy}
-use Rattle.s360_events.specs.Seen.{event_seen}
+use Rattle.s360_laws.specs.Seen.{event_seen}
 use Rattle.s360_deck.proofs.serial_lists.push_steps.Given as goal
 
 -- so many whole steps are there

@@ -1,6 +1,6 @@
 use Rattle.std.proofs.Common.{◌≡◌, ◌≤◌, ◌+◌, ◌*◌, ◌++◌, map, length}
 use Rattle.s360_laws.specs.SerialLists.{steps_joined}
-use Rattle.s360_events.specs.Seen.{event_seen}
+use Rattle.s360_laws.specs.Seen.{event_seen}
 use Rattle.s360_deck.specs.Serial.{exchanges_seen, events_in}
 use Rattle.s360_deck.proofs.serial_lists.steps_together.Given as goal
 

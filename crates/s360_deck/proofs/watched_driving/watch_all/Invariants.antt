@@ -1,6 +1,6 @@
 use Rattle.std.proofs.Common.{◌+◌, ◌≤◌, List, length, vec_len, vec_capacity}
 use Rattle.s360_laws.specs.Machine.{Machine}
-use Rattle.s360_events.specs.declared.events.Event.{Event}
+use Rattle.s360_laws.specs.declared.events.Event.{Event}
 use Rattle.s360_channel.specs.Channel.{StandsFor}
 use Rattle.s360_trace.specs.Looks.{AllWatched}
 use Rattle.s360_deck.proofs.Happened.{Happened, spelled_by}

@@ -1,7 +1,7 @@
 use Rattle.std.proofs.Common.{◌+◌, ◌≤◌, map, take, drop, length, vec_len, vec_capacity}
 use Rattle.s360_laws.specs.Machine.{Machine}
-use Rattle.s360_events.specs.Answered.{AllAnswered}
-use Rattle.s360_events.specs.Seen.{event_seen, answer_seen}
+use Rattle.s360_laws.specs.Answered.{AllAnswered}
+use Rattle.s360_laws.specs.Seen.{event_seen, answer_seen}
 use Rattle.s360_channel.specs.Channel.{StandsFor}
 use Rattle.s360_channel.proofs.OneMore.{Drove}
 use Rattle.s360_trace.specs.Looks.{AllWatched}

@@ -1,6 +1,6 @@
 use Rattle.std.proofs.Common.{sym, subst}
 use Rattle.s360_laws.specs.Events as machine
-use Rattle.s360_events.specs.Seen.{event_seen}
+use Rattle.s360_laws.specs.Seen.{event_seen}
 use Rattle.s360_trace.specs.Happens.{Happens}
 use Rattle.s360_trace.specs.Looks.{SeesWithin}
 use Rattle.s360_trace.proofs.watching.react.Goals as goal

@@ -1,6 +1,6 @@
 use Rattle.std.proofs.Common.{rules, ◌∙◌, w32}
 use Rattle.std.proofs.lemmas.Int.{to_z-of_z}
-use Rattle.s360_events.specs.Seen.{condition_seen}
+use Rattle.s360_laws.specs.Seen.{condition_seen}
 use Rattle.s360_laws.specs.Events.{WithCode}
 use Rattle.s360_laws.specs.declared.condition.ConditionCode.TheVariants.{One}
 use Rattle.subsystem_calls.proofs.instructions.tch.Goals as goal

@@ -1,5 +1,5 @@
 use Rattle.std.proofs.Common.{◌≡◌, List, ℕ, Some, take, flat_map}
-use Rattle.library_members.specs.Report.{Adds}
+use Rattle.library_contents.specs.Report.{Adds}
 use Rattle.volume_details.specs.Sections.{shown_by, block_lines}
 use Rattle.volume_details.proofs.sections.add_sections.Given as goal
 

@@ -12,8 +12,8 @@ use denote.Param.Send.{IsSend, AllSend, owning_send, struct_send, sendable}
 use Rattle.std.proofs.Crossing as heap
 use Rattle.std_alloc.proofs.SendSync.{quiet, lies}
 use Rattle.std_heap.proofs.Global.TheSendSync as handle
-use Rattle.lone_drive.specs.contracts.drive.LoneDrive as Held
-use Rattle.lone_drive.proofs.drive.LoneDrive.TheSendSync.{the_send as held}
+use Rattle.lone_drive_c.specs.contracts.drive.LoneDrive as Held
+use Rattle.lone_drive_c.proofs.drive.LoneDrive.TheSendSync.{the_send as held}
 use Rattle.lone_drive_c.specs.contracts.slot.Slot.{the_row, the_type}
 
 quiet_slot : (a : Global) (p : Ptr) (x : Option (Held.the_row).Denot) → Keyless (slot_owns a p x)

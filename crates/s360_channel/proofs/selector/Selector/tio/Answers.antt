@@ -1,6 +1,6 @@
 use Rattle.std.proofs.Common.{refl}
 use Rattle.s360_laws.specs.Events.{Tio}
-use Rattle.s360_events.specs.Seen.{condition_seen, csw_seen}
+use Rattle.s360_laws.specs.Seen.{condition_seen, csw_seen}
 use Rattle.s360_channel.proofs.Asked.{test_other, test_at, test_working, test_pending_other, test_pending}
 use Rattle.s360_channel.proofs.Selecting.{quiet_selector}
 use Rattle.s360_channel.proofs.selector.Selector.tio.Goals as goal

@@ -1,6 +1,6 @@
 use Rattle.std.proofs.Common.{◌/◌}
-use Rattle.s360_events.specs.Seen.{answer_seen}
-use Rattle.s360_events.specs.declared.answers.Answer.TheVariants as answer
+use Rattle.s360_laws.specs.Seen.{answer_seen}
+use Rattle.s360_laws.specs.declared.answers.Answer.TheVariants as answer
 use Rattle.s360_channels.specs.Asked.{TestsAt}
 use Rattle.s360_channels.proofs.Fitting.{shown}
 use Rattle.s360_channels.proofs.selectors.Selectors.tch.Goals as goal

@@ -1,6 +1,6 @@
 use Rattle.std.proofs.Common.{arith, ◌≡◌, ap, false, None, ◌%◌}
-use Rattle.s360_events.specs.Seen.{answer_seen}
-use Rattle.s360_events.specs.declared.answers.Answer.TheVariants as answer
+use Rattle.s360_laws.specs.Seen.{answer_seen}
+use Rattle.s360_laws.specs.declared.answers.Answer.TheVariants as answer
 use Rattle.s360_laws.specs.Events.{Tio}
 use Rattle.s360_channels.specs.Asked.{has_drive}
 use Rattle.s360_channels.proofs.Fitting.{calls_behind, fit_behind, here, lent, loud, quiet_channel, seen_here, still_lent}

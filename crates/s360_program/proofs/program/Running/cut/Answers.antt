@@ -1,5 +1,5 @@
 use Rattle.std.proofs.Common.{[]}
-use Rattle.s360_runs.specs.Units.{EndsIn, standing_in}
+use Rattle.s360_laws.specs.Units.{EndsIn, standing_in}
 use Rattle.s360_words.specs.Storage.{Storage}
 use Rattle.s360_program.specs.Stands.{phase_in}
 use Rattle.s360_program.specs.Steps.{run_of}

@@ -1,6 +1,6 @@
 use Rattle.std.proofs.Common.{◌≡◌, ◌∙◌, ◌+◌, ◌-◌, ◌≤◌, ℕ, inl, subst, arith}
-use Rattle.s360_runs.specs.Scripts.{units}
-use Rattle.s360_runs.specs.Units.{walk, StandsIn}
+use Rattle.s360_laws.specs.Scripts.{units}
+use Rattle.s360_laws.specs.Units.{walk, StandsIn}
 use Rattle.s360_program.specs.Advances.{CameToEnd}
 use Rattle.s360_program.specs.Stands.{phase_in}
 use Rattle.s360_program.specs.Steps.{run_of, told_of}

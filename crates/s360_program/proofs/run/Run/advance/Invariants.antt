@@ -1,8 +1,8 @@
 use Rattle.std.proofs.Common.{◌≡◌, ◌≤◌, ◌-◌, ◌*◌}
 use Rattle.ckd_command.specs.Drive.{drive_of}
-use Rattle.s360_runs.specs.Scripts.{units}
-use Rattle.s360_runs.specs.Units.{walk, StandsIn}
-use Rattle.s360_runs.specs.Unsaved.{GainsNoCheck}
+use Rattle.s360_laws.specs.Scripts.{units}
+use Rattle.s360_laws.specs.Units.{walk, StandsIn}
+use Rattle.s360_laws.specs.Unsaved.{GainsNoCheck}
 use Rattle.s360_program.specs.Advances.{CallsAtMost, NeedNoStore}
 use Rattle.s360_storage.specs.Kept.{KeepsStorage}
 use Rattle.s360_program.specs.Stands.{phase_in}

@@ -1,7 +1,7 @@
 use Rattle.std.proofs.Common.{◌∙◌, ap, refl, sym, subst, arith, rules}
 use Rattle.ckd_drive.specs.Work.{closed_of}
-use Rattle.s360_runs.specs.Endings.{ending}
-use Rattle.s360_runs.specs.Units.{EndsIn}
+use Rattle.s360_laws.specs.Endings.{ending}
+use Rattle.s360_laws.specs.Units.{EndsIn}
 use Rattle.s360_program.specs.Stands.{phase_in}
 use Rattle.s360_program.specs.Steps.{run_of, in_bytes, segment_of, behind, count_of, IsQuiet, status_of}
 use Rattle.s360_program.proofs.Quiet.{first_quiet}

@@ -1,9 +1,9 @@
 use Rattle.std.proofs.Common.{◌∙◌, refl, sym, ap, subst, false, rules}
 use Rattle.ckd_command.specs.Drive.{is_written}
 use Rattle.ckd_drive.specs.Work.{CallsStore, closed_of, end_saves}
-use Rattle.s360_runs.specs.Endings.{ending, untouched}
-use Rattle.s360_runs.specs.Status.{no_channel_status}
-use Rattle.s360_runs.specs.Units.{EndsIn, standing_in}
+use Rattle.s360_laws.specs.Endings.{ending, untouched}
+use Rattle.s360_laws.specs.Status.{no_channel_status}
+use Rattle.s360_laws.specs.Units.{EndsIn, standing_in}
 use Rattle.s360_program.specs.Place.{place_of}
 use Rattle.s360_program.specs.Stage.{stage_of}
 use Rattle.s360_program.specs.Stands.{phase_in}

@@ -1,5 +1,5 @@
 use Rattle.std.proofs.Common.{ap, sym, subst, arith}
-use Rattle.s360_runs.specs.Units.{unit}
+use Rattle.s360_laws.specs.Units.{unit}
 use Rattle.s360_program.specs.Place.{place_of}
 use Rattle.s360_program.specs.Stage.{stage_by}
 use Rattle.s360_program.specs.Stands.{phase_by}

@@ -1,7 +1,7 @@
 use Rattle.std.proofs.Common.{rules, ◌≡◌, ◌∙◌, ◌/◌, ap, refl, sym, w32}
 use Rattle.std.proofs.lemmas.Int.{to_z-of_z}
-use Rattle.s360_events.specs.Seen.{condition_seen, csw_seen}
-use Rattle.s360_events.specs.declared.conditions.Condition.TheVariants as condition
+use Rattle.s360_laws.specs.Seen.{condition_seen, csw_seen}
+use Rattle.s360_laws.specs.declared.status.Condition.TheVariants as condition
 use Rattle.s360_laws.specs.Events.{Tio, WithCode}
 use Rattle.s360_laws.specs.declared.condition.ConditionCode.TheVariants.{Three}
 use Rattle.s360_channels.specs.Channels.{Quietly}

@@ -1,4 +1,0 @@
-mod Adds
-mod Found
-mod Keyed
-mod Read

@@ -1,8 +1,0 @@
-use Rattle.std.proofs.Common.{◌≡◌, ◌++◌, map, take}
-use Rattle.added_members.specs.Entries.{kept_entry}
-use Rattle.added_members.specs.Parts.{kept}
-use Rattle.added_members.proofs.entries.push_old.Given as goal
-
--- the entries so far
-abbrev pub invariant-loop-entry : goal.invariant-loop-entry
-invariant-loop-entry l = map kept l.entries.items ≡ map kept l.initial.entries.items ++ map kept_entry (take l.entry-index l.old)

@@ -1,9 +1,0 @@
-use Rattle.std.proofs.Common.{subst, IfErr}
-use Rattle.ckd_image.specs.Image.{ImageState}
-use Rattle.added_members.specs.Parts.{IsNotReadIn}
-use Rattle.added_members.proofs.old.read_copy.Goals as goal
-
-pub returns-in-Ok-clause-fault : goal.returns-in-Ok-clause-fault
-returns-in-Ok-clause-fault c =
-    subst (λ (i : ImageState). IfErr c.read_set.result (λ e. IsNotReadIn e c.args.set.now.extents.items i.geometry i.slots)) c.in-Ok.ensures
-    c.read_set.ensures.fault

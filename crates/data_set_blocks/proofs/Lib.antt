@@ -1,5 +1,0 @@
-pub mod RecordsFound
-pub mod Rests
-pub mod Texts
-pub mod Fits
-pub mod Read

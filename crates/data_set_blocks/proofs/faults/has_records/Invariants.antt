@@ -1,7 +1,0 @@
-use Rattle.std.proofs.Common.{◌≡◌, ◌≤◌, ◌-◌, length}
-use Rattle.data_set_blocks.specs.Faults.{has_records, has_records_from}
-use Rattle.data_set_blocks.proofs.faults.has_records.Given as goal
-
--- the records so far are passed
-abbrev pub invariant-loop-k : goal.invariant-loop-k
-invariant-loop-k l = (l.at ≤ length l.block) × (has_records l.form l.block ≡ has_records_from (length l.block - l._k) l.form l.block l.at)

@@ -1,5 +1,0 @@
-mod Blanks
-mod Entries
-mod Extents
-mod Sharing
-pub mod Orders

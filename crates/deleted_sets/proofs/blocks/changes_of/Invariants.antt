@@ -1,8 +1,0 @@
-use Rattle.std.proofs.Common.{◌≡◌, ◌∷◌, []}
-use Rattle.dasd_volumes.specs.Volumes.{of_each}
-use Rattle.deleted_sets.specs.Blocks.{rewritten}
-use Rattle.deleted_sets.proofs.blocks.changes_of.Given as goal
-
--- what becomes of the blocks so far
-abbrev pub invariant-loop-i : goal.invariant-loop-i
-invariant-loop-i l = l.changes.items ≡ of_each (λ k. rewritten l.blocks l.runs l.holding k ∷ []) l.i

@@ -1,7 +1,0 @@
-use Rattle.std.proofs.Common.{◌≡◌, take, flat_map}
-use Rattle.deleted_sets.specs.Volumes.{block_bytes}
-use Rattle.deleted_sets.proofs.confirms.bytes_of.Given as goal
-
--- the bytes of the blocks so far
-abbrev pub invariant-loop-block : goal.invariant-loop-block
-invariant-loop-block l = l.bytes.items ≡ flat_map block_bytes (take l.block-index l.blocks)

@@ -1,4 +1,0 @@
-pub mod Runs
-pub mod Blocks
-pub mod Plans
-pub mod Volumes

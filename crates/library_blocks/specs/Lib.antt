@@ -1,5 +1,0 @@
-pub mod Entries
-pub mod Faults
-pub mod Directory
-pub mod ReadBack
-pub mod Writing

@@ -1,6 +1,0 @@
-use Rattle.library_members.specs.Lines.{name_members}
-use Rattle.library_members.proofs.lines.write_names.Goals as goal
-
-pub returns : goal.returns
-unfolding name_members
-returns g c = c.write.ensures.bytes

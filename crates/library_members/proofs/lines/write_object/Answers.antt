@@ -1,5 +1,0 @@
-use Rattle.library_members.proofs.Added.{after}
-use Rattle.library_members.proofs.lines.write_object.Goals as goal
-
-pub returns : goal.returns
-returns g c = after _ _ _ _ _ _ c.in_ok-write_names.ensures c.write_entry.ensures

@@ -1,4 +1,0 @@
-pub mod Blocks
-pub mod Lines
-pub mod Members
-pub mod Report

@@ -1,8 +1,0 @@
-use Rattle.std.proofs.Common.{◌≡◌, ◌+◌, length, drop}
-use Rattle.library_records.specs.Library.{members_areas}
-use Rattle.library_records.proofs.addresses.number_of.Given as goal
-
--- those from member k on are not taken away yet
-abbrev pub invariant-loop-k : goal.invariant-loop-k
-invariant-loop-k l =
-    l.first + length (members_areas (drop l.member l.members)) ≡ l.records + length (members_areas (drop l.k l.members))

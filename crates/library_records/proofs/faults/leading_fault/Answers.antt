@@ -1,8 +1,0 @@
-use Rattle.std.proofs.Common.{◌∙◌, sym}
-use Rattle.library_records.proofs.Leading.{all_lead}
-use Rattle.library_records.proofs.faults.leading_fault.Goals as goal
-
-pub returns-clause-lead : goal.returns-clause-lead
-returns-clause-lead c =
-    all_lead c.args.library.now (sym c.without_member.ensures ∙ c.in_default.is)
-    (sym c.without_block.ensures ∙ c.in_default-without_block.is)

@@ -1,7 +1,0 @@
-use Rattle.std.proofs.Common.{◌≡◌, ◌++◌, take}
-use Rattle.record_tracks.specs.Records.{all_areas}
-use Rattle.library_records.proofs.records.push_member.Given as goal
-
--- the blocks so far
-abbrev pub invariant-loop-block : goal.invariant-loop-block
-invariant-loop-block l = all_areas l.records.items ≡ all_areas l.initial.records.items ++ all_areas (take l.block-index l.block-items)

@@ -1,7 +1,0 @@
-use Rattle.std.proofs.Common.{◌≡◌, flat_map, take}
-use Rattle.library_records.specs.Entries.{entry_user_data}
-use Rattle.library_records.proofs.user_data.user_data.Given as goal
-
--- the user data of the entries so far
-abbrev pub invariant-loop-entry : goal.invariant-loop-entry
-invariant-loop-entry l = l.bytes.items ≡ flat_map (entry_user_data l.placed.model l.placed.library.now) (take l.entry-index l.entries)

@@ -1,0 +1,152 @@
+//! A library of a volume in memory, read whole.
+
+ghost use Rattle.std.specs.Prelude.{◌≡◌, ◌/◌, ◌≢◌, length, IfOk, IfErr, Ok};
+ghost use Rattle.std.specs.List.{position};
+ghost use Rattle.dasd_volumes.specs.Reading.{IsRead};
+ghost use Rattle.volume_contents.specs.Sets.{has_name};
+ghost use Rattle.loaded_sets.specs.Volumes.{labelled};
+ghost use Rattle.loaded_folders.specs.Libraries.{form_in, IsReadOf, IsOld, IsNotRead};
+ghost use Rattle.loaded_folders.specs.MemberParts.{IsLibrarySet, IsNoLibrary, CountsBlocks, IsNotReadIn};
+
+use crate::added::OldLibrary;
+use crate::member_fault::{
+    NO_MEMORY, NewMemberFault, NewMemberRefusal, of_placing, of_reading, of_said, of_volume,
+    refused,
+};
+use changed_volumes::read_said;
+use ckd_image::Image;
+use counted_io::Counted;
+use dasd_extract::{directory_of, extract};
+use dasd_files::VolumeFile;
+use dasd_volumes::{SlotReader, VolumeFault};
+use volume_labels::{DIRECTORY_BLOCK, DataSetBlock, Extent, RecordAttributes};
+use library_contents::read_library;
+use loaded_sets::{NewSetForm, SoundVolume, judge, position_of};
+use set_forms::is_partitioned;
+use std::alloc::Global;
+use volume_contents::{DataSet, data_set_of};
+
+// What a label says that is written again.
+fn form_in(block: &DataSetBlock) -> NewSetForm
+    ensures { result ≡ form_in block.now }
+{
+    NewSetForm {
+        organisation: block.organisation,
+        attributes: RecordAttributes {
+            format: block.format,
+            record_length: block.record_length,
+            block_length: block.block_length,
+        },
+        key_length: block.key_length,
+        created: block.created,
+        expires: block.expires,
+    }
+}
+
+/// The library of a name on the volume of an image, read of a copy of it.
+///
+/// # Errors
+///
+/// The first of these, in this order: nothing is put onto the volume at all; it has no data set of the name; that has no directory; the
+/// library is not whole. Or there is no memory.
+pub(crate) fn read_old(
+    alloc: Global,
+    image: &Image<VolumeFile>,
+    name: &[u8; 44],
+) -> Result<OldLibrary, NewMemberFault>
+    ensures old { IfOk result (IsOld name.now image.now.geometry image.now.slots) }
+    ensures fault { IfErr result (λ e. IsNotRead e name.now image.now.geometry image.now.slots) }
+{
+    let geometry = image.geometry();
+    let mut contents = match read_said(alloc, image) {
+        Ok(contents) => contents,
+        Err(fault) => return Err(of_said(fault)),
+    };
+    let volume = match judge(alloc, geometry, &mut contents) {
+        Ok(volume) => volume,
+        Err(fault) => return Err(of_placing(fault)),
+    };
+    let set = match library_set(alloc, &volume, name) {
+        Ok(set) => set,
+        Err(fault) => return Err(fault),
+    };
+    read_copy(alloc, image, &set)
+}
+
+// The library of a name on such a volume.
+fn library_set(
+    alloc: Global,
+    volume: &SoundVolume,
+    name: &[u8; 44],
+) -> Result<DataSet, NewMemberFault>
+    ensures set { IfOk result (IsLibrarySet volume.now.blocks.now name.now) }
+    ensures fault { IfErr result (λ e. IsNoLibrary e volume.now.blocks.now name.now) }
+{
+    let Some(place) = position_of(volume.blocks, name) else {
+        return Err(refused(NewMemberRefusal::NoDataSet));
+    };
+    let Ok(set) = data_set_of(alloc, volume.blocks, &volume.blocks[place]) else {
+        return Err(NO_MEMORY);
+    };
+    if !is_partitioned(set.block.organisation) {
+        return Err(refused(NewMemberRefusal::NotPartitioned));
+    }
+    Ok(set)
+}
+
+// A library, read of a copy of an image.
+fn read_copy(
+    alloc: Global,
+    image: &Image<VolumeFile>,
+    set: &DataSet,
+) -> Result<OldLibrary, NewMemberFault>
+    ensures old { IfOk result (IsReadOf set.now.block set.now.extents.items image.now.geometry image.now.slots) }
+    ensures fault { IfErr result (λ e. IsNotReadIn e set.now.extents.items image.now.geometry image.now.slots) }
+{
+    match image.copy(alloc) {
+        Ok(mut copy) => read_set(alloc, &mut copy, set),
+        Err(_) => Err(NO_MEMORY),
+    }
+}
+
+// A library, read of an image that may be known less of behind it.
+fn read_set(
+    alloc: Global,
+    copy: &mut Image<VolumeFile>,
+    set: &DataSet,
+) -> Result<OldLibrary, NewMemberFault>
+    ensures old { IfOk result (IsReadOf set.now.block set.now.extents.items copy.old.geometry copy.old.slots) }
+    ensures fault { IfErr result (λ e. IsNotReadIn e set.now.extents.items copy.old.geometry copy.old.slots) }
+{
+    let extents = set.extents.as_slice();
+    let directory_blocks = match count_blocks(alloc, copy, extents) {
+        Ok(count) => count,
+        Err(fault) => return Err(of_volume(fault)),
+    };
+    match read_library(alloc, copy, extents) {
+        Ok(contents) => Ok(OldLibrary {
+            form: form_in(&set.block),
+            directory_blocks,
+            contents,
+        }),
+        Err(fault) => Err(of_reading(fault)),
+    }
+}
+
+// How many blocks the directory of a library has.
+fn count_blocks<V: SlotReader>(
+    alloc: Global,
+    volume: &mut V,
+    extents: &[Extent],
+) -> Result<usize, VolumeFault>
+    ensures count { IfOk result (CountsBlocks extents.now (V.volume volume.old)) }
+    ensures fault { IfErr result (λ e. e ≢ VolumeFault.Write) }
+    ensures volume { IsRead result (V.volume volume.old) (V.volume volume.new) (V.failures volume.old) (V.failures volume.new) }
+{
+    let mut blocks = Counted::new(Vec::new(alloc));
+    match extract(alloc, volume, &mut blocks, directory_of(extents)) {
+        Ok(_) => Ok(blocks.into_inner().len() / DIRECTORY_BLOCK),
+        Err(VolumeFault::Store) => Err(VolumeFault::Store),
+        Err(_) => Err(VolumeFault::OutOfMemory),
+    }
+}

@@ -1,4 +1,0 @@
-mod Fits
-mod Made
-mod Placed
-mod Read

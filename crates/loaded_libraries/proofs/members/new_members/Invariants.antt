@@ -1,8 +1,0 @@
-use Rattle.std.proofs.Common.{◌≡◌, map, take}
-use Rattle.record_tracks.specs.Records.{all_areas}
-use Rattle.library_records.specs.Library.{member_areas}
-use Rattle.loaded_libraries.proofs.members.new_members.Given as goal
-
--- the members so far
-abbrev pub invariant-loop-records : goal.invariant-loop-records
-invariant-loop-records l = map member_areas l.members.items ≡ map (λ r. all_areas r.items) (take l.records-index l.all)

@@ -1,0 +1,44 @@
+use Rattle.std.proofs.Common.{◌≡◌, subst, [], rules}
+use Rattle.ckd_track.specs.declared.geometries.Geometry.{Geometry}
+use Rattle.volume_contents.specs.Contents.{Said, contents_of}
+use Rattle.volume_changes.specs.Volumes.{said_in}
+use Rattle.loaded_sets.specs.Volumes.{labelled, SaysOf, IsUnfit, all_findings}
+use Rattle.loaded_sets.proofs.Fits.{same_said, if_ok, if_err}
+use Rattle.loaded_sets.specs.LoadedLibraries.{Loaded, IsNotLoaded}
+use Rattle.loaded_sets.specs.LibraryParts.{IsPut, IsNotPut}
+use Rattle.loaded_sets.proofs.LibraryFits.{loaded, not_loaded, unfit}
+use Rattle.loaded_sets.proofs.library_images.load_library.Goals as goal
+
+pub returns : goal.returns
+returns c =
+    let g = c.args.image.now.geometry in
+    let before = c.args.image.now.slots in
+    let now = c.put_library.new.image.slots in
+    let v = labelled c.in-Ok-judge.volume in
+    let library = c.args.library.now in
+    let read = c.in-Ok.contents in
+    let same = same_said (contents_of g before) read c.in-Ok.ensures.says in
+    let is = c.geometry-geometry.ensures.geometry in
+    let says = subst (λ (s : Said). SaysOf g s v) same
+    (subst (λ (h : Geometry). SaysOf h (said_in read) v) is c.in-Ok-judge.ensures.says) in
+    let nothing = subst (λ (s : Said). all_findings g s ≡ []) same
+    (subst (λ (h : Geometry). all_findings h (said_in read) ≡ []) is c.in-Ok-judge.ensures.nothing) in
+    record {
+      same = c.put_library.ensures.same;
+      loaded = if_ok c.put_library.result (λ n. IsPut v library before n now) (λ n. Loaded library g before n now)
+          (λ n. loaded g before v says nothing library n now) c.put_library.ensures.put;
+      fault = if_err c.put_library.result (λ f. IsNotPut f v library before) (λ f. IsNotLoaded f library g before)
+          (not_loaded g before v says nothing library) c.put_library.ensures.fault;
+    }
+
+pub returns-in-Err-judge : goal.returns-in-Err-judge
+returns-in-Err-judge c =
+    let g = c.args.image.now.geometry in
+    let before = c.args.image.now.slots in
+    let read = c.in-Ok.contents in
+    let e = c.in-Err-judge.fault in
+    let is = c.geometry-geometry.ensures.geometry in
+    let same = same_said (contents_of g before) read c.in-Ok.ensures.says in
+    let why = unfit g before c.args.library.now e (subst (λ (s : Said). IsUnfit e g s) same
+    (subst (λ (h : Geometry). IsUnfit e h (said_in read)) is c.in-Err-judge.ensures.fault)) in
+    search rules

@@ -1,6 +1,0 @@
-mod Lost
-mod Put
-mod Read
-mod Refused
-mod Tracks
-mod Within

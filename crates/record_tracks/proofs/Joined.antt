@@ -1,0 +1,127 @@
+-- The records of lines, one after another.
+use Rattle.std.proofs.Common.{◌≡◌, ◌∙◌, ◌<◌, ◌≤◌, ◌+◌, ◌-◌, ℕ, Bool, true, false, cond, List, [], ◌∷◌, ◌++◌, length, append_assoc}
+use Rattle.std.proofs.Common.{append-nil}
+use Rattle.std.proofs.Common.{ap, refl, sym, arith, Some, None, Result, Ok, Err, replicate, length-append, take}
+use Rattle.std.specs.Str.{is_utf8, chars, IsUtf8}
+use Rattle.std.proofs.lemmas.List.{take_all}
+use Rattle.std.proofs.lemmas.Bool.{lt-ltb, le-ltb}
+use Rattle.std.proofs.lemmas.Str.{is_utf8-from_IsUtf8, IsUtf8-from_is_utf8}
+use Rattle.record_tracks.specs.declared.text_faults.TextLineFault.{TextLineFault}
+use Rattle.record_tracks.specs.declared.text_faults.TextLineFault.TheVariants.{TooLong, NoCharacter}
+use Rattle.record_tracks.specs.declared.text_faults.TextRecordsFault.{TextRecordsFault}
+use Rattle.record_tracks.specs.declared.text_faults.TextRecordsFault.TheVariants.{Line}
+use Rattle.record_tracks.specs.Codes.{codes_of, line_codes}
+use Rattle.record_tracks.specs.Lines.{lines_of}
+use Rattle.record_tracks.specs.TextRecords.{padded, record_with, record_of, and_records, records_from, records_of}
+use Rattle.record_tracks.specs.Putting.{PutsCodes, PutsRecord}
+
+-- these records before others, if there are such
+abbrev pub joined : List ℕ → Result (List ℕ) TextRecordsFault → Result (List ℕ) TextRecordsFault
+joined bytes (Ok others) = Ok (bytes ++ others)
+joined bytes (Err fault) = Err fault
+
+-- The records of a text are these, and then those of the lines of the rest, whose numbers follow this one.
+abbrev pub JoinedTo : (size : ℕ) → (text : List ℕ) → (number : ℕ) → (rest bytes : List ℕ) → Type 0
+JoinedTo size text number rest bytes = records_of size text ≡ joined bytes (records_from size (number + 1) (lines_of rest))
+
+same : (r : Result (List ℕ) TextRecordsFault) → r ≡ joined [] r
+same (Ok l) = refl
+same (Err f) = refl
+
+pub none_joined : (size : ℕ) (text : List ℕ) → JoinedTo size text 0 text []
+none_joined size text = same (records_from size 1 (lines_of text))
+
+one : (size number : ℕ) (l : List ℕ) (ls : List (List ℕ))
+    → records_from size number (l ∷ ls) ≡ and_records number (record_of size l) (records_from size (number + 1) ls)
+unfolding records_from
+one size number l ls = refl
+
+none_left : (size number : ℕ) → records_from size number (lines_of []) ≡ Ok []
+unfolding records_from lines_of
+none_left size number = refl
+
+shifted : (number : ℕ) (bytes record_bytes : List ℕ) (r : Result (List ℕ) TextRecordsFault)
+    → joined bytes (and_records number (Ok record_bytes) r) ≡ joined (bytes ++ record_bytes) r
+shifted number bytes record_bytes (Ok l) = ap Ok (sym (append_assoc bytes record_bytes l))
+shifted number bytes record_bytes (Err f) = refl
+
+module _ (size : ℕ) (text : List ℕ) (number : ℕ) (rest line after bytes : List ℕ) (h : JoinedTo size text number rest bytes)
+    (split : lines_of rest ≡ line ∷ lines_of after) where
+  next : records_of size text ≡ joined bytes (and_records (number + 1) (record_of size line)
+      (records_from size (number + 1 + 1) (lines_of after)))
+  next = h ∙ ap (joined bytes) (ap (records_from size (number + 1)) split ∙ one size (number + 1) line (lines_of after))
+
+  -- one line more
+  pub one_joined : (now : List ℕ) → PutsRecord (record_of size line) bytes now None → JoinedTo size text (number + 1) after now
+  one_joined now put =
+      next ∙ ap (λ r. joined bytes (and_records (number + 1) r (records_from size (number + 1 + 1) (lines_of after)))) put.1
+      ∙ shifted (number + 1) bytes put.0 (records_from size (number + 1 + 1) (lines_of after))
+      ∙ ap (λ l. joined l (records_from size (number + 1 + 1) (lines_of after))) (sym put.2)
+
+  -- a line that is no record
+  pub not_joined : (fault : TextLineFault) → record_of size line ≡ Err fault → records_of size text ≡ Err (Line (number + 1) fault)
+  not_joined fault is = next ∙ ap (λ r. joined bytes (and_records (number + 1) r (records_from size (number + 1 + 1) (lines_of after)))) is
+
+-- all lines are records
+pub all_joined : (size : ℕ) (text : List ℕ) (number : ℕ) (rest bytes : List ℕ) → rest ≡ [] → JoinedTo size text number rest bytes
+    → records_of size text ≡ Ok bytes
+all_joined size text number rest bytes empty h =
+    h ∙ ap (joined bytes) (ap (λ r. records_from size (number + 1) (lines_of r)) empty ∙ none_left size (number + 1))
+    ∙ ap Ok (append-nil bytes)
+
+-- The record of one line.
+module _ (size : ℕ) (line : List ℕ) where
+  no_text : (t : Bool) → is_utf8 line ≡ t → line_codes line ≡ cond t (codes_of (chars line)) None
+  no_text t e = ap (λ t. cond t (codes_of (chars line)) None) e
+
+  codes_are : IsUtf8 line → line_codes line ≡ codes_of (chars line)
+  codes_are is = no_text true (is_utf8-from_IsUtf8 line is)
+
+  -- a line that is not UTF-8
+  pub not_utf8 : (IsUtf8 line → ⊥) → record_of size line ≡ Err NoCharacter
+  not_utf8 not_one = ap (record_with size) (go (is_utf8 line) refl)
+    where
+      go : (t : Bool) → is_utf8 line ≡ t → line_codes line ≡ None
+      go true e = absurd (not_one (IsUtf8-from_is_utf8 line e))
+      go false e = no_text false e
+
+  -- a line with a character that has no byte
+  pub no_byte : IsUtf8 line → codes_of (chars line) ≡ None → record_of size line ≡ Err NoCharacter
+  no_byte is none = ap (record_with size) (codes_are is ∙ none)
+
+  -- a line that is too long
+  pub too_long : (bytes : List ℕ) → IsUtf8 line → codes_of (chars line) ≡ Some bytes → size < length bytes
+      → record_of size line ≡ Err TooLong
+  too_long bytes is some long =
+      ap (record_with size) (codes_are is ∙ some)
+      ∙ ap (λ t. cond t (Err TooLong) (Ok (padded size bytes))) (lt-ltb size (length bytes) long)
+
+  -- a line that fits
+  pub is_record : (bytes : List ℕ) → IsUtf8 line → codes_of (chars line) ≡ Some bytes → length bytes ≤ size
+      → record_of size line ≡ Ok (padded size bytes)
+  is_record bytes is some short =
+      ap (record_with size) (codes_are is ∙ some)
+      ∙ ap (λ t. cond t (Err TooLong) (Ok (padded size bytes))) (le-ltb size (length bytes) short)
+
+-- The same, of what was put behind other bytes.
+module _ (size : ℕ) (line text before now : List ℕ) (is : IsUtf8 line) (same_text : text ≡ line)
+    (put : PutsCodes (codes_of (chars text)) before now true) where
+  codes_there : codes_of (chars line) ≡ Some put.0
+  codes_there = ap (λ l. codes_of (chars l)) (sym same_text) ∙ put.1
+
+  many : length now ≡ length before + length put.0
+  many = ap length put.2 ∙ length-append before put.0
+
+  pub is_too_long : size < length now - length before → record_of size line ≡ Err TooLong
+  is_too_long long = too_long size line put.0 is codes_there (omega (arith, long, many))
+
+  -- blanks are put behind its bytes
+  pub is_filled : (after : List ℕ) (n : ℕ) → length now - length before ≤ size → n ≡ length before + size
+      → after ≡ take n now ++ replicate (n - length now) 0x40 → PutsRecord (record_of size line) before after None
+  is_filled after n short end e = (
+    padded size put.0,
+    is_record size line put.0 is codes_there (omega (arith, short, many)),
+    e ∙ ap (λ l. l ++ replicate (n - length now) 0x40) (take_all n now (omega (arith, short, many, end)))
+        ∙ ap (λ n. now ++ replicate n 0x40) {y = size - length put.0} (omega (arith, short, many, end))
+        ∙ ap (λ l. l ++ replicate (size - length put.0) 0x40) put.2 ∙ append_assoc before put.0 (replicate (size - length put.0) 0x40),
+  )

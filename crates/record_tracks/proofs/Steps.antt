@@ -1,0 +1,119 @@
+-- One step of a reader of a directory.
+use Rattle.std.proofs.Common.{◌≡◌, ◌∙◌, ap, sym, refl, ℕ, suc, ◌+◌, ◌*◌, ◌/◌, ◌%◌, ◌≤◌, ◌<◌, List, ◌∷◌, ◌++◌, length, take, get_or, arith}
+use Rattle.std.proofs.Common.{true, false, nat_lt, nat_le, ◌==◌, ◌||◌, cond, slice_range, slice_index, length-append, append_assoc}
+use Rattle.std.proofs.lemmas.Bool.Decides.{nat_tests}
+use Rattle.std.proofs.lemmas.List.{get_or-append-add, drop-take, drop_at, take_at}
+use Rattle.std.proofs.lemmas.Slice.{between_is}
+use Rattle.volume_labels.specs.declared.directories.DirectoryEntry.{DirectoryEntry}
+use Rattle.volume_labels.specs.declared.directories.DirectoryStep.{DirectoryStep}
+use Rattle.volume_labels.specs.declared.directories.DirectoryStep.TheVariants.{Entry, Skip, End, Fault}
+use Rattle.volume_labels.specs.declared.directories.DirectoryFault.TheVariants.{UsedBytes}
+use Rattle.volume_labels.specs.Directories.{number_at, entry_of, is_last, entry_step, step_at, block_start, entries_from, from_step}
+
+pub one_step : (bytes : List ℕ) (most at : ℕ) → entries_from (suc most) bytes at ≡ from_step (step_at bytes at) (entries_from most bytes)
+unfolding entries_from
+one_step bytes most at = refl
+
+-- The bytes have a block of 256 from this offset on, so many of which are used.
+pub record HasBlock (bytes : List ℕ) (k used : ℕ) : Type 0 where
+  pub there : 256 * k + 256 ≤ length bytes
+  pub number : number_at bytes (256 * k) ≡ used
+  pub least : 2 ≤ used
+  pub most : used ≤ 256
+
+-- what stands at an offset of the block that begins there
+step_from : List ℕ → (start at : ℕ) → DirectoryStep
+step_from bytes start at =
+    cond (nat_lt (length bytes) (start + 256)) End
+    (cond (nat_lt (number_at bytes start) 2 || nat_lt 256 (number_at bytes start)) (Fault UsedBytes)
+    (cond (at == start) (Skip (start + 2))
+    (cond (nat_le (start + number_at bytes start) at) (Skip (start + 256))
+    (entry_step bytes at (start + number_at bytes start)))))
+
+module _ (bytes : List ℕ) (k used at : ℕ) (has : HasBlock bytes k used) (from : 256 * k ≤ at) (to : at < 256 * k + 256) where
+  start_is : block_start at ≡ 256 * k
+  start_is = omega arith
+
+  in_it : step_at bytes at ≡ step_from bytes (256 * k) at
+  unfolding step_from
+  in_it = ap (λ (s : ℕ). step_from bytes s at) start_is
+
+  there_is : nat_lt (length bytes) (256 * k + 256) ≡ false
+  there_is = let there = has.there in grind (arith, nat_tests)
+
+  used_is : (nat_lt used 2 || nat_lt 256 used) ≡ false
+  used_is = let least = has.least in let most = has.most in grind (arith, nat_tests)
+
+  -- at its begin, behind what is used, and before that
+  pub begins : at ≡ 256 * k → step_at bytes at ≡ Skip (256 * k + 2)
+  unfolding step_from
+  begins is =
+      let here : (at == 256 * k) ≡ true = grind (arith, nat_tests) in
+      in_it ∙ rw (there_is, has.number, used_is, here) refl
+
+  pub passes : 256 * k < at → 256 * k + used ≤ at → step_at bytes at ≡ Skip (256 * k + 256)
+  unfolding step_from
+  passes behind past =
+      let here : (at == 256 * k) ≡ false = grind (arith, nat_tests) in
+      let over : nat_le (256 * k + used) at ≡ true = grind (arith, nat_tests) in
+      in_it ∙ rw (there_is, has.number, used_is, here, over) refl
+
+  pub enters : 256 * k < at → at < 256 * k + used → step_at bytes at ≡ entry_step bytes at (256 * k + used)
+  unfolding step_from
+  enters behind before =
+      let here : (at == 256 * k) ≡ false = grind (arith, nat_tests) in
+      let over : nat_le (256 * k + used) at ≡ false = grind (arith, nat_tests) in
+      in_it ∙ rw (there_is, has.number, used_is, here, over) refl
+
+-- What is read of an entry that stands behind a front.
+module _ (front name behind : List ℕ) (at hi lo number lengths : ℕ) (is_at : length front ≡ at) (eight : length name ≡ 8) where
+  abbrev pub with_entry : List ℕ
+  with_entry = front ++ (name ++ (hi ∷ lo ∷ number ∷ lengths ∷ behind))
+
+  joined : with_entry ≡ (front ++ name) ++ (hi ∷ lo ∷ number ∷ lengths ∷ behind)
+  joined = sym (append_assoc front name (hi ∷ lo ∷ number ∷ lengths ∷ behind))
+
+  byte_at : (i : ℕ) → get_or with_entry (at + 8 + i) 0 ≡ get_or (hi ∷ lo ∷ number ∷ lengths ∷ behind) i 0
+  byte_at i =
+      let far : at + 8 + i ≡ length (front ++ name) + i = omega (arith, length-append front name) in
+      ap (λ (xs : List ℕ). get_or xs (at + 8 + i) 0) joined
+      ∙ ap (λ (j : ℕ). get_or ((front ++ name) ++ (hi ∷ lo ∷ number ∷ lengths ∷ behind)) j 0) far
+      ∙ get_or-append-add (front ++ name) (hi ∷ lo ∷ number ∷ lengths ∷ behind) i 0
+
+  pub name_is : slice_range with_entry at (at + 8) ≡ name
+  name_is =
+      between_is with_entry at (at + 8) ∙ drop-take at 8 with_entry
+      ∙ ap (take 8) (drop_at front (name ++ (hi ∷ lo ∷ number ∷ lengths ∷ behind)) at is_at)
+      ∙ take_at name (hi ∷ lo ∷ number ∷ lengths ∷ behind) 8 eight
+
+  pub lengths_is : slice_index with_entry (at + 11) ≡ lengths
+  lengths_is = let e : at + 11 ≡ at + 8 + 3 = omega arith in rw e (byte_at 3)
+
+  abbrev pub read_entry : DirectoryEntry
+  read_entry = record {
+    name = name;
+    address = record { track = hi * 256 + lo; number = number };
+    is_alias = nat_le 128 lengths;
+    notes = lengths / 32 % 4;
+    user_bytes = lengths % 32 * 2;
+  }
+
+  pub entry_is : entry_of with_entry at ≡ read_entry
+  entry_is =
+      let e8 : at + 8 ≡ at + 8 + 0 = omega arith in
+      let e10 : at + 10 ≡ at + 8 + 2 = omega arith in
+      let first : slice_index with_entry (at + 8) ≡ hi = rw e8 (byte_at 0) in
+      let third : slice_index with_entry (at + 10) ≡ number = rw e10 (byte_at 2) in
+      rw (name_is, first, byte_at 1, third, lengths_is) refl
+
+  pub ordinary : (end next : ℕ) → is_last name ≡ false → at + 12 + lengths % 32 * 2 ≡ next → at + 12 ≤ end → next ≤ end
+      → entry_step with_entry at end ≡ Entry read_entry next
+  ordinary end next no_last is_next whole within =
+      let there : nat_lt end (at + 12) ≡ false = grind (arith, nat_tests) in
+      let inside : nat_lt end next ≡ false = grind (arith, nat_tests) in
+      rw (there, entry_is, name_is, no_last, lengths_is, is_next, inside) refl
+
+  pub ending : (end : ℕ) → is_last name ≡ true → at + 12 ≤ end → entry_step with_entry at end ≡ End
+  ending end last whole =
+      let there : nat_lt end (at + 12) ≡ false = grind (arith, nat_tests) in
+      rw (there, name_is, last) refl

@@ -1,2 +1,0 @@
-pub mod Mnemonics
-pub mod Laws

@@ -1,5 +1,0 @@
-use Rattle.s360_runs.proofs.laws.cut_is_end.Goals as goal
-use Rattle.s360_runs.proofs.EndStatus.{cut_is_end}
-
-pub returns : goal.returns
-returns c = cut_is_end

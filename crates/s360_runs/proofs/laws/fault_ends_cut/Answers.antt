@@ -1,5 +1,0 @@
-use Rattle.s360_runs.proofs.laws.fault_ends_cut.Goals as goal
-use Rattle.s360_runs.proofs.FaultsMet.{fault_ends_cut}
-
-pub returns : goal.returns
-returns c = fault_ends_cut

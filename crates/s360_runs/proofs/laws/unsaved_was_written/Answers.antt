@@ -1,5 +1,0 @@
-use Rattle.s360_runs.proofs.laws.unsaved_was_written.Goals as goal
-use Rattle.s360_runs.proofs.UnsavedTracks.{unsaved_was_written}
-
-pub returns : goal.returns
-returns c = unsaved_was_written

@@ -1,5 +1,0 @@
-pub mod Message
-pub mod Lines
-pub mod Sets
-pub mod Prints
-pub mod Apart

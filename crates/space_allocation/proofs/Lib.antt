@@ -1,6 +1,0 @@
-pub mod Apart
-pub mod Fields
-pub mod Places
-pub mod Reached
-pub mod Rewritten
-pub mod Walked

@@ -1,6 +1,0 @@
-use Rattle.std.proofs.Common.{◌≢◌, ◌<◌, ℕ, get_or}
-use Rattle.text_records.proofs.lines.split_line.Given as goal
-
--- none of the bytes so far is a line feed
-abbrev pub invariant-loop-end : goal.invariant-loop-end
-invariant-loop-end l = (k : ℕ) → k < l.end → get_or l.text k 0 ≢ 10
