@@ -12,8 +12,10 @@ use crate::images::{read_said, write_change};
 use ckd_image::Image;
 use dasd_files::VolumeFile;
 use dasd_jobs::JobFault;
-use volume_changes::{BlockChange, ChangeRefusal, DeletionPlan, PlanFault, is_confirmed, plan_deletion};
 use std::alloc::Global;
+use volume_changes::{
+    BlockChange, ChangeRefusal, DeletionPlan, PlanFault, is_confirmed, plan_deletion,
+};
 use volume_contents::{Block, Contents};
 
 /// Deletes a data set of the volume of an image that says this, by a slot of its size.

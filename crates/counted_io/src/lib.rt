@@ -8,5 +8,5 @@ mod writing;
 
 pub use crate::counted::Counted;
 pub use crate::digits::{put_bytes, put_decimal, put_hexadecimal};
-pub use crate::quantities::{Quantity};
+pub use crate::quantities::Quantity;
 pub use crate::writing::{WriteFault, flush_all, write_flushed, write_whole};

@@ -6,8 +6,8 @@ ghost use Rattle.dasd_archive.specs.Findings.{finding_line, severity_of};
 ghost use Rattle.dasd_archive.specs.Reports.{one_more, shown_line, tally_line, tally_of, Reports};
 
 use crate::findings::{PlaceMembers, Severity, StrictFinding};
-use dasd_volumes::{Form, Style};
 use counted_io::Quantity;
+use dasd_volumes::{Form, Style};
 use std::io;
 use std::io::Write;
 

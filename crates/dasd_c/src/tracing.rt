@@ -8,12 +8,12 @@ ghost use Rattle.dasd_c.specs.Tracing.{LooksFor, look_code};
 
 use crate::calling::{Memory, with_lent, with_own};
 use crate::handle::Handle;
-use subsystem_calls::{Call, KeptTrace, LookFault, ToldMoment, look};
 use dasd_files::VolumeFile;
 use s360_channels::Selectors;
 use s360_storage::MainStorage;
 use std::alloc::Global;
 use subsystem_calls::tell::{BAD_MOMENT, DONE, NO_CHANNEL, NO_ROOM};
+use subsystem_calls::{Call, KeptTrace, LookFault, ToldMoment, look};
 
 /// A trace of one channel: where its lines go, how many bytes of them the last look has told, and what is kept until the next look. With
 /// zeros there it has seen nothing.

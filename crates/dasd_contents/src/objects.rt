@@ -13,7 +13,6 @@ use crate::words::{Day, Format, Organisation, Text, Wrong, is_date, kind_of};
 use ckd_track::Geometry;
 use counted_io::{Counted, WriteFault, write_flushed};
 use dasd_volumes::VolumeFault;
-use volume_labels::{ContentsBlock, DataSetBlock, Date, Extent, VolumeLabel, without_blanks};
 use std::alloc::Global;
 use std::io::Write;
 use std::{fmt, io};
@@ -21,6 +20,7 @@ use volume_contents::{
     Block, Contents, DataSet, Finding, data_set_of, is_data_set, tracks_free, tracks_owned,
     tracks_used,
 };
+use volume_labels::{ContentsBlock, DataSetBlock, Date, Extent, VolumeLabel, without_blanks};
 
 /// Prints the volume label, each data set, the free tracks, and what is wrong, each as an object of JSON with the volume's
 /// path, which is a string of JSON with its quotes. The objects are made in memory, and written from there.

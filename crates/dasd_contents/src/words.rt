@@ -8,12 +8,14 @@ ghost use Rattle.dasd_volumes.specs.Lines.{hexadecimal};
 ghost use Rattle.dasd_contents.specs.Words.{owner_text, track_text, place_text, extent_text, piece_text, in_text, text_of, is_date, day_text, organisation_of};
 ghost use Rattle.dasd_contents.specs.Words.{unmovable, organisation_text, form_of, where_set, format_text, chain_text, problem_text, kind_text};
 
-use dasd_volumes::{PrintedAddress as Address, Reason};
-use volume_labels::{Date, Extent, FreeTracks, RecordAddress, TrackAddress, shown_character, without_blanks};
 use counted_io::Quantity;
+use dasd_volumes::{PrintedAddress as Address, Reason};
 use std::fmt;
 use std::fmt::Display;
 use volume_contents::{ChainFault, Problem};
+use volume_labels::{
+    Date, Extent, FreeTracks, RecordAddress, TrackAddress, shown_character, without_blanks,
+};
 
 /// A track: cylinder and head.
 #[derive(Clone, Copy)]

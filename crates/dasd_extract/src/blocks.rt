@@ -10,9 +10,11 @@ ghost use Rattle.dasd_extract.specs.Blocks.{number_of};
 use crate::stops::{Cause, Stop, stop_at};
 use crate::texts::{write_text, write_text_line};
 use ckd_track::TrackView;
-use volume_labels::{DIRECTORY_BLOCK, Layout, Piece, RecordForm, Segment, is_longer, next_record, without_blanks};
 use std::io;
 use std::io::Write;
+use volume_labels::{
+    DIRECTORY_BLOCK, Layout, Piece, RecordForm, Segment, is_longer, next_record, without_blanks,
+};
 
 /// The length of a directory block's key, in bytes.
 const DIRECTORY_KEY: usize = 8;

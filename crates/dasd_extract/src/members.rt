@@ -9,8 +9,10 @@ use crate::stops::Stop;
 use crate::walks::{Source, extract};
 use counted_io::Counted;
 use dasd_volumes::{SlotReader, VolumeFault};
-use volume_labels::{Directory, DirectoryEntry, DirectoryFault, Extent, RelativeAddress, read_directory};
 use std::alloc::Global;
+use volume_labels::{
+    Directory, DirectoryEntry, DirectoryFault, Extent, RelativeAddress, read_directory,
+};
 
 /// How many tracks of a directory are read at most: some 4 MiB on a 2314.
 const DIRECTORY_TRACKS: u16 = 512;

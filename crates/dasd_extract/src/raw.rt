@@ -12,9 +12,9 @@ use crate::stops::{Cause, Stop, stop_at};
 use ckd_track::SlotFault;
 use counted_io::{Counted, WriteFault, write_whole};
 use dasd_volumes::{SlotReader, VolumeFault};
-use volume_labels::{Extent, TrackPlace, track_of};
 use std::alloc::Global;
 use std::io::Write;
+use volume_labels::{Extent, TrackPlace, track_of};
 
 /// How many tracks are copied at most: no data set has more.
 const MOST_TRACKS: u32 = 65535;

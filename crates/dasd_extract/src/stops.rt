@@ -6,8 +6,8 @@ ghost use Rattle.dasd_extract.specs.Written.{stop_at, cause_behind, stop_behind}
 
 use ckd_track::SlotFault;
 use dasd_volumes::Reason;
-use volume_labels::RecordFault;
 use std::fmt;
+use volume_labels::RecordFault;
 
 /// Why no more blocks are read.
 #[derive(Clone, Copy, Debug, PartialEq, Eq)]

@@ -19,9 +19,9 @@ use crate::tracks::{Part, write_slot};
 use ckd_image::StoreFault;
 use counted_io::{Counted, WriteFault, write_whole};
 use dasd_volumes::{SlotReader, VolumeFault};
-use volume_labels::{Extent, RelativeAddress, TrackPlace, track_of};
 use std::alloc::Global;
 use std::io::Write;
+use volume_labels::{Extent, RelativeAddress, TrackPlace, track_of};
 
 /// Which blocks are written, and how.
 #[derive(Clone, Copy)]

@@ -12,8 +12,8 @@ use crate::reasons::Head;
 use byteorder::{ByteOrder, LittleEndian};
 use ckd_image::HEADER_LENGTH;
 use ckd_track::Geometry;
-use dasd_volumes::PrintedAddress;
 use counted_io::Quantity;
+use dasd_volumes::PrintedAddress;
 use std::fmt;
 
 /// How far files go that hold a volume: how many tracks of it they lack, which are its last ones, and how many bytes they have behind its

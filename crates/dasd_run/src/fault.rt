@@ -3,11 +3,11 @@
 ghost use Rattle.std.specs.Prelude.{◌≡◌};
 ghost use Rattle.dasd_run.specs.Faults.{volume_fault};
 
-use loaded_folders::{FolderFault, NewMemberFault, NewMemberRefusal};
 use changed_volumes::{ChangeFault, FormatFault};
 use dasd_jobs::JobFault;
 use dasd_unload::UnloadFault;
 use dasd_volumes::VolumeFault;
+use loaded_folders::{FolderFault, NewMemberFault, NewMemberRefusal};
 use loaded_sets::{LoadFault, LoadRefusal};
 use new_labels::TableFault;
 use s360_assembler::AssemblyFault;

@@ -14,9 +14,9 @@ use crate::printed_paths::{joined, quoted};
 use counted_io::Counted;
 use dasd_jobs::{Progress, SlotReader, Traces, open_volume};
 use dasd_words::{HashedVolume, PrintedVolume};
-use volume_hash::{HashesForm, print_hashes};
 use std::alloc::Global;
 use std::io::{Read, Write};
+use volume_hash::{HashesForm, print_hashes};
 
 /// Prints the hash of the volume of these files, and those of its data sets and members that are asked for; and says whether something of
 /// it is not whole.

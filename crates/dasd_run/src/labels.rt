@@ -7,9 +7,9 @@ ghost use Rattle.dasd_run.specs.Labels.{FormatsWithLabel};
 use crate::commands::Ending;
 use crate::fault::ProgramFault;
 use crate::host::Host;
+use changed_volumes::{LabelledVolume, format_labelled};
 use dasd_jobs::{Progress, Traces};
 use dasd_words::NewImage;
-use changed_volumes::{LabelledVolume, format_labelled};
 use new_labels::NewLabel;
 use std::io::{Read, Write};
 

@@ -14,10 +14,12 @@ use arrayvec::ArrayVec;
 use counted_io::Counted;
 use dasd_extract::{ExtractedForm, Source, extract};
 use dasd_jobs::SlotReader;
-use volume_labels::{DirectoryEntry, DirectoryStep, Extent, RelativeAddress, directory_step, read_directory};
 use set_forms::{EntryForm, FormLine, Note, write_form};
 use std::alloc::Global;
 use volume_contents::DataSet;
+use volume_labels::{
+    DirectoryEntry, DirectoryStep, Extent, RelativeAddress, directory_step, read_directory,
+};
 
 /// A directory whose entries are described.
 #[derive(Clone, Copy)]

@@ -6,8 +6,8 @@ ghost use Rattle.dasd_unload.specs.Unloads.{unload_fault, reading_fault};
 use crate::parts::End;
 use dasd_jobs::JobFault;
 use dasd_volumes::VolumeFault;
-use volume_labels::AttributeFault;
 use thiserror::Error;
+use volume_labels::AttributeFault;
 
 /// Why a data set was not unloaded, or not as a whole.
 #[derive(Clone, Copy, Debug, Error)]

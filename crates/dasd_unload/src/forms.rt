@@ -6,9 +6,9 @@ ghost use Rattle.dasd_unload.specs.Described.{set_form, directory_blocks, is_sam
 ghost use Rattle.dasd_unload.specs.Described.{block_count, ends_with, block_led_to};
 
 use arrayvec::ArrayVec;
-use volume_labels::{DIRECTORY_BLOCK, DataSetBlock, DirectoryEntry, RelativeAddress};
 use set_forms::{EntryForm, FormLine, Note, SetForm, write_form};
 use std::alloc::{AllocError, Global};
+use volume_labels::{DIRECTORY_BLOCK, DataSetBlock, DirectoryEntry, RelativeAddress};
 
 /// The length of a note in user data, in bytes.
 pub(crate) const NOTE: usize = 4;

@@ -6,9 +6,9 @@ ghost use Rattle.dasd_unload.specs.Unloads.{file_name, is_of_job};
 ghost use Rattle.dasd_unload.specs.Volumes.{path_in};
 
 use crate::fault::{NO_MEMORY, UnloadFault};
-use volume_labels::{DirectoryEntry, safe_name};
 use std::alloc::Global;
 use volume_contents::DataSet;
+use volume_labels::{DirectoryEntry, safe_name};
 
 /// The name of the file for a data set.
 pub(crate) fn name_of_set(alloc: Global, set: &DataSet) -> Result<String, UnloadFault>

@@ -15,11 +15,11 @@ use counted_io::{Counted, Quantity, WriteFault, write_flushed, write_whole};
 use dasd_contents::Broken;
 use dasd_extract::{Members, Stop};
 use dasd_jobs::JobFault;
-use volume_labels::DirectoryFault;
 use std::alloc::Global;
 use std::io::Write;
 use std::{fmt, io};
 use volume_contents::ChainFault;
+use volume_labels::DirectoryFault;
 
 /// Of what a line is: of what has this name. Where lines are objects of JSON, they have the paths of the volume, as a string of it.
 #[derive(Clone, Copy)]

@@ -16,10 +16,13 @@ use dasd_extract::{
     ExtractedForm, Source, Stop, data_set_name, extract, find_member, member_name, read_members,
 };
 use dasd_jobs::{ImageFiles, JobFault, SlotReader, begin_file, put_file};
-use volume_labels::{AttributeFault, DataSetBlock, DirectoryEntry, Extent, Layout, RecordAttributes, RelativeAddress, layout_given, record_form};
 use std::alloc::Global;
 use std::io::Write;
 use volume_contents::{DataSet, find, read_contents};
+use volume_labels::{
+    AttributeFault, DataSetBlock, DirectoryEntry, Extent, Layout, RecordAttributes,
+    RelativeAddress, layout_given, record_form,
+};
 
 /// Where the blocks of a data set begin.
 const FIRST: RelativeAddress = RelativeAddress {

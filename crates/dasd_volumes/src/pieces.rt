@@ -7,8 +7,8 @@ ghost use Rattle.dasd_volumes.specs.Lines.{address_text, fault_text};
 use crate::text::PrintedAddress;
 use arrayvec::ArrayString;
 use ckd_track::SlotFault;
-use itoa::Buffer;
 use counted_io::put_hexadecimal;
+use itoa::Buffer;
 
 /// The bytes that a line has room for, or a piece of one that has no path: more than any has.
 pub(crate) const LINE: usize = 128;

@@ -6,8 +6,8 @@ ghost use Rattle.dasd_volumes.specs.Lines.{bytes_text, address_text, fault_text}
 
 use arrayvec::ArrayString;
 use ckd_track::SlotFault;
-use std::fmt;
 use counted_io::put_bytes;
+use std::fmt;
 
 /// So many bytes are spelled at once.
 const PIECE: usize = 32;

@@ -4,8 +4,8 @@ use crate::commands::wrong;
 use crate::options::{ArgKind, ArgRow, FILE, Value, not_taken};
 use crate::requests::{FileForm, WordFault};
 use clap::ArgMatches;
-use volume_labels::{AttributeFault, RecordAttributes, layout_given};
 use std::alloc::Global;
+use volume_labels::{AttributeFault, RecordAttributes, layout_given};
 
 /// The option for a record format.
 pub(crate) const FORMAT: ArgRow = ArgRow {

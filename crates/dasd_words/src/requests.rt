@@ -4,10 +4,10 @@ use crate::volumes::Volume;
 use arrayvec::ArrayVec;
 use ckd_track::DriveModel;
 use new_labels::NewLabel;
-use volume_labels::RecordAttributes;
 use s360_explain::Pasted;
 use std::alloc::AllocError;
 use thiserror::Error;
+use volume_labels::RecordAttributes;
 
 /// What `dasd` is asked to do, and how.
 #[derive(Drop)]

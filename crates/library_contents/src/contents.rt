@@ -1,8 +1,8 @@
 //! What is read of a library, and why none is read.
 
 use dasd_volumes::VolumeFault;
-use volume_labels::DirectoryEntry;
 use thiserror::Error;
+use volume_labels::DirectoryEntry;
 
 /// A library, as it is read.
 #[derive(Drop)]

@@ -3,8 +3,8 @@
 ghost use Rattle.std.specs.Prelude.{◌≡◌, ◌++◌, ◌∷◌, [], IfOk, option_map, Some};
 ghost use Rattle.library_contents.specs.Directories.{AreEntriesOf, user_data};
 
-use volume_labels::{DirectoryEntry, DirectoryStep, directory_step};
 use std::alloc::{AllocError, Global};
+use volume_labels::{DirectoryEntry, DirectoryStep, directory_step};
 
 /// An entry of a directory, and the offset behind it in the directory's blocks.
 #[derive(Clone, Copy)]

@@ -10,8 +10,8 @@ use crate::directories::{PlacedEntry, user_data};
 use crate::members::{Members, member_number};
 use crate::notes::{NOTE, Noted, read_notes};
 use dasd_volumes::{SlotReader, VolumeFault};
-use volume_labels::{DirectoryEntry, Extent};
 use std::alloc::{AllocError, Global};
+use volume_labels::{DirectoryEntry, Extent};
 
 /// The directory of a library with these extents, as the bytes of its blocks.
 #[derive(Clone, Copy)]

@@ -10,9 +10,9 @@ ghost use Rattle.library_contents.specs.Lines.{finding_text, directory_text, wro
 use crate::report::Report;
 use dasd_extract::{Cause, Stop};
 use dasd_volumes::{Hexadecimal, VolumeFault};
-use volume_labels::{DirectoryEntry, DirectoryFault};
 use std::io::Write;
 use std::{fmt, io};
+use volume_labels::{DirectoryEntry, DirectoryFault};
 
 /// How the members of a library are listed: its name, as that of a file, and what each line begins with; or, where lines are objects of
 /// JSON, the paths of the volume, as a string of it.

@@ -6,13 +6,13 @@ ghost use Rattle.library_contents.specs.Report.{AddsOf};
 ghost use Rattle.library_contents.specs.Lines.{shown};
 ghost use Rattle.library_contents.specs.ListedMembers.{user_data, member_lines, entries_lines, library_lines};
 
-use crate::listed_blocks::read_blocks;
 use crate::lines::{Listed, MembersForm, Wrong, add_end, add_heading, add_member, add_wrong};
+use crate::listed_blocks::read_blocks;
 use crate::report::Report;
 use dasd_extract::{self as source, directory_of, member_of};
 use dasd_volumes::{SlotReader, VolumeFault};
-use volume_labels::{DirectoryEntry, DirectoryStep, Extent, directory_step, safe_name};
 use std::alloc::Global;
+use volume_labels::{DirectoryEntry, DirectoryStep, Extent, directory_step, safe_name};
 
 /// A partitioned data set, and how its members are listed.
 #[derive(Clone, Copy)]

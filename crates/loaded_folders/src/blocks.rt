@@ -11,10 +11,10 @@ ghost use Rattle.loaded_folders.specs.MemberParts.{IsNoMember, spelled, IsUnspel
 
 use crate::added::AddedMember;
 use ckd_track::DriveModel;
-use record_tracks::{Blocks, Cut, NewRecord, block_fault, block_records, cut_of};
 use loaded_sets::{ContentFault, NewSetForm, SourceForm, Unmade, layout_of_set, text_bytes};
-use volume_labels::Layout;
+use record_tracks::{Blocks, Cut, NewRecord, block_fault, block_records, cut_of};
 use std::alloc::{AllocError, Global};
+use volume_labels::Layout;
 
 /// What the blocks of a member are measured by.
 #[derive(Clone, Copy)]

@@ -13,10 +13,12 @@ use crate::fault::{FolderFault, NO_MEMORY};
 use crate::sets::FolderSet;
 use ckd_image::Image;
 use dasd_files::VolumeFile;
-use volume_labels::{RecordAttributes, safe_name};
-use loaded_sets::{LoadFault, LoadedLibrary, LoadedSet, NewSetForm, SourceForm, load_image, load_library};
+use loaded_sets::{
+    LoadFault, LoadedLibrary, LoadedSet, NewSetForm, SourceForm, load_image, load_library,
+};
 use set_forms::SetForm;
 use std::alloc::{AllocError, Global};
+use volume_labels::{RecordAttributes, safe_name};
 
 // What the label of a data set is to say, by its line.
 fn form_of(line: &SetForm) -> NewSetForm

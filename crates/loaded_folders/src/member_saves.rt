@@ -5,9 +5,9 @@ ghost use Rattle.counted_io.specs.Streams.{seen_by, IsFlushed};
 ghost use Rattle.loaded_folders.specs.MemberLoads.{LoadsMember, AddsFiles, TellsMember, added_line};
 
 use crate::added::AddedMember;
+use crate::lines::write_added;
 use crate::member_fault::{NewMemberFault, NewMemberRefusal, of_file, of_line, refused};
 use crate::member_images::add_member;
-use crate::lines::write_added;
 use crate::member_names::new_member_name;
 use changed_volumes::{ChangedVolume, save_plan};
 use counted_io::Counted;

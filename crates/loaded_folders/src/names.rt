@@ -8,9 +8,9 @@ ghost use Rattle.loaded_folders.specs.Sets.{file_names, member_names};
 ghost use Rattle.loaded_folders.specs.Parts.{lines_of};
 
 use crate::sets::SetLines;
-use volume_labels::safe_name;
 use set_forms::EntryForm;
 use std::alloc::{AllocError, Global};
+use volume_labels::safe_name;
 
 /// The path of a file of a folder.
 pub(crate) fn path_in(alloc: Global, folder: &str, name: &str) -> Result<String, AllocError>

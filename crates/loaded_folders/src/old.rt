@@ -19,12 +19,12 @@ use counted_io::Counted;
 use dasd_extract::{directory_of, extract};
 use dasd_files::VolumeFile;
 use dasd_volumes::{SlotReader, VolumeFault};
-use volume_labels::{DIRECTORY_BLOCK, DataSetBlock, Extent, RecordAttributes};
 use library_contents::read_library;
 use loaded_sets::{NewSetForm, SoundVolume, judge, position_of};
 use set_forms::is_partitioned;
 use std::alloc::Global;
 use volume_contents::{DataSet, data_set_of};
+use volume_labels::{DIRECTORY_BLOCK, DataSetBlock, Extent, RecordAttributes};
 
 // What a label says that is written again.
 fn form_in(block: &DataSetBlock) -> NewSetForm

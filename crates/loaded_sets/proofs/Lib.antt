@@ -6,7 +6,7 @@ mod Told
 mod Lost
 mod Put
 mod PlacedRead
-mod Refused
+mod RefusedPlaced
 mod Tracks
 mod Within
 mod LibraryFits

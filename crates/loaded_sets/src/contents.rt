@@ -4,11 +4,11 @@ ghost use Rattle.std.specs.Prelude.{◌≡◌, IfOk, IfErr, Ok};
 ghost use Rattle.record_tracks.specs.BlockFaults.{IsCutFor};
 ghost use Rattle.loaded_sets.specs.Contents.{layout_of_set, length_said, label_of, text_size, text_bytes, IsNoText};
 
-use crate::fault::{ContentFault, Unmade};
-use volume_labels::{AttributeFault, Date, Layout, RecordAttributes, RecordForm, layout_given};
 use crate::SetLabel;
-use std::alloc::Global;
+use crate::fault::{ContentFault, Unmade};
 use record_tracks::{TextRecordsFault, text_records};
+use std::alloc::Global;
+use volume_labels::{AttributeFault, Date, Layout, RecordAttributes, RecordForm, layout_given};
 
 /// A label that says nothing of its records.
 const SILENT: RecordAttributes = RecordAttributes {

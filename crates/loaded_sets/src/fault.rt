@@ -5,13 +5,13 @@ ghost use Rattle.loaded_sets.specs.Faults.{placing_fault, IsHinderedBy};
 ghost use Rattle.loaded_sets.specs.Parts.{file_fault, written_line, unmade_fault};
 ghost use Rattle.changed_volumes.specs.Changes.{IsHinderedBy as IsChangeHindered};
 
+use crate::{PlaceFault, PlaceRefusal};
 use changed_volumes::ChangeFault;
 use counted_io::WriteFault;
 use dasd_jobs::{FileFault, JobFault};
 use record_tracks::{BlockFault, LibraryFault, TextLineFault};
-use crate::{PlaceFault, PlaceRefusal};
-use volume_labels::AttributeFault;
 use thiserror::Error;
+use volume_labels::AttributeFault;
 
 /// Why a file has no blocks for a data set or a member.
 #[derive(Clone, Copy, Debug, Error)]

@@ -14,13 +14,13 @@ use crate::contents::{LoadedSet, SourceForm, label_of, layout_of_set, text_bytes
 use crate::fault::{
     ContentFault, LoadFault, LoadRefusal, NO_MEMORY, of_placing, of_reading, of_unmade, refused,
 };
+use crate::{PlacedSet, SoundVolume, judge, place_records, position_of};
 use changed_volumes::read_said;
 use ckd_image::Image;
 use dasd_files::VolumeFile;
 use record_tracks::{Blocks, Cut, block_fault, block_records, cut_of};
-use crate::{PlacedSet, SoundVolume, judge, place_records, position_of};
-use volume_labels::Layout;
 use std::alloc::Global;
+use volume_labels::Layout;
 
 /// The blocks of a data set, and how its records lie in them.
 #[derive(Clone, Copy)]

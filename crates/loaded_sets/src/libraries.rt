@@ -4,8 +4,8 @@ ghost use Rattle.std.specs.Prelude.{◌≡◌};
 ghost use Rattle.record_tracks.specs.BlockFaults.{IsCutFor};
 ghost use Rattle.loaded_sets.specs.Members.{cut_in};
 
-use record_tracks::{Cut, MemberEntry, NewLibrary, cut_of};
 use crate::{NewSetForm, SetLabel, SourceForm};
+use record_tracks::{Cut, MemberEntry, NewLibrary, cut_of};
 use volume_labels::Layout;
 
 /// A library that is put onto a volume: a partitioned data set.

@@ -3,8 +3,8 @@
 ghost use Rattle.std.specs.Prelude.{◌≡◌};
 ghost use Rattle.loaded_sets.specs.LibraryParts.{member_fault, library_failure};
 
-use record_tracks::LibraryFault;
 use crate::{LoadFault, LoadRefusal, NO_MEMORY, Unmade};
+use record_tracks::LibraryFault;
 
 /// What the file of a member that is not made into blocks is for its library. Its number is from 1 on.
 pub(crate) fn of_member(number: usize, fault: Unmade) -> LoadFault

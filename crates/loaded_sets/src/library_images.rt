@@ -12,11 +12,14 @@ ghost use Rattle.loaded_sets.specs.LibraryParts.{member_blocks, IsPut, IsNotPut,
 use crate::libraries::{LoadedLibrary, MemberBlocks, NamedLibrary, cut_in};
 use crate::members::{Measure, all_records, new_members, text_members, text_slices};
 use crate::placing::put_named;
+use crate::{
+    ContentFault, LoadFault, LoadRefusal, NO_MEMORY, SoundVolume, SourceForm, judge, label_of,
+    layout_of_set, of_placing, of_reading, position_of, refused,
+};
 use changed_volumes::read_said;
 use ckd_image::Image;
 use dasd_files::VolumeFile;
 use record_tracks::NewLibrary;
-use crate::{ContentFault, LoadFault, LoadRefusal, NO_MEMORY, SoundVolume, SourceForm, judge, label_of, layout_of_set, of_placing, of_reading, position_of, refused};
 use std::alloc::Global;
 
 /// Puts a library onto the volume of an image in memory, and answers how many tracks it has. Its tracks are the first ones free that have

@@ -11,11 +11,11 @@ ghost use Rattle.loaded_sets.specs.Members.{each_made, fitting};
 ghost use Rattle.loaded_sets.specs.LibraryParts.{HasBlocks, IsUnmade, IsNoneFor};
 
 use crate::library_fault::of_member;
+use crate::{ContentFault, LoadFault, NO_MEMORY, Unmade, text_bytes};
 use ckd_track::DriveModel;
 use record_tracks::{Blocks, Cut, NewMember, NewRecord, block_fault, block_records};
-use crate::{ContentFault, LoadFault, NO_MEMORY, Unmade, text_bytes};
-use volume_labels::Layout;
 use std::alloc::{AllocError, Global};
+use volume_labels::Layout;
 
 /// What the blocks of a library are measured by.
 #[derive(Clone, Copy)]

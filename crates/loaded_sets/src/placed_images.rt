@@ -18,8 +18,8 @@ use crate::volumes::SoundVolume;
 use ckd_image::{Image, StoreFault};
 use dasd_files::VolumeFile;
 use dasd_jobs::JobFault;
-use record_tracks::{NewRecord, load_track};
 use new_labels::data_set_data;
+use record_tracks::{NewRecord, load_track};
 use std::alloc::Global;
 use volume_labels::RecordAddress;
 

@@ -6,12 +6,12 @@ ghost use Rattle.changed_volumes.specs.Changes.{IsSameImage};
 ghost use Rattle.loaded_sets.specs.Volumes.{labelled};
 ghost use Rattle.loaded_sets.specs.LibraryParts.{IsNamed, IsNotNamed};
 
-use crate::library_fault::of_library;
 use crate::libraries::NamedLibrary;
+use crate::library_fault::of_library;
+use crate::{LoadFault, NO_MEMORY, PlacedSet, SoundVolume, of_placing, place_records};
 use ckd_image::Image;
 use dasd_files::VolumeFile;
 use record_tracks::{library_directory, library_records};
-use crate::{LoadFault, NO_MEMORY, PlacedSet, SoundVolume, of_placing, place_records};
 use std::alloc::Global;
 
 /// Puts a library with its records onto such a volume, and answers how many tracks it has.

@@ -11,8 +11,8 @@ ghost use Rattle.loaded_sets.specs.PlacedParts.{IsPlaced, IsUnplaced};
 
 use crate::place_fault::{PlaceFault, PlaceRefusal, refused};
 use crate::volumes::{SoundVolume, taken_extents};
-use record_tracks::{LastPlace, NewRecord, last_place, tracks_needed};
 use new_labels::{NewDataSet, extent_of_run, free_run};
+use record_tracks::{LastPlace, NewRecord, last_place, tracks_needed};
 use std::alloc::Global;
 use volume_labels::{Date, RelativeAddress};
 

@@ -22,7 +22,7 @@ use changed_volumes::write_change;
 use ckd_image::{Image, StoreFault};
 use ckd_track::{Geometry, read_slot};
 use dasd_files::VolumeFile;
-use new_labels::{updated_contents, fill_block, find_run, free_block, put_run, run_behind};
+use new_labels::{fill_block, find_run, free_block, put_run, run_behind, updated_contents};
 use volume_changes::BlockChange;
 use volume_contents::{Block, find_block};
 use volume_labels::{BlockKind, Extent, FreeTracks, RecordAddress, TrackAddress, free_space_block};

@@ -10,10 +10,10 @@ ghost use Rattle.loaded_sets.specs.PlacedParts.{IsHinderedBy};
 
 use crate::place_fault::{NO_MEMORY, PlaceFault, PlaceRefusal, refused};
 use ckd_track::Geometry;
-use volume_labels::{ContentsBlock, Extent, VolumeLabel, without_blanks};
 use std::alloc::Global;
 use volume_changes::ChangeRefusal;
 use volume_contents::{Block, Contents, check_contents, data_set_of, is_data_set};
+use volume_labels::{ContentsBlock, Extent, VolumeLabel, without_blanks};
 
 /// A volume with nothing wrong that has a label and a table of contents.
 #[derive(Clone, Copy)]

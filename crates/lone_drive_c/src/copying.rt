@@ -3,9 +3,9 @@
 ghost use Rattle.std.specs.Prelude.{◌≡◌, Some, pos};
 ghost use Rattle.lone_drive_c.specs.Copying.{TellsCopy};
 
+use crate::LoneDrive;
 use crate::handle::{HELD, Handle, hold, put, take};
 use crate::tell::{IN_USE, NOTHING_HELD, of_not_made};
-use crate::LoneDrive;
 use std::alloc::Global;
 
 /// Makes a handle that holds nothing hold a copy of the drive that this one holds, also in the middle of a command.

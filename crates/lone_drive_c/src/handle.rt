@@ -8,11 +8,11 @@ ghost use Rattle.lone_drive_c.specs.Calls.{IsNewOf, TellsWhy, WhyNone};
 ghost use Rattle.lone_drive_c.specs.Codes.{nothing_held, in_use, made_code};
 ghost use Rattle.lone_drive_c.specs.declared.handle.TheConstants.{HELD};
 
+use crate::LoneDrive;
 use crate::slot::Slot;
 use crate::tell::{BAD_MODEL, DONE, IN_USE, NO_MEMORY, NOTHING_HELD, of_not_made};
 use box_parts::Parts;
 use ckd_track::DriveModel;
-use crate::LoneDrive;
 use std::alloc::Global;
 use std::marker::Send;
 use std::mem;

@@ -4,8 +4,8 @@ ghost use Rattle.std.specs.Prelude.{◌≡◌, Option, Some, None, IsSome};
 ghost use Rattle.lone_drive_c.specs.declared.drive.LoneDrive.{LoneDrive};
 ghost use Rattle.lone_drive_c.specs.Slot.{slot_owns};
 
-use box_parts::Parts;
 use crate::LoneDrive;
+use box_parts::Parts;
 use std::alloc::Global;
 use std::marker::{Model, Send};
 

@@ -4,9 +4,9 @@
 ghost use Rattle.std.specs.Prelude.{◌≡◌, pos};
 ghost use Rattle.lone_drive_c.specs.Codes.{begun_code, look_code, made_code, phase_code, settled_code};
 
+use crate::NotMade;
 use ckd_drive::{Begun, Look, Phase};
 use ckd_image::{MountFault, StoreFault};
-use crate::NotMade;
 
 /// It was done.
 pub(crate) const DONE: i32 = 0;

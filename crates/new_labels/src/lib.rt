@@ -19,7 +19,7 @@ pub use crate::free_space::{find_run, put_run, run_behind, run_bytes, run_of};
 pub use crate::labels::{NewLabel, TableFault, blocks_on, free_blocks, table_fault};
 pub use crate::records::{loader_data, volume_data};
 pub use crate::runs::{free_run, is_taken};
-pub use crate::set_blocks::{NewDataSet, updated_contents, data_set_data, record_bytes};
+pub use crate::set_blocks::{NewDataSet, data_set_data, record_bytes, updated_contents};
 pub use crate::slots::spell_labelled_track;
 pub use crate::tables::{fill_block, free_block};
 pub use crate::texts::{owner_of, serial_of};

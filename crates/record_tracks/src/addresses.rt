@@ -6,10 +6,10 @@ ghost use Rattle.record_tracks.specs.MemberEntries.{block_address};
 ghost use Rattle.record_tracks.specs.LibraryFaults.{length_fault};
 ghost use Rattle.record_tracks.specs.Placed.{AreRecords, ArePlaced};
 
-use crate::library_faults::LibraryFault;
 use crate::libraries::{NewLibrary, NewMember};
-use ckd_track::DriveModel;
+use crate::library_faults::LibraryFault;
 use crate::{NewRecord, RecordPlace, place_of};
+use ckd_track::DriveModel;
 use volume_labels::RelativeAddress;
 
 /// How many tracks an address can say.

@@ -7,10 +7,10 @@ ghost use Rattle.record_tracks.specs.Records.{areas_of};
 ghost use Rattle.record_tracks.specs.Blocks.{AreBlocks, rests_of};
 
 use crate::blocks::{Blocks, Cut, behind_first, byte_at, first_record, first_size, number_at};
-use ckd_track::DriveModel;
-use volume_labels::{Layout, RecordForm, next_record};
 use crate::{NewRecord, goes_on};
+use ckd_track::DriveModel;
 use thiserror::Error;
+use volume_labels::{Layout, RecordForm, next_record};
 
 /// Why a block that says its own lengths is none.
 #[derive(Clone, Copy, Debug, PartialEq, Eq, Error)]

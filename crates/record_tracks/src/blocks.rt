@@ -5,8 +5,8 @@ ghost use Rattle.volume_labels.specs.Records.{number_at};
 ghost use Rattle.record_tracks.specs.Records.{areas_of};
 ghost use Rattle.record_tracks.specs.Blocks.{cut_by, first_areas, size_of};
 
-use volume_labels::{Layout, RecordForm};
 use crate::NewRecord;
+use volume_labels::{Layout, RecordForm};
 
 /// How many bytes say the lengths of a block that has them before it: a byte 1, the length of the key, and that of the data in two.
 const LENGTHS: usize = 4;

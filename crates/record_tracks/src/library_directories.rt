@@ -11,12 +11,12 @@ ghost use Rattle.record_tracks.specs.Placed.{ArePlaced, Leads};
 ghost use Rattle.record_tracks.specs.LibraryRead.{IsLibraryRead};
 
 use crate::addresses::{Placed, block_address, length_fault};
-use crate::library_faults::{LibraryFault, leading_fault};
 use crate::libraries::{MemberEntry, NewLibrary};
-use crate::library_records::library_records;
+use crate::library_faults::{LibraryFault, leading_fault};
+use crate::member_records::library_records;
 use crate::user_data::user_data;
-use ckd_track::DriveModel;
 use crate::{DIRECTORY_BLOCK, NewEntry, blocks_needed, refused_entry, write_directory};
+use ckd_track::DriveModel;
 use std::alloc::{AllocError, Global};
 
 // So many blocks of zeros.

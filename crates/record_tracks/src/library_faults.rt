@@ -5,9 +5,9 @@ ghost use Rattle.std.specs.List.{position};
 ghost use Rattle.record_tracks.specs.LibraryFaults.{lacks_member, lacks_block, leading_fault};
 ghost use Rattle.record_tracks.specs.Placed.{Leads};
 
+use crate::EntryFault;
 use crate::addresses::block_count;
 use crate::libraries::{MemberEntry, MemberNote, NewLibrary};
-use crate::EntryFault;
 use std::alloc::AllocError;
 use thiserror::Error;
 

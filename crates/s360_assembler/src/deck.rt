@@ -9,9 +9,9 @@ use crate::fault::Cause;
 use crate::files::{LoadableFile, bytes_at};
 use crate::parts::DeckPart;
 use arrayvec::{ArrayString, ArrayVec};
+use counted_io::{put_bytes, put_hexadecimal};
 use s360_deck::{DeckFault, parse};
 use std::alloc::Global;
-use counted_io::{put_bytes, put_hexadecimal};
 
 /// The most bytes of a `STORE`.
 const STORE_LENGTH: usize = 128;

@@ -14,8 +14,8 @@ use crate::statements::{Statement, Word};
 use crate::symbols::{Symbol, place_of, value_of};
 use arrayvec::{ArrayString, ArrayVec};
 use byteorder::{BigEndian, ByteOrder};
-use s360_words::{Ccw, CcwFlags};
 use counted_io::put_hexadecimal;
+use s360_words::{Ccw, CcwFlags};
 
 /// What a statement makes of a deck.
 #[derive(Drop)]

@@ -6,10 +6,10 @@ ghost use Rattle.counted_io.specs.Text.{bytes_text, hexadecimal};
 ghost use Rattle.s360_deck.specs.Lines.{status_text, csw_text, condition_text, after_space, answer_text};
 
 use arrayvec::ArrayString;
+use counted_io::{put_bytes, put_decimal, put_hexadecimal};
 use s360_laws::{Answer, Condition, Status};
 use s360_words::Csw;
 use std::fmt;
-use counted_io::{put_bytes, put_decimal, put_hexadecimal};
 
 /// The most bytes of an answer's line with its LF. A look at 32 bytes has 77, and 79 where its address has eight digits.
 pub(crate) const LINE_LENGTH: usize = 80;

@@ -2,8 +2,8 @@
 
 use crate::pieces::Piece;
 use arrayvec::ArrayString;
-use s360_laws::Event;
 use s360_explain::{code_name, word_of};
+use s360_laws::Event;
 use s360_words::{Ccw, CcwFlags};
 use std::alloc::{AllocError, Global};
 

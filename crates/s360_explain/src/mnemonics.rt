@@ -3,9 +3,9 @@
 ghost use Rattle.std.specs.Prelude.{◌≡◌, ◌≤◌, length};
 ghost use Rattle.s360_explain.specs.Mnemonics.{mnemonic, word_of, names, quoted_name_of, is_multi_track, code_named, worded_codes};
 
+use crate::code_name;
 use arrayvec::{ArrayString, ArrayVec};
 use ckd_sense::Command;
-use crate::code_name;
 
 /// The codes that have words: Transfer In Channel, and those of the commands of the drives.
 const WORDED_CODES: [u8; 40] = [

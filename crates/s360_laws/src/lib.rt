@@ -1,4 +1,5 @@
-//! The serial machine: a selector channel and its drives, event by event, as definitions in `specs/`; and its laws.
+//! The machine as definitions in `specs/`: one channel program at one drive, unit by unit, and a selector channel and its drives, event by
+//! event; the laws of both; and the events and answers as values, as a deck spells and prints them.
 #![tactic(auto)]
 
 mod answers;

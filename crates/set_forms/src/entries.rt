@@ -11,9 +11,9 @@ use crate::forms::{EntryForm, Note};
 use crate::names::member_name;
 use crate::numbers::{byte_of, bytes_of, number, three_of};
 use arrayvec::{ArrayString, ArrayVec};
+use counted_io::{put_bytes, put_decimal, put_hexadecimal};
 use std::io;
 use std::io::Write;
-use counted_io::{put_bytes, put_decimal, put_hexadecimal};
 
 /// The most notes that an entry has.
 const NOTES: usize = 3;

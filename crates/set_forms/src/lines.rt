@@ -7,8 +7,8 @@ ghost use Rattle.set_forms.specs.Forms.{form_line, set_line, entry_line, named_e
 use crate::entries::{Names, write_entry};
 use crate::forms::{EntryForm, FormLine, SetForm};
 use crate::sets::write_set;
-use volume_labels::safe_name;
 use std::alloc::{AllocError, Global};
+use volume_labels::safe_name;
 
 /// Puts a line with its line feed to the end of a text.
 ///

@@ -6,8 +6,8 @@ ghost use Rattle.trace_words.specs.Events.{event_text, status_text, csw_text, ha
 ghost use Rattle.trace_words.specs.Events.{channel_text, other_text, lost_text};
 
 use crate::numbers::{DeviceAddress, KeyDigit, StorageAddress};
-use s360_laws::{Answer, Condition, Status};
 use s360_explain::{ChannelNames, UnitNames};
+use s360_laws::{Answer, Condition, Status};
 use s360_words::{ChannelStatus, Csw, UnitStatus};
 use std::fmt;
 

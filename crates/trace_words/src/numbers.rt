@@ -6,8 +6,8 @@ ghost use Rattle.counted_io.specs.Text.{hexadecimal, bytes_text};
 ghost use Rattle.trace_words.specs.Numbers.{storage_address, device_address, key_digit};
 
 use arrayvec::ArrayString;
-use std::fmt;
 use counted_io::put_hexadecimal;
+use std::fmt;
 
 /// An address in storage, in six digits.
 #[derive(Clone, Copy)]

@@ -8,12 +8,12 @@ ghost use Rattle.volume_changes.specs.Volumes.{said_in};
 ghost use Rattle.volume_changes.specs.Runs.{marks_of};
 ghost use Rattle.volume_changes.specs.Deletions.{is_of, block_behind, blocks_behind, block_bytes, are_same, is_confirmed};
 
+use crate::BlockChange;
 use crate::plans::{DeletionPlan, push_block};
 use crate::runs::marks_of;
 use ckd_track::Geometry;
 use new_labels::record_bytes;
 use std::alloc::{AllocError, Global};
-use crate::BlockChange;
 use volume_contents::{Block, Contents, check_contents, free_tracks};
 use volume_labels::{BlockKind, RecordAddress, block_kind};
 

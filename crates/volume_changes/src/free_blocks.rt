@@ -6,10 +6,10 @@ ghost use Rattle.new_labels.specs.FreeSpace.{run_bytes};
 ghost use Rattle.volume_changes.specs.FreeBlocks.{run_in, runs_bytes, free_space_key, free_space_data, next_in, rewritten};
 ghost use Rattle.volume_changes.specs.Plans.{changes_of};
 
+use crate::BlockChange;
 use ckd_track::overwrite;
 use new_labels::{record_bytes, run_bytes};
 use std::alloc::{AllocError, Global};
-use crate::BlockChange;
 use volume_contents::Block;
 use volume_labels::{FreeTracks, RecordAddress, TrackAddress};
 

@@ -12,10 +12,10 @@ ghost use Rattle.volume_changes.specs.Plans.{table_change, changes_of, deletion_
 
 use crate::free_blocks::{NOWHERE, RUNS, changes_of, push};
 use crate::runs::{marks_of, runs_of};
+use crate::{BlockChange, ChangeRefusal, find_set};
 use ckd_track::Geometry;
 use new_labels::updated_contents;
 use std::alloc::{AllocError, Global};
-use crate::{BlockChange, ChangeRefusal, find_set};
 use volume_contents::{
     Block, Chain, Contents, DataSet, LONGEST_CHAIN, check_contents, data_set_of, find_block,
     follow_chain, free_tracks, is_data_set,

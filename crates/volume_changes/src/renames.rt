@@ -7,8 +7,8 @@ ghost use Rattle.volume_changes.specs.Volumes.{said_in, rename_of, rename_at};
 
 use crate::blocks::BlockChange;
 use crate::refusal::ChangeRefusal;
-use volume_labels::without_blanks;
 use volume_contents::{Block, Contents, is_data_set};
+use volume_labels::without_blanks;
 
 // Whether a block is that of a data set with this name, which has blanks behind it or not.
 fn has_name(block: &Block, name: &[u8]) -> bool

@@ -7,8 +7,7 @@ ghost use Rattle.volume_labels.specs.Addresses.{number_of_track, is_run};
 ghost use Rattle.volume_contents.specs.Runs.{exists_on, is_on, is_table_extent, walked_of, address_of_number};
 
 use ckd_track::Geometry;
-use volume_labels::is_run as is_run_of;
-use volume_labels::{Extent, TrackAddress};
+use volume_labels::{Extent, TrackAddress, is_run as is_run_of};
 
 /// Tracks that stand one behind another.
 #[derive(Clone, Copy)]

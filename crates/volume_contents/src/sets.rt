@@ -7,8 +7,11 @@ ghost use Rattle.volume_contents.specs.Sets.{FoundOf};
 
 use crate::blocks::Block;
 use crate::chains::{ChainFault, LONGEST_CHAIN, follow_chain};
-use volume_labels::{BlockKind, DataSetBlock, Extent, FreeTracks, RecordAddress, data_set_block, extents_block, free_space_block, without_blanks};
 use std::alloc::{AllocError, Global};
+use volume_labels::{
+    BlockKind, DataSetBlock, Extent, FreeTracks, RecordAddress, data_set_block, extents_block,
+    free_space_block, without_blanks,
+};
 
 /// A data set, and where it is on its volume.
 #[derive(Drop)]

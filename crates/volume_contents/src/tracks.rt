@@ -8,8 +8,8 @@ use crate::blocks::Block;
 use crate::runs::is_on;
 use crate::sets::free_tracks;
 use ckd_track::Geometry;
-use volume_labels::{Extent, FreeTracks, RelativeAddress, tracks_of_extent};
 use std::alloc::{AllocError, Global};
+use volume_labels::{Extent, FreeTracks, RelativeAddress, tracks_of_extent};
 
 /// The type of an extent for user labels, whose tracks are none of the data set's.
 const USER_LABELS: u8 = 0x40;

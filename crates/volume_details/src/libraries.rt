@@ -17,11 +17,11 @@ use crate::sections::is_partitioned;
 use counted_io::Counted;
 use dasd_extract::data_set_name;
 use dasd_volumes::{SlotReader, VolumeFault};
-use volume_labels::safe_name;
 use library_contents::{Library, MembersForm, Report, list_members};
 use std::alloc::Global;
 use std::io::Write;
 use volume_contents::{DataSet, find, read_contents};
+use volume_labels::safe_name;
 
 /// Prints the members of the first data set that has a name, in the order of its directory, with where each begins, its user data and how
 /// many bytes its blocks have; as objects of JSON, where there are the paths of the volume for them, as a string of it with its quotes. It

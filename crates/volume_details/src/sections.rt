@@ -16,12 +16,12 @@ use crate::long::{Described, add_long};
 use crate::printing::print_report;
 use counted_io::Counted;
 use dasd_volumes::{SlotReader, VolumeFault};
-use volume_labels::{BlockKind, DataSetBlock, safe_name};
 use library_contents::{Library, MembersForm, Report, list_members};
 use std::alloc::Global;
 use std::io;
 use std::io::Write;
 use volume_contents::{Block, Contents, DataSet, data_set_of};
+use volume_labels::{BlockKind, DataSetBlock, safe_name};
 
 /// The bit of a data set's organisation that says that it is partitioned (IBM System/360 Operating System, System Control Blocks,
 /// 'Data Set Control Block', format 1, DS1DSORG).

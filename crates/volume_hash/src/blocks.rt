@@ -5,11 +5,11 @@ ghost use Rattle.sha2.specs.Sha256.{sha256};
 ghost use Rattle.dasd_volumes.specs.Reading.{IsRead};
 ghost use Rattle.volume_hash.specs.SetMessage.{is_end_of_file, ending, IsHashOfBlocks};
 
+use crate::Message;
 use counted_io::Counted;
 use dasd_extract::{Cause, ExtractedForm, Source, extract};
 use dasd_volumes::{SlotReader, VolumeFault};
 use std::alloc::Global;
-use crate::Message;
 use volume_labels::{Extent, RelativeAddress};
 
 /// How many tracks are read at most; no data set has more.

@@ -7,9 +7,9 @@ ghost use Rattle.volume_hash.specs.SetLines.{shown, bool_text, kind_text, item_l
 ghost use Rattle.volume_hash.specs.Lines.{path_text};
 ghost use Rattle.volume_hash.specs.SetLines.{findings_object, findings_line, findings_text};
 
+use crate::write_path;
 use std::io;
 use std::io::Write;
-use crate::write_path;
 
 /// How the hashes of a volume are printed, and of what.
 #[derive(Clone, Copy)]

@@ -10,13 +10,13 @@ ghost use Rattle.volume_hash.specs.SetMessage.{ending, is_whole_of, library_is_w
 ghost use Rattle.volume_hash.specs.Prints.{Adds, AddsMembers, AddsMember, IsHashOfLibrary};
 ghost use Rattle.volume_hash.specs.Sets.{where_asked, library_lines};
 
+use crate::Message;
 use crate::blocks::{BlocksHash, begun, ended, hash_blocks, is_end_of_file};
 use crate::items::{Hashed, HashesForm, Report, write_member, write_set};
 use dasd_extract::{Members, read_members};
 use dasd_volumes::{SlotReader, VolumeFault};
-use volume_labels::{DirectoryEntry, Extent, safe_name};
 use std::alloc::{AllocError, Global};
-use crate::Message;
+use volume_labels::{DirectoryEntry, Extent, safe_name};
 
 /// A data set that is hashed, and how its lines are written.
 #[derive(Clone, Copy)]

@@ -12,11 +12,11 @@ ghost use Rattle.volume_hash.specs.Sets.{asks_sets, hashes_text};
 
 use crate::items::{HashesForm, Report};
 use crate::sets::add_contents;
+use crate::{VolumeHash, hash_volume, line_of};
 use counted_io::{Counted, WriteFault, write_flushed};
 use dasd_volumes::{SlotReader, VolumeFault};
 use std::alloc::Global;
 use std::io::Write;
-use crate::{VolumeHash, hash_volume, line_of};
 
 /// Prints the hash of what a volume says, and behind it those of its data sets and of their members that are asked for, in the order of
 /// the volume table of contents and of directories; and answers whether all of it is whole: each track can be read, and nothing is wrong

@@ -12,9 +12,9 @@ use crate::blocks::hash_blocks;
 use crate::items::{HashesForm, Report, write_findings};
 use crate::libraries::{Named, add_library, add_set};
 use dasd_volumes::{SlotReader, VolumeFault};
-use volume_labels::{DataSetBlock, RelativeAddress, safe_name};
 use std::alloc::{AllocError, Global};
 use volume_contents::{Block, DataSet, Finding, data_set_of, is_data_set, read_contents};
+use volume_labels::{DataSetBlock, RelativeAddress, safe_name};
 
 /// The bit of a data set's organisation that says that it is partitioned (IBM System/360 Operating System, System Control Blocks,
 /// 'Data Set Control Block', format 1, DS1DSORG).

@@ -3,8 +3,8 @@
 ghost use Rattle.std.specs.Prelude.{◌≡◌, ◌≤◌, ◌<◌, ◌+◌, length, slice_range, ◌++◌, ◌∷◌, [], IfOk};
 ghost use Rattle.volume_labels.specs.Directories.{number_at, entry_of, is_last, entry_step, step_at, DirectoryOf};
 
-use std::alloc::{AllocError, Global};
 use crate::RelativeAddress;
+use std::alloc::{AllocError, Global};
 
 /// The length of a directory block's data, in bytes.
 pub const DIRECTORY_BLOCK: usize = 256;

@@ -5,9 +5,9 @@ ghost use Rattle.std.specs.List.{flat_map};
 ghost use Rattle.std.specs.String.{string_bytes};
 ghost use Rattle.volume_labels.specs.Names.{is_plain, digit, byte_name, safe_name_of};
 
+use crate::character;
 use crate::lines::without_blanks;
 use std::alloc::{AllocError, Global};
-use crate::character;
 
 // Whether a character stands for itself in the name of a file.
 fn is_plain(character: u8) -> bool

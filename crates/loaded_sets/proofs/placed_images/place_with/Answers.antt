@@ -5,7 +5,7 @@ use Rattle.loaded_sets.specs.Volumes.{labelled}
 use Rattle.loaded_sets.specs.Placed.{HasSet}
 use Rattle.loaded_sets.specs.PlacedParts.{IsUnseen}
 use Rattle.loaded_sets.proofs.Put.{put}
-use Rattle.loaded_sets.proofs.Refused.{unplaced, unlisted, unseen}
+use Rattle.loaded_sets.proofs.RefusedPlaced.{unplaced, unlisted, unseen}
 use Rattle.loaded_sets.proofs.placed_images.place_with.Goals as goal
 
 pub returns-in-Ok : goal.returns-in-Ok

@@ -4,7 +4,7 @@ use Rattle.std.proofs.lemmas.Iterator.{YieldsList-from_chars}
 use Rattle.std.proofs.lemmas.Iterator.Consumers.{YieldsList-turn, YieldsList-end}
 use Rattle.std.specs.Str.{chars}
 use Rattle.record_tracks.proofs.TextSpelled.{SpelledTo, none_spelled, one_spelled, not_spelled, all_spelled}
-use Rattle.record_tracks.proofs.text_records.put_characters.Goals as goal
+use Rattle.record_tracks.proofs.line_records.put_characters.Goals as goal
 
 pub loop-character-init : goal.loop-character-init
 loop-character-init c = none_spelled (chars c.args.text.now) c.args.records.now.items

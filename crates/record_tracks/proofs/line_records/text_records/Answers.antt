@@ -4,7 +4,7 @@ use Rattle.record_tracks.proofs.Joined.{JoinedTo, none_joined, one_joined, not_j
 use Rattle.record_tracks.proofs.TextReading.{read_as_text}
 use Rattle.record_tracks.specs.TextRecords.{record_of}
 use Rattle.record_tracks.specs.Putting.{PutsRecord}
-use Rattle.record_tracks.proofs.text_records.text_records.Goals as goal
+use Rattle.record_tracks.proofs.line_records.text_records.Goals as goal
 
 pub loop-rest-init : goal.loop-rest-init
 loop-rest-init c = (

@@ -5,8 +5,8 @@ use Rattle.record_tracks.specs.Records.{Areas, areas_of, all_areas, end_of_file}
 use Rattle.record_tracks.proofs.Listed.{blocks_go}
 use Rattle.record_tracks.specs.Blocks.{block_areas, areas_of as areas_in}
 use Rattle.record_tracks.proofs.Read.{all_go, read_as, read_back}
-use Rattle.record_tracks.proofs.block_records.block_records.Goals as goal
-use Rattle.record_tracks.proofs.block_records.block_records.Goals.{In_ok-push}
+use Rattle.record_tracks.proofs.cut_records.block_records.Goals as goal
+use Rattle.record_tracks.proofs.cut_records.block_records.Goals.{In_ok-push}
 
 records_are : (c : In_ok-push) → all_areas c.push.new.self.items ≡ areas_in c.args.blocks.cut c.args.blocks.bytes.now
 records_are c =

@@ -4,7 +4,7 @@ use Rattle.ckd_track.proofs.Offsets.{are_bytes}
 use Rattle.record_tracks.specs.Records.{Areas, areas_of, all_areas}
 use Rattle.record_tracks.specs.Blocks.{size_of, first_areas, rests_to}
 use Rattle.record_tracks.proofs.Rests.{is_empty, has_some, none_left, next_areas, areas_end, at_first, at_last}
-use Rattle.record_tracks.proofs.block_records.push_blocks.Goals as goal
+use Rattle.record_tracks.proofs.cut_records.push_blocks.Goals as goal
 
 pub loop-k-init : goal.loop-k-init
 loop-k-init c =

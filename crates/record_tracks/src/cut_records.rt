@@ -6,8 +6,8 @@ ghost use Rattle.record_tracks.specs.Records.{all_areas, RecordGoesOn};
 ghost use Rattle.record_tracks.specs.Blocks.{block_areas, areas_of, AreBlocks};
 ghost use Rattle.record_tracks.specs.Extracted.{IsReadAs, IsReadBack};
 
-use crate::blocks::{Blocks, Cut, behind_first, first_record};
 use crate::NewRecord;
+use crate::blocks::{Blocks, Cut, behind_first, first_record};
 use std::alloc::{AllocError, Global};
 
 /// What an end of file is: a record without key and data.

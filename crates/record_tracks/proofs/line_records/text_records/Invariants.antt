@@ -1,6 +1,6 @@
 use Rattle.std.proofs.Common.{◌≤◌, ◌+◌, length}
 use Rattle.record_tracks.proofs.Joined.{JoinedTo}
-use Rattle.record_tracks.proofs.text_records.text_records.Given as goal
+use Rattle.record_tracks.proofs.line_records.text_records.Given as goal
 
 -- the records of the lines before the rest are put; each line has a byte of the text
 abbrev pub invariant-loop-rest : goal.invariant-loop-rest

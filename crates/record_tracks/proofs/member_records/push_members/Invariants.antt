@@ -1,7 +1,7 @@
 use Rattle.std.proofs.Common.{◌≡◌, ◌++◌, take}
 use Rattle.record_tracks.specs.Records.{all_areas}
 use Rattle.record_tracks.specs.Library.{members_areas}
-use Rattle.record_tracks.proofs.library_records.push_members.Given as goal
+use Rattle.record_tracks.proofs.member_records.push_members.Given as goal
 
 -- the members so far
 abbrev pub invariant-loop-member : goal.invariant-loop-member

@@ -1,7 +1,7 @@
 use Rattle.std.proofs.Common.{◌≡◌, ◌<◌, ◌++◌, ◌-◌, ℕ, All, length, map}
 use Rattle.record_tracks.specs.Records.{all_areas}
 use Rattle.record_tracks.specs.Blocks.{first_areas, rests_to, block_areas}
-use Rattle.record_tracks.proofs.block_records.push_blocks.Given as goal
+use Rattle.record_tracks.proofs.cut_records.push_blocks.Given as goal
 
 -- the blocks so far, and those that are left, are all
 abbrev pub invariant-loop-k : goal.invariant-loop-k

@@ -1,6 +1,6 @@
 use Rattle.std.proofs.Common.{◌≡◌, ◌++◌, take}
 use Rattle.record_tracks.specs.Records.{all_areas}
-use Rattle.record_tracks.proofs.library_records.push_member.Given as goal
+use Rattle.record_tracks.proofs.member_records.push_member.Given as goal
 
 -- the blocks so far
 abbrev pub invariant-loop-block : goal.invariant-loop-block

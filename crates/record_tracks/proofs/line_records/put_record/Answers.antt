@@ -3,7 +3,7 @@ use Rattle.std.specs.Str.{chars}
 use Rattle.record_tracks.specs.Codes.{codes_of}
 use Rattle.record_tracks.specs.Putting.{PutsCodes}
 use Rattle.record_tracks.proofs.Joined.{not_utf8, is_too_long, is_filled}
-use Rattle.record_tracks.proofs.text_records.put_record.Goals as goal
+use Rattle.record_tracks.proofs.line_records.put_record.Goals as goal
 
 pub returns-in_default : goal.returns-in_default
 returns-in_default c = not_utf8 c.args.size c.args.line.now c.in_default.ensures.cases.0

@@ -5,7 +5,7 @@ use Rattle.record_tracks.specs.Library.{directory_areas, members_areas, library_
 use Rattle.record_tracks.proofs.Listed.{blocks_go}
 use Rattle.record_tracks.proofs.Members.{library_goes}
 use Rattle.record_tracks.proofs.LibraryRead.{directory_read, members_read}
-use Rattle.record_tracks.proofs.library_records.library_records.Goals as goal
+use Rattle.record_tracks.proofs.member_records.library_records.Goals as goal
 
 pub returns-clause-fit : goal.returns-clause-fit
 returns-clause-fit c model goes =

@@ -2,7 +2,7 @@ use Rattle.std.proofs.Common.{◌≡◌, ◌++◌, map}
 use Rattle.std.specs.List.{range_with_len}
 use Rattle.record_tracks.specs.Records.{all_areas}
 use Rattle.record_tracks.specs.Library.{directory_area}
-use Rattle.record_tracks.proofs.library_records.push_directory.Given as goal
+use Rattle.record_tracks.proofs.member_records.push_directory.Given as goal
 
 -- the blocks so far
 abbrev pub invariant-loop-k : goal.invariant-loop-k
