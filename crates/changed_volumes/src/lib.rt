@@ -1,5 +1,6 @@
-//! Volumes in files that are changed: a data set gets another name or is deleted, or the volume label gets other fields. The files are read
-//! whole, and those that changed are saved as a run saves them.
+//! Volumes in files that are made or changed: new ones with a label and an empty table of contents; and those of which a data set gets
+//! another name or is deleted, or the volume label gets other fields. The files that are changed are read whole, and those that changed are
+//! saved as a run saves them.
 #![tactic(auto)]
 
 mod deletions;

@@ -1,4 +1,5 @@
-//! A reader or a writer of which contracts know what passed, and how often a call failed; and writes of whole texts.
+//! A reader or a writer of which contracts know what passed, and how often a call failed; writes of whole texts; and numbers, bytes and
+//! counts in digits, in a fixed room. Nothing here takes memory.
 #![tactic(auto)]
 
 mod counted;

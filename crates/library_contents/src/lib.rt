@@ -1,4 +1,5 @@
-//! A library, read into memory: the entries of its directory with their user data, and each of its members once.
+//! Partitioned data sets: one read into memory, the entries of its directory with their user data and each of its members once; and their
+//! members listed, each with where it begins, its user data and how many bytes its blocks have.
 #![tactic(auto)]
 
 mod blocks;

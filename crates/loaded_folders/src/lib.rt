@@ -1,5 +1,6 @@
-//! Data sets of a folder that are put onto a volume in files: the text that says of each what its label and its directory say, and the files
-//! of the data sets and of the members. The volume is read whole, gets one behind another in memory, and is saved once.
+//! Data sets of a folder, and members of a library, that are put onto a volume in files. A folder has a text that says of each data set what
+//! its label and its directory say; a library gets one member more, and is put onto the volume anew. It is done in memory, and the files of
+//! the volume that changed are saved once.
 #![tactic(auto)]
 
 mod added;

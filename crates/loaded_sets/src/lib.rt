@@ -1,5 +1,6 @@
-//! Data sets that are put onto a volume in files: the blocks of a file, or the lines of a text, as a new data set. The files of the volume are
-//! read whole, and those that changed are saved as a run saves them.
+//! Data sets and libraries that are put onto a volume: the blocks of a file, the lines of a text, or the files of members with a directory.
+//! Tracks that are no data set's get the records, and the table of contents the control block. A data set goes into files too: those of the
+//! volume are read whole, and those that changed are saved as a run saves them.
 #![tactic(auto)]
 
 mod confirms;

@@ -1,4 +1,5 @@
-//! What a C program links that has a channel of its own: one drive behind a handle that the program owns. `c/dasd_drive.h` is its header.
+//! What a C program links that has a channel of its own: one drive over a volume's file in memory, behind a handle that the program owns.
+//! `c/dasd_drive.h` is its header.
 //!
 //! No call asks anything of its caller but what C's types say: each pointer leads to a value that no other argument lies in.
 #![tactic(auto)]

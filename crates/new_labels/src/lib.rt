@@ -1,5 +1,5 @@
-//! What a system utility writes on a new volume: the loader's records, the volume label, and an empty table of contents. Pure functions
-//! over bytes.
+//! What a system utility writes on a new volume: the loader's records, the volume label, and an empty table of contents; and the control
+//! block of a new data set, with the tracks that it gets and what the table says behind that. Pure functions over bytes.
 #![tactic(auto)]
 
 mod blocks;

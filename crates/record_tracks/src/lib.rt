@@ -1,4 +1,5 @@
-//! The tracks that the records of a data set take, with their keys. Pure functions over bytes.
+//! The records of data sets and libraries as tracks: the blocks that a file has, the lines of a text in EBCDIC, the blocks of a directory and
+//! the members of a library, each as records, and the tracks that they take, with their keys. Pure functions over bytes.
 #![tactic(auto)]
 
 mod addresses;

@@ -1,5 +1,6 @@
 //! Calls of a subsystem as C makes them, once it was taken out of its handle: over which main storage a call is made, what it does, and the
-//! numbers and bytes by which C is told what came of it.
+//! numbers and bytes by which C is told what came of it; and looks at a channel, for a trace that is taken by calls, of which the caller
+//! keeps what is needed between two of them as plain numbers.
 #![tactic(auto)]
 
 mod attaching;
@@ -31,3 +32,4 @@ pub use crate::storing::{key, peek, poke, set_key};
 pub use crate::told::ToldMoment;
 pub use crate::turns::{Interrupt, arrive, is_pending};
 pub use crate::watching::{show_program, show_registers};
+pub use trace_lines::KeptTrace;

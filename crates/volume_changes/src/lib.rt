@@ -1,5 +1,6 @@
-//! What is changed of a volume with a label and a table of contents: which records have another key and other data afterwards, and why a
-//! volume is not changed so. Functions over slots and over what a volume says, which know no image.
+//! What is changed of a volume with a label and a table of contents: which records have another key and other data behind a change of a name,
+//! of the label, or a deletion; whether the volume says what it should behind that; and why a volume is not changed so. Functions over
+//! slots and over what a volume says, which know no image.
 #![tactic(auto)]
 
 mod blocks;

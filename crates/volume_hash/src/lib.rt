@@ -1,4 +1,5 @@
-//! The hash of what a volume says: home addresses, counts, keys and data of all tracks, without what stands behind end marks.
+//! The hash of what a volume says: home addresses, counts, keys and data of all tracks, without what stands behind end marks; and the hashes
+//! of what its data sets and their members say.
 #![tactic(auto)]
 
 mod blocks;

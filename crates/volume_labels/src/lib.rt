@@ -1,4 +1,5 @@
-//! Labels and control blocks of the volumes of OS/360 and DOS/360, as they stand in records: pure functions over bytes.
+//! Labels and control blocks of the volumes of OS/360 and DOS/360, as they stand in records, and what stands inside the data sets: directories
+//! of partitioned ones, relative track addresses, the records of blocks, and record formats. Pure functions over bytes, which know no image.
 #![tactic(auto)]
 
 mod addresses;
