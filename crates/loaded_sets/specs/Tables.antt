@@ -18,7 +18,8 @@ use Rattle.volume_changes.specs.declared.blocks.BlockChange.{BlockChange}
 use Rattle.volume_changes.specs.Blocks.{slot_with}
 use Rattle.volume_changes.specs.Volumes.{changed_maybe}
 use Rattle.new_labels.specs.SetBlocks.{updated_contents}
-use Rattle.new_labels.specs.FreeSpace.{tracks_in, begins, run_behind, key_with, bytes_with}
+use Rattle.new_labels.specs.Records.{tracks_in}
+use Rattle.new_labels.specs.FreeSpace.{begins, run_behind, key_with, bytes_with}
 use Rattle.new_labels.specs.Tables.{free_place}
 use Rattle.loaded_sets.specs.Volumes.{Labelled}
 

@@ -8,7 +8,7 @@ ghost use Rattle.volume_contents.specs.Contents.{slot_at};
 ghost use Rattle.volume_contents.specs.Runs.{number, address_of_number};
 ghost use Rattle.volume_changes.specs.Blocks.{changed};
 ghost use Rattle.volume_changes.specs.Volumes.{changed_maybe};
-ghost use Rattle.new_labels.specs.FreeSpace.{tracks_in};
+ghost use Rattle.new_labels.specs.Records.{tracks_in};
 ghost use Rattle.new_labels.specs.Tables.{IsFreePlace};
 ghost use Rattle.changed_volumes.specs.Changes.{IsSameImage};
 ghost use Rattle.loaded_sets.specs.Tables.{StaysOutside, IsFirstFree, WritesBlock, is_behind, last_of, count_change, take_within, take_from, take_change};

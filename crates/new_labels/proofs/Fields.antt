@@ -63,7 +63,7 @@ ten_are s ten =
     (one_more s _ 6 (omega (arith, ten)) (one_more s _ 7 (omega (arith, ten)) (one_more s _ 8 (omega (arith, ten))
     (one_more s _ 9 (omega (arith, ten)) (drop_all 10 s (omega (arith, ten))))))))))))
 
-two_bytes : (n : ℕ) → n / 256 * 256 + n % 256 ≡ n
+pub two_bytes : (n : ℕ) → n / 256 * 256 + n % 256 ≡ n
 two_bytes n = omega arith
 
 -- The volume label is read whose serial number and whose owner's name have these bytes.

@@ -1,5 +1,5 @@
 -- Runs of free tracks of which one is written over.
-use Rattle.std.proofs.Common.{◌≡◌, ◌≢◌, ◌∙◌, ap, sym, refl, inl, inr, ◌⊎◌, ℕ, ◌+◌, ◌-◌, ◌*◌, ◌/◌, ◌%◌, ◌≤◌, ◌<◌, List, ◌++◌}
+use Rattle.std.proofs.Common.{◌≡◌, ◌≢◌, ◌∙◌, ap, sym, refl, inl, inr, ◌⊎◌, ℕ, ◌+◌, ◌-◌, ◌*◌, ◌≤◌, ◌<◌, List, ◌++◌}
 use Rattle.std.proofs.Common.{length, take, drop, get_or, set, map}
 use Rattle.std.proofs.Common.{nat_lt, true, false, arith, length-take}
 use Rattle.std.proofs.lemmas.Bool.{cases_lt, cases_eq}
@@ -14,6 +14,7 @@ use Rattle.volume_labels.specs.Fields.{free_tracks_at, record_address_at}
 use Rattle.volume_labels.specs.declared.fields.RecordAddress.{RecordAddress}
 use Rattle.volume_labels.specs.declared.extents.FreeSpaceBlock.{FreeSpaceBlock}
 use Rattle.volume_labels.specs.Blocks.{free_space_block_of}
+use Rattle.new_labels.proofs.Fields.{two_bytes}
 use Rattle.new_labels.specs.FreeSpace.{run_bytes, run_at, block_with, HasOther}
 
 -- One byte of what is written over.
@@ -38,9 +39,6 @@ module _ (old : List ℕ) (at : ℕ) (new : List ℕ) (within : at + length new 
       (omega (arith, high))
       ∙ get_or-append_right new (drop (at + length new) old) (length new) (k - at) 0 refl (omega (arith, high))
       ∙ get_or-drop (at + length new) old (k - at - length new) 0 ∙ ap (λ (j : ℕ). get_or old j 0) e
-
-two_bytes : (n : ℕ) → n / 256 * 256 + n % 256 ≡ n
-two_bytes n = omega arith
 
 -- A run that is written, and one that is not.
 module _ (old : List ℕ) (at : ℕ) (f : FreeTracks) (within : at + 5 ≤ length old) where

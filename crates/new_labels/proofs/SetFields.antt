@@ -1,9 +1,8 @@
 -- Control blocks, in the fields that were written.
-use Rattle.std.proofs.Common.{◌≡◌, ◌∙◌, ap, refl, ℕ, ◌+◌, ◌*◌, ◌/◌, ◌%◌, ◌≤◌, List, [], ◌∷◌, ◌++◌, length, replicate, drop, slice_index_or}
-use Rattle.std.proofs.Common.{arith}
-use Rattle.std.proofs.lemmas.List.{drop_more, drop_all}
+use Rattle.std.proofs.Common.{◌≡◌, refl, ℕ, List, [], ◌∷◌, ◌++◌, length, replicate, slice_index_or}
 use Rattle.ckd_track.specs.Changes.{overwritten}
 use Rattle.volume_labels.specs.Labels.{data_set_block_of}
+use Rattle.new_labels.proofs.Fields.{six_are, two_bytes}
 use Rattle.new_labels.specs.declared.set_blocks.NewDataSet.{NewDataSet}
 use Rattle.new_labels.specs.SetBlocks.{extent_bytes, numbers_bytes, form_bytes, length_bytes, last_bytes, data_set_data, data_set_read}
 
@@ -16,21 +15,6 @@ pub data_set_fields : (serial numbers form lengths last extent : List ℕ)
     ≡ 0xF1 ∷ serial ++ (numbers ++ (0 ∷ 0 ∷ replicate 13 0x40 ++ (replicate 7 0 ++ (form ++ (0 ∷ lengths
     ++ (replicate 2 0 ++ (0x80 ∷ 0x80 ∷ replicate 3 0 ++ (last ++ (0 ∷ 0 ∷ extent ++ replicate 25 0)))))))))
 data_set_fields serial numbers form lengths last extent six nine three many five ten = rw (six, nine, three, many, five, ten) refl
-
--- from a place on, the element there and those behind it
-one_more : (s rest : List ℕ) (at : ℕ) → at + 1 ≤ length s → drop (at + 1) s ≡ rest → drop at s ≡ slice_index_or s at 0 ∷ rest
-one_more s rest at there is = drop_more s at 0 (omega (arith, there)) ∙ ap (λ (t : List ℕ). slice_index_or s at 0 ∷ t) is
-
-six_are : (s : List ℕ) → length s ≡ 6
-    → s ≡ slice_index_or s 0 0 ∷ slice_index_or s 1 0 ∷ slice_index_or s 2 0 ∷ slice_index_or s 3 0 ∷ slice_index_or s 4 0
-    ∷ slice_index_or s 5 0 ∷ []
-six_are s six =
-    one_more s _ 0 (omega (arith, six)) (one_more s _ 1 (omega (arith, six)) (one_more s _ 2 (omega (arith, six))
-    (one_more s _ 3 (omega (arith, six)) (one_more s _ 4 (omega (arith, six)) (one_more s _ 5 (omega (arith, six))
-    (drop_all 6 s (omega (arith, six))))))))
-
-two_bytes : (n : ℕ) → n / 256 * 256 + n % 256 ≡ n
-two_bytes n = omega arith
 
 -- the block is read whose serial number has these bytes
 spelled_out : (s : NewDataSet) (b : ℕ → ℕ) → s.serial ≡ b 0 ∷ b 1 ∷ b 2 ∷ b 3 ∷ b 4 ∷ b 5 ∷ []

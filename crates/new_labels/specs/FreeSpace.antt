@@ -6,11 +6,7 @@ use Rattle.ckd_track.specs.Changes.{overwritten}
 use Rattle.volume_labels.specs.declared.fields.FreeTracks.{FreeTracks}
 use Rattle.volume_labels.specs.declared.extents.FreeSpaceBlock.{FreeSpaceBlock}
 use Rattle.volume_labels.specs.Fields.{free_tracks_at, record_address_at}
-use Rattle.new_labels.specs.SetBlocks.{two}
-
--- how many tracks a run has
-abbrev pub tracks_in : Geometry → FreeTracks → ℕ
-tracks_in g f = f.cylinders * heads_of g.model + f.tracks
+use Rattle.new_labels.specs.Records.{two, tracks_in}
 
 -- a run begins with this track, and has so many
 abbrev pub begins : Geometry → (first tracks : ℕ) → FreeTracks → Bool

@@ -1,6 +1,6 @@
 -- The control blocks of a new data set (IBM System/360 Operating System, System Control Blocks, 'Data Set Control Block'). Offsets are in
 -- bytes from 0.
-use Rattle.std.specs.Prelude.{ℕ, ◌/◌, ◌%◌, List, [], ◌∷◌, ◌++◌, drop, replicate}
+use Rattle.std.specs.Prelude.{ℕ, List, [], ◌∷◌, ◌++◌, drop, replicate}
 use Rattle.volume_labels.specs.declared.fields.TrackAddress.{TrackAddress}
 use Rattle.volume_labels.specs.declared.fields.RecordAddress.{RecordAddress}
 use Rattle.volume_labels.specs.declared.fields.RelativeAddress.{RelativeAddress}
@@ -10,19 +10,17 @@ use Rattle.volume_labels.specs.declared.blocks.DataSetBlock.{DataSetBlock}
 use Rattle.volume_labels.specs.declared.blocks.ContentsBlock.{ContentsBlock}
 use Rattle.volume_labels.specs.Labels.{contents_block_of}
 use Rattle.new_labels.specs.declared.set_blocks.NewDataSet.{NewDataSet}
+use Rattle.new_labels.specs.Records.{two}
 
--- a number in two bytes, the high byte first
-abbrev pub two : ℕ → List ℕ
-two n = n / 256 ∷ n % 256 ∷ []
-
-abbrev pub track_bytes : TrackAddress → List ℕ
-track_bytes t = two t.cylinder ++ two t.head
+-- cylinder and head of a track
+abbrev pub address_bytes : TrackAddress → List ℕ
+address_bytes t = two t.cylinder ++ two t.head
 
 abbrev pub record_bytes : RecordAddress → List ℕ
-record_bytes a = track_bytes a.track ++ a.number ∷ []
+record_bytes a = address_bytes a.track ++ a.number ∷ []
 
 abbrev pub extent_bytes : Extent → List ℕ
-extent_bytes e = e.kind ∷ e.number ∷ track_bytes e.first ++ track_bytes e.last
+extent_bytes e = e.kind ∷ e.number ∷ address_bytes e.first ++ address_bytes e.last
 
 -- nowhere, no day, and no extent
 abbrev pub nowhere : RecordAddress

@@ -4,7 +4,8 @@ ghost use Rattle.std.specs.Prelude.{◌≡◌, ◌≤◌, ◌<◌, ◌+◌};
 ghost use Rattle.std.specs.List.{position};
 ghost use Rattle.ckd_track.specs.Geometry.{tracks_of};
 ghost use Rattle.volume_labels.specs.Blocks.{free_space_block_of};
-ghost use Rattle.new_labels.specs.FreeSpace.{tracks_in, begins, run_of, run_behind, run_bytes, key_with, bytes_with, block_with};
+ghost use Rattle.new_labels.specs.Records.{tracks_in};
+ghost use Rattle.new_labels.specs.FreeSpace.{begins, run_of, run_behind, run_bytes, key_with, bytes_with, block_with};
 
 use ckd_track::{Geometry, overwrite};
 use volume_labels::FreeTracks;

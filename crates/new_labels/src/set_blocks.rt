@@ -2,7 +2,7 @@
 
 ghost use Rattle.std.specs.Prelude.{◌≡◌};
 ghost use Rattle.volume_labels.specs.Labels.{data_set_block_of, contents_block_of};
-ghost use Rattle.new_labels.specs.SetBlocks.{track_bytes, record_bytes, extent_bytes, numbers_bytes, form_bytes, length_bytes, last_bytes, data_set_data};
+ghost use Rattle.new_labels.specs.SetBlocks.{address_bytes, record_bytes, extent_bytes, numbers_bytes, form_bytes, length_bytes, last_bytes, data_set_data};
 ghost use Rattle.new_labels.specs.SetBlocks.{data_set_read, updated_contents, updated_read};
 
 use ckd_track::overwrite;
@@ -38,8 +38,8 @@ pub struct NewDataSet {
 }
 
 // Cylinder and head of a track.
-fn track_bytes(track: TrackAddress) -> [u8; 4]
-    ensures { result ≡ track_bytes track }
+fn address_bytes(track: TrackAddress) -> [u8; 4]
+    ensures { result ≡ address_bytes track }
 {
     let [c0, c1] = track.cylinder.to_be_bytes();
     let [h0, h1] = track.head.to_be_bytes();
@@ -50,7 +50,7 @@ fn track_bytes(track: TrackAddress) -> [u8; 4]
 pub fn record_bytes(address: RecordAddress) -> [u8; 5]
     ensures { result ≡ record_bytes address }
 {
-    let [c0, c1, h0, h1] = track_bytes(address.track);
+    let [c0, c1, h0, h1] = address_bytes(address.track);
     [c0, c1, h0, h1, address.number]
 }
 
@@ -58,8 +58,8 @@ pub fn record_bytes(address: RecordAddress) -> [u8; 5]
 fn extent_bytes(extent: Extent) -> [u8; 10]
     ensures { result ≡ extent_bytes extent }
 {
-    let [f0, f1, f2, f3] = track_bytes(extent.first);
-    let [l0, l1, l2, l3] = track_bytes(extent.last);
+    let [f0, f1, f2, f3] = address_bytes(extent.first);
+    let [l0, l1, l2, l3] = address_bytes(extent.last);
     [extent.kind, extent.number, f0, f1, f2, f3, l0, l1, l2, l3]
 }
 
@@ -126,7 +126,7 @@ pub fn updated_contents(bytes: &[u8; 96], last: RecordAddress, free: u16) -> [u8
     ensures bytes { result ≡ updated_contents bytes.now last free }
     ensures read { contents_block_of result ≡ updated_read bytes.now last free }
 {
-    let [c0, c1, h0, h1] = track_bytes(last.track);
+    let [c0, c1, h0, h1] = address_bytes(last.track);
     let [f0, f1] = free.to_be_bytes();
     let mut changed = *bytes;
     overwrite(

@@ -4,7 +4,8 @@ use Rattle.std.proofs.Common.{replicate, All, length-append, append_assoc, slice
 use Rattle.std.specs.List.{concat}
 use Rattle.std.proofs.lemmas.List.{get_or-append-add, get_or-take, drop_at, length-take, length-take-le, length-replicate}
 use Rattle.std.proofs.lemmas.List.Elements.{All-get_or}
-use Rattle.record_tracks.specs.Directory.{going_in, in_block, used_by, key_of, block_front, filled, block_of}
+use Rattle.record_tracks.specs.Directory.{going_in, in_block, used_by, key_of, block_front, block_of}
+use Rattle.record_tracks.specs.Filled.{filled}
 use Rattle.record_tracks.proofs.Pieces.{IsShort}
 use Rattle.record_tracks.proofs.Going.{goes_in}
 use Rattle.record_tracks.proofs.BehindEntries.{some_fit}

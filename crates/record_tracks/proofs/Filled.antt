@@ -2,7 +2,7 @@
 use Rattle.std.proofs.Common.{◌≡◌, ◌∙◌, ap, refl, ℕ, ◌-◌, List, [], ◌++◌, length, replicate}
 use Rattle.std.proofs.Common.{◌+◌, arith, append_assoc, length-append}
 use Rattle.std.proofs.lemmas.List.{length-replicate}
-use Rattle.record_tracks.specs.Writing.{filled, PutBehind}
+use Rattle.record_tracks.specs.Filled.{filled, PutBehind}
 
 -- bytes behind a front of which it is known that the slot has it, and its size by another slot's
 pub put_behind : (n : ℕ) (before now front bytes : List ℕ) (at : ℕ) → PutBehind at bytes before now → length before ≡ n

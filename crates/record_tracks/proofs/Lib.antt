@@ -27,7 +27,6 @@ pub mod Printed
 pub mod Refused
 pub mod Pieces
 pub mod Going
-pub mod Puts
 pub mod BehindEntries
 pub mod Steps
 pub mod EntrySteps

@@ -3,6 +3,7 @@ use Rattle.std.specs.Prelude.{◌≡◌, ◌≢◌, ℕ, zero, suc, ◌+◌, ◌
 use Rattle.std.specs.Prelude.{if◌then◌else◌, List, [], ◌∷◌, ◌++◌, length, take, drop, replicate, slice_index_or}
 use Rattle.std.specs.Prelude.{flat_map}
 use Rattle.std.specs.List.{concat}
+use Rattle.record_tracks.specs.Filled.{filled}
 
 -- How many of these entries go into a block, so many of whose 256 bytes are used: none is cut by the end of the block.
 unfoldable pub going_in : (used : ℕ) → (entries : List (List ℕ)) → ℕ
@@ -37,10 +38,6 @@ key_of entries = take 8 (slice_index_or entries (length entries - 1) [])
 -- what a block with these entries begins with: its key, the number of its used bytes, and the entries
 abbrev pub block_front : (entries : List (List ℕ)) → List ℕ
 block_front entries = key_of entries ++ (used_by entries / 256 ∷ used_by entries % 256 ∷ concat entries)
-
--- bytes, and zeros behind them up to a length
-abbrev pub filled : (size : ℕ) → List ℕ → List ℕ
-filled size bytes = bytes ++ replicate (size - length bytes) 0
 
 -- A block that begins with the first of these entries: a key of 8 bytes and 256 bytes of data. One for which none is left is all zeros.
 abbrev pub block_of : (left : List (List ℕ)) → List ℕ

@@ -15,7 +15,7 @@ pub mod Entries
 pub mod DirectoryFaults
 pub mod Directory
 pub mod DirectoryReadBack
-pub mod DirectoryWriting
+pub mod Filled
 pub mod Library
 pub mod Addresses
 pub mod LibraryRead

@@ -1,15 +1,15 @@
 //! The blocks of a directory.
 
-ghost use Rattle.std.specs.Prelude.{◌≡◌, ◌≤◌, ◌+◌, ◌/◌, ◌%◌, ◌++◌, ◌∷◌, [], length, take, drop, replicate, slice_index_or, All, ℕ};
+ghost use Rattle.std.specs.Prelude.{◌≡◌, ◌≤◌, ◌+◌, ◌/◌, ◌%◌, ◌++◌, ◌∷◌, [], length, take, drop, slice_index_or, All, ℕ};
 ghost use Rattle.std.specs.List.{concat};
 ghost use Rattle.record_tracks.specs.Entries.{all_contents, all_entries, IsEntry};
 ghost use Rattle.record_tracks.specs.DirectoryFaults.{AreEntries};
-ghost use Rattle.record_tracks.specs.Directory.{going_in, used_by, key_of, block_of, blocks_of, left_behind, filled, Takes};
+ghost use Rattle.record_tracks.specs.Directory.{going_in, used_by, block_of, blocks_of, left_behind, Takes};
+ghost use Rattle.record_tracks.specs.Filled.{filled, PutBehind};
 ghost use Rattle.record_tracks.specs.DirectoryReadBack.{IsReadBack};
-ghost use Rattle.record_tracks.specs.DirectoryWriting.{PutBehind};
 
+use crate::appending::{append, clear};
 use crate::entries::{EntryBytes, NewEntry, bytes_at};
-use ckd_track::overwrite;
 
 /// The length of a directory block, in bytes: 8 of its key and 256 of its data.
 pub const DIRECTORY_BLOCK: usize = 264;
@@ -57,17 +57,6 @@ pub fn blocks_needed(entries: &[NewEntry]) -> usize
     blocks
 }
 
-// Writes bytes behind those with which a block begins, whose rest is zeros, and answers where the next ones go.
-fn append(block: &mut [u8], at: usize, bytes: &[u8]) -> usize
-    requires { at + length bytes.now ≤ length block.old }
-    ensures next { result ≡ at + length bytes.now }
-    ensures same { length block.new ≡ length block.old }
-    ensures written { PutBehind at bytes.now block.old block.new }
-{
-    overwrite(block, at, bytes);
-    at + bytes.len()
-}
-
 // Writes an entry behind the bytes with which a block begins, and answers where the next one goes.
 fn append_entry(block: &mut [u8], at: usize, entry: EntryBytes) -> usize
     requires { at + (12 + length entry.user_data.now) ≤ length block.old }
@@ -87,13 +76,6 @@ fn key_at(entries: &[NewEntry], number: usize) -> [u8; 8]
 {
     let [n0, n1, n2, n3, n4, n5, n6, n7, ..] = bytes_at(entries, number).front;
     [n0, n1, n2, n3, n4, n5, n6, n7]
-}
-
-// Has all bytes of a block zero.
-fn clear(block: &mut [u8])
-    ensures { block.new ≡ replicate (length block.old) 0 }
-{
-    block.fill(0);
 }
 
 // Writes what a block begins with: its key, and the number of its used bytes. Behind it there are zeros.

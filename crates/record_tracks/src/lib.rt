@@ -3,6 +3,7 @@
 #![tactic(auto)]
 
 mod addresses;
+mod appending;
 mod block_faults;
 mod blocks;
 mod codes;

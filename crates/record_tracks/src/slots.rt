@@ -1,15 +1,17 @@
 //! The slots of tracks with records.
 
-ghost use Rattle.std.specs.Prelude.{◌≡◌, ◌≤◌, ◌<◌, ◌+◌, ◌-◌, length, replicate, take, drop, All};
+ghost use Rattle.std.specs.Prelude.{◌≡◌, ◌≤◌, ◌<◌, ◌+◌, ◌-◌, length, take, drop, All};
 ghost use Rattle.ckd_track.specs.Geometry.{tracks_of, IsGeometry};
 ghost use Rattle.ckd_track.specs.Track.{record_bytes};
 ghost use Rattle.record_tracks.specs.Records.{areas_of, all_areas, RecordGoesOn};
 ghost use Rattle.record_tracks.specs.Tracks.{fitting_on, track_bytes, record_with, loaded_slot};
-ghost use Rattle.record_tracks.specs.Writing.{filled, PutBehind, count_area_of, track_front, records_front};
+ghost use Rattle.record_tracks.specs.Writing.{count_area_of, track_front, records_front};
+ghost use Rattle.record_tracks.specs.Filled.{filled, PutBehind};
 
+use crate::appending::{append, clear};
 use crate::records::{NewRecord, record_at};
 use crate::tracks::fitting;
-use ckd_track::{Geometry, overwrite};
+use ckd_track::Geometry;
 
 /// What stands behind the last record of a track.
 const END_MARK: [u8; 8] = [0xFF; 8];
@@ -49,17 +51,6 @@ fn track_bytes(geometry: Geometry, track: u32) -> [u8; 4]
     [c0, c1, h0, h1]
 }
 
-// Writes bytes behind those that a slot begins with, whose rest is zeros, and answers where the next ones go.
-fn append(slot: &mut [u8], at: usize, bytes: &[u8]) -> usize
-    requires { at + length bytes.now ≤ length slot.old }
-    ensures next { result ≡ at + length bytes.now }
-    ensures same { length slot.new ≡ length slot.old }
-    ensures written { PutBehind at bytes.now slot.old slot.new }
-{
-    overwrite(slot, at, bytes);
-    at + bytes.len()
-}
-
 // The count area of a record.
 fn count_bytes(track: [u8; 4], number: u8, block: NewRecord) -> [u8; 8]
     requires key { length block.key.now < 256 }
@@ -83,13 +74,6 @@ fn append_record(slot: &mut [u8], at: usize, track: [u8; 4], number: u8, block: 
     let at = append(slot, at, &count_bytes(track, number, block));
     let at = append(slot, at, block.key);
     append(slot, at, block.bytes)
-}
-
-// Has all bytes of a slot zero.
-fn clear(slot: &mut [u8])
-    ensures { slot.new ≡ replicate (length slot.old) 0 }
-{
-    slot.fill(0);
 }
 
 // The home address and record 0 of a track.

@@ -2,10 +2,10 @@ use Rattle.std.proofs.Common.{◌≡◌, ◌∙◌, ap, sym, subst, ℕ, List, �
 use Rattle.std.specs.List.{concat}
 use Rattle.std.proofs.lemmas.List.{get_or-drop}
 use Rattle.record_tracks.specs.Entries.{all_contents, all_entries}
-use Rattle.record_tracks.specs.DirectoryWriting.{PutBehind}
+use Rattle.record_tracks.specs.Filled.{PutBehind}
 use Rattle.record_tracks.proofs.Pieces.{length-entries}
 use Rattle.record_tracks.proofs.Going.{concat_more, concat_fewer}
-use Rattle.record_tracks.proofs.Puts.{two_puts}
+use Rattle.record_tracks.proofs.Filled.{two_puts}
 use Rattle.record_tracks.proofs.directories.append_entries.Goals as goal
 use Rattle.record_tracks.proofs.directories.append_entries.Goals.{After-bytes_at}
 

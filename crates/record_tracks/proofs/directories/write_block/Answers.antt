@@ -6,12 +6,13 @@ use Rattle.std.proofs.lemmas.Bool.{cases_lt}
 use Rattle.std.proofs.lemmas.List.{get_or-drop, get_or-take, drop_all, length-take-le}
 use Rattle.std.proofs.lemmas.List.Elements.{All-drop}
 use Rattle.record_tracks.specs.Entries.{all_contents, all_entries}
-use Rattle.record_tracks.specs.Directory.{key_of, block_front, filled, block_of}
+use Rattle.record_tracks.specs.Directory.{key_of, block_front, block_of}
+use Rattle.record_tracks.specs.Filled.{filled}
 use Rattle.record_tracks.proofs.Pieces.{IsShort, entries_short}
 use Rattle.record_tracks.proofs.Going.{goes_in}
 use Rattle.record_tracks.proofs.BehindEntries.{some_fit}
 use Rattle.record_tracks.proofs.BlockData.{block_made, length-key}
-use Rattle.record_tracks.proofs.Puts.{put_behind}
+use Rattle.record_tracks.proofs.Filled.{put_behind}
 use Rattle.record_tracks.proofs.directories.write_block.Goals as goal
 
 pub returns-then-count-eq0-clause-block : goal.returns-then-count-eq0-clause-block

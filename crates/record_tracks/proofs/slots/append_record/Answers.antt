@@ -1,5 +1,5 @@
 use Rattle.std.proofs.Common.{◌∙◌, subst, ℕ, List, ◌++◌, arith, length-append}
-use Rattle.record_tracks.specs.Writing.{PutBehind}
+use Rattle.record_tracks.specs.Filled.{PutBehind}
 use Rattle.record_tracks.proofs.Filled.{two_puts}
 use Rattle.record_tracks.proofs.slots.append_record.Goals as goal
 

@@ -1,5 +1,5 @@
 use Rattle.std.proofs.Common.{◌∙◌, ap, length}
-use Rattle.record_tracks.specs.Writing.{filled}
+use Rattle.record_tracks.specs.Filled.{filled}
 use Rattle.record_tracks.proofs.Filled.{begun}
 use Rattle.record_tracks.proofs.slots.begin.Goals as goal
 

@@ -2,7 +2,8 @@ use Rattle.std.proofs.Common.{◌≡◌, ◌∙◌, ap, sym, length, ◌∷◌, 
 use Rattle.ckd_track.specs.Track.{slot_of, record_bytes, end_mark}
 use Rattle.record_tracks.specs.Records.{all_areas}
 use Rattle.record_tracks.specs.Tracks.{fitting_on, track_bytes, record_with, records_with, track_with, loaded_slot}
-use Rattle.record_tracks.specs.Writing.{filled, records_front}
+use Rattle.record_tracks.specs.Writing.{records_front}
+use Rattle.record_tracks.specs.Filled.{filled}
 use Rattle.record_tracks.proofs.Filled.{put_behind, track_spelled}
 use Rattle.record_tracks.proofs.slots.load_track.Goals as goal
 

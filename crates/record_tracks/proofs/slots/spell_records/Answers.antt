@@ -4,7 +4,8 @@ use Rattle.std.proofs.lemmas.List.Elements.{All-get_or}
 use Rattle.ckd_track.specs.Track.{record_bytes}
 use Rattle.record_tracks.specs.Records.{areas_of, all_areas, end_of_file, GoesOn}
 use Rattle.record_tracks.specs.Tracks.{record_with, fitting_on, track_bytes}
-use Rattle.record_tracks.specs.Writing.{filled, records_front, PutBehind}
+use Rattle.record_tracks.specs.Writing.{records_front}
+use Rattle.record_tracks.specs.Filled.{filled, PutBehind}
 use Rattle.record_tracks.proofs.Listed.{length-all, length-left, all_go}
 use Rattle.record_tracks.proofs.Fitting.{fits_on, sizes, few_bytes}
 use Rattle.record_tracks.proofs.Filled.{put_behind}
