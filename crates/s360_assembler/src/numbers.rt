@@ -55,12 +55,6 @@ fn is_letter(byte: u8) -> bool
     byte.is_ascii_uppercase() || byte == b'#' || byte == b'$' || byte == b'@'
 }
 
-fn is_letter_or_digit(byte: u8) -> bool
-    ensures { result ≡ is_letter_or_digit byte }
-{
-    is_letter(byte) || byte.is_ascii_digit()
-}
-
 /// Whether a text is a symbol: one to eight letters and digits, the first a letter.
 pub(crate) fn is_symbol(text: &[u8]) -> bool
     ensures value { result ≡ is_symbol text.now }
@@ -76,7 +70,7 @@ fn are_letters_and_digits(text: &[u8]) -> bool
     ensures { result ≡ list_all is_letter_or_digit text.now }
 {
     for byte in text {
-        if !is_letter_or_digit(*byte) {
+        if !is_letter(*byte) && !byte.is_ascii_digit() {
             return false;
         }
     }
