@@ -38,7 +38,7 @@ RULES = {
 1. A word is a number (`word`), and it has
    a sign. More is not said.
 
-## Laws (`crates/s360_runs/src/laws.rt`)
+## Laws (`crates/s360_laws/src/laws.rt`)
 
 **`all_end`.** Each word ends. *For you:* read it.
 
@@ -51,8 +51,8 @@ RULES = {
     "crates/low/specs/Word.antt": "abbrev pub word : Word\nword = 1\n",
     "crates/low/src/lib.rt": "pub fn read() {}\n\nimpl Word {\n    pub fn new() {}\n}\n",
     "crates/low/src/worked.rt": "",
-    "crates/s360_runs/specs/Laws.antt": "abbrev pub AllEnd : Type 0\n",
-    "crates/s360_runs/src/laws.rt": "pub fn all_end()\n    ensures { AllEnd }\n{}\n",
+    "crates/s360_laws/specs/Laws.antt": "abbrev pub AllEnd : Type 0\n",
+    "crates/s360_laws/src/laws.rt": "pub fn all_end()\n    ensures { AllEnd }\n{}\n",
     "tools/make/rule_places.txt": """# places
 subject Seeks
 rule seek
@@ -208,7 +208,7 @@ class RuleIndex(unittest.TestCase):
             lines = self.page(folder, {}).read_text(encoding="utf-8").splitlines()
         word, new = "[`low Word.word`](../crates/low/specs/Word.antt)", "[`low::Word::new`](../crates/low/src/lib.rt)"
         read, worked = "[`low::read`](../crates/low/src/lib.rt)", "[`low::worked`](../crates/low/src/worked.rt)"
-        law = ("[`s360_runs Laws.AllEnd`](../crates/s360_runs/specs/Laws.antt)", "[`s360_runs::laws::all_end`](../crates/s360_runs/src/laws.rt)")
+        law = ("[`s360_laws Laws.AllEnd`](../crates/s360_laws/specs/Laws.antt)", "[`s360_laws::laws::all_end`](../crates/s360_laws/src/laws.rt)")
         two = "seek-outside (seeks), seek-by-units (seeks)"
         manuals, first = "  - Topic: 2841 and 2314, Seek; PoO, Busy", f"  - Definition: {word}"
         for entry in (
@@ -280,8 +280,8 @@ class RuleIndex(unittest.TestCase):
             "rule_places.txt: no sentence of docs/DEFINITIONS.md begins with A word is",
             "docs/DEFINITIONS.md: no row of the paragraph that begins with Words are a number (`word`), and it has",
         )
-        law = "crates/s360_runs/src/laws.rt"
-        self.finds({law: RULES[law] + RULES[law].replace("all_end", "none_ends")}, "docs/DEFINITIONS.md: nothing of the law none_ends of s360_runs")
+        law = "crates/s360_laws/src/laws.rt"
+        self.finds({law: RULES[law] + RULES[law].replace("all_end", "none_ends")}, "docs/DEFINITIONS.md: nothing of the law none_ends of s360_laws")
 
     def test_headings_that_are_one(self) -> None:
         self.finds_in("tools/make/rule_places.txt", "subject Seeks", "subject Words", "docs/RULES.md: several headings at #words")

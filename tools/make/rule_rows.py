@@ -6,8 +6,8 @@ from dataclasses import dataclass, field
 from functools import cache
 from pathlib import Path
 
-# The crates whose src/laws.rt has the laws of docs/DEFINITIONS.md.
-LAWS = ("s360_runs", "s360_laws")
+# The crates and the files of their src that have the laws of docs/DEFINITIONS.md.
+LAWS = (("s360_laws", "run_laws.rt"), ("s360_laws", "laws.rt"))
 # What ends the definitions and laws of that page.
 LAST = "## What no law says"
 PINS = "## What pins a rule that no law says"
@@ -114,9 +114,9 @@ class Tree:
         exact = [it for it in functions if it == place.name]
         return exact or [it for it in functions if it.split("::")[-1] == place.name]
 
-    def law(self, crate: str, name: str) -> list[Place]:
-        """The definition that a law ensures."""
-        ensured = re.search(ENSURED.format(name), self.text("crates", crate, "src", "laws.rt"))
+    def law(self, crate: str, file: str, name: str) -> list[Place]:
+        """The definition that a law of a file ensures."""
+        ensured = re.search(ENSURED.format(name), self.text("crates", crate, "src", file))
         if not ensured:
             return []
         modules = sorted((self.top / "crates" / crate / "specs").glob("*.antt"))
@@ -217,10 +217,10 @@ class Index:
             for paragraph in section.paragraphs:
                 if paragraph.names and paragraph.names[0] == name:
                     row = Row(section.title(), name, paragraph.names, paragraph.words, paragraph.text)
-                    for crate in LAWS:
-                        if f"crates/{crate}/" in section.heading:
-                            row.defined = [place for law in row.names for place in self.tree.law(crate, law)]
-                            row.done = [Place(crate, "laws.rt", law) for law in row.names]
+                    for crate, file in LAWS:
+                        if f"crates/{crate}/src/{file}" in section.heading:
+                            row.defined = [place for law in row.names for place in self.tree.law(crate, file, law)]
+                            row.done = [Place(crate, file, law) for law in row.names]
                     return row
         self.wrong.append(f"rule_places.txt: no paragraph of docs/DEFINITIONS.md begins with {name}")
         return Row("", name)

@@ -90,8 +90,8 @@ def wrong_definitions(index: Index) -> Iterator[str]:
 def wrong_laws(index: Index) -> Iterator[str]:
     """Laws of which docs/DEFINITIONS.md does not speak."""
     spoken = {name for section in index.sections for paragraph in section.paragraphs for name in paragraph.names}
-    for crate in LAWS:
-        for name in index.tree.functions_of(crate, "laws.rt"):
+    for crate, file in LAWS:
+        for name in index.tree.functions_of(crate, file):
             if name not in spoken:
                 yield f"docs/DEFINITIONS.md: nothing of the law {name} of {crate}"
 

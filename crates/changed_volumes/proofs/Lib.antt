@@ -1,2 +1,3 @@
-mod Refused
+mod Saved
 mod Slots
+pub mod Told

@@ -15,11 +15,23 @@ use Rattle.changed_volumes.specs.declared.fault.ChangeFault.TheVariants as fault
 use Rattle.changed_volumes.specs.declared.images.VolumeChange.{VolumeChange}
 use Rattle.changed_volumes.specs.declared.images.VolumeChange.TheVariants.{Rename, Relabel, Delete}
 
--- what becomes of the slots of a volume, or why not
-abbrev pub Changing : Type 0
-Changing = Geometry → (slots : List (List ℕ)) → Result (List (List ℕ)) ChangeRefusal
+-- What a change makes of the slots of a volume of a geometry, and what it answers then; and why it is refused.
+pub record Changing (A R : Type 0) : Type 1 where
+  pub makes : Geometry → (before : List (List ℕ)) → A → (now : List (List ℕ)) → Type 0
+  pub refuses : R → Geometry → (slots : List (List ℕ)) → Type 0
 
-abbrev pub changed_by : VolumeChange → Changing
+-- what becomes of the slots of a volume, or why not
+abbrev pub SlotChange : Type 0
+SlotChange = Geometry → (slots : List (List ℕ)) → Result (List (List ℕ)) ChangeRefusal
+
+-- the change by which they become that; its answer is the geometry
+abbrev pub changing : SlotChange → Changing Geometry ChangeRefusal
+changing change = record {
+  makes = λ g before answer now. (change g before ≡ Ok now) × (answer ≡ g);
+  refuses = λ r g slots. change g slots ≡ Err r;
+}
+
+abbrev pub changed_by : VolumeChange → SlotChange
 changed_by (Rename old new) = renamed old new
 changed_by (Relabel fields) = relabelled fields
 changed_by (Delete name) = deleted name
@@ -35,23 +47,27 @@ IsHindered job.OutOfMemory = Unit {0}
 IsHindered job.Store = Unit {0}
 IsHindered f = ⊥
 
-abbrev pub IsHinderedBy : ChangeFault → Type 0
+abbrev pub IsHinderedBy : {R : Type 0} → ChangeFault R → Type 0
 IsHinderedBy (fault.Job f) = IsHindered f
 IsHinderedBy f = ⊥
 
+-- Why a change is not done: it is refused for one of these reasons, or something hinders it.
+abbrev pub IsNotDone : {R : Type 0} → ChangeFault R → (refuses : R → Type 0) → Type 0
+IsNotDone (fault.Refused r) refuses = refuses r
+IsNotDone (fault.Job f) refuses = IsHindered f
+IsNotDone (fault.Save f) refuses = ⊥
+
 -- Why a volume in memory is not changed, or a change not planned: it is refused so, or something hinders it.
-abbrev pub IsRefused : {A : Type 0} → ChangeFault → (changed : Result A ChangeRefusal) → Type 0
-IsRefused (fault.Refused refusal) changed = changed ≡ Err refusal
-IsRefused (fault.Job f) changed = IsHindered f
-IsRefused (fault.Save f) changed = ⊥
+abbrev pub IsRefused : {A : Type 0} → ChangeFault ChangeRefusal → (changed : Result A ChangeRefusal) → Type 0
+IsRefused f changed = IsNotDone f (λ r. changed ≡ Err r)
 
 -- what a fault of a volume that is read of memory is
-abbrev pub reading_fault : VolumeFault → ChangeFault
+abbrev pub reading_fault : {R : Type 0} → VolumeFault → ChangeFault R
 reading_fault volume.OutOfMemory = fault.Job job.OutOfMemory
 reading_fault volume.Store = fault.Job job.Store
 reading_fault volume.Write = fault.Job job.Store
 
 -- what a line that is written, or not, is
-abbrev pub written_line : Result (Unit {0}) WriteFault → Result (Unit {0}) ChangeFault
+abbrev pub written_line : {R : Type 0} → Result (Unit {0}) WriteFault → Result (Unit {0}) (ChangeFault R)
 written_line (Ok done) = Ok done
 written_line (Err f) = Err (fault.Job job.Write)

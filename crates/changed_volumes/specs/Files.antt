@@ -22,7 +22,7 @@ use Rattle.volume_changes.specs.Volumes.{renamed}
 use Rattle.volume_changes.specs.Deletions.{deleted}
 use Rattle.changed_volumes.specs.declared.fault.ChangeFault.{ChangeFault}
 use Rattle.changed_volumes.specs.declared.fault.ChangeFault.TheVariants as fault
-use Rattle.changed_volumes.specs.Changes.{Changing, IsSameImage, IsHindered}
+use Rattle.changed_volumes.specs.Changes.{Changing, changing, IsSameImage, IsHindered}
 
 -- how the files are saved: a new one takes the place of each, where that is asked, and else each keeps its place
 abbrev pub plan_of : (replaces : Bool) → SavePlan
@@ -39,49 +39,49 @@ pub record ReadsImage (paths : List (List ℕ)) (i : ImageState) (before now : L
   pub holds : HoldsImage i.lasting.origins i
   pub whole : ReadsWhole paths i.lasting.origins before now
 
--- The volume in the files at these paths became this one, and the files of it that changed were written; or those before one of them, at
--- which it stopped.
-pub record SavesChanged {A : Type 0} (result : Result A JobFault) (change : Changing) (paths : List (List ℕ)) (g : Geometry)
+-- The volume in the files at these paths was read whole and changed, with this answer, and the files of it that changed were written; or those
+-- before one of them, at which it stopped.
+pub record SavesChanged {A R : Type 0} (result : Result (Unit {0}) JobFault) (change : Changing A R) (answer : A) (paths : List (List ℕ))
     (opened_before opened : List SourceFile) (before now : List Replaced) : Type 0 where
   pub image : ImageState
   pub changed : ImageState
   pub reads : ReadsImage paths image opened_before opened
-  pub geometry : image.geometry ≡ g
   pub same : IsSameImage image changed
-  pub slots : change image.geometry image.slots ≡ Ok changed.slots
+  pub makes : change.makes image.geometry image.slots answer changed.slots
   pub saves : WritesBack result paths changed before now
 
 -- the volume in the files is not changed, for this reason
-pub record Refuses (refusal : ChangeRefusal) (change : Changing) (paths : List (List ℕ)) (before now : List SourceFile) : Type 0 where
+pub record Refuses {A R : Type 0} (refusal : R) (change : Changing A R) (paths : List (List ℕ)) (before now : List SourceFile) : Type 0 where
   pub image : ImageState
   pub reads : ReadsImage paths image before now
-  pub refused : change image.geometry image.slots ≡ Err refusal
+  pub refused : change.refuses refusal image.geometry image.slots
 
 -- the files are not read; or they are, and something hinders the change
 abbrev pub Hinders : JobFault → (paths : List (List ℕ)) → (before now : List SourceFile) → Type 0
 Hinders f paths before now = NotRead f paths before now ⊎ (IsHindered f × (i : ImageState) × ReadsImage paths i before now)
 
 -- A volume in files is changed and saved; or it is saved in part; or it stays, and no file is written.
-abbrev pub ChangesFiles : Result Geometry ChangeFault → Changing → (paths : List (List ℕ)) → (opened_before opened : List SourceFile)
-    → (before now : List Replaced) → Type 0
-ChangesFiles (Ok g) change paths opened_before opened before now = SavesChanged {A = Unit {0}} (Ok tt) change paths g opened_before opened before now
-ChangesFiles (Err (fault.Save f)) change paths opened_before opened before now =
-    (g : Geometry) × SavesChanged {A = Unit {0}} (Err f) change paths g opened_before opened before now
+abbrev pub ChangesFiles : {A R : Type 0} → Result A (ChangeFault R) → Changing A R → (paths : List (List ℕ))
+    → (opened_before opened : List SourceFile) → (before now : List Replaced) → Type 0
+ChangesFiles (Ok answer) change paths opened_before opened before now =
+    SavesChanged (Ok tt) change answer paths opened_before opened before now
+ChangesFiles {A} (Err (fault.Save f)) change paths opened_before opened before now =
+    (answer : A) × SavesChanged (Err f) change answer paths opened_before opened before now
 ChangesFiles (Err (fault.Refused refusal)) change paths opened_before opened before now =
     Refuses refusal change paths opened_before opened × (now ≡ before)
 ChangesFiles (Err (fault.Job f)) change paths opened_before opened before now = Hinders f paths opened_before opened × (now ≡ before)
 
--- The same, and a line is printed; with a write fault it may be only its beginning, and a write or a flush has failed. With every other
--- fault nothing is printed.
-abbrev pub TellsChange : {A : Type 0} → Result A ChangeFault → Changing → (paths : List (List ℕ)) → (line : Geometry → List ℕ) → (before now : Around)
-    → Type 0
-TellsChange (Ok _) change paths line before now =
-    (g : Geometry) × ChangesFiles (Ok g) change paths before.opened now.opened before.written now.written
-    × Takes before.printed now.printed (line g) × NoneFailed before.printed now.printed
-TellsChange (Err f) change paths line before now =
+-- The same, and the line or lines of the answer are printed; with a write fault it may be only their beginning, and a write or a flush has
+-- failed. With every other fault nothing is printed.
+abbrev pub TellsChange : {A B R : Type 0} → Result B (ChangeFault R) → Changing A R → (paths : List (List ℕ)) → (line : A → List ℕ)
+    → (before now : Around) → Type 0
+TellsChange {A} (Ok _) change paths line before now =
+    (answer : A) × ChangesFiles (Ok answer) change paths before.opened now.opened before.written now.written
+    × Takes before.printed now.printed (line answer) × NoneFailed before.printed now.printed
+TellsChange {A} (Err f) change paths line before now =
     (ChangesFiles (Err f) change paths before.opened now.opened before.written now.written × (now.printed ≡ before.printed))
-    ⊎ ((f ≡ fault.Job Write) × (g : Geometry) × ChangesFiles (Ok g) change paths before.opened now.opened before.written now.written
-    × TakesFront before.printed now.printed (line g) × OneFailed before.printed now.printed)
+    ⊎ ((f ≡ fault.Job Write) × (answer : A) × ChangesFiles (Ok answer) change paths before.opened now.opened before.written now.written
+    × TakesFront before.printed now.printed (line answer) × OneFailed before.printed now.printed)
 
 -- what a rename prints
 abbrev pub renamed_line : (old new : List ℕ) → List ℕ
@@ -105,18 +105,18 @@ NoNames NoDataSet old new = (is_set_name new ≡ true) × (is_name 44 old ≡ fa
 NoNames refusal old new = ⊥
 
 -- A data set of the volume in files gets another name; or the names are refused, and no file is opened or written and nothing printed.
-abbrev pub RenamesSet : {A : Type 0} → Result A ChangeFault → (paths : List (List ℕ)) → (old new : List ℕ) → (before now : Around) → Type 0
+abbrev pub RenamesSet : {A : Type 0} → Result A (ChangeFault ChangeRefusal) → (paths : List (List ℕ)) → (old new : List ℕ) → (before now : Around) → Type 0
 RenamesSet result paths old new before now =
     ((refusal : ChangeRefusal) × (result ≡ Err (fault.Refused refusal)) × NoNames refusal old new × (now ≡ before))
     ⊎ ((old_name new_name : List ℕ) × AreNames old new old_name new_name
-    × TellsChange result (renamed old_name new_name) paths (λ g. renamed_line old new) before now)
+    × TellsChange result (changing (renamed old_name new_name)) paths (λ g. renamed_line old new) before now)
 
 -- what a deletion prints
 abbrev pub deleted_line : (name : List ℕ) → List ℕ
 deleted_line name = concat (codes "deleted " ∷ name ∷ (10 ∷ []) ∷ [])
 
 -- A data set of the volume in files is deleted; or no volume has the name, and no file is opened or written and nothing printed.
-abbrev pub DeletesSet : {A : Type 0} → Result A ChangeFault → (paths : List (List ℕ)) → (name : List ℕ) → (before now : Around) → Type 0
+abbrev pub DeletesSet : {A : Type 0} → Result A (ChangeFault ChangeRefusal) → (paths : List (List ℕ)) → (name : List ℕ) → (before now : Around) → Type 0
 DeletesSet result paths name before now =
     ((result ≡ Err (fault.Refused NoDataSet)) × (is_name 44 name ≡ false) × (now ≡ before))
-    ⊎ ((of_set : List ℕ) × Names name of_set × TellsChange result (deleted of_set) paths (λ g. deleted_line name) before now)
+    ⊎ ((of_set : List ℕ) × Names name of_set × TellsChange result (changing (deleted of_set)) paths (λ g. deleted_line name) before now)

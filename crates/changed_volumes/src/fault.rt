@@ -6,16 +6,18 @@ ghost use Rattle.changed_volumes.specs.Changes.{reading_fault, written_line, IsH
 use counted_io::WriteFault;
 use dasd_jobs::JobFault;
 use dasd_volumes::VolumeFault;
+use std::fmt;
 use thiserror::Error;
 use volume_changes::ChangeRefusal;
 
-/// Why a volume in files was not changed, or not told to be.
-#[derive(Clone, Copy, Debug, Error)]
-pub enum ChangeFault {
+/// Why a volume in files was not changed, or not told to be: it is refused for a reason of the change, or something hinders it.
+#[derive(Debug, Drop, Error)]
+#[error_bound(R: fmt::Display)]
+pub enum ChangeFault<R = ChangeRefusal> {
     /// The volume is not changed so.
     #[error(transparent)]
-    Refused(ChangeRefusal),
-    /// Its files are not read, there is no memory, or the line can't be written.
+    Refused(R),
+    /// Files are not read, there is no memory, or the line can't be written.
     #[error(transparent)]
     Job(JobFault),
     /// A file that was changed can't be saved: it holds what it held, and so do those behind it.
@@ -29,19 +31,19 @@ pub(crate) const NO_MEMORY: ChangeFault = ChangeFault::Job(JobFault::OutOfMemory
 /// A slot of the image in memory that can't be read or written.
 pub(crate) const NO_SLOT: ChangeFault = ChangeFault::Job(JobFault::Store);
 
-/// What the fault of a volume that is read is.
-pub(crate) fn of_reading(fault: VolumeFault) -> ChangeFault
+/// What the fault of a volume that is read of memory is.
+pub fn of_reading<R: Drop>(fault: VolumeFault) -> ChangeFault<R>
     ensures value { result ≡ reading_fault fault }
     ensures hinders { IsHinderedBy result }
 {
     match fault {
-        VolumeFault::OutOfMemory => NO_MEMORY,
-        VolumeFault::Store | VolumeFault::Write => NO_SLOT,
+        VolumeFault::OutOfMemory => ChangeFault::Job(JobFault::OutOfMemory),
+        VolumeFault::Store | VolumeFault::Write => ChangeFault::Job(JobFault::Store),
     }
 }
 
 /// What the fault of a line that is written is.
-pub(crate) fn of_line(written: Result<(), WriteFault>) -> Result<(), ChangeFault>
+pub fn of_line<R: Drop>(written: Result<(), WriteFault>) -> Result<(), ChangeFault<R>>
     ensures { result ≡ written_line written }
 {
     match written {

@@ -62,18 +62,24 @@ pub fn change_image(
 /// # Errors
 ///
 /// There is no memory, or a slot in memory is not read.
-pub fn read_said(alloc: Global, image: &Image<VolumeFile>) -> Result<Contents, ChangeFault>
+pub fn read_said<R: Drop>(
+    alloc: Global,
+    image: &Image<VolumeFile>,
+) -> Result<Contents, ChangeFault<R>>
     ensures says { IfOk result (SaysOf (contents_of image.now.geometry image.now.slots)) }
     ensures fault { IfErr result IsHinderedBy }
 {
     match image.copy(alloc) {
         Ok(mut copy) => read_copy(alloc, &mut copy),
-        Err(_) => Err(NO_MEMORY),
+        Err(_) => Err(ChangeFault::Job(JobFault::OutOfMemory)),
     }
 }
 
 // The same of an image that may be known less of behind it.
-fn read_copy(alloc: Global, copy: &mut Image<VolumeFile>) -> Result<Contents, ChangeFault>
+fn read_copy<R: Drop>(
+    alloc: Global,
+    copy: &mut Image<VolumeFile>,
+) -> Result<Contents, ChangeFault<R>>
     ensures says { IfOk result (SaysOf (contents_of copy.old.geometry copy.old.slots)) }
     ensures fault { IfErr result IsHinderedBy }
 {

@@ -3,6 +3,7 @@
 //! saved as a run saves them.
 #![tactic(auto)]
 
+mod changes;
 mod deletions;
 mod fault;
 mod formats;
@@ -11,9 +12,8 @@ mod labelled_writes;
 mod lines;
 mod saves;
 
-pub use crate::fault::ChangeFault;
+pub use crate::changes::{ImageChange, change_files};
+pub use crate::fault::{ChangeFault, of_line, of_reading};
 pub use crate::formats::{FormatFault, LabelledVolume, format_labelled};
 pub use crate::images::{VolumeChange, change_image, read_said, write_change};
-pub use crate::saves::{
-    ChangedVolume, NewName, delete_data_set, relabel_volume, rename_data_set, save_plan,
-};
+pub use crate::saves::{ChangedVolume, NewName, delete_data_set, relabel_volume, rename_data_set};

@@ -3,16 +3,16 @@
 ghost use Rattle.std.specs.Prelude.{◌≡◌, map, OnOk};
 ghost use Rattle.counted_io.specs.Streams.{seen_by, IsFlushed};
 ghost use Rattle.volume_changes.specs.Volumes.{relabelled};
-ghost use Rattle.changed_volumes.specs.Changes.{changed_by};
-ghost use Rattle.changed_volumes.specs.Files.{plan_of, ChangesFiles, TellsChange, RenamesSet, DeletesSet, relabelled_line};
+ghost use Rattle.changed_volumes.specs.Changes.{changing};
+ghost use Rattle.changed_volumes.specs.Files.{plan_of, TellsChange, RenamesSet, DeletesSet, relabelled_line};
 
+use crate::changes::change_files;
 use crate::fault::{ChangeFault, of_line};
-use crate::images::{VolumeChange, change_image};
+use crate::images::VolumeChange;
 use crate::lines::{write_deleted, write_relabelled, write_renamed};
-use ckd_track::Geometry;
 use counted_io::Counted;
 use dasd_extract::data_set_name;
-use dasd_jobs::{ImageFiles, SavePlan, read_image, write_back};
+use dasd_jobs::{ImageFiles, SavePlan};
 use std::alloc::Global;
 use std::io::Write;
 use volume_changes::{ChangeRefusal, LabelFields, new_set_name};
@@ -89,7 +89,7 @@ pub fn relabel_volume<F: ImageFiles, W: Write>(
     volume: &ChangedVolume,
     fields: LabelFields,
 ) -> Result<(), ChangeFault>
-    ensures relabels { TellsChange result (relabelled fields) (map (λ path. path.now) volume.now.paths.now) relabelled_line
+    ensures relabels { TellsChange result (changing (relabelled fields)) (map (λ path. path.now) volume.now.paths.now) relabelled_line
         (record {
           opened = F.opened files.old;
           written = F.written files.old;
@@ -147,33 +147,8 @@ pub fn delete_data_set<F: ImageFiles, W: Write>(
     }
 }
 
-// Changes the volume in files, and saves those of them that changed.
-fn change_files<F: ImageFiles>(
-    alloc: Global,
-    files: &mut F,
-    volume: &ChangedVolume,
-    change: &VolumeChange,
-) -> Result<Geometry, ChangeFault>
-    ensures { ChangesFiles result (changed_by change.now) (map (λ path. path.now) volume.now.paths.now)
-        (F.opened files.old) (F.opened files.new) (F.written files.old) (F.written files.new) }
-{
-    files.plan_saving(save_plan(volume));
-    let mut image = match read_image(alloc, files, volume.paths) {
-        Ok(image) => image,
-        Err(fault) => return Err(ChangeFault::Job(fault)),
-    };
-    let geometry = image.geometry();
-    if let Err(fault) = change_image(alloc, &mut image, change) {
-        return Err(fault);
-    }
-    match write_back(alloc, files, volume.paths, image) {
-        Ok(()) => Ok(geometry),
-        Err(fault) => Err(ChangeFault::Save(fault)),
-    }
-}
-
 /// How the files of a volume are saved.
-pub fn save_plan(volume: &ChangedVolume) -> SavePlan
+pub(crate) fn save_plan(volume: &ChangedVolume) -> SavePlan
     ensures { result ≡ plan_of volume.now.replaces }
 {
     if volume.replaces {

@@ -14,12 +14,9 @@ use Rattle.changed_volumes.specs.declared.formats.FormatFault.{FormatFault}
 use Rattle.changed_volumes.specs.declared.formats.FormatFault.TheVariants as format
 use Rattle.changed_volumes.specs.declared.fault.ChangeFault.{ChangeFault}
 use Rattle.changed_volumes.specs.declared.fault.ChangeFault.TheVariants as change
-use Rattle.loaded_sets.specs.declared.fault.LoadFault.{LoadFault}
-use Rattle.loaded_sets.specs.declared.fault.LoadFault.TheVariants as load
-use Rattle.loaded_folders.specs.declared.fault.FolderFault.{FolderFault}
-use Rattle.loaded_folders.specs.declared.fault.FolderFault.TheVariants as folder
-use Rattle.loaded_folders.specs.declared.member_fault.NewMemberFault.{NewMemberFault}
-use Rattle.loaded_folders.specs.declared.member_fault.NewMemberFault.TheVariants as add
+use Rattle.loaded_sets.specs.Faults.{LoadFault}
+use Rattle.loaded_folders.specs.Faults.{FolderFault, NewMemberFault}
+use Rattle.volume_changes.specs.declared.refusal.ChangeRefusal.{ChangeRefusal}
 use Rattle.volume_details.specs.declared.fault.MemberListFault.{MemberListFault}
 use Rattle.volume_details.specs.declared.fault.MemberListFault.TheVariants as library
 use Rattle.dasd_run.specs.declared.fault.ProgramFault.{ProgramFault}
@@ -128,28 +125,28 @@ format_fault (format.Table f) = fault.Table f
 format_fault (format.Job f) = fault.Job f
 
 -- that of a volume that is changed
-abbrev pub change_fault : ChangeFault → ProgramFault
+abbrev pub change_fault : ChangeFault ChangeRefusal → ProgramFault
 change_fault (change.Refused refusal) = fault.Change refusal
 change_fault (change.Job f) = fault.Job f
 change_fault (change.Save f) = fault.Save f
 
 -- that of a data set that is put onto a volume
 abbrev pub load_fault : LoadFault → ProgramFault
-load_fault (load.Refused refusal) = fault.Load refusal
-load_fault (load.Job f) = fault.Job f
-load_fault (load.Save f) = fault.Save f
+load_fault (change.Refused refusal) = fault.Load refusal
+load_fault (change.Job f) = fault.Job f
+load_fault (change.Save f) = fault.Save f
 
 -- that of a folder whose files are
 abbrev pub folder_fault : FolderFault → ProgramFault
-folder_fault (folder.Job f) = fault.Job f
-folder_fault (folder.Save f) = fault.Save f
-folder_fault f = fault.Folder f
+folder_fault (change.Refused refusal) = fault.Folder refusal
+folder_fault (change.Job f) = fault.Job f
+folder_fault (change.Save f) = fault.Save f
 
 -- that of a member that is put into a library
 abbrev pub add_fault : NewMemberFault → ProgramFault
-add_fault (add.Refused refusal) = fault.Member refusal
-add_fault (add.Job f) = fault.Job f
-add_fault (add.Save f) = fault.Save f
+add_fault (change.Refused refusal) = fault.Member refusal
+add_fault (change.Job f) = fault.Job f
+add_fault (change.Save f) = fault.Save f
 
 -- that of a library whose members are listed
 abbrev pub library_fault : MemberListFault → ProgramFault

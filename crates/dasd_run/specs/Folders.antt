@@ -2,7 +2,7 @@
 use Rattle.std.specs.Prelude.{◌≡◌, map, Result, OnOk}
 use Rattle.counted_io.specs.Streams.{IsFlushed}
 use Rattle.loaded_folders.specs.MemberLoads.{LoadsMember}
-use Rattle.loaded_folders.specs.declared.member_fault.NewMemberFault.{NewMemberFault}
+use Rattle.loaded_folders.specs.Faults.{FolderFault, NewMemberFault}
 use Rattle.loaded_folders.specs.declared.member_saves.NewMemberFile.{NewMemberFile}
 use Rattle.dasd_run.specs.declared.commands.Ending.{Ending}
 use Rattle.dasd_run.specs.declared.fault.ProgramFault.{ProgramFault}
@@ -13,7 +13,6 @@ use Rattle.dasd_run.specs.Outside.{Outside, around}
 use Rattle.dasd_words.specs.declared.requests.LoadedFolder.{LoadedFolder}
 use Rattle.dasd_words.specs.declared.requests.LoadedMember.{LoadedMember}
 use Rattle.loaded_folders.specs.Loads.{LoadsFolder}
-use Rattle.loaded_folders.specs.declared.fault.FolderFault.{FolderFault}
 use Rattle.loaded_folders.specs.declared.saves.NewFolder.{NewFolder}
 
 -- the data sets of the folder that is asked for are put onto the volume, and their lines printed and flushed

@@ -7,7 +7,7 @@ use changed_volumes::{ChangeFault, FormatFault};
 use dasd_jobs::JobFault;
 use dasd_unload::UnloadFault;
 use dasd_volumes::VolumeFault;
-use loaded_folders::{FolderFault, NewMemberFault, NewMemberRefusal};
+use loaded_folders::{FolderFault, FolderRefusal, NewMemberFault, NewMemberRefusal};
 use loaded_sets::{LoadFault, LoadRefusal};
 use new_labels::TableFault;
 use s360_assembler::AssemblyFault;
@@ -65,7 +65,7 @@ pub enum ProgramFault {
     Load(LoadRefusal),
     /// A volume does not get the data sets of a folder, and stays as it was.
     #[error(transparent)]
-    Folder(FolderFault),
+    Folder(FolderRefusal),
     /// A library does not get a member as it was asked, and its volume stays as it was.
     #[error(transparent)]
     Member(NewMemberRefusal),
@@ -227,9 +227,9 @@ impl From<LoadFault> for ProgramFault {
 
     fn from(fault: LoadFault) -> ProgramFault {
         match fault {
-            LoadFault::Refused(refusal) => ProgramFault::Load(refusal),
-            LoadFault::Job(fault) => ProgramFault::Job(fault),
-            LoadFault::Save(fault) => ProgramFault::Save(fault),
+            ChangeFault::Refused(refusal) => ProgramFault::Load(refusal),
+            ChangeFault::Job(fault) => ProgramFault::Job(fault),
+            ChangeFault::Save(fault) => ProgramFault::Save(fault),
         }
     }
 }
@@ -242,9 +242,9 @@ impl From<FolderFault> for ProgramFault {
 
     fn from(fault: FolderFault) -> ProgramFault {
         match fault {
-            FolderFault::Job(fault) => ProgramFault::Job(fault),
-            FolderFault::Save(fault) => ProgramFault::Save(fault),
-            fault => ProgramFault::Folder(fault),
+            ChangeFault::Refused(refusal) => ProgramFault::Folder(refusal),
+            ChangeFault::Job(fault) => ProgramFault::Job(fault),
+            ChangeFault::Save(fault) => ProgramFault::Save(fault),
         }
     }
 }
@@ -257,9 +257,9 @@ impl From<NewMemberFault> for ProgramFault {
 
     fn from(fault: NewMemberFault) -> ProgramFault {
         match fault {
-            NewMemberFault::Refused(refusal) => ProgramFault::Member(refusal),
-            NewMemberFault::Job(fault) => ProgramFault::Job(fault),
-            NewMemberFault::Save(fault) => ProgramFault::Save(fault),
+            ChangeFault::Refused(refusal) => ProgramFault::Member(refusal),
+            ChangeFault::Job(fault) => ProgramFault::Job(fault),
+            ChangeFault::Save(fault) => ProgramFault::Save(fault),
         }
     }
 }

@@ -54,7 +54,7 @@ module _ (bytes : List ℕ) where
         ap (λ m. placed_from m bytes at) e ∙ more_steps (length bytes - (k + 1)) at
         ∙ ap (λ s. on_step s (placed_from (length bytes - (k + 1)) bytes)) are
 
-  -- The same entries as `data_sets` reads.
+  -- The same entries as `volume_labels` reads.
 
   abbrev plain : Option (List PlacedEntry) → Option (List DirectoryEntry)
   plain placed = option_map (λ (l : List PlacedEntry). map (λ (p : PlacedEntry). p.entry) l) placed

@@ -36,12 +36,12 @@ AreEntriesOf bytes entries = option_map (λ (v : Vec PlacedEntry). v.items) entr
 abbrev pub user_data : List ℕ → PlacedEntry → List ℕ
 user_data bytes p = if nat_lt (length bytes) p.end then [] else slice_range bytes (p.end - p.entry.user_bytes) p.end
 
--- the entries that `data_sets` reads, if nothing is wrong behind them
+-- the entries that `volume_labels` reads, if nothing is wrong behind them
 abbrev pub if_right : Option DirectoryFault → List DirectoryEntry → Option (List DirectoryEntry)
 if_right None entries = Some entries
 if_right (Some fault) entries = None
 
--- They are the entries that `data_sets` reads in these blocks.
+-- They are the entries that `volume_labels` reads in these blocks.
 abbrev pub EntriesAreThoseOfTheDirectory : Type 0
 EntriesAreThoseOfTheDirectory = (bytes : List ℕ)
     → option_map (λ (l : List PlacedEntry). map (λ (p : PlacedEntry). p.entry) l) (placed_entries bytes)

@@ -3,7 +3,7 @@
 ghost use Rattle.library_contents.specs.Directories.{EntriesAreThoseOfTheDirectory};
 ghost use Rattle.library_contents.specs.Notes.{NumberIsWhereTheyBegin};
 
-/// The entries that are read of a directory are those that `data_sets` reads in its blocks, in their order, if nothing is wrong behind
+/// The entries that are read of a directory are those that `volume_labels` reads in its blocks, in their order, if nothing is wrong behind
 /// them.
 
 pub fn entries_are_those_of_the_directory()

@@ -5,8 +5,8 @@ use Rattle.changed_volumes.specs.declared.images.VolumeChange.TheVariants.{Delet
 use Rattle.changed_volumes.specs.Changes.{changed_by}
 use Rattle.loaded_folders.specs.declared.added.AddedMember.{AddedMember}
 use Rattle.loaded_folders.specs.declared.added.OldLibrary.{OldLibrary}
-use Rattle.loaded_folders.specs.declared.member_fault.NewMemberFault.{NewMemberFault}
-use Rattle.loaded_folders.specs.declared.member_fault.NewMemberFault.TheVariants as fault
+use Rattle.loaded_folders.specs.Faults.{NewMemberFault}
+use Rattle.changed_volumes.specs.declared.fault.ChangeFault.TheVariants as fault
 use Rattle.loaded_folders.specs.declared.member_fault.NewMemberRefusal.TheVariants as refusal
 use Rattle.loaded_folders.specs.Libraries.{IsOld, IsNotRead}
 use Rattle.loaded_folders.specs.Added.{HasNew, Added, IsNotAdded}

@@ -13,8 +13,8 @@ use Rattle.loaded_sets.specs.declared.place_fault.PlaceFault.TheVariants as plac
 use Rattle.loaded_sets.specs.Volumes.{Labelled, SaysOf, IsUnfit, all_findings}
 use Rattle.loaded_sets.proofs.Fits.{fit}
 use Rattle.loaded_folders.specs.declared.added.OldLibrary.{OldLibrary}
-use Rattle.loaded_folders.specs.declared.member_fault.NewMemberFault.{NewMemberFault}
-use Rattle.loaded_folders.specs.declared.member_fault.NewMemberFault.TheVariants as fault
+use Rattle.loaded_folders.specs.Faults.{NewMemberFault}
+use Rattle.changed_volumes.specs.declared.fault.ChangeFault.TheVariants as fault
 use Rattle.loaded_folders.specs.declared.member_fault.NewMemberRefusal.TheVariants as refusal
 use Rattle.loaded_folders.specs.Faults.{placing_fault}
 use Rattle.loaded_folders.specs.Libraries.{found_library, library_block, library_unless_unfit, label_in, IsReadOf, IsOld, IsNotRead}

@@ -7,14 +7,15 @@ use Rattle.set_forms.specs.declared.forms.EntryForm.{EntryForm}
 use Rattle.changed_volumes.specs.Changes.{IsHindered}
 use Rattle.loaded_sets.specs.declared.contents.LoadedSet.{LoadedSet}
 use Rattle.loaded_sets.specs.declared.contents.SourceForm.{SourceForm}
-use Rattle.loaded_sets.specs.declared.fault.LoadFault.{LoadFault}
+use Rattle.loaded_sets.specs.Faults.{LoadFault}
 use Rattle.loaded_sets.specs.Loaded as set
 use Rattle.loaded_sets.specs.declared.libraries.LoadedLibrary.{LoadedLibrary}
 use Rattle.loaded_sets.specs.LoadedLibraries as library
 use Rattle.loaded_folders.specs.declared.entries.Unled.{Unled}
 use Rattle.loaded_folders.specs.declared.fault.FolderEntryFault.{FolderEntryFault}
-use Rattle.loaded_folders.specs.declared.fault.FolderFault.{FolderFault}
-use Rattle.loaded_folders.specs.declared.fault.FolderFault.TheVariants as fault
+use Rattle.loaded_folders.specs.Faults.{FolderFault}
+use Rattle.changed_volumes.specs.declared.fault.ChangeFault.TheVariants as fault
+use Rattle.loaded_folders.specs.declared.fault.FolderRefusal.TheVariants as refusal
 use Rattle.loaded_folders.specs.Sets.{FolderSet}
 use Rattle.loaded_folders.specs.Entries.{EntryParts, EntryRefused, entry_parts, entries_of, entries_behind, on_entry}
 use Rattle.loaded_folders.specs.Reading.{ReadsFiles}
@@ -26,13 +27,13 @@ use Rattle.loaded_folders.proofs.Chains.{reads_more}
 pub entry_told : (r : FolderFault) (data_set name : List ℕ) (why : Unled) (made : Result EntryParts FolderEntryFault)
     (next : EntryParts → Result (List EntryParts) EntryRefused) → IsUnled why made → TellsUnled r data_set name why
     → TellsEntry r data_set (on_entry name made next)
-entry_told (fault.Entry n f) data_set name why made next unled (spelled, is) =
+entry_told (fault.Refused (refusal.Entry n f)) data_set name why made next unled (spelled, is) =
     (name, spelled, ap (λ m. on_entry name m next) (subst (λ (w : Unled). IsUnled w made) is unled))
 entry_told (fault.Job f) data_set name why made next unled told = told
-entry_told fault.TooLong data_set name why made next unled told = elim told [ ]
-entry_told (fault.Line n f) data_set name why made next unled told = elim told [ ]
-entry_told (fault.NoFile n) data_set name why made next unled told = elim told [ ]
-entry_told (fault.Refused n f) data_set name why made next unled told = elim told [ ]
+entry_told (fault.Refused refusal.TooLong) data_set name why made next unled told = elim told [ ]
+entry_told (fault.Refused (refusal.Line n f)) data_set name why made next unled told = elim told [ ]
+entry_told (fault.Refused (refusal.NoFile n)) data_set name why made next unled told = elim told [ ]
+entry_told (fault.Refused (refusal.Load n f)) data_set name why made next unled told = elim told [ ]
 entry_told (fault.Save f) data_set name why made next unled told = elim told [ ]
 
 -- the same, of the entries behind it
@@ -47,7 +48,7 @@ module _ (folder : List ℕ) (names first others : List (List ℕ)) (n : List �
   module _ (bytes : List (List ℕ)) (a m : List SourceFile) (read : ReadsFiles folder first bytes a m) where
     -- the next file is not read
     pub read_stops : (r : FolderFault) (z : List SourceFile) → z ≡ m → IsNoFile r n → StopsReading r folder names a z
-    read_stops (fault.NoFile told) z same is = (
+    read_stops (fault.Refused (refusal.NoFile told)) z same is = (
       others,
       record {
         first = first;
@@ -66,10 +67,10 @@ module _ (folder : List ℕ) (names first others : List (List ℕ)) (n : List �
         read = subst (λ (s : List SourceFile). ReadsFiles folder first bytes a s) (sym same) read;
       },
     )
-    read_stops fault.TooLong z same is = elim is [ ]
-    read_stops (fault.Line k f) z same is = elim is [ ]
-    read_stops (fault.Entry k f) z same is = elim is [ ]
-    read_stops (fault.Refused k f) z same is = elim is [ ]
+    read_stops (fault.Refused refusal.TooLong) z same is = elim is [ ]
+    read_stops (fault.Refused (refusal.Line k f)) z same is = elim is [ ]
+    read_stops (fault.Refused (refusal.Entry k f)) z same is = elim is [ ]
+    read_stops (fault.Refused (refusal.Load k f)) z same is = elim is [ ]
     read_stops (fault.Save f) z same is = elim is [ ]
 
     -- it was, and there is no memory for its bytes
@@ -91,51 +92,46 @@ module _ (source : SourceForm) (s : FolderSet) (g : Geometry) (slots : List (Lis
   -- a data set is not loaded
   pub set_told : (l : LoadedSet) (r : FolderFault) (f : LoadFault) → IsSequential source s l → set.IsNotLoaded f l g slots
       → IsToldOf r s.lines.form.name f → IsNotBy None r source s g slots
-  set_told l (fault.Refused n r) f is why (spelled, told) =
+  set_told l (fault.Refused (refusal.Load n r)) f is why (spelled, told) =
       (spelled, (l, is, subst (λ (x : LoadFault). set.IsNotLoaded x l g slots) told why))
   set_told l (fault.Job j) f is why (inl none) = subst IsHindered (sym none) tt
   set_told l (fault.Job j) f is why (inr told) = subst (λ (x : LoadFault). set.IsNotLoaded x l g slots) told why
   set_told l (fault.Save j) f is why told = subst (λ (x : LoadFault). set.IsNotLoaded x l g slots) told why
-  set_told l fault.TooLong f is why told = elim told [ ]
-  set_told l (fault.Line n x) f is why told = elim told [ ]
-  set_told l (fault.NoFile n) f is why told = elim told [ ]
-  set_told l (fault.Entry n x) f is why told = elim told [ ]
+  set_told l (fault.Refused refusal.TooLong) f is why told = elim told [ ]
+  set_told l (fault.Refused (refusal.Line n x)) f is why told = elim told [ ]
+  set_told l (fault.Refused (refusal.NoFile n)) f is why told = elim told [ ]
+  set_told l (fault.Refused (refusal.Entry n x)) f is why told = elim told [ ]
 
   module _ (blocks : ℕ) where
     -- a library is not loaded
     pub library_told : (l : LoadedLibrary) (r : FolderFault) (f : LoadFault) → IsPartitioned source s blocks l
         → library.IsNotLoaded f l g slots → IsToldOf r s.lines.form.name f → IsNotBy (Some blocks) r source s g slots
-    library_told l (fault.Refused n r) f is why (spelled, told) =
+    library_told l (fault.Refused (refusal.Load n r)) f is why (spelled, told) =
         (spelled, (l, is, subst (λ (x : LoadFault). library.IsNotLoaded x l g slots) told why))
     library_told l (fault.Job j) f is why (inl none) = subst IsHindered (sym none) tt
     library_told l (fault.Job j) f is why (inr told) = subst (λ (x : LoadFault). library.IsNotLoaded x l g slots) told why
     library_told l (fault.Save j) f is why told = subst (λ (x : LoadFault). library.IsNotLoaded x l g slots) told why
-    library_told l fault.TooLong f is why told = elim told [ ]
-    library_told l (fault.Line n x) f is why told = elim told [ ]
-    library_told l (fault.NoFile n) f is why told = elim told [ ]
-    library_told l (fault.Entry n x) f is why told = elim told [ ]
+    library_told l (fault.Refused refusal.TooLong) f is why told = elim told [ ]
+    library_told l (fault.Refused (refusal.Line n x)) f is why told = elim told [ ]
+    library_told l (fault.Refused (refusal.NoFile n)) f is why told = elim told [ ]
+    library_told l (fault.Refused (refusal.Entry n x)) f is why told = elim told [ ]
 
     -- an entry of it leads nowhere
     pub no_entry : (r : FolderFault) → TellsEntry r s.lines.form.name (entries_of s.lines.entries)
         → IsNotBy (Some blocks) r source s g slots
-    no_entry (fault.Entry n f) told = told
+    no_entry (fault.Refused (refusal.Entry n f)) told = told
     no_entry (fault.Job f) told = subst IsHindered (sym told) tt
-    no_entry fault.TooLong told = elim told [ ]
-    no_entry (fault.Line n f) told = elim told [ ]
-    no_entry (fault.NoFile n) told = elim told [ ]
-    no_entry (fault.Refused n f) told = elim told [ ]
+    no_entry (fault.Refused refusal.TooLong) told = elim told [ ]
+    no_entry (fault.Refused (refusal.Line n f)) told = elim told [ ]
+    no_entry (fault.Refused (refusal.NoFile n)) told = elim told [ ]
+    no_entry (fault.Refused (refusal.Load n f)) told = elim told [ ]
     no_entry (fault.Save f) told = elim told [ ]
 
 module _ (source : SourceForm) (sets done others : List FolderSet) (s : FolderSet) (all : sets ≡ done ++ s ∷ others) (g : Geometry) where
   module _ (a b : List (List ℕ)) (lines : List ℕ) (loaded : GetsAll source done g a b lines) where
     -- one of the data sets is not loaded
-    pub stops : (r : FolderFault) → IsNotOne r source s g b → IsStopped r source sets g a
-    stops (fault.Refused n f) why =
-        record { done = done; next = s; others = others; all = all; between = b; lines = lines; loaded = loaded; refused = why }
-    stops (fault.Entry n f) why =
+    pub stops : (f : FolderFault) → IsNotOne f source s g b → IsStopped f source sets g a
+    stops (fault.Refused r) why =
         record { done = done; next = s; others = others; all = all; between = b; lines = lines; loaded = loaded; refused = why }
     stops (fault.Job f) why = why
-    stops fault.TooLong why = elim why [ ]
-    stops (fault.Line n f) why = elim why [ ]
-    stops (fault.NoFile n) why = elim why [ ]
-    stops (fault.Save f) why = elim why [ ]
+    stops (fault.Save f) why = why

@@ -4,37 +4,38 @@ use Rattle.std.specs.String.{string_bytes}
 use Rattle.dasd_jobs.specs.Sources.{SourceFile}
 use Rattle.dasd_jobs.specs.Written.{Replaced}
 use Rattle.dasd_jobs.specs.declared.faults.JobFault.TheVariants.{OutOfMemory}
-use Rattle.changed_volumes.specs.Files.{Around}
+use Rattle.changed_volumes.specs.Files.{Around, TellsChange}
 use Rattle.set_forms.specs.declared.forms.FormLine.{FormLine}
 use Rattle.set_forms.specs.Parsing.{parsed}
-use Rattle.loaded_folders.specs.declared.fault.FolderFault.{FolderFault}
-use Rattle.loaded_folders.specs.declared.fault.FolderFault.TheVariants as fault
+use Rattle.loaded_folders.specs.Faults.{FolderFault}
+use Rattle.changed_volumes.specs.declared.fault.ChangeFault.TheVariants as fault
+use Rattle.loaded_folders.specs.declared.fault.FolderRefusal.TheVariants as refusal
 use Rattle.loaded_folders.specs.declared.saves.NewFolder.{NewFolder}
 use Rattle.loaded_folders.specs.Sets.{SetLines, sets_of, file_names, with_files}
 use Rattle.loaded_folders.specs.Reading.{HasText, ReadsFiles, ReadsBefore, IsUnread}
-use Rattle.loaded_folders.specs.Loads.{LoadsFolder, TellsLoads, with_opened}
+use Rattle.loaded_folders.specs.Loads.{LoadsFolder, loading_all, with_opened}
 use Rattle.loaded_folders.specs.Parts.{HasNoText, IsWrong, ReadsFirst, StopsReading, TellsRead}
 use Rattle.loaded_folders.proofs.Chains.{as_many}
 
 -- its text is not read
 pub no_text : (r : FolderFault) (folder : List ℕ) (a z : List SourceFile) → HasNoText r folder a z → IsUnread r folder a z
-no_text fault.TooLong folder a z why = why
-no_text (fault.NoFile n) folder a z why = inl why
+no_text (fault.Refused refusal.TooLong) folder a z why = why
+no_text (fault.Refused (refusal.NoFile n)) folder a z why = inl why
 no_text (fault.Job f) folder a z why = (why.0, inl why.1)
-no_text (fault.Line n f) folder a z why = elim why.0 [ ]
-no_text (fault.Entry n f) folder a z why = elim why.0 [ ]
-no_text (fault.Refused n f) folder a z why = elim why.0 [ ]
+no_text (fault.Refused (refusal.Line n f)) folder a z why = elim why.0 [ ]
+no_text (fault.Refused (refusal.Entry n f)) folder a z why = elim why.0 [ ]
+no_text (fault.Refused (refusal.Load n f)) folder a z why = elim why.0 [ ]
 no_text (fault.Save f) folder a z why = elim why.0 [ ]
 
 module _ (folder text : List ℕ) (a m : List SourceFile) (has : HasText folder text a m) where
   -- a line of it is wrong
   pub wrong : (r : FolderFault) → IsWrong r text → IsUnread r folder a m
-  wrong (fault.Line n f) why = (text, has, why)
+  wrong (fault.Refused (refusal.Line n f)) why = (text, has, why)
   wrong (fault.Job f) why = (why, inr (inl (text, has.read)))
-  wrong fault.TooLong why = elim why [ ]
-  wrong (fault.NoFile n) why = elim why [ ]
-  wrong (fault.Entry n f) why = elim why [ ]
-  wrong (fault.Refused n f) why = elim why [ ]
+  wrong (fault.Refused refusal.TooLong) why = elim why [ ]
+  wrong (fault.Refused (refusal.NoFile n)) why = elim why [ ]
+  wrong (fault.Refused (refusal.Entry n f)) why = elim why [ ]
+  wrong (fault.Refused (refusal.Load n f)) why = elim why [ ]
   wrong (fault.Save f) why = elim why [ ]
 
   -- there is no memory behind it
@@ -56,12 +57,12 @@ module _ (folder text : List ℕ) (a m : List SourceFile) (has : HasText folder 
 
       -- one of its files is not read
       pub unread : (r : FolderFault) → StopsReading r folder names m z → IsUnread r folder a z
-      unread (fault.NoFile n) (others, first) = inr (sets, others, first.bytes, before (string_bytes n ∷ others) first)
+      unread (fault.Refused (refusal.NoFile n)) (others, first) = inr (sets, others, first.bytes, before (string_bytes n ∷ others) first)
       unread (fault.Job f) (no_memory, others, first) = (no_memory, inr (inr (sets, others, first.bytes, before others first)))
-      unread fault.TooLong why = elim why [ ]
-      unread (fault.Line n f) why = elim why [ ]
-      unread (fault.Entry n f) why = elim why [ ]
-      unread (fault.Refused n f) why = elim why [ ]
+      unread (fault.Refused refusal.TooLong) why = elim why [ ]
+      unread (fault.Refused (refusal.Line n f)) why = elim why [ ]
+      unread (fault.Refused (refusal.Entry n f)) why = elim why [ ]
+      unread (fault.Refused (refusal.Load n f)) why = elim why [ ]
       unread (fault.Save f) why = elim why [ ]
 
       module _ (bytes : List (List ℕ)) (read : ReadsFiles folder names bytes m z) where
@@ -105,7 +106,8 @@ module _ (folder text : List ℕ) (a m : List SourceFile) (has : HasText folder 
                     (subst (λ (s : List SourceFile). ReadsBefore folder sets [] bytes s z) (sym at_start) all_read),
                 refl,
               ),
-              subst (λ (x : Around). TellsLoads result asked.source (with_files sets bytes) paths x now) (sym same) tells,
+              subst (λ (x : Around). TellsChange result (loading_all asked.source (with_files sets bytes)) paths string_bytes x now)
+                  (sym same) tells,
             )
 
 -- a folder that is not read

@@ -3,14 +3,13 @@ use Rattle.std.specs.Prelude.{◌≡◌, ℕ, Bool, true, false, List, [], ◌�
 use Rattle.std.specs.Global.{Vec}
 use Rattle.ckd_track.specs.declared.geometries.Geometry.{Geometry}
 use Rattle.changed_volumes.specs.declared.images.VolumeChange.TheVariants.{Delete}
-use Rattle.changed_volumes.specs.Changes.{IsHindered, changed_by}
+use Rattle.changed_volumes.specs.Changes.{IsNotDone, changed_by}
 use Rattle.loaded_sets.specs.declared.contents.SourceForm.TheVariants.{WithLengths}
 use Rattle.loaded_sets.specs.declared.libraries.LoadedLibrary.{LoadedLibrary}
 use Rattle.loaded_sets.specs.LoadedLibraries.{Loaded, Refuses as RefusesLibrary}
 use Rattle.loaded_folders.specs.declared.added.AddedMember.{AddedMember}
 use Rattle.loaded_folders.specs.declared.added.OldLibrary.{OldLibrary}
-use Rattle.loaded_folders.specs.declared.member_fault.NewMemberFault.{NewMemberFault}
-use Rattle.loaded_folders.specs.declared.member_fault.NewMemberFault.TheVariants as fault
+use Rattle.loaded_folders.specs.Faults.{NewMemberFault}
 use Rattle.loaded_folders.specs.declared.member_fault.NewMemberRefusal.{NewMemberRefusal}
 use Rattle.loaded_folders.specs.declared.member_fault.NewMemberRefusal.TheVariants as refusal
 use Rattle.loaded_folders.specs.Libraries.{IsOld, RefusesOld}
@@ -67,6 +66,4 @@ Refuses r added g slots = RefusesOld r added.library g slots
 
 -- it is refused so, or something hinders it
 abbrev pub IsNotAdded : NewMemberFault → AddedMember → Geometry → (slots : List (List ℕ)) → Type 0
-IsNotAdded (fault.Refused r) added g slots = Refuses r added g slots
-IsNotAdded (fault.Job f) added g slots = IsHindered f
-IsNotAdded (fault.Save f) added g slots = ⊥
+IsNotAdded f added g slots = IsNotDone f (λ r. Refuses r added g slots)

@@ -1,41 +1,32 @@
--- What the faults of the parts of a load are for the member; no public contract names these.
-use Rattle.std.specs.Prelude.{Result, Ok, Err}
-use Rattle.counted_io.specs.declared.writing.WriteFault.{WriteFault}
+-- What the faults of a folder and of a member are, and what those of the parts of a load are for the member.
 use Rattle.dasd_jobs.specs.declared.faults.JobFault.TheVariants as job
-use Rattle.dasd_jobs.specs.declared.files.FileFault.{FileFault}
-use Rattle.dasd_jobs.specs.declared.files.FileFault.TheVariants as file
-use Rattle.dasd_volumes.specs.declared.fault.VolumeFault.{VolumeFault}
-use Rattle.dasd_volumes.specs.declared.fault.VolumeFault.TheVariants as volume
 use Rattle.changed_volumes.specs.declared.fault.ChangeFault.{ChangeFault}
-use Rattle.changed_volumes.specs.declared.fault.ChangeFault.TheVariants as change
-use Rattle.changed_volumes.specs.Changes.{IsHindered}
+use Rattle.changed_volumes.specs.declared.fault.ChangeFault.TheVariants as fault
+use Rattle.changed_volumes.specs.Changes.{reading_fault as volume_fault}
+use Rattle.volume_changes.specs.declared.refusal.ChangeRefusal.{ChangeRefusal}
 use Rattle.loaded_sets.specs.declared.place_fault.PlaceFault.{PlaceFault}
 use Rattle.loaded_sets.specs.declared.place_fault.PlaceFault.TheVariants as place
 use Rattle.library_contents.specs.declared.contents.LibraryReadFault.{LibraryReadFault}
 use Rattle.library_contents.specs.declared.contents.LibraryReadFault.TheVariants as read
-use Rattle.loaded_sets.specs.declared.fault.LoadFault.{LoadFault}
-use Rattle.loaded_sets.specs.declared.fault.LoadFault.TheVariants as load
+use Rattle.loaded_sets.specs.Faults.{LoadFault}
 use Rattle.loaded_sets.specs.declared.fault.Unmade.{Unmade}
 use Rattle.loaded_sets.specs.declared.fault.Unmade.TheVariants as unmade
-use Rattle.loaded_folders.specs.declared.member_fault.NewMemberFault.{NewMemberFault}
-use Rattle.loaded_folders.specs.declared.member_fault.NewMemberFault.TheVariants as fault
+use Rattle.loaded_folders.specs.declared.fault.FolderRefusal.{FolderRefusal}
+use Rattle.loaded_folders.specs.declared.member_fault.NewMemberRefusal.{NewMemberRefusal}
 use Rattle.loaded_folders.specs.declared.member_fault.NewMemberRefusal.TheVariants as refusal
 
--- something hinders it
-abbrev pub IsHinderedBy : NewMemberFault → Type 0
-IsHinderedBy (fault.Job f) = IsHindered f
-IsHinderedBy f = ⊥
+-- why the data sets of a folder were not put onto a volume
+abbrev pub FolderFault : Type 0
+FolderFault = ChangeFault FolderRefusal
+
+-- why a member was not put into a library
+abbrev pub NewMemberFault : Type 0
+NewMemberFault = ChangeFault NewMemberRefusal
 
 -- what the fault of a volume that gets no data set is
 abbrev pub placing_fault : PlaceFault → NewMemberFault
 placing_fault (place.Refused r) = fault.Refused (refusal.Volume r)
 placing_fault (place.Job f) = fault.Job f
-
--- what a fault of a volume that is read of memory is
-abbrev pub volume_fault : VolumeFault → NewMemberFault
-volume_fault volume.OutOfMemory = fault.Job job.OutOfMemory
-volume_fault volume.Store = fault.Job job.Store
-volume_fault volume.Write = fault.Job job.Store
 
 -- what the fault of a library that is not read is
 abbrev pub reading_fault : LibraryReadFault → NewMemberFault
@@ -51,23 +42,13 @@ unmade_fault (unmade.Content f) = fault.Refused (refusal.Content f)
 unmade_fault unmade.OutOfMemory = fault.Job job.OutOfMemory
 
 -- what the fault of a data set that is not deleted is
-abbrev pub deletion_fault : ChangeFault → NewMemberFault
-deletion_fault (change.Refused r) = fault.Refused (refusal.Deletion r)
-deletion_fault (change.Job f) = fault.Job f
-deletion_fault (change.Save f) = fault.Save f
+abbrev pub deletion_fault : ChangeFault ChangeRefusal → NewMemberFault
+deletion_fault (fault.Refused r) = fault.Refused (refusal.Deletion r)
+deletion_fault (fault.Job f) = fault.Job f
+deletion_fault (fault.Save f) = fault.Save f
 
 -- what the fault of a library that is not put onto a volume is
 abbrev pub loading_fault : LoadFault → NewMemberFault
-loading_fault (load.Refused r) = fault.Refused (refusal.Load r)
-loading_fault (load.Job f) = fault.Job f
-loading_fault (load.Save f) = fault.Save f
-
--- what a fault of the file with the blocks is
-abbrev pub file_fault : FileFault → NewMemberFault
-file_fault file.OutOfMemory = fault.Job job.OutOfMemory
-file_fault f = fault.Job job.Read
-
--- what a line that is written, or not, is
-abbrev pub written_line : Result (Unit {0}) WriteFault → Result (Unit {0}) NewMemberFault
-written_line (Ok done) = Ok done
-written_line (Err f) = Err (fault.Job job.Write)
+loading_fault (fault.Refused r) = fault.Refused (refusal.Load r)
+loading_fault (fault.Job f) = fault.Job f
+loading_fault (fault.Save f) = fault.Save f

@@ -16,13 +16,12 @@ use Rattle.library_contents.specs.declared.contents.LibraryReadFault.{LibraryRea
 use Rattle.library_contents.specs.declared.contents.LibraryReadFault.TheVariants as read
 use Rattle.library_contents.specs.Members.{library_on}
 use Rattle.library_contents.specs.Libraries.{GivesLibrary, directory_bytes}
-use Rattle.changed_volumes.specs.Changes.{IsHindered}
+use Rattle.changed_volumes.specs.Changes.{IsNotDone}
 use Rattle.loaded_sets.specs.declared.place_fault.PlaceRefusal.{PlaceRefusal}
 use Rattle.loaded_sets.specs.Volumes.{unfit_of}
 use Rattle.loaded_sets.specs.declared.contents.NewSetForm.{NewSetForm}
 use Rattle.loaded_folders.specs.declared.added.OldLibrary.{OldLibrary}
-use Rattle.loaded_folders.specs.declared.member_fault.NewMemberFault.{NewMemberFault}
-use Rattle.loaded_folders.specs.declared.member_fault.NewMemberFault.TheVariants as fault
+use Rattle.loaded_folders.specs.Faults.{NewMemberFault}
 use Rattle.loaded_folders.specs.declared.member_fault.NewMemberRefusal.{NewMemberRefusal}
 use Rattle.loaded_folders.specs.declared.member_fault.NewMemberRefusal.TheVariants as refusal
 
@@ -103,6 +102,4 @@ RefusesOld r name g slots = ⊥
 
 -- it is refused so, or something hinders it
 abbrev pub IsNotRead : NewMemberFault → (name : List ℕ) → Geometry → (slots : List (List ℕ)) → Type 0
-IsNotRead (fault.Refused r) name g slots = RefusesOld r name g slots
-IsNotRead (fault.Job f) name g slots = IsHindered f
-IsNotRead (fault.Save f) name g slots = ⊥
+IsNotRead f name g slots = IsNotDone f (λ r. RefusesOld r name g slots)

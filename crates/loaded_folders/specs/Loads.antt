@@ -1,18 +1,13 @@
 -- What of a folder is put onto a volume in files, and what that leaves and prints.
-use Rattle.std.specs.Prelude.{◌≡◌, ◌⊎◌, ℕ, List, [], ◌∷◌, ◌++◌, map, slice_index_or, Option, Some, None, Result, Ok, Err}
+use Rattle.std.specs.Prelude.{◌≡◌, ◌⊎◌, ℕ, List, [], ◌∷◌, ◌++◌, map, slice_index_or, Option, Some, None, Result, Ok, Err, String}
+use Rattle.std.specs.Global.{Global}
 use Rattle.std.specs.String.{string_bytes}
-use Rattle.counted_io.specs.Streams.{Takes, TakesFront, NoneFailed, OneFailed}
-use Rattle.ckd_image.specs.Image.{ImageState}
 use Rattle.ckd_track.specs.declared.geometries.Geometry.{Geometry}
-use Rattle.dasd_jobs.specs.Back.{WritesBack}
 use Rattle.dasd_jobs.specs.Sources.{SourceFile}
-use Rattle.dasd_jobs.specs.Written.{Replaced}
-use Rattle.dasd_jobs.specs.declared.faults.JobFault.{JobFault}
-use Rattle.dasd_jobs.specs.declared.faults.JobFault.TheVariants as job
 use Rattle.dasd_unload.specs.Unloads.{file_name}
 use Rattle.set_forms.specs.declared.forms.SetForm.{SetForm}
-use Rattle.changed_volumes.specs.Changes.{IsSameImage, IsHindered}
-use Rattle.changed_volumes.specs.Files.{Around, ReadsImage, Hinders}
+use Rattle.changed_volumes.specs.Changes.{Changing, IsNotDone}
+use Rattle.changed_volumes.specs.Files.{Around, TellsChange}
 use Rattle.loaded_sets.specs.declared.contents.LoadedSet.{LoadedSet}
 use Rattle.loaded_sets.specs.declared.contents.NewSetForm.{NewSetForm}
 use Rattle.loaded_sets.specs.declared.contents.SourceForm.{SourceForm}
@@ -21,8 +16,9 @@ use Rattle.loaded_sets.specs.Loaded as set
 use Rattle.loaded_sets.specs.Loads.{loaded_line}
 use Rattle.loaded_sets.specs.declared.libraries.LoadedLibrary.{LoadedLibrary}
 use Rattle.loaded_sets.specs.LoadedLibraries as library
-use Rattle.loaded_folders.specs.declared.fault.FolderFault.{FolderFault}
-use Rattle.loaded_folders.specs.declared.fault.FolderFault.TheVariants as fault
+use Rattle.loaded_folders.specs.Faults.{FolderFault}
+use Rattle.loaded_folders.specs.declared.fault.FolderRefusal.{FolderRefusal}
+use Rattle.loaded_folders.specs.declared.fault.FolderRefusal.TheVariants as refusal
 use Rattle.loaded_folders.specs.declared.saves.NewFolder.{NewFolder}
 use Rattle.loaded_folders.specs.Sets.{FolderSet}
 use Rattle.loaded_folders.specs.Entries.{EntryRefused, entries_of, member_parts}
@@ -86,16 +82,15 @@ EndsAt None s e = ⊥
 EndsAt (Some blocks) s e = entries_of s.lines.entries ≡ Err e
 
 -- a data set is not loaded, for this reason, and is told by the name of its file, or of that of the entry
-abbrev pub IsRefused : FolderFault → SourceForm → FolderSet → Geometry → (slots : List (List ℕ)) → Type 0
-IsRefused (fault.Refused name r) source s g slots =
-    (string_bytes name ≡ file_name s.lines.form.name None) × RefusesBy s.lines.form.directory r source s g slots
-IsRefused (fault.Entry name f) source s g slots =
-    (e : List ℕ) × (string_bytes name ≡ file_name s.lines.form.name (Some e))
-    × EndsAt s.lines.form.directory s (record { name = e; fault = f })
-IsRefused f source s g slots = ⊥
+abbrev pub IsRefusedBy : (directory : Option ℕ) → FolderRefusal → SourceForm → FolderSet → Geometry → (slots : List (List ℕ)) → Type 0
+IsRefusedBy directory (refusal.Load name r) source s g slots =
+    (string_bytes name ≡ file_name s.lines.form.name None) × RefusesBy directory r source s g slots
+IsRefusedBy directory (refusal.Entry name f) source s g slots =
+    (e : List ℕ) × (string_bytes name ≡ file_name s.lines.form.name (Some e)) × EndsAt directory s (record { name = e; fault = f })
+IsRefusedBy directory r source s g slots = ⊥
 
 -- One of the data sets is not loaded, behind those before it.
-pub record StopsAt (f : FolderFault) (source : SourceForm) (sets : List FolderSet) (g : Geometry) (slots : List (List ℕ)) : Type 0 where
+pub record StopsAt (r : FolderRefusal) (source : SourceForm) (sets : List FolderSet) (g : Geometry) (slots : List (List ℕ)) : Type 0 where
   pub done : List FolderSet
   pub next : FolderSet
   pub others : List FolderSet
@@ -103,53 +98,18 @@ pub record StopsAt (f : FolderFault) (source : SourceForm) (sets : List FolderSe
   pub between : List (List ℕ)
   pub lines : List ℕ
   pub loaded : GetsAll source done g slots between lines
-  pub refused : IsRefused f source next g between
+  pub refused : IsRefusedBy next.lines.form.directory r source next g between
 
 -- why the data sets of a folder are not put onto a volume in memory: one is not loaded; or something hinders it
 abbrev pub IsStopped : FolderFault → SourceForm → List FolderSet → Geometry → (slots : List (List ℕ)) → Type 0
-IsStopped (fault.Job f) source sets g slots = IsHindered f
-IsStopped f source sets g slots = StopsAt f source sets g slots
+IsStopped f source sets g slots = IsNotDone f (λ r. StopsAt r source sets g slots)
 
--- The volume in the files at these paths was read whole, got the data sets, and the files of it that changed were written; or those
--- before one of them, at which it stopped. These are the lines of the data sets.
-pub record SavesLoaded {A : Type 0} (result : Result A JobFault) (source : SourceForm) (sets : List FolderSet) (lines : List ℕ)
-    (paths : List (List ℕ)) (opened_before opened : List SourceFile) (before now : List Replaced) : Type 0 where
-  pub image : ImageState
-  pub changed : ImageState
-  pub reads : ReadsImage paths image opened_before opened
-  pub same : IsSameImage image changed
-  pub loaded : GetsAll source sets image.geometry image.slots changed.slots lines
-  pub saves : WritesBack result paths changed before now
-
--- the volume in the files does not get the data sets, for this reason
-pub record RefusesSets (f : FolderFault) (source : SourceForm) (sets : List FolderSet) (paths : List (List ℕ))
-    (before now : List SourceFile) : Type 0 where
-  pub image : ImageState
-  pub reads : ReadsImage paths image before now
-  pub refused : StopsAt f source sets image.geometry image.slots
-
--- Data sets are put onto the volume in files, which are saved, or in part; or no file is written.
-abbrev pub LoadsFiles : Result (List ℕ) FolderFault → SourceForm → List FolderSet → (paths : List (List ℕ))
-    → (opened_before opened : List SourceFile) → (before now : List Replaced) → Type 0
-LoadsFiles (Ok lines) source sets paths opened_before opened before now =
-    SavesLoaded {A = Unit {0}} (Ok tt) source sets lines paths opened_before opened before now
-LoadsFiles (Err (fault.Save f)) source sets paths opened_before opened before now =
-    (lines : List ℕ) × SavesLoaded {A = Unit {0}} (Err f) source sets lines paths opened_before opened before now
-LoadsFiles (Err (fault.Job f)) source sets paths opened_before opened before now = Hinders f paths opened_before opened × (now ≡ before)
-LoadsFiles (Err f) source sets paths opened_before opened before now = RefusesSets f source sets paths opened_before opened × (now ≡ before)
-
--- The same, and the lines are printed; with a write fault it may be only their beginning, and a write or a flush has failed. With every
--- other fault nothing is printed.
-abbrev pub TellsLoads : {A : Type 0} → Result A FolderFault → SourceForm → List FolderSet → (paths : List (List ℕ))
-    → (before now : Around) → Type 0
-TellsLoads (Ok _) source sets paths before now =
-    (lines : List ℕ) × LoadsFiles (Ok lines) source sets paths before.opened now.opened before.written now.written
-    × Takes before.printed now.printed lines × NoneFailed before.printed now.printed
-TellsLoads (Err f) source sets paths before now =
-    (LoadsFiles (Err f) source sets paths before.opened now.opened before.written now.written × (now.printed ≡ before.printed))
-    ⊎ ((f ≡ fault.Job job.Write) × (lines : List ℕ)
-    × LoadsFiles (Ok lines) source sets paths before.opened now.opened before.written now.written
-    × TakesFront before.printed now.printed lines × OneFailed before.printed now.printed)
+-- data sets are put onto a volume, and their lines are answered
+abbrev pub loading_all : SourceForm → List FolderSet → Changing (String Global) FolderRefusal
+loading_all source sets = record {
+  makes = λ g before lines now. GetsAll source sets g before now (string_bytes lines);
+  refuses = λ r g slots. StopsAt r source sets g slots;
+}
 
 -- files were opened, none was written, and nothing was printed
 abbrev pub with_opened : Around → List SourceFile → Around
@@ -161,4 +121,4 @@ abbrev pub LoadsFolder : {A : Type 0} → Result A FolderFault → NewFolder →
 LoadsFolder result asked paths before now =
     ((f : FolderFault) × (result ≡ Err f) × IsUnread f asked.folder.now before.opened now.opened × (now ≡ with_opened before now.opened))
     ⊎ ((sets : List FolderSet) × (between : List SourceFile) × ReadsFolder asked.folder.now sets before.opened between
-    × TellsLoads result asked.source sets paths (with_opened before between) now)
+    × TellsChange result (loading_all asked.source sets) paths string_bytes (with_opened before between) now)

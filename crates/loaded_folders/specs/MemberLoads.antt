@@ -2,20 +2,15 @@
 use Rattle.std.specs.Prelude.{◌≡◌, ◌⊎◌, ℕ, ◌==◌, true, false, if◌then◌else◌, List, [], ◌∷◌, codes, Result, Ok, Err}
 use Rattle.std.specs.List.{concat}
 use Rattle.std.specs.Fmt.{decimal}
-use Rattle.counted_io.specs.Streams.{Takes, TakesFront, NoneFailed, OneFailed}
-use Rattle.ckd_image.specs.Image.{ImageState}
 use Rattle.dasd_extract.specs.Names.{Names}
-use Rattle.dasd_jobs.specs.Back.{WritesBack}
-use Rattle.dasd_jobs.specs.Sources.{SourceFile, ReadsFront}
-use Rattle.dasd_jobs.specs.Written.{Replaced}
-use Rattle.dasd_jobs.specs.declared.faults.JobFault.{JobFault}
+use Rattle.dasd_jobs.specs.Sources.{ReadsFront}
 use Rattle.dasd_jobs.specs.declared.faults.JobFault.TheVariants as job
 use Rattle.volume_changes.specs.Names.{is_set_name}
-use Rattle.changed_volumes.specs.Changes.{IsSameImage}
-use Rattle.changed_volumes.specs.Files.{Around, ReadsImage, Hinders}
+use Rattle.changed_volumes.specs.Changes.{Changing}
+use Rattle.changed_volumes.specs.Files.{Around, TellsChange}
 use Rattle.loaded_folders.specs.declared.added.AddedMember.{AddedMember}
-use Rattle.loaded_folders.specs.declared.member_fault.NewMemberFault.{NewMemberFault}
-use Rattle.loaded_folders.specs.declared.member_fault.NewMemberFault.TheVariants as fault
+use Rattle.loaded_folders.specs.Faults.{NewMemberFault}
+use Rattle.changed_volumes.specs.declared.fault.ChangeFault.TheVariants as fault
 use Rattle.loaded_folders.specs.declared.member_fault.NewMemberRefusal.{NewMemberRefusal}
 use Rattle.loaded_folders.specs.declared.member_fault.NewMemberRefusal.TheVariants as refusal
 use Rattle.loaded_folders.specs.declared.member_saves.NewMemberFile.{NewMemberFile}
@@ -28,45 +23,12 @@ added_line library member tracks = concat (
     codes "loaded " ∷ library ∷ codes "(" ∷ member ∷ codes ") " ∷ decimal tracks ∷ (if tracks == 1 then codes " track" else codes " tracks")
     ∷ (10 ∷ []) ∷ [])
 
--- The volume in the files at these paths was read whole, its library got the member, and the files of it that changed were written; or
--- those before one of them, at which it stopped.
-pub record SavesAdded {A : Type 0} (result : Result A JobFault) (added : AddedMember) (tracks : ℕ) (paths : List (List ℕ))
-    (opened_before opened : List SourceFile) (before now : List Replaced) : Type 0 where
-  pub image : ImageState
-  pub changed : ImageState
-  pub reads : ReadsImage paths image opened_before opened
-  pub same : IsSameImage image changed
-  pub gets : Added added image.geometry image.slots tracks changed.slots
-  pub saves : WritesBack result paths changed before now
-
--- no library of the volume in the files gets the member, for this reason
-pub record RefusesMember (refusal : NewMemberRefusal) (added : AddedMember) (paths : List (List ℕ)) (before now : List SourceFile) : Type 0 where
-  pub image : ImageState
-  pub reads : ReadsImage paths image before now
-  pub refused : Refuses refusal added image.geometry image.slots
-
--- A member is put into a library of the volume in files, which are saved, or in part; or no file is written.
-abbrev pub AddsFiles : Result ℕ NewMemberFault → AddedMember → (paths : List (List ℕ)) → (opened_before opened : List SourceFile)
-    → (before now : List Replaced) → Type 0
-AddsFiles (Ok tracks) added paths opened_before opened before now =
-    SavesAdded {A = Unit {0}} (Ok tt) added tracks paths opened_before opened before now
-AddsFiles (Err (fault.Save f)) added paths opened_before opened before now =
-    (tracks : ℕ) × SavesAdded {A = Unit {0}} (Err f) added tracks paths opened_before opened before now
-AddsFiles (Err (fault.Refused r)) added paths opened_before opened before now =
-    RefusesMember r added paths opened_before opened × (now ≡ before)
-AddsFiles (Err (fault.Job f)) added paths opened_before opened before now = Hinders f paths opened_before opened × (now ≡ before)
-
--- The same, and this line is printed; with a write fault it may be only its beginning, and a write or a flush has failed. With every other
--- fault nothing is printed.
-abbrev pub TellsMember : {A : Type 0} → Result A NewMemberFault → AddedMember → (line : ℕ → List ℕ) → (paths : List (List ℕ))
-    → (before now : Around) → Type 0
-TellsMember (Ok _) added line paths before now =
-    (tracks : ℕ) × AddsFiles (Ok tracks) added paths before.opened now.opened before.written now.written
-    × Takes before.printed now.printed (line tracks) × NoneFailed before.printed now.printed
-TellsMember (Err f) added line paths before now =
-    (AddsFiles (Err f) added paths before.opened now.opened before.written now.written × (now.printed ≡ before.printed))
-    ⊎ ((f ≡ fault.Job job.Write) × (tracks : ℕ) × AddsFiles (Ok tracks) added paths before.opened now.opened before.written now.written
-    × TakesFront before.printed now.printed (line tracks) × OneFailed before.printed now.printed)
+-- a member is put into a library, and so many tracks are answered
+abbrev pub adding : AddedMember → Changing ℕ NewMemberRefusal
+adding added = record {
+  makes = λ g before tracks now. Added added g before tracks now;
+  refuses = λ r g slots. Refuses r added g slots;
+}
 
 -- the names that are asked for may be those of a library and of a member
 pub record AreNames (asked : NewMemberFile) : Type 0 where
@@ -99,4 +61,4 @@ abbrev pub LoadsMember : {A : Type 0} → Result A NewMemberFault → NewMemberF
 LoadsMember result asked paths before now =
     ((f : NewMemberFault) × (result ≡ Err f) × IsUnread f asked × (now ≡ before))
     ⊎ ((added : AddedMember) × (between : Around) × IsAsked asked added before between
-    × TellsMember result added (added_line asked.library.now asked.member.now) paths between now)
+    × TellsChange result (adding added) paths (added_line asked.library.now asked.member.now) between now)

@@ -7,14 +7,13 @@ use Rattle.dasd_volumes.specs.Reading.{KnownVolume}
 use Rattle.volume_contents.specs.declared.blocks.Block.{Block}
 use Rattle.volume_contents.specs.declared.sets.DataSet.{DataSet}
 use Rattle.volume_contents.specs.Sets.{DataSetOf, has_name}
-use Rattle.loaded_folders.specs.declared.member_fault.NewMemberFault.{NewMemberFault}
-use Rattle.loaded_folders.specs.declared.member_fault.NewMemberFault.TheVariants as fault
+use Rattle.loaded_folders.specs.Faults.{NewMemberFault}
+use Rattle.changed_volumes.specs.declared.fault.ChangeFault.TheVariants as fault
 use Rattle.loaded_folders.specs.declared.member_fault.NewMemberRefusal.TheVariants as refusal
-use Rattle.loaded_folders.specs.Faults.{IsHinderedBy}
 use Rattle.loaded_folders.specs.Libraries.{library_block, directory_blocks, IsNotWhole}
 use Rattle.loaded_folders.specs.declared.added.OldLibrary.{OldLibrary}
 use Rattle.changed_volumes.specs.declared.images.VolumeChange.TheVariants.{Delete}
-use Rattle.changed_volumes.specs.Changes.{changed_by}
+use Rattle.changed_volumes.specs.Changes.{IsHinderedBy, changed_by}
 use Rattle.loaded_sets.specs.declared.libraries.LoadedLibrary.{LoadedLibrary}
 use Rattle.loaded_sets.specs.LoadedLibraries.{Loaded, Refuses as RefusesLibrary}
 use Rattle.loaded_folders.specs.Added.{is_taken, IsNewLibrary}

@@ -1,25 +1,23 @@
 -- How the code holds what the contracts speak of; no public contract names these.
-use Rattle.std.specs.Prelude.{◌≡◌, ◌⊎◌, ℕ, ◌<◌, List, ◌∷◌, ◌++◌, length, map, Option, Some, None, Result, Ok, Err, String}
-use Rattle.std.specs.Global.{Global}
+use Rattle.std.specs.Prelude.{◌≡◌, ◌⊎◌, ℕ, ◌<◌, List, ◌∷◌, ◌++◌, length, map, Option, Some, None, Result, Ok, Err}
 use Rattle.std.specs.String.{string_bytes}
-use Rattle.dasd_jobs.specs.declared.faults.JobFault.TheVariants.{OutOfMemory, Write}
-use Rattle.counted_io.specs.declared.writing.WriteFault.{WriteFault}
+use Rattle.dasd_jobs.specs.declared.faults.JobFault.TheVariants.{OutOfMemory}
 use Rattle.ckd_track.specs.declared.geometries.Geometry.{Geometry}
 use Rattle.dasd_jobs.specs.Sources.{SourceFile}
 use Rattle.dasd_unload.specs.Unloads.{file_name}
 use Rattle.record_tracks.specs.declared.libraries.MemberNote.{MemberNote}
 use Rattle.set_forms.specs.declared.fault.TextFault.TheVariants as wrong
 use Rattle.set_forms.specs.Parsing.{parsed}
-use Rattle.changed_volumes.specs.Changes.{IsHindered}
-use Rattle.changed_volumes.specs.Files.{Around}
+use Rattle.changed_volumes.specs.Changes.{IsNotDone}
+use Rattle.changed_volumes.specs.Files.{Around, TellsChange}
 use Rattle.loaded_sets.specs.declared.contents.SourceForm.{SourceForm}
-use Rattle.loaded_sets.specs.declared.fault.LoadFault.{LoadFault}
-use Rattle.loaded_sets.specs.declared.fault.LoadFault.TheVariants as load
+use Rattle.loaded_sets.specs.Faults.{LoadFault}
 use Rattle.loaded_folders.specs.declared.entries.FolderEntry.{FolderEntry}
 use Rattle.loaded_folders.specs.declared.entries.Unled.{Unled}
 use Rattle.loaded_folders.specs.declared.entries.Unled.TheVariants as unled
-use Rattle.loaded_folders.specs.declared.fault.FolderFault.{FolderFault}
-use Rattle.loaded_folders.specs.declared.fault.FolderFault.TheVariants as fault
+use Rattle.loaded_folders.specs.Faults.{FolderFault}
+use Rattle.changed_volumes.specs.declared.fault.ChangeFault.TheVariants as fault
+use Rattle.loaded_folders.specs.declared.fault.FolderRefusal.TheVariants as refusal
 use Rattle.loaded_folders.specs.declared.fault.FolderEntryFault.{FolderEntryFault}
 use Rattle.loaded_folders.specs.declared.fault.FolderEntryFault.TheVariants.{NoBlock}
 use Rattle.loaded_folders.specs.declared.sets.SetLines as declared_lines
@@ -27,7 +25,7 @@ use Rattle.loaded_folders.specs.declared.sets.FolderSet as declared
 use Rattle.loaded_folders.specs.Sets.{SetLines, FolderSet}
 use Rattle.loaded_folders.specs.Entries.{EntryParts, EntryRefused}
 use Rattle.loaded_folders.specs.Reading.{text_name, ReadsText, ReadsFiles}
-use Rattle.loaded_folders.specs.Loads.{RefusesBy, EndsAt, TellsLoads}
+use Rattle.loaded_folders.specs.Loads.{IsRefusedBy, loading_all}
 
 -- the data set of a text that the code has
 abbrev pub lines_of : declared_lines.SetLines → SetLines
@@ -57,31 +55,31 @@ IsNoMemory f = f ≡ fault.Job OutOfMemory
 
 -- the fault of this entry is told by the name of its file, or there is no memory
 abbrev pub TellsUnled : FolderFault → (data_set entry : List ℕ) → Unled → Type 0
-TellsUnled (fault.Entry name f) data_set entry why = (string_bytes name ≡ file_name data_set (Some entry)) × (why ≡ unled.Fault f)
+TellsUnled (fault.Refused (refusal.Entry name f)) data_set entry why = (string_bytes name ≡ file_name data_set (Some entry)) × (why ≡ unled.Fault f)
 TellsUnled (fault.Job f) data_set entry why = f ≡ OutOfMemory
 TellsUnled f data_set entry why = ⊥
 
 -- the fault of the first entry that leads nowhere is told by the name of its file
 abbrev pub TellsEntry : FolderFault → (data_set : List ℕ) → Result (List EntryParts) EntryRefused → Type 0
-TellsEntry (fault.Entry name f) data_set made =
+TellsEntry (fault.Refused (refusal.Entry name f)) data_set made =
     (e : List ℕ) × (string_bytes name ≡ file_name data_set (Some e)) × (made ≡ Err (record { name = e; fault = f }))
 TellsEntry (fault.Job f) data_set made = f ≡ OutOfMemory
 TellsEntry f data_set made = ⊥
 
 -- the file of this name is not read, or there is no memory
 abbrev pub IsNoFile : FolderFault → (name : List ℕ) → Type 0
-IsNoFile (fault.NoFile told) name = string_bytes told ≡ name
+IsNoFile (fault.Refused (refusal.NoFile told)) name = string_bytes told ≡ name
 IsNoFile (fault.Job f) name = f ≡ OutOfMemory
 IsNoFile f name = ⊥
 
 -- the text of a folder is not read or too long, or there is no memory
 abbrev pub HasNoText : FolderFault → (folder : List ℕ) → (before now : List SourceFile) → Type 0
-HasNoText fault.TooLong folder before now = (text : List ℕ) × ReadsText folder text before now × (16777216 < length text)
+HasNoText (fault.Refused refusal.TooLong) folder before now = (text : List ℕ) × ReadsText folder text before now × (16777216 < length text)
 HasNoText f folder before now = IsNoFile f text_name × (now ≡ before)
 
 -- the first line that is wrong is told, or there is no memory
 abbrev pub IsWrong : FolderFault → (text : List ℕ) → Type 0
-IsWrong (fault.Line number f) text = parsed text ≡ Err (wrong.Line number f)
+IsWrong (fault.Refused (refusal.Line number f)) text = parsed text ≡ Err (wrong.Line number f)
 IsWrong (fault.Job f) text = f ≡ OutOfMemory
 IsWrong f text = ⊥
 
@@ -94,7 +92,7 @@ pub record ReadsFirst (folder : List ℕ) (names others : List (List ℕ)) (befo
 
 -- the next of these files is not read, or there is no memory
 abbrev pub StopsReading : FolderFault → (folder : List ℕ) → (names : List (List ℕ)) → (before now : List SourceFile) → Type 0
-StopsReading (fault.NoFile told) folder names before now =
+StopsReading (fault.Refused (refusal.NoFile told)) folder names before now =
     (others : List (List ℕ)) × ReadsFirst folder names (string_bytes told ∷ others) before now
 StopsReading (fault.Job f) folder names before now =
     (f ≡ OutOfMemory) × (others : List (List ℕ)) × ReadsFirst folder names others before now
@@ -102,35 +100,20 @@ StopsReading f folder names before now = ⊥
 
 -- the fault of a data set is told by the name of its file, or there is no memory for that
 abbrev pub IsToldOf : FolderFault → (name : List ℕ) → LoadFault → Type 0
-IsToldOf (fault.Refused told r) name f = (string_bytes told ≡ file_name name None) × (f ≡ load.Refused r)
-IsToldOf (fault.Job other) name f = (other ≡ OutOfMemory) ⊎ (f ≡ load.Job other)
-IsToldOf (fault.Save other) name f = f ≡ load.Save other
+IsToldOf (fault.Refused (refusal.Load told r)) name f = (string_bytes told ≡ file_name name None) × (f ≡ fault.Refused r)
+IsToldOf (fault.Job other) name f = (other ≡ OutOfMemory) ⊎ (f ≡ fault.Job other)
+IsToldOf (fault.Save other) name f = f ≡ fault.Save other
 IsToldOf told name f = ⊥
 
 -- a data set that has such a directory is not loaded for this reason, or something hinders it
 abbrev pub IsNotBy : (directory : Option ℕ) → FolderFault → SourceForm → FolderSet → Geometry → (slots : List (List ℕ)) → Type 0
-IsNotBy directory (fault.Refused name r) source s g slots =
-    (string_bytes name ≡ file_name s.lines.form.name None) × RefusesBy directory r source s g slots
-IsNotBy directory (fault.Entry name f) source s g slots =
-    (e : List ℕ) × (string_bytes name ≡ file_name s.lines.form.name (Some e)) × EndsAt directory s (record { name = e; fault = f })
-IsNotBy directory (fault.Job f) source s g slots = IsHindered f
-IsNotBy directory f source s g slots = ⊥
+IsNotBy directory f source s g slots = IsNotDone f (λ r. IsRefusedBy directory r source s g slots)
 
 abbrev pub IsNotOne : FolderFault → SourceForm → FolderSet → Geometry → (slots : List (List ℕ)) → Type 0
 IsNotOne f source s g slots = IsNotBy s.lines.form.directory f source s g slots
-
--- what lines that are written, or not, are
-abbrev pub written_lines : Result (Unit {0}) WriteFault → Result (Unit {0}) FolderFault
-written_lines (Ok done) = Ok done
-written_lines (Err f) = Err (fault.Job Write)
-
--- the lines that a call answers, as bytes
-abbrev pub bytes_in : Result (String Global) FolderFault → Result (List ℕ) FolderFault
-bytes_in (Ok lines) = Ok (string_bytes lines)
-bytes_in (Err f) = Err f
 
 -- there was no memory, and nothing was done; or the data sets of a folder are put onto the volume in files
 abbrev pub TellsRead : {A : Type 0} → Result A FolderFault → SourceForm → List FolderSet → (paths : List (List ℕ))
     → (before now : Around) → Type 0
 TellsRead result source sets paths before now =
-    ((result ≡ Err (fault.Job OutOfMemory)) × (now ≡ before)) ⊎ TellsLoads result source sets paths before now
+    ((result ≡ Err (fault.Job OutOfMemory)) × (now ≡ before)) ⊎ TellsChange result (loading_all source sets) paths string_bytes before now

@@ -7,8 +7,9 @@ use Rattle.dasd_unload.specs.Volumes.{path_in}
 use Rattle.set_forms.specs.declared.forms.FormLine.{FormLine}
 use Rattle.set_forms.specs.declared.fault.TextFault.TheVariants as wrong
 use Rattle.set_forms.specs.Parsing.{parsed}
-use Rattle.loaded_folders.specs.declared.fault.FolderFault.{FolderFault}
-use Rattle.loaded_folders.specs.declared.fault.FolderFault.TheVariants as fault
+use Rattle.loaded_folders.specs.Faults.{FolderFault}
+use Rattle.changed_volumes.specs.declared.fault.ChangeFault.TheVariants as fault
+use Rattle.loaded_folders.specs.declared.fault.FolderRefusal.TheVariants as refusal
 use Rattle.loaded_folders.specs.Sets.{SetLines, FolderSet, sets_of, file_names, with_files}
 
 -- the name of the text
@@ -63,10 +64,10 @@ ReadsSome folder before now =
 -- Why a folder is not read, and what was read of it until then: its text is too long, or a line of it is wrong; the text can't be read, or
 -- the next of its files; or there is no memory.
 abbrev pub IsUnread : FolderFault → (folder : List ℕ) → (before now : List SourceFile) → Type 0
-IsUnread fault.TooLong folder before now = (text : List ℕ) × ReadsText folder text before now × (16777216 < length text)
-IsUnread (fault.Line number f) folder before now =
+IsUnread (fault.Refused refusal.TooLong) folder before now = (text : List ℕ) × ReadsText folder text before now × (16777216 < length text)
+IsUnread (fault.Refused (refusal.Line number f)) folder before now =
     (text : List ℕ) × HasText folder text before now × (parsed text ≡ Err (wrong.Line number f))
-IsUnread (fault.NoFile name) folder before now =
+IsUnread (fault.Refused (refusal.NoFile name)) folder before now =
     ((string_bytes name ≡ text_name) × (now ≡ before))
     ⊎ ((sets : List SetLines) × (others : List (List ℕ)) × (bytes : List (List ℕ))
     × ReadsBefore folder sets (string_bytes name ∷ others) bytes before now)

@@ -6,8 +6,9 @@ ghost use Rattle.loaded_folders.specs.Sets.{members_of};
 ghost use Rattle.loaded_folders.specs.Entries.{member_name, note_to, notes_to, entry_parts, entries_of, member_parts};
 ghost use Rattle.loaded_folders.specs.Parts.{folder_entry, IsUnled, IsNoted, IsNoMemory, TellsUnled, TellsEntry};
 
-use crate::fault::{FolderEntryFault, FolderFault, NO_MEMORY};
+use crate::fault::{FolderEntryFault, FolderFault, FolderRefusal, NO_MEMORY};
 use crate::names::name_of_entry;
+use changed_volumes::ChangeFault;
 use record_tracks::{MemberEntry, MemberNote};
 use set_forms::{EntryForm, Note};
 use std::alloc::{AllocError, Global};
@@ -123,7 +124,7 @@ fn of_entry(alloc: Global, data_set: &[u8; 44], entry: &[u8; 8], fault: Unled) -
 {
     match fault {
         Unled::Fault(fault) => match name_of_entry(alloc, data_set, entry) {
-            Ok(name) => FolderFault::Entry(name, fault),
+            Ok(name) => ChangeFault::Refused(FolderRefusal::Entry(name, fault)),
             Err(_) => NO_MEMORY,
         },
         Unled::OutOfMemory => NO_MEMORY,

@@ -1,5 +1,6 @@
 //! Why the data sets of a folder were not put onto a volume.
 
+use changed_volumes::ChangeFault;
 use dasd_jobs::JobFault;
 use loaded_sets::LoadRefusal;
 use set_forms::FormLineFault;
@@ -16,9 +17,9 @@ pub enum FolderEntryFault {
     NoBlock,
 }
 
-/// Why the data sets of a folder were not put onto a volume in files, or not told to be.
+/// Why a volume does not get the data sets of a folder. It stays as it was.
 #[derive(Debug, Drop, Error)]
-pub enum FolderFault {
+pub enum FolderRefusal {
     /// The text of the folder has more bytes than it may.
     #[error("data_sets.txt: more than 16 MiB")]
     TooLong,
@@ -33,14 +34,11 @@ pub enum FolderFault {
     Entry(String, FolderEntryFault),
     /// The volume does not get a data set, by the name of its file.
     #[error("{0}: {1}")]
-    Refused(String, LoadRefusal),
-    /// The files of the volume are not read, there is no memory, or the lines can't be written.
-    #[error(transparent)]
-    Job(JobFault),
-    /// A file that was changed can't be saved: it holds what it held, and so do those behind it.
-    #[error(transparent)]
-    Save(JobFault),
+    Load(String, LoadRefusal),
 }
+
+/// Why the data sets of a folder were not put onto a volume in files, or not told to be.
+pub type FolderFault = ChangeFault<FolderRefusal>;
 
 /// No memory.
 pub(crate) const NO_MEMORY: FolderFault = FolderFault::Job(JobFault::OutOfMemory);

@@ -8,8 +8,9 @@ ghost use Rattle.set_forms.specs.Parsing.{parsed};
 ghost use Rattle.loaded_folders.specs.Reading.{HasText, ReadsFiles};
 ghost use Rattle.loaded_folders.specs.Parts.{IsNoMemory, IsNoFile, HasNoText, IsWrong, StopsReading};
 
-use crate::fault::{FolderFault, NO_MEMORY};
+use crate::fault::{FolderFault, FolderRefusal, NO_MEMORY};
 use crate::names::path_in;
+use changed_volumes::ChangeFault;
 use dasd_jobs::{FileFault, ImageFiles};
 use set_forms::{FILE_NAME, FormLine, TextFault, parse};
 use std::alloc::Global;
@@ -27,7 +28,7 @@ fn of_file(alloc: Global, name: &str, fault: FileFault) -> FolderFault
     match fault {
         FileFault::OutOfMemory => NO_MEMORY,
         _ => match name.to_string(alloc) {
-            Ok(name) => FolderFault::NoFile(name),
+            Ok(name) => ChangeFault::Refused(FolderRefusal::NoFile(name)),
             Err(_) => NO_MEMORY,
         },
     }
@@ -59,10 +60,10 @@ pub(crate) fn read_text<F: ImageFiles>(
 // A text, if it is no longer than it may be.
 fn short(text: Vec<u8>) -> Result<Vec<u8>, FolderFault>
     ensures short { IfOk result (λ same. (same.items ≡ text.items) × (length text.items ≤ 16777216)) }
-    ensures long { IfErr result (λ e. (e ≡ FolderFault.TooLong) × (16777216 < length text.items)) }
+    ensures long { IfErr result (λ e. (e ≡ ChangeFault.Refused FolderRefusal.TooLong) × (16777216 < length text.items)) }
 {
     if text.len() > MOST_TEXT {
-        return Err(FolderFault::TooLong);
+        return Err(ChangeFault::Refused(FolderRefusal::TooLong));
     }
     Ok(text)
 }
@@ -78,7 +79,9 @@ pub(crate) fn parse_text(alloc: Global, text: &[u8]) -> Result<Vec<FormLine>, Fo
 {
     match parse(alloc, text) {
         Ok(forms) => Ok(forms),
-        Err(TextFault::Line(number, fault)) => Err(FolderFault::Line(number, fault)),
+        Err(TextFault::Line(number, fault)) => {
+            Err(ChangeFault::Refused(FolderRefusal::Line(number, fault)))
+        }
         Err(TextFault::OutOfMemory) => Err(NO_MEMORY),
     }
 }

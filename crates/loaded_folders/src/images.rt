@@ -9,8 +9,9 @@ ghost use Rattle.loaded_folders.specs.Loads.{form_of, IsSequential, GetsBy, Gets
 ghost use Rattle.loaded_folders.specs.Parts.{folder_set, IsNoMemory, IsToldOf, IsNotBy, IsNotOne};
 
 use crate::entries::{entries_of, member_entries};
-use crate::fault::{FolderFault, NO_MEMORY};
+use crate::fault::{FolderFault, FolderRefusal, NO_MEMORY};
 use crate::sets::FolderSet;
+use changed_volumes::ChangeFault;
 use ckd_image::Image;
 use dasd_files::VolumeFile;
 use loaded_sets::{
@@ -42,12 +43,12 @@ fn of_load(alloc: Global, name: &[u8; 44], fault: LoadFault) -> FolderFault
     ensures { IsToldOf result name.now fault }
 {
     match fault {
-        LoadFault::Refused(refusal) => match safe_name(alloc, name) {
-            Ok(name) => FolderFault::Refused(name, refusal),
+        ChangeFault::Refused(refusal) => match safe_name(alloc, name) {
+            Ok(name) => ChangeFault::Refused(FolderRefusal::Load(name, refusal)),
             Err(_) => NO_MEMORY,
         },
-        LoadFault::Job(fault) => FolderFault::Job(fault),
-        LoadFault::Save(fault) => FolderFault::Save(fault),
+        ChangeFault::Job(fault) => ChangeFault::Job(fault),
+        ChangeFault::Save(fault) => ChangeFault::Save(fault),
     }
 }
 

@@ -1,13 +1,10 @@
 //! Why a member was not put into a library.
 
 ghost use Rattle.std.specs.Prelude.{◌≡◌};
-ghost use Rattle.changed_volumes.specs.Changes.{IsHinderedBy as IsChangeHindered};
-ghost use Rattle.loaded_folders.specs.Faults.{IsHinderedBy, placing_fault, reading_fault, unmade_fault, deletion_fault, loading_fault};
-ghost use Rattle.loaded_folders.specs.Faults.{file_fault, written_line};
+ghost use Rattle.loaded_folders.specs.Faults.{placing_fault, reading_fault, unmade_fault, deletion_fault, loading_fault};
 
 use changed_volumes::ChangeFault;
-use counted_io::WriteFault;
-use dasd_jobs::{FileFault, JobFault};
+use dasd_jobs::JobFault;
 use dasd_volumes::VolumeFault;
 use library_contents::LibraryReadFault;
 use loaded_sets::{ContentFault, LoadFault, LoadRefusal, PlaceFault, PlaceRefusal, Unmade};
@@ -50,38 +47,16 @@ pub enum NewMemberRefusal {
 }
 
 /// Why a member was not put into a library of a volume in files, or not told to be.
-#[derive(Clone, Copy, Debug, Error)]
-pub enum NewMemberFault {
-    /// The library does not get it.
-    #[error(transparent)]
-    Refused(NewMemberRefusal),
-    /// Files are not read, there is no memory, or the line can't be written.
-    #[error(transparent)]
-    Job(JobFault),
-    /// A file that was changed can't be saved: it holds what it held, and so do those behind it.
-    #[error(transparent)]
-    Save(JobFault),
-}
+pub type NewMemberFault = ChangeFault<NewMemberRefusal>;
 
 /// No memory.
 pub(crate) const NO_MEMORY: NewMemberFault = NewMemberFault::Job(JobFault::OutOfMemory);
 
 /// A refusal.
 pub(crate) fn refused(refusal: NewMemberRefusal) -> NewMemberFault
-    ensures { result ≡ NewMemberFault.Refused refusal }
+    ensures { result ≡ ChangeFault.Refused refusal }
 {
     NewMemberFault::Refused(refusal)
-}
-
-/// What a fault of a volume that is read of memory is.
-pub(crate) fn of_said(fault: ChangeFault) -> NewMemberFault
-    requires { IsChangeHindered fault }
-    ensures { IsHinderedBy result }
-{
-    match fault {
-        ChangeFault::Job(fault) => NewMemberFault::Job(fault),
-        _ => NO_MEMORY,
-    }
 }
 
 /// What the fault of a volume that gets no data set is.
@@ -91,16 +66,6 @@ pub(crate) fn of_placing(fault: PlaceFault) -> NewMemberFault
     match fault {
         PlaceFault::Refused(refusal) => NewMemberFault::Refused(NewMemberRefusal::Volume(refusal)),
         PlaceFault::Job(fault) => NewMemberFault::Job(fault),
-    }
-}
-
-/// What the fault of a slot in memory is.
-pub(crate) fn of_volume(fault: VolumeFault) -> NewMemberFault
-    ensures { IsHinderedBy result }
-{
-    match fault {
-        VolumeFault::OutOfMemory => NO_MEMORY,
-        VolumeFault::Store | VolumeFault::Write => NewMemberFault::Job(JobFault::Store),
     }
 }
 
@@ -146,25 +111,5 @@ pub(crate) fn of_loading(fault: LoadFault) -> NewMemberFault
         LoadFault::Refused(refusal) => NewMemberFault::Refused(NewMemberRefusal::Load(refusal)),
         LoadFault::Job(fault) => NewMemberFault::Job(fault),
         LoadFault::Save(fault) => NewMemberFault::Save(fault),
-    }
-}
-
-/// What a fault of the file with the member's blocks is.
-pub(crate) fn of_file(fault: FileFault) -> NewMemberFault
-    ensures { result ≡ file_fault fault }
-{
-    match fault {
-        FileFault::OutOfMemory => NO_MEMORY,
-        _ => NewMemberFault::Job(JobFault::Read),
-    }
-}
-
-/// What the fault of a line that is written is.
-pub(crate) fn of_line(written: Result<(), WriteFault>) -> Result<(), NewMemberFault>
-    ensures { result ≡ written_line written }
-{
-    match written {
-        Ok(()) => Ok(()),
-        Err(WriteFault) => Err(NewMemberFault::Job(JobFault::Write)),
     }
 }

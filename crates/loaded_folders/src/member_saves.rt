@@ -1,18 +1,21 @@
 //! A volume in files, a library of which gets a member, and that is saved.
 
-ghost use Rattle.std.specs.Prelude.{◌≡◌, ◌≤◌, length, map, OnOk, IfOk, IfErr, OnErr};
+ghost use Rattle.std.specs.Prelude.{◌≡◌, ◌≤◌, length, map, OnOk};
 ghost use Rattle.counted_io.specs.Streams.{seen_by, IsFlushed};
-ghost use Rattle.loaded_folders.specs.MemberLoads.{LoadsMember, AddsFiles, TellsMember, added_line};
+ghost use Rattle.changed_volumes.specs.Files.{TellsChange};
+ghost use Rattle.loaded_folders.specs.MemberLoads.{LoadsMember, adding, added_line};
 
 use crate::added::AddedMember;
 use crate::lines::write_added;
-use crate::member_fault::{NewMemberFault, NewMemberRefusal, of_file, of_line, refused};
+use crate::member_fault::{NewMemberFault, NewMemberRefusal, refused};
 use crate::member_images::add_member;
 use crate::member_names::new_member_name;
-use changed_volumes::{ChangedVolume, save_plan};
+use changed_volumes::{ChangedVolume, ImageChange, change_files, of_line};
+use ckd_image::Image;
 use counted_io::Counted;
-use dasd_jobs::{ImageFiles, read_image, write_back};
-use loaded_sets::SourceForm;
+use dasd_files::VolumeFile;
+use dasd_jobs::ImageFiles;
+use loaded_sets::{SourceForm, of_file};
 use std::alloc::Global;
 use std::io::Write;
 use volume_changes::new_set_name;
@@ -90,8 +93,8 @@ fn add_and_tell<F: ImageFiles, W: Write>(
 ) -> Result<(), NewMemberFault>
     requires library { length asked.1.now.library.now ≤ 44 }
     requires member { length asked.1.now.member.now ≤ 8 }
-    ensures tells { TellsMember result asked.entry.0.now (added_line asked.entry.1.now.library.now asked.entry.1.now.member.now)
-        (map (λ path. path.now) volume.now.paths.now)
+    ensures tells { TellsChange result (adding asked.entry.0.now) (map (λ path. path.now) volume.now.paths.now)
+        (added_line asked.entry.1.now.library.now asked.entry.1.now.member.now)
         (record {
           opened = F.opened files.old;
           written = F.written files.old;
@@ -105,33 +108,22 @@ fn add_and_tell<F: ImageFiles, W: Write>(
     ensures flushed { OnOk result (IsFlushed (seen_by W.contents writer.new)) }
 {
     let (added, asked) = asked;
-    match add_in_files(alloc, files, volume, added) {
+    match change_files(alloc, files, volume, added) {
         Ok(tracks) => of_line(write_added(writer, asked.library, asked.member, tracks)),
         Err(fault) => Err(fault),
     }
 }
 
-// Puts a member into a library of the volume in files, and saves those of them that changed.
-fn add_in_files<F: ImageFiles>(
-    alloc: Global,
-    files: &mut F,
-    volume: &ChangedVolume,
-    added: &AddedMember,
-) -> Result<u32, NewMemberFault>
-    ensures { AddsFiles result added.now (map (λ path. path.now) volume.now.paths.now)
-        (F.opened files.old) (F.opened files.new) (F.written files.old) (F.written files.new) }
-{
-    files.plan_saving(save_plan(volume));
-    let mut image = match read_image(alloc, files, volume.paths) {
-        Ok(image) => image,
-        Err(fault) => return Err(NewMemberFault::Job(fault)),
-    };
-    let tracks = match add_member(alloc, &mut image, added) {
-        Ok(tracks) => tracks,
-        Err(fault) => return Err(fault),
-    };
-    match write_back(alloc, files, volume.paths, image) {
-        Ok(()) => Ok(tracks),
-        Err(fault) => Err(NewMemberFault::Save(fault)),
+impl<'a> ImageChange for AddedMember<'a> {
+    ghost use Rattle.loaded_folders.specs.MemberLoads.{adding};
+
+    type Answer = u32;
+
+    type Refusal = NewMemberRefusal;
+
+    ghost changing = { λ added. adding added };
+
+    fn change(&self, alloc: Global, image: &mut Image<VolumeFile>) -> Result<u32, NewMemberFault> {
+        add_member(alloc, image, self)
     }
 }

@@ -10,10 +10,9 @@ ghost use Rattle.loaded_folders.specs.MemberParts.{IsLibrarySet, IsNoLibrary, Co
 
 use crate::added::OldLibrary;
 use crate::member_fault::{
-    NO_MEMORY, NewMemberFault, NewMemberRefusal, of_placing, of_reading, of_said, of_volume,
-    refused,
+    NO_MEMORY, NewMemberFault, NewMemberRefusal, of_placing, of_reading, refused,
 };
-use changed_volumes::read_said;
+use changed_volumes::{of_reading as of_volume, read_said};
 use ckd_image::Image;
 use counted_io::Counted;
 use dasd_extract::{directory_of, extract};
@@ -60,7 +59,7 @@ pub(crate) fn read_old(
     let geometry = image.geometry();
     let mut contents = match read_said(alloc, image) {
         Ok(contents) => contents,
-        Err(fault) => return Err(of_said(fault)),
+        Err(fault) => return Err(fault),
     };
     let volume = match judge(alloc, geometry, &mut contents) {
         Ok(volume) => volume,

@@ -1,19 +1,23 @@
 //! A volume in files that gets the data sets of a folder and is saved.
 
 ghost use Rattle.std.specs.Prelude.{◌≡◌, length, map, flat_map, OnOk};
+ghost use Rattle.std.specs.String.{string_bytes};
 ghost use Rattle.counted_io.specs.Streams.{seen_by, IsFlushed};
+ghost use Rattle.changed_volumes.specs.Files.{TellsChange};
 ghost use Rattle.loaded_folders.specs.Sets.{file_names, with_files};
-ghost use Rattle.loaded_folders.specs.Loads.{LoadsFolder, LoadsFiles, TellsLoads};
-ghost use Rattle.loaded_folders.specs.Parts.{lines_of, folder_set, bytes_in, written_lines, TellsRead};
+ghost use Rattle.loaded_folders.specs.Loads.{LoadsFolder, loading_all};
+ghost use Rattle.loaded_folders.specs.Parts.{lines_of, folder_set, TellsRead};
 
-use crate::fault::{FolderFault, NO_MEMORY};
+use crate::fault::{FolderFault, FolderRefusal, NO_MEMORY};
 use crate::folder::{parse_text, read_files, read_text};
 use crate::images::load_all;
 use crate::names::file_names;
 use crate::sets::{FolderSet, SetLines, sets_of, with_files};
-use changed_volumes::{ChangedVolume, save_plan};
-use counted_io::{Counted, WriteFault, write_flushed};
-use dasd_jobs::{ImageFiles, JobFault, read_image, write_back};
+use changed_volumes::{ChangedVolume, ImageChange, change_files, of_line};
+use ckd_image::Image;
+use counted_io::{Counted, write_flushed};
+use dasd_files::VolumeFile;
+use dasd_jobs::ImageFiles;
 use loaded_sets::SourceForm;
 use std::alloc::Global;
 use std::io::Write;
@@ -120,7 +124,34 @@ fn load_read<F: ImageFiles, W: Write>(
     let Ok(sets) = with_files(alloc, read.lines, read.files) else {
         return Err(NO_MEMORY);
     };
-    load_and_tell(alloc, files, writer, volume, (read.source, sets.as_slice()))
+    let loaded = LoadedSets {
+        source: read.source,
+        sets: sets.as_slice(),
+    };
+    load_and_tell(alloc, files, writer, volume, &loaded)
+}
+
+// The data sets of a folder that are put onto a volume.
+#[derive(Clone, Copy)]
+struct LoadedSets<'a> {
+    source: SourceForm,
+    sets: &'a [FolderSet<'a>],
+}
+
+impl<'a> ImageChange for LoadedSets<'a> {
+    ghost use Rattle.std.specs.Prelude.{map};
+    ghost use Rattle.loaded_folders.specs.Loads.{loading_all};
+    ghost use Rattle.loaded_folders.specs.Parts.{folder_set};
+
+    type Answer = String;
+
+    type Refusal = FolderRefusal;
+
+    ghost changing = { λ loaded. loading_all loaded.source (map folder_set loaded.sets.now) };
+
+    fn change(&self, alloc: Global, image: &mut Image<VolumeFile>) -> Result<String, FolderFault> {
+        load_all(alloc, image, self.source, self.sets)
+    }
 }
 
 // Puts data sets onto the volume in files, saves those that changed, and prints the lines that say so.
@@ -129,9 +160,10 @@ fn load_and_tell<F: ImageFiles, W: Write>(
     files: &mut F,
     writer: &mut Counted<W>,
     volume: &ChangedVolume,
-    loaded: (SourceForm, &[FolderSet]),
+    loaded: &LoadedSets,
 ) -> Result<(), FolderFault>
-    ensures tells { TellsLoads result loaded.entry.0 (map folder_set loaded.entry.1.now) (map (λ path. path.now) volume.now.paths.now)
+    ensures tells { TellsChange result (loading_all loaded.now.source (map folder_set loaded.now.sets.now))
+        (map (λ path. path.now) volume.now.paths.now) string_bytes
         (record {
           opened = F.opened files.old;
           written = F.written files.old;
@@ -144,44 +176,8 @@ fn load_and_tell<F: ImageFiles, W: Write>(
         }) }
     ensures flushed { OnOk result (IsFlushed (seen_by W.contents writer.new)) }
 {
-    match load_files(alloc, files, volume, loaded) {
-        Ok(lines) => of_lines(write_flushed(writer, lines.as_bytes())),
+    match change_files(alloc, files, volume, loaded) {
+        Ok(lines) => of_line(write_flushed(writer, lines.as_bytes())),
         Err(fault) => Err(fault),
-    }
-}
-
-// What the fault of lines that are written is.
-fn of_lines(written: Result<(), WriteFault>) -> Result<(), FolderFault>
-    ensures { result ≡ written_lines written }
-{
-    match written {
-        Ok(()) => Ok(()),
-        Err(WriteFault) => Err(FolderFault::Job(JobFault::Write)),
-    }
-}
-
-// Puts data sets onto the volume in files, saves those of them that changed, and answers the lines that say so.
-fn load_files<F: ImageFiles>(
-    alloc: Global,
-    files: &mut F,
-    volume: &ChangedVolume,
-    loaded: (SourceForm, &[FolderSet]),
-) -> Result<String, FolderFault>
-    ensures { LoadsFiles (bytes_in result) loaded.entry.0 (map folder_set loaded.entry.1.now) (map (λ path. path.now) volume.now.paths.now)
-        (F.opened files.old) (F.opened files.new) (F.written files.old) (F.written files.new) }
-{
-    let (source, sets) = loaded;
-    files.plan_saving(save_plan(volume));
-    let mut image = match read_image(alloc, files, volume.paths) {
-        Ok(image) => image,
-        Err(fault) => return Err(FolderFault::Job(fault)),
-    };
-    let lines = match load_all(alloc, &mut image, source, sets) {
-        Ok(lines) => lines,
-        Err(fault) => return Err(fault),
-    };
-    match write_back(alloc, files, volume.paths, image) {
-        Ok(()) => Ok(lines),
-        Err(fault) => Err(FolderFault::Save(fault)),
     }
 }

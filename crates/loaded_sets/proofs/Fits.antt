@@ -10,8 +10,8 @@ use Rattle.volume_changes.specs.Volumes.{said_in}
 use Rattle.loaded_sets.specs.declared.place_fault.PlaceFault.{PlaceFault}
 use Rattle.loaded_sets.specs.declared.place_fault.PlaceFault.TheVariants as place
 use Rattle.loaded_sets.specs.Volumes.{Labelled, SaysOf, IsUnfit, all_findings, unfit_of, unfit_on_label, unfit_on_table, unfit_by}
-use Rattle.loaded_sets.specs.declared.fault.LoadFault.{LoadFault}
-use Rattle.loaded_sets.specs.declared.fault.LoadFault.TheVariants as fault
+use Rattle.loaded_sets.specs.Faults.{LoadFault}
+use Rattle.changed_volumes.specs.declared.fault.ChangeFault.TheVariants as fault
 use Rattle.loaded_sets.specs.declared.contents.LoadedSet.{LoadedSet}
 use Rattle.loaded_sets.specs.Contents.{blocks_on, blocks_unless_unfit, blocks_unless_taken}
 use Rattle.loaded_sets.specs.Loaded.{Loaded, IsNotLoaded}

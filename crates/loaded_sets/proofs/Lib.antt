@@ -1,8 +1,6 @@
 pub mod Fits
 mod Placed
-mod Read
 mod TextLines
-mod Told
 mod Lost
 mod Put
 mod PlacedRead

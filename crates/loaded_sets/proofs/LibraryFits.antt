@@ -12,8 +12,8 @@ use Rattle.loaded_sets.specs.declared.place_fault.PlaceFault.TheVariants as plac
 use Rattle.loaded_sets.specs.Volumes.{Labelled, SaysOf, IsUnfit, all_findings}
 use Rattle.loaded_sets.specs.declared.contents.SourceForm.{SourceForm}
 use Rattle.loaded_sets.specs.declared.contents.SourceForm.TheVariants as source
-use Rattle.loaded_sets.specs.declared.fault.LoadFault.{LoadFault}
-use Rattle.loaded_sets.specs.declared.fault.LoadFault.TheVariants as fault
+use Rattle.loaded_sets.specs.Faults.{LoadFault}
+use Rattle.changed_volumes.specs.declared.fault.ChangeFault.TheVariants as fault
 use Rattle.loaded_sets.specs.Contents.{layout_of_set}
 use Rattle.loaded_sets.specs.Faults.{placing_fault}
 use Rattle.loaded_sets.proofs.Fits.{fit}

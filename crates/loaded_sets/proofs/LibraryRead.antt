@@ -24,8 +24,8 @@ use Rattle.volume_contents.specs.Contents.{contents_of, block_in}
 use Rattle.volume_contents.specs.Sets.{extents_behind}
 use Rattle.loaded_sets.specs.declared.plans.SetLabel.{SetLabel}
 use Rattle.loaded_sets.specs.Volumes.{Labelled}
-use Rattle.loaded_sets.specs.declared.fault.LoadFault.{LoadFault}
-use Rattle.loaded_sets.specs.declared.fault.LoadFault.TheVariants as fault
+use Rattle.loaded_sets.specs.Faults.{LoadFault}
+use Rattle.changed_volumes.specs.declared.fault.ChangeFault.TheVariants as fault
 use Rattle.loaded_sets.specs.Contents.{label_of}
 use Rattle.loaded_sets.specs.declared.libraries.LoadedLibrary.{LoadedLibrary}
 use Rattle.loaded_sets.specs.declared.libraries.NamedLibrary.{NamedLibrary}

@@ -23,8 +23,8 @@ use Rattle.loaded_sets.specs.Volumes.{Labelled}
 use Rattle.loaded_sets.specs.Sets.{areas, CanBePlaced}
 use Rattle.loaded_sets.specs.Placed.{GetsSet, IsNotPlaced}
 use Rattle.loaded_sets.specs.declared.contents.LoadedSet.{LoadedSet}
-use Rattle.loaded_sets.specs.declared.fault.LoadFault.{LoadFault}
-use Rattle.loaded_sets.specs.declared.fault.LoadFault.TheVariants as fault
+use Rattle.loaded_sets.specs.Faults.{LoadFault}
+use Rattle.changed_volumes.specs.declared.fault.ChangeFault.TheVariants as fault
 use Rattle.loaded_sets.specs.declared.fault.LoadRefusal.TheVariants as refusal
 use Rattle.loaded_sets.specs.declared.fault.ContentFault.{ContentFault}
 use Rattle.loaded_sets.specs.declared.fault.Unmade.{Unmade}

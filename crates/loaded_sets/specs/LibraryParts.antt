@@ -11,14 +11,14 @@ use Rattle.record_tracks.specs.declared.libraries.NewLibrary.{NewLibrary}
 use Rattle.volume_contents.specs.Sets.{has_name}
 use Rattle.loaded_sets.specs.Volumes.{Labelled}
 use Rattle.loaded_sets.specs.declared.fault.ContentFault.{ContentFault}
-use Rattle.loaded_sets.specs.declared.fault.LoadFault.{LoadFault}
-use Rattle.loaded_sets.specs.declared.fault.LoadFault.TheVariants as fault
+use Rattle.loaded_sets.specs.Faults.{LoadFault}
+use Rattle.changed_volumes.specs.declared.fault.ChangeFault.TheVariants as fault
 use Rattle.loaded_sets.specs.declared.fault.LoadRefusal.{LoadRefusal}
 use Rattle.loaded_sets.specs.declared.fault.LoadRefusal.TheVariants as refusal
 use Rattle.loaded_sets.specs.declared.fault.Unmade.{Unmade}
 use Rattle.loaded_sets.specs.declared.fault.Unmade.TheVariants as unmade
 use Rattle.loaded_sets.specs.Contents.{label_of}
-use Rattle.loaded_sets.specs.Faults.{IsHinderedBy}
+use Rattle.changed_volumes.specs.Changes.{IsHinderedBy}
 use Rattle.loaded_sets.specs.declared.libraries.LoadedLibrary.{LoadedLibrary}
 use Rattle.loaded_sets.specs.declared.libraries.MemberBlocks as declared
 use Rattle.loaded_sets.specs.declared.libraries.NamedLibrary.{NamedLibrary}

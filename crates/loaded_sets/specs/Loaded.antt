@@ -14,14 +14,13 @@ use Rattle.record_tracks.specs.Printed.{printed}
 use Rattle.volume_contents.specs.declared.blocks.Block.{Block}
 use Rattle.volume_contents.specs.Contents.{contents_of, block_in}
 use Rattle.volume_contents.specs.Sets.{extents_behind}
-use Rattle.changed_volumes.specs.Changes.{IsHindered}
+use Rattle.changed_volumes.specs.Changes.{IsNotDone}
 use Rattle.loaded_sets.specs.declared.plans.PlacedSet.{PlacedSet}
 use Rattle.loaded_sets.specs.Volumes.{Labelled, SaysOf}
 use Rattle.loaded_sets.specs.Sets.{areas}
 use Rattle.loaded_sets.specs.Placed.{GetsSet, HasNoPlace}
 use Rattle.loaded_sets.specs.declared.contents.LoadedSet.{LoadedSet}
-use Rattle.loaded_sets.specs.declared.fault.LoadFault.{LoadFault}
-use Rattle.loaded_sets.specs.declared.fault.LoadFault.TheVariants as fault
+use Rattle.loaded_sets.specs.Faults.{LoadFault}
 use Rattle.loaded_sets.specs.declared.fault.LoadRefusal.{LoadRefusal}
 use Rattle.loaded_sets.specs.declared.fault.LoadRefusal.TheVariants as refusal
 use Rattle.loaded_sets.specs.Contents.{FileBlocks, label_of, blocks_on}
@@ -85,6 +84,4 @@ Refuses r set g slots =
 
 -- it is refused so, or something hinders it
 abbrev pub IsNotLoaded : LoadFault → LoadedSet → Geometry → (slots : List (List ℕ)) → Type 0
-IsNotLoaded (fault.Refused r) set g slots = Refuses r set g slots
-IsNotLoaded (fault.Job f) set g slots = IsHindered f
-IsNotLoaded (fault.Save f) set g slots = ⊥
+IsNotLoaded f set g slots = IsNotDone f (λ r. Refuses r set g slots)

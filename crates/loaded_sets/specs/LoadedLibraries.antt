@@ -17,14 +17,13 @@ use Rattle.record_tracks.specs.LibraryFaults.{library_fault}
 use Rattle.record_tracks.specs.LibraryRead.{own_areas, own_directory_end, HasRecords, HasEntries, IsLibraryRead}
 use Rattle.volume_contents.specs.Contents.{contents_of, block_in}
 use Rattle.volume_contents.specs.Sets.{extents_behind}
-use Rattle.changed_volumes.specs.Changes.{IsHindered}
+use Rattle.changed_volumes.specs.Changes.{IsNotDone}
 use Rattle.loaded_sets.specs.declared.plans.PlacedSet.{PlacedSet}
 use Rattle.loaded_sets.specs.declared.plans.SetLabel.{SetLabel}
 use Rattle.loaded_sets.specs.Volumes.{Labelled, SaysOf}
 use Rattle.loaded_sets.specs.Sets.{areas}
 use Rattle.loaded_sets.specs.Placed.{GetsSet, HasNoPlace}
-use Rattle.loaded_sets.specs.declared.fault.LoadFault.{LoadFault}
-use Rattle.loaded_sets.specs.declared.fault.LoadFault.TheVariants as fault
+use Rattle.loaded_sets.specs.Faults.{LoadFault}
 use Rattle.loaded_sets.specs.declared.fault.LoadRefusal.{LoadRefusal}
 use Rattle.loaded_sets.specs.declared.fault.LoadRefusal.TheVariants as refusal
 use Rattle.loaded_sets.specs.Contents.{label_of}
@@ -110,6 +109,4 @@ Refuses r library g slots =
 
 -- it is refused so, or something hinders it
 abbrev pub IsNotLoaded : LoadFault → LoadedLibrary → Geometry → (slots : List (List ℕ)) → Type 0
-IsNotLoaded (fault.Refused r) library g slots = Refuses r library g slots
-IsNotLoaded (fault.Job f) library g slots = IsHindered f
-IsNotLoaded (fault.Save f) library g slots = ⊥
+IsNotLoaded f library g slots = IsNotDone f (λ r. Refuses r library g slots)

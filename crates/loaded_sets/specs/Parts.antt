@@ -1,22 +1,19 @@
 -- How the code holds what the contracts speak of; no public contract names these.
 use Rattle.std.specs.Prelude.{◌≡◌, ◌⊎◌, ℕ, List, Result, Ok, Err}
 use Rattle.std.specs.List.{position}
-use Rattle.counted_io.specs.declared.writing.WriteFault.{WriteFault}
 use Rattle.dasd_jobs.specs.declared.faults.JobFault.TheVariants as job
-use Rattle.dasd_jobs.specs.declared.files.FileFault.{FileFault}
-use Rattle.dasd_jobs.specs.declared.files.FileFault.TheVariants as file
 use Rattle.volume_contents.specs.Sets.{has_name}
+use Rattle.changed_volumes.specs.Changes.{IsHinderedBy}
 use Rattle.loaded_sets.specs.declared.plans.PlacedSet.{PlacedSet}
 use Rattle.loaded_sets.specs.Volumes.{Labelled}
 use Rattle.loaded_sets.specs.declared.contents.LoadedSet.{LoadedSet}
-use Rattle.loaded_sets.specs.declared.fault.LoadFault.{LoadFault}
-use Rattle.loaded_sets.specs.declared.fault.LoadFault.TheVariants as fault
+use Rattle.loaded_sets.specs.Faults.{LoadFault}
+use Rattle.changed_volumes.specs.declared.fault.ChangeFault.TheVariants as fault
 use Rattle.loaded_sets.specs.declared.fault.LoadRefusal.{LoadRefusal}
 use Rattle.loaded_sets.specs.declared.fault.LoadRefusal.TheVariants as refusal
 use Rattle.loaded_sets.specs.declared.fault.Unmade.{Unmade}
 use Rattle.loaded_sets.specs.declared.fault.Unmade.TheVariants as unmade
 use Rattle.loaded_sets.specs.declared.images.FileBlocks as declared
-use Rattle.loaded_sets.specs.Faults.{IsHinderedBy}
 use Rattle.loaded_sets.specs.Contents.{FileBlocks, blocks_fitting, blocks_unless_taken}
 use Rattle.loaded_sets.specs.Placed.{HasNoPlace}
 use Rattle.loaded_sets.specs.Loaded.{IsSetOf, GetsBlocks, HasNone}
@@ -56,13 +53,3 @@ IsNotSet f v set b slots = IsHinderedBy f
 abbrev pub unmade_fault : Unmade → LoadFault
 unmade_fault (unmade.Content f) = fault.Refused (refusal.Content f)
 unmade_fault unmade.OutOfMemory = fault.Job job.OutOfMemory
-
--- what a fault of the file with the blocks is
-abbrev pub file_fault : FileFault → LoadFault
-file_fault file.OutOfMemory = fault.Job job.OutOfMemory
-file_fault f = fault.Job job.Read
-
--- what a line that is written, or not, is
-abbrev pub written_line : Result (Unit {0}) WriteFault → Result (Unit {0}) LoadFault
-written_line (Ok done) = Ok done
-written_line (Err f) = Err (fault.Job job.Write)

@@ -60,7 +60,7 @@ pub struct LoadedSet<'a> {
 ///
 /// # Errors
 ///
-/// The first fault of the format and the lengths, as `layout_given` of `record_formats` tells it.
+/// The first fault of the format and the lengths, as `layout_given` of `volume_labels` tells it.
 pub fn layout_of_set(form: &NewSetForm) -> Result<Layout, AttributeFault>
     ensures { result ≡ layout_of_set form.now }
 {

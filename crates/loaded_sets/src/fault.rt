@@ -1,13 +1,11 @@
 //! Why a data set was not put onto a volume.
 
 ghost use Rattle.std.specs.Prelude.{◌≡◌};
-ghost use Rattle.loaded_sets.specs.Faults.{placing_fault, IsHinderedBy};
-ghost use Rattle.loaded_sets.specs.Parts.{file_fault, written_line, unmade_fault};
-ghost use Rattle.changed_volumes.specs.Changes.{IsHinderedBy as IsChangeHindered};
+ghost use Rattle.loaded_sets.specs.Faults.{placing_fault, file_fault};
+ghost use Rattle.loaded_sets.specs.Parts.{unmade_fault};
 
 use crate::{PlaceFault, PlaceRefusal};
 use changed_volumes::ChangeFault;
-use counted_io::WriteFault;
 use dasd_jobs::{FileFault, JobFault};
 use record_tracks::{BlockFault, LibraryFault, TextLineFault};
 use thiserror::Error;
@@ -63,38 +61,16 @@ pub enum LoadRefusal {
 }
 
 /// Why a data set was not put onto a volume in files, or not told to be.
-#[derive(Clone, Copy, Debug, Error)]
-pub enum LoadFault {
-    /// The volume does not get it.
-    #[error(transparent)]
-    Refused(LoadRefusal),
-    /// Files are not read, there is no memory, or the line can't be written.
-    #[error(transparent)]
-    Job(JobFault),
-    /// A file that was changed can't be saved: it holds what it held, and so do those behind it.
-    #[error(transparent)]
-    Save(JobFault),
-}
+pub type LoadFault = ChangeFault<LoadRefusal>;
 
 /// No memory.
 pub const NO_MEMORY: LoadFault = LoadFault::Job(JobFault::OutOfMemory);
 
 /// A refusal.
 pub fn refused(refusal: LoadRefusal) -> LoadFault
-    ensures { result ≡ LoadFault.Refused refusal }
+    ensures { result ≡ ChangeFault.Refused refusal }
 {
     LoadFault::Refused(refusal)
-}
-
-/// What a fault of a volume that is read of memory is.
-pub fn of_reading(fault: ChangeFault) -> LoadFault
-    requires { IsChangeHindered fault }
-    ensures { IsHinderedBy result }
-{
-    match fault {
-        ChangeFault::Job(fault) => LoadFault::Job(fault),
-        _ => NO_MEMORY,
-    }
 }
 
 /// What the fault of a volume that gets no records is.
@@ -117,22 +93,12 @@ pub(crate) fn of_unmade(fault: Unmade) -> LoadFault
     }
 }
 
-/// What a fault of the file with the data set's blocks is.
-pub(crate) fn of_file(fault: FileFault) -> LoadFault
+/// What a fault of the file with the blocks of a data set or a member is.
+pub fn of_file<R: Drop>(fault: FileFault) -> ChangeFault<R>
     ensures { result ≡ file_fault fault }
 {
     match fault {
-        FileFault::OutOfMemory => NO_MEMORY,
-        _ => LoadFault::Job(JobFault::Read),
-    }
-}
-
-/// What the fault of a line that is written is.
-pub(crate) fn of_line(written: Result<(), WriteFault>) -> Result<(), LoadFault>
-    ensures { result ≡ written_line written }
-{
-    match written {
-        Ok(()) => Ok(()),
-        Err(WriteFault) => Err(LoadFault::Job(JobFault::Write)),
+        FileFault::OutOfMemory => ChangeFault::Job(JobFault::OutOfMemory),
+        _ => ChangeFault::Job(JobFault::Read),
     }
 }

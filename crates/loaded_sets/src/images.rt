@@ -12,7 +12,7 @@ ghost use Rattle.loaded_sets.specs.Parts.{file_blocks, IsPut, IsNotPut, IsSet, I
 
 use crate::contents::{LoadedSet, SourceForm, label_of, layout_of_set, text_bytes};
 use crate::fault::{
-    ContentFault, LoadFault, LoadRefusal, NO_MEMORY, of_placing, of_reading, of_unmade, refused,
+    ContentFault, LoadFault, LoadRefusal, NO_MEMORY, of_placing, of_unmade, refused,
 };
 use crate::{PlacedSet, SoundVolume, judge, place_records, position_of};
 use changed_volumes::read_said;
@@ -50,7 +50,7 @@ pub fn load_image(
     let geometry = image.geometry();
     let mut contents = match read_said(alloc, image) {
         Ok(contents) => contents,
-        Err(fault) => return Err(of_reading(fault)),
+        Err(fault) => return Err(fault),
     };
     let volume = match judge(alloc, geometry, &mut contents) {
         Ok(volume) => volume,

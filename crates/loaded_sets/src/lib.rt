@@ -22,7 +22,7 @@ mod volumes;
 
 pub use crate::contents::{LoadedSet, NewSetForm, SourceForm, label_of, layout_of_set, text_bytes};
 pub use crate::fault::{
-    ContentFault, LoadFault, LoadRefusal, NO_MEMORY, Unmade, of_placing, of_reading, refused,
+    ContentFault, LoadFault, LoadRefusal, NO_MEMORY, Unmade, of_file, of_placing, refused,
 };
 pub use crate::images::load_image;
 pub use crate::libraries::LoadedLibrary;

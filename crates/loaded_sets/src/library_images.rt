@@ -14,7 +14,7 @@ use crate::members::{Measure, all_records, new_members, text_members, text_slice
 use crate::placing::put_named;
 use crate::{
     ContentFault, LoadFault, LoadRefusal, NO_MEMORY, SoundVolume, SourceForm, judge, label_of,
-    layout_of_set, of_placing, of_reading, position_of, refused,
+    layout_of_set, of_placing, position_of, refused,
 };
 use changed_volumes::read_said;
 use ckd_image::Image;
@@ -43,7 +43,7 @@ pub fn load_library(
     let geometry = image.geometry();
     let mut contents = match read_said(alloc, image) {
         Ok(contents) => contents,
-        Err(fault) => return Err(of_reading(fault)),
+        Err(fault) => return Err(fault),
     };
     let volume = match judge(alloc, geometry, &mut contents) {
         Ok(volume) => volume,

@@ -6,7 +6,7 @@ ghost use Rattle.record_tracks.specs.Blocks.{block_areas, AreBlocks};
 ghost use Rattle.record_tracks.specs.BlockFaults.{IsCutFor};
 ghost use Rattle.record_tracks.specs.Library.{member_areas};
 ghost use Rattle.loaded_sets.specs.Contents.{text_bytes};
-ghost use Rattle.loaded_sets.specs.Faults.{IsHinderedBy};
+ghost use Rattle.changed_volumes.specs.Changes.{IsHinderedBy};
 ghost use Rattle.loaded_sets.specs.Members.{each_made, fitting};
 ghost use Rattle.loaded_sets.specs.LibraryParts.{HasBlocks, IsUnmade, IsNoneFor};
 

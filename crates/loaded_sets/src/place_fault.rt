@@ -60,6 +60,6 @@ pub(crate) fn of_reading(fault: ChangeFault) -> PlaceFault
 {
     match fault {
         ChangeFault::Job(fault) => PlaceFault::Job(fault),
-        _ => NO_MEMORY,
+        ChangeFault::Refused(_) | ChangeFault::Save(_) => NO_MEMORY,
     }
 }

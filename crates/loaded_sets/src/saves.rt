@@ -1,17 +1,19 @@
 //! A volume in files that gets a data set and is saved.
 
-ghost use Rattle.std.specs.Prelude.{◌≡◌, ◌≤◌, length, map, OnOk, IfOk, IfErr, OnErr};
+ghost use Rattle.std.specs.Prelude.{◌≡◌, ◌≤◌, length, map, OnOk};
 ghost use Rattle.counted_io.specs.Streams.{seen_by, IsFlushed};
-ghost use Rattle.dasd_jobs.specs.Sources.{ReadsFront};
-ghost use Rattle.loaded_sets.specs.Loads.{LoadsSet, LoadsFiles, TellsLoad};
+ghost use Rattle.changed_volumes.specs.Files.{TellsChange};
+ghost use Rattle.loaded_sets.specs.Loads.{LoadsSet, loading, loaded_line};
 
 use crate::contents::{LoadedSet, NewSetForm, SourceForm};
-use crate::fault::{LoadFault, LoadRefusal, of_file, of_line, refused};
+use crate::fault::{LoadFault, LoadRefusal, of_file, refused};
 use crate::images::load_image;
 use crate::lines::write_loaded;
-use changed_volumes::{ChangedVolume, save_plan};
+use changed_volumes::{ChangedVolume, ImageChange, change_files, of_line};
+use ckd_image::Image;
 use counted_io::Counted;
-use dasd_jobs::{ImageFiles, read_image, write_back};
+use dasd_files::VolumeFile;
+use dasd_jobs::ImageFiles;
 use std::alloc::Global;
 use std::io::Write;
 use volume_changes::new_set_name;
@@ -85,7 +87,8 @@ fn load_and_tell<F: ImageFiles, W: Write>(
     named: (&LoadedSet, &str),
 ) -> Result<(), LoadFault>
     requires name { length named.1.now ≤ 44 }
-    ensures tells { TellsLoad result named.entry.0.now named.entry.1.now (map (λ path. path.now) volume.now.paths.now)
+    ensures tells { TellsChange result (loading named.entry.0.now) (map (λ path. path.now) volume.now.paths.now)
+        (loaded_line named.entry.1.now)
         (record {
           opened = F.opened files.old;
           written = F.written files.old;
@@ -99,33 +102,22 @@ fn load_and_tell<F: ImageFiles, W: Write>(
     ensures flushed { OnOk result (IsFlushed (seen_by W.contents writer.new)) }
 {
     let (set, name) = named;
-    match load_files(alloc, files, volume, set) {
+    match change_files(alloc, files, volume, set) {
         Ok(tracks) => of_line(write_loaded(writer, name, tracks)),
         Err(fault) => Err(fault),
     }
 }
 
-// Puts a data set onto the volume in files, and saves those of them that changed.
-fn load_files<F: ImageFiles>(
-    alloc: Global,
-    files: &mut F,
-    volume: &ChangedVolume,
-    set: &LoadedSet,
-) -> Result<u32, LoadFault>
-    ensures { LoadsFiles result set.now (map (λ path. path.now) volume.now.paths.now)
-        (F.opened files.old) (F.opened files.new) (F.written files.old) (F.written files.new) }
-{
-    files.plan_saving(save_plan(volume));
-    let mut image = match read_image(alloc, files, volume.paths) {
-        Ok(image) => image,
-        Err(fault) => return Err(LoadFault::Job(fault)),
-    };
-    let tracks = match load_image(alloc, &mut image, set) {
-        Ok(tracks) => tracks,
-        Err(fault) => return Err(fault),
-    };
-    match write_back(alloc, files, volume.paths, image) {
-        Ok(()) => Ok(tracks),
-        Err(fault) => Err(LoadFault::Save(fault)),
+impl<'a> ImageChange for LoadedSet<'a> {
+    ghost use Rattle.loaded_sets.specs.Loads.{loading};
+
+    type Answer = u32;
+
+    type Refusal = LoadRefusal;
+
+    ghost changing = { λ set. loading set };
+
+    fn change(&self, alloc: Global, image: &mut Image<VolumeFile>) -> Result<u32, LoadFault> {
+        load_image(alloc, image, self)
     }
 }

@@ -1,6 +1,6 @@
 mod Shown
 mod AtWork
 mod FileTold
-pub mod Told
+pub mod OtherWords
 mod Owning
 mod Saved

@@ -4,6 +4,7 @@
 
 mod kept;
 mod last_lines;
+pub mod laws;
 mod output;
 mod rounds;
 mod selected;

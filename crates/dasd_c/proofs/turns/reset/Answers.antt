@@ -3,7 +3,7 @@ use Rattle.std.proofs.lemmas.Int.{to_z-of_z}
 use Rattle.s360_channels.specs.Channels.{OnChannel, ResetsTo}
 use Rattle.s360_channels.specs.Selectors.{across}
 use Rattle.subsystem_calls.specs.Codes.{no_channel}
-use Rattle.subsystem_calls.proofs.Told.{nobody, there}
+use Rattle.subsystem_calls.proofs.OtherWords.{nobody, there}
 use Rattle.dasd_c.specs.declared.turns.Track.{Track}
 use Rattle.dasd_c.specs.Calls.{ResetsFor}
 use Rattle.dasd_c.proofs.turns.reset.Goals as goal

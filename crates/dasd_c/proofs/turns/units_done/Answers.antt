@@ -2,7 +2,7 @@ use Rattle.std.proofs.Common.{◌≡◌, ℤ, pos, refl}
 use Rattle.s360_channels.specs.Channels.{RunsTo}
 use Rattle.s360_channels.specs.Selectors.{across}
 use Rattle.subsystem_calls.specs.Codes.{no_channel}
-use Rattle.subsystem_calls.proofs.Told.{nobody, there}
+use Rattle.subsystem_calls.proofs.OtherWords.{nobody, there}
 use Rattle.dasd_c.specs.declared.turns.Ran.{Ran}
 use Rattle.dasd_c.specs.Calls.{RunsFor}
 use Rattle.dasd_c.proofs.turns.units_done.Goals as goal

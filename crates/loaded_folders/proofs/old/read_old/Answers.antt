@@ -4,7 +4,7 @@ use Rattle.volume_contents.specs.Contents.{Said, contents_of}
 use Rattle.volume_changes.specs.Volumes.{said_in}
 use Rattle.loaded_sets.specs.Volumes.{labelled, SaysOf, IsUnfit, all_findings}
 use Rattle.loaded_sets.proofs.Fits.{same_said}
-use Rattle.loaded_folders.specs.declared.member_fault.NewMemberFault.{NewMemberFault}
+use Rattle.loaded_folders.specs.Faults.{NewMemberFault}
 use Rattle.loaded_folders.specs.Libraries.{IsReadOf, IsOld, IsNotRead}
 use Rattle.loaded_folders.specs.MemberParts.{IsNotReadIn}
 use Rattle.loaded_folders.proofs.Found.{if_ok, if_err, unfit, no_library, old_read, old_unread}

@@ -1,7 +1,7 @@
 use Rattle.std.proofs.Common.{◌∙◌, ap, sym, refl, subst, ℕ, ◌-◌, All}
 use Rattle.record_tracks.specs.Records.{all_areas, RecordGoesOn}
 use Rattle.loaded_sets.specs.Volumes.{labelled}
-use Rattle.loaded_sets.specs.declared.fault.LoadFault.{LoadFault}
+use Rattle.loaded_sets.specs.Faults.{LoadFault}
 use Rattle.loaded_sets.specs.Parts.{file_blocks, IsNotSet}
 use Rattle.loaded_sets.proofs.Placed.{can_be, set_is, not_set, set_of}
 use Rattle.loaded_sets.proofs.images.put_records.Goals as goal

@@ -2,7 +2,7 @@ use Rattle.std.proofs.Common.{◌≡◌, ◌∙◌, ap, sym, subst, ◌≤◌, �
 use Rattle.std.proofs.lemmas.List.{length-map, take_all}
 use Rattle.std.proofs.lemmas.List.Elements.{All-append, All-cons, All-nil}
 use Rattle.record_tracks.specs.Blocks.{block_areas}
-use Rattle.loaded_sets.specs.declared.fault.LoadFault.{LoadFault}
+use Rattle.loaded_sets.specs.Faults.{LoadFault}
 use Rattle.loaded_sets.specs.Members.{each_made, fitting}
 use Rattle.loaded_sets.specs.LibraryParts.{HasBlocks, IsUnmade}
 use Rattle.loaded_sets.proofs.Made.{Made, behind, next_made, not_made, next_found, one_longer, all_made}

@@ -1,6 +1,6 @@
 use Rattle.std.proofs.Common.{◌∙◌, ap, sym, subst, ◌≤◌, ◌+◌, List, ℕ, length, map, drop, arith, Bor}
 use Rattle.std.proofs.lemmas.List.{length-map}
-use Rattle.loaded_sets.specs.declared.fault.LoadFault.{LoadFault}
+use Rattle.loaded_sets.specs.Faults.{LoadFault}
 use Rattle.loaded_sets.specs.Contents.{text_bytes}
 use Rattle.loaded_sets.specs.Members.{each_made}
 use Rattle.loaded_sets.specs.LibraryParts.{IsUnmade}

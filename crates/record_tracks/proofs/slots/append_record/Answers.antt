@@ -9,10 +9,10 @@ returns-clause-written c =
     let key = c.args.block.key.now in
     let bytes = c.args.block.bytes.now in
     let s0 = c.args.slot.now in
-    let first = two_puts c.args.at c.append-at.result count key s0 c.append-at.new.slot c.append-at-2.new.slot
+    let first = two_puts c.args.at c.append-at.result count key s0 c.append-at.new.room c.append-at-2.new.room
     c.append-at.ensures.written c.append-at-2.ensures.written c.append-at.ensures.next c.append-at.ensures.same in
-    let both = two_puts c.args.at c.append-at-2.result (count ++ key) bytes s0 c.append-at-2.new.slot c.append.new.slot
+    let both = two_puts c.args.at c.append-at-2.result (count ++ key) bytes s0 c.append-at-2.new.room c.append.new.room
     first c.append.ensures.written
     (omega (arith, c.append-at-2.ensures.next, c.append-at.ensures.next, length-append count key))
     (c.append-at-2.ensures.same ∙ c.append-at.ensures.same) in
-    subst (λ (xs : List ℕ). PutBehind c.args.at ((xs ++ key) ++ bytes) s0 c.append.new.slot) c.count_bytes.ensures both
+    subst (λ (xs : List ℕ). PutBehind c.args.at ((xs ++ key) ++ bytes) s0 c.append.new.room) c.count_bytes.ensures both

@@ -3,7 +3,7 @@ use Rattle.std.proofs.lemmas.Int.{to_z-of_z}
 use Rattle.s360_laws.specs.Events.{Arrive, HasArrived}
 use Rattle.s360_channels.specs.Channels.{Quietly}
 use Rattle.s360_channels.specs.Selectors.{across}
-use Rattle.subsystem_calls.proofs.Told.{told}
+use Rattle.subsystem_calls.proofs.OtherWords.{told}
 use Rattle.subsystem_calls.proofs.turns.arrive.Goals as goal
 
 -- C is told the number of the channel's answer

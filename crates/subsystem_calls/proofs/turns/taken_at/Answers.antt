@@ -1,6 +1,6 @@
 use Rattle.std.proofs.Common.{rules, ◌∙◌, w32}
 use Rattle.std.proofs.lemmas.Int.{to_z-of_z}
-use Rattle.subsystem_calls.proofs.Told.{untold}
+use Rattle.subsystem_calls.proofs.OtherWords.{untold}
 use Rattle.subsystem_calls.proofs.turns.taken_at.Goals as goal
 
 -- C is told what was taken, and its address

@@ -4,7 +4,7 @@ use Rattle.s360_channels.specs.Channels.{OnChannel}
 use Rattle.s360_channels.specs.Selectors.{across}
 use Rattle.s360_channels.specs.Turns.{Steps}
 use Rattle.subsystem_calls.specs.Codes.{no_channel}
-use Rattle.subsystem_calls.proofs.Told.{told}
+use Rattle.subsystem_calls.proofs.OtherWords.{told}
 use Rattle.dasd_c.specs.Calls.{RunsFor, StepsFor}
 use Rattle.dasd_c.specs.declared.turns.Ran.{Ran}
 use Rattle.dasd_c.proofs.turns.StepCall.over.Goals as goal

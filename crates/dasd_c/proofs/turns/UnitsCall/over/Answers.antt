@@ -4,7 +4,7 @@ use Rattle.s360_channel.specs.declared.view.SubchannelView.TheVariants.{Idle}
 use Rattle.s360_channels.specs.Channels.{RunsTo}
 use Rattle.s360_channels.specs.Selectors.{across}
 use Rattle.subsystem_calls.specs.Codes.{no_channel}
-use Rattle.subsystem_calls.proofs.Told.{told}
+use Rattle.subsystem_calls.proofs.OtherWords.{told}
 use Rattle.dasd_c.specs.declared.turns.Ran.{Ran}
 use Rattle.dasd_c.specs.Calls.{RunsFor}
 use Rattle.dasd_c.specs.Shown.{ran_shown}

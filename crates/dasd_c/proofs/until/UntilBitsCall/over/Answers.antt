@@ -4,7 +4,7 @@ use Rattle.dasd_subsystem.specs.Until.{UntilTo}
 use Rattle.dasd_subsystem.specs.declared.until.Until.{Until}
 use Rattle.dasd_subsystem.specs.declared.until.Wanted.{Wanted}
 use Rattle.subsystem_calls.specs.Codes.{bad_until, no_channel}
-use Rattle.subsystem_calls.proofs.Told.{nobody, there}
+use Rattle.subsystem_calls.proofs.OtherWords.{nobody, there}
 use Rattle.dasd_c.specs.Until.{RunsUntilAny, RunsUntilFor}
 use Rattle.dasd_c.proofs.until.UntilBitsCall.over.Goals as goal
 

@@ -6,7 +6,7 @@ use Rattle.s360_laws.specs.Events.{Tio, WithCode}
 use Rattle.s360_laws.specs.declared.condition.ConditionCode.TheVariants.{Three}
 use Rattle.s360_channels.specs.Channels.{Quietly}
 use Rattle.s360_channels.specs.Selectors.{across}
-use Rattle.subsystem_calls.proofs.Told.{is_three, told}
+use Rattle.subsystem_calls.proofs.OtherWords.{is_three, told}
 use Rattle.subsystem_calls.proofs.instructions.TioCall.over.Goals as goal
 
 -- C is told the number of the channel's answer
