@@ -1,5 +1,3 @@
-pub mod Slot
-pub mod FilesSlot
 pub mod Shown
 pub mod Calls
 pub mod Files

@@ -1,7 +1,8 @@
 //! A place for files that C holds.
 
 ghost use Rattle.std.specs.Prelude.{◌≡◌, List, ℕ, Option, Some, None, IsSome};
-ghost use Rattle.dasd_c.specs.FilesSlot.{files_slot_owns};
+ghost use Rattle.box_parts.specs.Slot.{slot_owns};
+ghost use Rattle.dasd_subsystem.specs.contracts.files.Files.{the_row};
 
 use box_parts::Parts;
 use dasd_subsystem::Files;
@@ -18,7 +19,7 @@ pub struct FilesSlot {
 }
 
 impl Model for FilesSlot {
-    ghost also_owns = { λ s. files_slot_owns s.alloc s.ptr s.held };
+    ghost also_owns = { λ s. slot_owns the_row s.alloc s.ptr s.held };
 }
 
 // It may go to another thread: it owns nothing, or the box of files, which may.

@@ -1,3 +1,3 @@
-pub mod AsBox
+pub mod AsSlot
 pub mod Phases
 pub mod Files

@@ -1,4 +1,3 @@
-pub mod Slot
 pub mod Codes
 pub mod Phases
 pub mod Calls

@@ -2,7 +2,8 @@
 
 ghost use Rattle.std.specs.Prelude.{◌≡◌, Option, Some, None, IsSome};
 ghost use Rattle.lone_drive_c.specs.declared.drive.LoneDrive.{LoneDrive};
-ghost use Rattle.lone_drive_c.specs.Slot.{slot_owns};
+ghost use Rattle.box_parts.specs.Slot.{slot_owns};
+ghost use Rattle.lone_drive_c.specs.contracts.drive.LoneDrive.{the_row};
 
 use crate::LoneDrive;
 use box_parts::Parts;
@@ -19,7 +20,7 @@ pub struct Slot {
 }
 
 impl Model for Slot {
-    ghost also_owns = { λ s. slot_owns s.alloc s.ptr s.held };
+    ghost also_owns = { λ s. slot_owns the_row s.alloc s.ptr s.held };
 }
 
 // It may go to another thread: it owns nothing, or the box of a drive, which may.

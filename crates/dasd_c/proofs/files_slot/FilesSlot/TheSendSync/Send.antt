@@ -1,27 +1,12 @@
 -- A slot may go to another thread.
-use base.Shift.{Keyless}
-use denote.RawPtr.{Ptr}
-use Rattle.std.specs.Prelude.{Option, Some, None}
-use Rattle.std.specs.Global.{Global}
-use Rattle.dasd_c.specs.FilesSlot.{files_slot_owns}
-use mir.Raw.{raw}
-use denote.Memory.{lone}
-use denote.Struct.Struct.{exits_of}
-use denote.Struct.Owning.{shape, fields, to}
-use denote.Param.Send.{IsSend, AllSend, owning_send, struct_send, sendable}
-use Rattle.std.proofs.Crossing as heap
-use Rattle.std_alloc.proofs.SendSync.{quiet, lies}
-use Rattle.std_heap.proofs.Global.TheSendSync as handle
-use Rattle.dasd_subsystem.specs.contracts.files.Files as Held
-use Rattle.dasd_subsystem.proofs.files.Files.TheSendSync.{the_send as held}
-use Rattle.dasd_c.specs.contracts.files_slot.FilesSlot.{the_row, the_type}
-
-quiet_slot : (a : Global) (p : Ptr) (x : Option (Held.the_row).Denot) → Keyless (files_slot_owns a p x)
-quiet_slot a p None = tt
-quiet_slot a p (Some m) = (lies Held.the_row held p m, heap.frees.frees a (raw (lone Held.the_row.mir)) p)
+use denote.Param.Send.{IsSend, sendable}
+use Rattle.std_heap.specs.contracts.Global as Heap
+use Rattle.std_heap.proofs.Global.TheSendSync.{the_field_send}
+use Rattle.box_parts.proofs.Slots.{slot_send}
+use Rattle.dasd_subsystem.specs.contracts.files.Files as Value
+use Rattle.dasd_subsystem.proofs.files.Files.TheSendSync.{the_send}
+use Rattle.dasd_c.specs.contracts.files_slot.FilesSlot.{struct, the_codes, the_row}
 
 pub send : IsSend the_row
-send =
-    let all : AllSend (fields the_type) = (search sendable, (handle.the_field_send, tt)) in
-    owning_send the_type all (λ d. quiet_slot d.alloc d.ptr d.held)
-    (λ k. quiet (to the_type) (exits_of k (fields the_type)) ((struct_send (shape the_type) all).leaving k))
+send = slot_send struct (the_codes (Heap.the_row).coded) Value.the_row the_send (search sendable, (the_field_send, tt))
+    (λ d. d.alloc) (λ d. d.ptr) (λ d. d.held)
