@@ -84,6 +84,7 @@ fn main(rt: HostRuntime) -> ExitCode {
         progress,
     };
     let (ended, mut parts) = obey_with(parts, words);
+    let ended = settled(&parts.files, ended);
     let ended = say_more(alloc, &remarks, &mut parts.writer, words, ended);
     let compares = is_comparison(words);
     end(&rt, &parts.files, &parts.writer, compares, ended)
@@ -133,9 +134,7 @@ fn conclude(
     if let Err(fault) = &ended {
         tell_fault(rt, fault);
     }
-    if files.tells() {
-        files.print_remarks();
-    }
+    files.print_remarks();
     ExitCode::from(status)
 }
 
@@ -159,6 +158,14 @@ fn print_help(rt: &HostRuntime, text: &str) {
         if fault.kind() != ErrorKind::BrokenPipe {
             let _ = eprintln!(rt; "dasd: write fault");
         }
+    }
+}
+
+// No command succeeds whose new files may lose their names.
+fn settled(files: &HostFiles, ended: Result<Ending, ProgramFault>) -> Result<Ending, ProgramFault> {
+    match ended {
+        Ok(_) if files.is_unsettled() => Err(ProgramFault::Job(JobFault::Write)),
+        ended => ended,
     }
 }
 

@@ -1,13 +1,15 @@
 //! A journal, and the file that is written by it.
 //!
-//! A journal has twice the length of its file: the bytes that are saved, and behind them, for each of these, the bits by which what the
-//! file held differs from it. So it is known of each byte of the file whether it is one that was, one that is to be, or another's.
+//! A journal has the bytes that are saved; behind them, for each of these, the bits by which what the file held differs from it; and then the
+//! mark of the save. So it is known of each byte of the file whether it is one that was, one that is to be, or another's. Journals of version
+//! 1.1.0 have no mark.
 
 ghost use Rattle.std.specs.Prelude.{◌≡◌, ◌≤◌, length};
 
 use crate::bytes::{are_either, take_differences};
-use crate::notes::Notes;
-use crate::places::{folder_of, journal_path};
+use crate::marks::{MARK_LENGTH, Mark};
+use crate::notes::{Notes, Told};
+use crate::places::{folder_of, free_place, sync_folder};
 use std::fs::{File, Metadata};
 use std::io::{ErrorKind, Seek, SeekFrom, Write};
 use std::os::unix::fs::{FileExt, MetadataExt};
@@ -24,7 +26,7 @@ enum Step {
     Note,
     /// Each of the file's bytes is looked at: it was there, or is saved.
     Compare,
-    /// The bytes that are saved are written.
+    /// The bytes that are saved are written, where a difference is noted.
     Write,
 }
 
@@ -35,6 +37,8 @@ pub enum SaveFault {
     Kept(io::Error),
     /// The journal stands beside it, and it is to be written by that.
     Begun(io::Error),
+    /// It has all that is saved, and that is on the disk; that what stood beside or in its place is gone may not be.
+    Saved(io::Error),
 }
 
 impl From<io::Error> for SaveFault {
@@ -53,6 +57,8 @@ pub struct Journal<'a, N: Notes> {
     pub(crate) path: PathBuf,
     /// How many bytes are saved.
     pub(crate) len: u64,
+    /// The mark of the save.
+    pub(crate) mark: Option<Mark>,
 }
 
 impl<'a, N: Notes> Journal<'a, N> {
@@ -68,12 +74,15 @@ impl<'a, N: Notes> Journal<'a, N> {
         home: Path<'_>,
         known: &Metadata,
     ) -> io::Result<Journal<'a, N>> {
+        let new = draft.metadata()?;
+        let (number, path) = free_place(notes.host(), home, [known.ino(), new.ino()])?;
         Ok(Journal {
             notes,
             given,
             file: draft.try_clone()?,
-            path: journal_path(notes.host(), home, known.ino())?,
-            len: draft.metadata()?.len(),
+            path,
+            len: new.len(),
+            mark: Some(Mark::new(number, &new, known)),
         })
     }
 
@@ -84,38 +93,103 @@ impl<'a, N: Notes> Journal<'a, N> {
     ///
     /// The host refuses something of it, or the target has another length.
     pub fn save(&self, hidden: Path<'_>, target: &File) -> Result<(), SaveFault> {
-        let host = self.notes.host();
         if target.metadata()?.len() != self.len {
             let fault = io::Error::new(ErrorKind::InvalidInput, "its length has changed");
             return Err(SaveFault::Kept(fault));
         }
         self.pass(target, Step::Note)?;
-        self.file.set_len(self.len.saturating_mul(2))?;
-        self.file.sync_all()?;
-        fs::rename(host, hidden, self.path.as_path())?;
-        if let Err(fault) = self.sync_folder() {
-            return Err(match fs::remove_file(host, self.path.as_path()) {
-                Ok(()) => SaveFault::Kept(fault),
-                Err(_) => SaveFault::Begun(fault),
-            });
+        let end = self.len.saturating_mul(2);
+        self.file.set_len(end)?;
+        if let Some(mark) = &self.mark {
+            write_at(&self.file, mark.bytes(), end)?;
         }
-        match self.finish(target) {
+        self.file.sync_all()?;
+        fs::rename(self.notes.host(), hidden, self.path.as_path())?;
+        let ended = match self.sync_folder() {
+            Ok(()) => self.finish(target),
+            Err(fault) => Err(SaveFault::Kept(fault)),
+        };
+        if let Err(SaveFault::Kept(_)) = &ended {
+            let _ = fs::remove_file(self.notes.host(), self.path.as_path());
+        }
+        ended
+    }
+
+    /// Writes what is saved over the bytes of the target, which is marked meanwhile, and takes the journal away once that is on the disk.
+    pub(crate) fn finish(&self, target: &File) -> Result<(), SaveFault> {
+        self.put_mark(target)?;
+        if let Err(fault) = self.write_over(target) {
+            return Err(SaveFault::Begun(fault));
+        }
+        match self.remove(target) {
             Ok(()) => Ok(()),
-            Err(fault) => Err(SaveFault::Begun(fault)),
+            Err(fault) => Err(SaveFault::Saved(fault)),
         }
     }
 
-    /// Writes what is saved over the bytes of the target, and takes the journal away once that is on the disk.
-    pub(crate) fn finish(&self, target: &File) -> io::Result<()> {
+    /// Takes the journal of a target that is whole away, once it is on the disk that no mark stands there.
+    pub(crate) fn settle(&self, target: &File) -> io::Result<()> {
+        let mut first = [0u8; MARK_LENGTH];
+        self.read_target(target, &mut first, 0)?;
+        write_at(target, &first, 0)?;
+        target.sync_all()?;
+        self.remove(target)
+    }
+
+    // Has the mark in the target on the disk.
+    fn put_mark(&self, target: &File) -> Result<(), SaveFault> {
+        let Some(mark) = &self.mark else {
+            return Ok(());
+        };
+        match write_at(target, mark.bytes(), 0).and_then(|()| target.sync_all()) {
+            Ok(()) => Ok(()),
+            Err(fault) => Err(match Mark::read(target, 0) {
+                Ok(None) => SaveFault::Kept(fault),
+                _ => SaveFault::Begun(fault),
+            }),
+        }
+    }
+
+    // Has all that is saved in the target on the disk, and then the bytes in the place of the mark.
+    fn write_over(&self, target: &File) -> io::Result<()> {
         self.pass(target, Step::Write)?;
         target.sync_all()?;
+        if self.mark.is_some() {
+            let mut first = [0u8; MARK_LENGTH];
+            self.read(&mut first, 0)?;
+            write_at(target, &first, 0)?;
+            target.sync_all()?;
+        }
+        Ok(())
+    }
+
+    // Takes the journal away, unless the file is a copy of the one that it was made for.
+    fn remove(&self, target: &File) -> io::Result<()> {
+        if let Some(mark) = &self.mark {
+            if !mark.is_of(&target.metadata()?) {
+                let told = Told::Copied(self.given, self.path.as_str());
+                self.notes.tell(&told);
+                return Ok(());
+            }
+        }
         fs::remove_file(self.notes.host(), self.path.as_path())?;
         self.sync_folder()
     }
 
-    /// Whether each byte of the target is one that is saved, or that was there before.
+    /// Whether each byte of the target behind its mark is one that is saved, or that was there before.
     pub(crate) fn fits(&self, target: &File) -> io::Result<bool> {
-        self.pass(target, Step::Compare)
+        let end = self.len.saturating_mul(2);
+        match &self.mark {
+            Some(_) if self.file.metadata()?.len() != end.saturating_add(MARK_LENGTH as u64) => {
+                Ok(false)
+            }
+            _ => self.pass(target, Step::Compare),
+        }
+    }
+
+    /// Whether it is that of the save whose mark this is.
+    pub(crate) fn is_of(&self, mark: &Mark) -> bool {
+        self.mark.is_some_and(|own| own.is_same(mark))
     }
 
     /// Whether it still has its name.
@@ -125,7 +199,7 @@ impl<'a, N: Notes> Journal<'a, N> {
 
     // Has the folder's names on the disk.
     fn sync_folder(&self) -> io::Result<()> {
-        File::open(self.notes.host(), folder_of(self.path.as_path()))?.sync_all()
+        sync_folder(self.notes, folder_of(self.path.as_path()))
     }
 
     // Reads bytes of the journal.
@@ -203,21 +277,38 @@ impl<'a, N: Notes> Journal<'a, N> {
         self.read(&mut saved[..count], at)?;
         self.read(&mut differing[..count], self.len.saturating_add(at))?;
         self.read_target(target, &mut held[..count], at)?;
+        if at == 0 && self.mark.is_some() {
+            put_first(&mut held[..count], &saved[..count]);
+        }
         Ok(are_either(&saved[..count], &differing[..count], &held[..count]))
     }
 
-    // Writes a block of what is saved over that of the target, if it is another.
+    // Writes a block of what is saved over that of the target, if a difference is noted there, whatever the target reads as; the mark stays.
     fn write_block(&self, target: &File, at: u64, count: usize) -> io::Result<()>
         requires { count ≤ BLOCK }
     {
         let mut saved = [0u8; BLOCK];
-        let mut held = [0u8; BLOCK];
+        let mut differing = [0u8; BLOCK];
         self.read(&mut saved[..count], at)?;
-        self.read_target(target, &mut held[..count], at)?;
-        if saved[..count] == held[..count] {
+        self.read(&mut differing[..count], self.len.saturating_add(at))?;
+        if differing[..count].iter().all(|bits| *bits == 0) {
             return Ok(());
         }
+        if let Some(mark) = &self.mark {
+            if at == 0 {
+                put_first(&mut saved[..count], mark.bytes());
+            }
+        }
         write_at(target, &saved[..count], at)
+    }
+}
+
+// Puts the first of other bytes, as many as a mark has, in the place of a block's first ones.
+fn put_first(block: &mut [u8], others: &[u8])
+    ensures { length block.new ≡ length block.old }
+{
+    if block.len() >= MARK_LENGTH && others.len() >= MARK_LENGTH {
+        block[..MARK_LENGTH].copy_from_slice(&others[..MARK_LENGTH]);
     }
 }
 

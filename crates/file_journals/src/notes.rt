@@ -8,8 +8,14 @@ pub trait Notes {
     /// The host that has the files.
     fn host(&self) -> &HostRuntime;
 
-    /// One line more.
+    /// One line more, for those who ask for more.
     fn note<T: fmt::Display>(&self, remark: &T);
+
+    /// The same, unless it was noted before.
+    fn note_once<T: fmt::Display>(&self, remark: &T);
+
+    /// One line more, for everybody.
+    fn tell<T: fmt::Display>(&self, remark: &T);
 
     /// Why the host refused something of a file.
     fn note_fault(&self, path: &str, fault: &Error);
@@ -25,10 +31,28 @@ pub enum Told<'a> {
     Ended(&'a str),
     /// It is begun, and not ended.
     Begun(&'a str),
+    /// The file has all that is saved, but its journal could not be removed.
+    Saved(&'a str),
     /// The journal is read in the file's place.
     Instead(&'a str, &'a str),
-    /// Another program wrote the file since.
+    /// Another program wrote the file since; the journal is of version 1.1.0.
     Changed(&'a str, &'a str),
+    /// Another program wrote the file since.
+    Written(&'a str, &'a str),
+    /// The journal is not there.
+    Lost(&'a str, &'a str),
+    /// The file is whole, and the journal is removed.
+    Needless(&'a str, &'a str),
+    /// The file is whole, and the journal is another's.
+    Others(&'a str, &'a str),
+    /// The file is a copy of the one that the journal was made for.
+    Copied(&'a str, &'a str),
+    /// It has its new bytes or its new name, but the folder was not synced.
+    Unsynced(&'a str),
+    /// Several files were saved.
+    Several,
+    /// Its journal can't be read by this user.
+    Locked(&'a str),
 }
 
 impl fmt::Display for Told<'_> {
@@ -39,6 +63,10 @@ impl fmt::Display for Told<'_> {
                 f,
                 "{path}: its save is begun and not ended; the next run that uses it ends it"
             ),
+            Told::Saved(path) => write!(
+                f,
+                "{path}: it is saved; only the removal of its journal failed"
+            ),
             Told::Instead(path, journal) => write!(
                 f,
                 "{path}: a save of it was cut off, and {journal} is read in its place"
@@ -46,6 +74,38 @@ impl fmt::Display for Told<'_> {
             Told::Changed(path, journal) => write!(
                 f,
                 "{path}: a save of it was cut off; without {journal}, which has what was saved, it is taken as it is now"
+            ),
+            Told::Written(path, journal) => write!(
+                f,
+                "{path}: a save of it was cut off, and it was written since; {journal} begins with what was saved: put back that, or another copy of the file"
+            ),
+            Told::Lost(path, journal) => write!(
+                f,
+                "{path}: a save of it was cut off; the rest is in {journal}, which is not there: move it there from the folder in which the save was begun, or put back another copy of the file"
+            ),
+            Told::Needless(path, journal) => write!(
+                f,
+                "{path}: a save of it was cut off before its first byte or after its last; the file is whole, and {journal} is removed"
+            ),
+            Told::Others(path, journal) => write!(
+                f,
+                "{path}: {journal} is of another file and is not used; remove it if that file is gone"
+            ),
+            Told::Copied(path, journal) => write!(
+                f,
+                "{path}: {journal} was made for the file that this is a copy of, and stays; remove it if no other copy needs it"
+            ),
+            Told::Unsynced(path) => write!(
+                f,
+                "{path}: what is new is there; a loss of power may undo that"
+            ),
+            Told::Several => write!(
+                f,
+                "several files were saved one after another, and not as one"
+            ),
+            Told::Locked(journal) => write!(
+                f,
+                "{journal}: its owner's next run ends the save; or root gives it to the owner of the file (chown)"
             ),
         }
     }

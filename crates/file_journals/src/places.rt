@@ -1,6 +1,8 @@
 //! Where journals lie.
 
-use std::fs;
+use crate::notes::{Notes, Told};
+use std::fmt;
+use std::fs::{self, File};
 use std::io::{self, ErrorKind};
 use std::path::{Path, PathBuf};
 
@@ -37,8 +39,100 @@ pub fn home_of(host: &HostRuntime, path: &str) -> io::Result<PathBuf> {
     }
 }
 
-/// The path of the journal of a file that lies here, and has this number.
+/// Has the names of a folder on the disk. A file system that has no such sync does without, which is noted.
+///
+/// # Errors
+///
+/// The host can't open the folder, or can't write it.
+pub fn sync_folder<N: Notes>(notes: &N, folder: Path<'_>) -> io::Result<()> {
+    match File::open(notes.host(), folder)?.sync_all() {
+        Err(fault) if has_no_sync(&fault) => {
+            notes.note_once(&NoSync(folder.as_str()));
+            Ok(())
+        }
+        synced => synced,
+    }
+}
+
+// Whether a file system has no sync of folders.
+fn has_no_sync(fault: &io::Error) -> bool {
+    matches!(
+        fault.kind(),
+        ErrorKind::InvalidInput | ErrorKind::Unsupported
+    )
+}
+
+/// A folder whose file system has no sync of folders.
+#[derive(Clone, Copy)]
+struct NoSync<'a>(&'a str);
+
+impl fmt::Display for NoSync<'_> {
+    fn fmt<W: fmt::Write>(&self, f: &mut fmt::Formatter<W>) -> fmt::Result {
+        write!(f, "{}: its file system has no sync of folders", self.0)
+    }
+}
+
+/// A path for the journal of a file that lies here where nothing is: by one of these numbers.
+///
+/// # Errors
+///
+/// Something is at each, or the host can't say it; or there is no memory.
+pub(crate) fn free_place(
+    host: &HostRuntime,
+    home: Path<'_>,
+    numbers: [u64; 2],
+) -> io::Result<(u64, PathBuf)> {
+    for number in numbers {
+        let place = journal_path(host, home, number)?;
+        match fs::symlink_metadata(host, place.as_path()) {
+            Err(fault) if fault.kind() == ErrorKind::NotFound => return Ok((number, place)),
+            Err(fault) => return Err(fault),
+            Ok(_) => {}
+        }
+    }
+    let why = "what is at the names of its journal is not of this file";
+    Err(io::Error::new(ErrorKind::InvalidInput, why))
+}
+
+/// The path of the journal of a file that lies here, by the number in its name.
 pub(crate) fn journal_path(host: &HostRuntime, home: Path<'_>, node: u64) -> io::Result<PathBuf> {
     let name = format!(in host.alloc(); "{NAME_BEGIN}{node}")?;
     Ok(folder_of(home).join(host.alloc(), name.as_str())?)
+}
+
+/// Notes the folder of a new file, which is synced later; where there is no memory for that, it is synced now. It says whether that is done.
+pub fn note_folder<N: Notes>(notes: &N, unsettled: &mut Vec<String>, path: &str) -> bool {
+    let folder = folder_of(Path::new(path)).as_str();
+    if unsettled.iter().any(|noted| noted.as_str() == folder) {
+        return true;
+    }
+    let noted = match folder.to_string(notes.host().alloc()) {
+        Ok(folder) => unsettled.push(folder).is_ok(),
+        Err(_) => false,
+    };
+    noted || is_synced(notes, folder)
+}
+
+/// Syncs the folders that were noted, and says whether that is done.
+pub fn sync_folders<N: Notes>(notes: &N, unsettled: &mut Vec<String>) -> bool {
+    let mut done = true;
+    for folder in unsettled.iter() {
+        if !is_synced(notes, folder.as_str()) {
+            done = false;
+        }
+    }
+    unsettled.clear();
+    done
+}
+
+// Syncs a folder, and says whether that is done; if not, it is noted why.
+fn is_synced<N: Notes>(notes: &N, folder: &str) -> bool {
+    match sync_folder(notes, Path::new(folder)) {
+        Ok(()) => true,
+        Err(fault) => {
+            notes.note_fault(folder, &fault);
+            notes.tell(&Told::Unsynced(folder));
+            false
+        }
+    }
 }

@@ -1,6 +1,7 @@
 //! Saves that were cut off.
 
-use crate::journals::Journal;
+use crate::journals::{Journal, SaveFault};
+use crate::marks::{MARK_LENGTH, Mark, birth_of};
 use crate::notes::{Notes, Told};
 use crate::places::{home_of, journal_path};
 use std::fs::{File, Metadata, OpenOptions};
@@ -9,12 +10,15 @@ use std::os::unix::fs::MetadataExt;
 use std::path::Path;
 use std::{fs, io};
 
+/// Why a file is refused whose journal is not taken.
+const UNREAD: &str = "a save of it was cut off, and can't be read";
+
 /// What is read in the place of a file that was opened by a path: the file, once a save of it that was cut off is ended, if it may be
-/// written; and else its journal, which begins with what was saved. A file without a journal is read itself.
+/// written; and else its journal, which begins with what was saved. A file without a mark is whole and is read itself.
 ///
 /// # Errors
 ///
-/// The journal can't be read, or is not of this file; or the save can't be ended.
+/// The journal is not there, can't be read, or is not of this file; or the save can't be ended.
 pub fn whole_file<'a, N: Notes>(
     notes: &'a N,
     path: &'a str,
@@ -22,28 +26,89 @@ pub fn whole_file<'a, N: Notes>(
     may_write: bool,
 ) -> io::Result<File> {
     let known = file.metadata()?;
-    let Some(journal) = find_journal(notes, path, &known)? else {
+    // what can't be read now is told by what reads it next, which takes a mark for no header
+    let Ok(mark) = Mark::read(&file, 0) else {
         return Ok(file);
     };
-    if !journal.fits(&file)? {
-        if !journal.is_there() {
-            return Ok(file); // its save was ended meanwhile
+    let number = mark.map_or(known.ino(), |mark| mark.number());
+    let Some(journal) = find_journal(notes, path, &known, number)? else {
+        if mark.is_none() {
+            return Ok(file);
         }
-        notes.note(&Told::Changed(path, journal.path.as_str()));
+        let home = home_of(notes.host(), path)?;
+        let place = journal_path(notes.host(), home.as_path(), number)?;
+        return refuse_lost(notes, path, place.as_str(), file);
+    };
+    let has_mark = journal.mark.is_some();
+    let is_its = mark.is_some_and(|mark| journal.is_of(&mark));
+    if mark.is_none() && has_mark {
+        settle(&journal, file, may_write)
+    } else if mark.is_some() && !is_its {
+        refuse_lost(notes, path, journal.path.as_str(), file)
+    } else {
+        take_up(journal, file, may_write)
+    }
+}
+
+// Refuses a file whose journal is not there, unless its save was ended meanwhile.
+fn refuse_lost<N: Notes>(notes: &N, path: &str, place: &str, file: File) -> io::Result<File> {
+    if let Ok(None) = Mark::read(&file, 0) {
+        return Ok(file);
+    }
+    notes.tell(&Told::Lost(path, place));
+    Err(wrong(UNREAD))
+}
+
+// What is read of a file that is whole, where a journal has its number: that is removed, if it is of this file, and this may be written.
+fn settle<N: Notes>(journal: &Journal<N>, file: File, may_write: bool) -> io::Result<File> {
+    let (notes, path, known) = (journal.notes, journal.given, file.metadata()?);
+    if !journal.mark.is_some_and(|mark| mark.is_of(&known)) {
+        notes.note(&Told::Others(path, journal.path.as_str()));
+        return Ok(file);
+    }
+    if may_write {
+        if let Some(target) = open_writable(notes.host(), path, &known)? {
+            journal.settle(&target)?;
+            notes.tell(&Told::Needless(path, journal.path.as_str()));
+        }
+    }
+    Ok(file)
+}
+
+// What is read in the place of a file whose save was cut off.
+fn take_up<N: Notes>(journal: Journal<N>, file: File, may_write: bool) -> io::Result<File> {
+    let (notes, path) = (journal.notes, journal.given);
+    let has_mark = journal.mark.is_some();
+    if !journal.fits(&file)? {
+        let place = journal.path.as_str();
+        if !journal.is_there() {
+            return refuse_lost(notes, path, place, file);
+        }
+        if has_mark {
+            notes.tell(&Told::Written(path, place));
+        } else {
+            notes.note(&Told::Changed(path, place));
+        }
         return Err(wrong("it was written by another program since"));
     }
     if may_write {
-        match open_target(notes.host(), path, &known) {
-            Ok(target) => {
-                end_save(&journal, &target)?;
-                return Ok(file);
-            }
-            Err(fault) if !may_not_write(&fault) => return Err(fault),
-            Err(_) => {}
+        let known = file.metadata()?;
+        if let Some(target) = open_writable(notes.host(), path, &known)? {
+            end_save(&journal, &target)?;
+            return Ok(file);
         }
     }
-    notes.note(&Told::Instead(path, journal.path.as_str()));
+    notes.tell(&Told::Instead(path, journal.path.as_str()));
     Ok(journal.file)
+}
+
+// Opens the file that a path leads to for reading and writing, unless it may not be written.
+fn open_writable(host: &HostRuntime, path: &str, known: &Metadata) -> io::Result<Option<File>> {
+    match open_target(host, path, known) {
+        Ok(target) => Ok(Some(target)),
+        Err(fault) if may_not_write(&fault) => Ok(None),
+        Err(fault) => Err(fault),
+    }
 }
 
 /// Opens the file that a path leads to for reading and writing, if it is this one.
@@ -62,9 +127,16 @@ pub fn open_target(host: &HostRuntime, path: &str, known: &Metadata) -> io::Resu
     }
 }
 
-// Whether both are of one file.
-fn is_same(one: &Metadata, other: &Metadata) -> bool {
+/// Whether both are of one file.
+pub fn is_same(one: &Metadata, other: &Metadata) -> bool {
     one.dev() == other.dev() && one.ino() == other.ino()
+}
+
+/// Whether a file was written since this was known of it, as far as its length and its times say so.
+pub fn is_written_since(known: &Metadata, now: &Metadata) -> bool {
+    now.len() != known.len()
+        || (now.mtime(), now.mtime_nsec()) != (known.mtime(), known.mtime_nsec())
+        || (now.ctime(), now.ctime_nsec()) != (known.ctime(), known.ctime_nsec())
 }
 
 // A journal that can't be taken.
@@ -74,11 +146,13 @@ fn wrong(why: &str) -> io::Error {
 
 // Ends a save that was cut off.
 fn end_save<N: Notes>(journal: &Journal<N>, target: &File) -> io::Result<()> {
-    let ended = journal.finish(target);
-    match &ended {
-        Ok(()) => journal.notes.note(&Told::Ended(journal.given)),
-        Err(_) => journal.notes.note(&Told::Begun(journal.given)),
-    }
+    let path = journal.given;
+    let (told, ended) = match journal.finish(target) {
+        Ok(()) => (Told::Ended(path), Ok(())),
+        Err(SaveFault::Saved(fault)) => (Told::Saved(path), Err(fault)),
+        Err(SaveFault::Begun(fault) | SaveFault::Kept(fault)) => (Told::Begun(path), Err(fault)),
+    };
+    journal.notes.tell(&told);
     ended
 }
 
@@ -90,49 +164,57 @@ fn may_not_write(fault: &io::Error) -> bool {
     )
 }
 
-// The journal of this file, to which a path leads, if there is one. What is no regular file is none.
+// The journal of this number beside the file to which a path leads, if there is one. What is no regular file is none.
 fn find_journal<'a, N: Notes>(
     notes: &'a N,
     path: &'a str,
     known: &Metadata,
+    number: u64,
 ) -> io::Result<Option<Journal<'a, N>>> {
     let host = notes.host();
     let home = home_of(host, path)?;
-    let place = journal_path(host, home.as_path(), known.ino())?;
+    let place = journal_path(host, home.as_path(), number)?;
     let named = match fs::symlink_metadata(host, place.as_path()) {
         Ok(named) if named.is_file() => named,
         Ok(_) => return Ok(None),
-        Err(fault) => match fault.kind() {
-            ErrorKind::NotFound | ErrorKind::PermissionDenied => return Ok(None),
-            _ => return Err(fault),
-        },
+        Err(fault) if fault.kind() == ErrorKind::NotFound => return Ok(None),
+        Err(fault) => return Err(refuse_journal(notes, place.as_str(), fault)),
     };
     match open_journal(host, place.as_path(), &named, known) {
-        Ok(file) => Ok(Some(Journal {
+        Ok((file, mark)) => Ok(Some(Journal {
             notes,
             given: path,
             file,
             path: place,
             len: known.len(),
+            mark,
         })),
         Err(fault) if fault.kind() == ErrorKind::NotFound => Ok(None),
-        Err(fault) => {
-            notes.note_fault(place.as_str(), &fault);
-            Err(match fault.kind() {
-                ErrorKind::OutOfMemory => fault,
-                kind => io::Error::new(kind, "a save of it was cut off, and can't be read"),
-            })
-        }
+        Err(fault) => Err(refuse_journal(notes, place.as_str(), fault)),
     }
 }
 
-// Opens the journal of a file: it is as long as it must be, and the file's owner's, one's own or that of root.
+// Notes why a journal is not taken, and says what that is to its file.
+fn refuse_journal<N: Notes>(notes: &N, place: &str, fault: io::Error) -> io::Error {
+    notes.note_fault(place, &fault);
+    match fault.kind() {
+        ErrorKind::OutOfMemory => fault,
+        ErrorKind::PermissionDenied => {
+            notes.tell(&Told::Locked(place));
+            io::Error::new(ErrorKind::PermissionDenied, UNREAD)
+        }
+        kind => io::Error::new(kind, UNREAD),
+    }
+}
+
+// Opens a journal, and says which mark it has: it is the owner's of its file, one's own or that of root. One of version 1.1.0, which has no
+// mark, is as long as it must be, and no older than its file.
 fn open_journal(
     host: &HostRuntime,
     place: Path<'_>,
     named: &Metadata,
     of: &Metadata,
-) -> io::Result<File> {
+) -> io::Result<(File, Option<Mark>)> {
     let file = File::open(host, place)?;
     let known = file.metadata()?;
     if !is_same(&known, named) {
@@ -141,11 +223,23 @@ fn open_journal(
     if known.uid() != of.uid() && known.uid() != 0 {
         let own = fs::metadata(host, "/proc/self")?;
         if known.uid() != own.uid() {
-            return Err(wrong("a journal of another user"));
+            let why = "a journal of another user";
+            return Err(io::Error::new(ErrorKind::PermissionDenied, why));
         }
     }
-    if known.len() != of.len().saturating_mul(2) {
-        return Err(wrong("a journal of another length than its file has"));
+    let mark = match known.len().checked_sub(MARK_LENGTH as u64) {
+        Some(at) => Mark::read(&file, at)?,
+        None => None,
+    };
+    if mark.is_none() {
+        if known.len() != of.len().saturating_mul(2) {
+            return Err(wrong("a journal of another length than its file has"));
+        }
+        if birth_of(of) > birth_of(&known) && birth_of(&known) != 0 {
+            return Err(wrong(
+                "a journal that is older than its file: remove it, and the file is taken as it is",
+            ));
+        }
     }
-    Ok(file)
+    Ok((file, mark))
 }

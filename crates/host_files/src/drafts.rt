@@ -5,7 +5,9 @@ ghost use Rattle.std.specs.Prelude.{◌≡◌, [], length, IfOk};
 use crate::locks::wrong;
 use crate::remarks::Remarks;
 use ckd_image::{ImageStore, StoreFault};
-use file_journals::{Journal, NAME_BEGIN, Notes, SaveFault, Told, folder_of};
+use file_journals::{
+    Journal, NAME_BEGIN, Notes, SaveFault, Told, folder_of, is_same, is_written_since, sync_folder,
+};
 use ghost_data::{Count, Trace};
 use std::fs::{self, File, Metadata, OpenOptions, Permissions, TryLockError};
 use std::io::{Error, ErrorKind, Write};
@@ -15,6 +17,9 @@ use std::{fmt, io, process};
 
 /// How many names are tried for a new file.
 const NAMES: u32 = 1_000;
+
+/// Why a file is not saved over that is not as it was read.
+const WRITTEN_SINCE: &str = "another program wrote it since it was read";
 
 /// The bits of a mode that are kept.
 const MODE: u32 = 0o7777;
@@ -135,13 +140,23 @@ impl<'a> HostDraft<'a> {
         }
         let put = draft.move_to(path);
         draft.is_put = !matches!(put, Err(SaveFault::Kept(_)));
-        if matches!(put, Err(SaveFault::Begun(_))) {
-            draft.remarks.note(&Told::Begun(path));
-        }
+        draft.note_ending(&put);
         if draft.is_put && draft.is_taken_over {
             draft.note_owners();
         }
         put
+    }
+
+    // Tells what is to be known of a save that did not end as it should.
+    fn note_ending(&self, put: &Result<(), SaveFault>) {
+        let path = self.given.as_str();
+        let keeps_place = self.old.as_ref().is_some_and(|old| old.target.is_some());
+        match put {
+            Err(SaveFault::Begun(_)) => self.remarks.tell(&Told::Begun(path)),
+            Err(SaveFault::Saved(_)) if keeps_place => self.remarks.tell(&Told::Saved(path)),
+            Err(SaveFault::Saved(_)) => self.remarks.tell(&Told::Unsynced(path)),
+            _ => {}
+        }
     }
 
     // Notes whose the old file was, and whose the new one is.
@@ -165,8 +180,11 @@ impl<'a> HostDraft<'a> {
             return Ok(name_new(self.host, self.beside.as_str(), path)?);
         };
         let there = fs::metadata(self.host, old.path.as_str())?;
-        if there.dev() != old.known.dev() || there.ino() != old.known.ino() {
+        if !is_same(&there, &old.known) {
             return Err(SaveFault::Kept(wrong("another program has replaced it")));
+        }
+        if is_written_since(&old.known, &there) {
+            return Err(SaveFault::Kept(wrong(WRITTEN_SINCE)));
         }
         match &old.target {
             Some(target) => {
@@ -178,7 +196,7 @@ impl<'a> HostDraft<'a> {
             }
             None => {
                 self.file.sync_all()?;
-                Ok(replace(self.host, self.beside.as_str(), old.path.as_str())?)
+                replace(self.remarks, self.beside.as_str(), old.path.as_str())
             }
         }
     }
@@ -338,10 +356,12 @@ fn may_take_over(host: &HostRuntime, new: &Metadata, old: &Old, fault: &Error) -
 }
 
 // Gives a file the name of another, whose place it takes, and has that on the disk.
-fn replace(host: &HostRuntime, from: &str, to: &str) -> io::Result<()> {
-    fs::rename(host, from, to)?;
-    sync_folder(host, folder_of(Path::new(to)).as_str());
-    Ok(())
+fn replace(remarks: &Remarks, from: &str, to: &str) -> Result<(), SaveFault> {
+    fs::rename(remarks.host(), from, to)?;
+    match sync_folder(remarks, folder_of(Path::new(to))) {
+        Ok(()) => Ok(()),
+        Err(fault) => Err(SaveFault::Saved(fault)),
+    }
 }
 
 // Gives a file a name that no file has: one that has come there since stays. Where a file system has no second names, the file is
@@ -354,35 +374,5 @@ fn name_new(host: &HostRuntime, from: &str, to: &str) -> io::Result<()> {
         }
         Err(fault) if fault.kind() == ErrorKind::AlreadyExists => Err(fault),
         Err(_) => fs::rename(host, from, to),
-    }
-}
-
-/// Notes the folder of a new file, which is synced later; where there is no memory for that, it is synced now.
-pub(crate) fn note_folder(host: &HostRuntime, unsettled: &mut Vec<String>, path: &str) {
-    let folder = folder_of(Path::new(path)).as_str();
-    if unsettled.iter().any(|noted| noted.as_str() == folder) {
-        return;
-    }
-    let noted = match folder.to_string(host.alloc()) {
-        Ok(folder) => unsettled.push(folder).is_ok(),
-        Err(_) => false,
-    };
-    if !noted {
-        sync_folder(host, folder);
-    }
-}
-
-/// Syncs the folders that were noted.
-pub(crate) fn sync_folders(host: &HostRuntime, unsettled: &mut Vec<String>) {
-    for folder in unsettled.iter() {
-        sync_folder(host, folder.as_str());
-    }
-    unsettled.clear();
-}
-
-/// Has a folder's names written to the disk, as far as the host does that.
-fn sync_folder(host: &HostRuntime, folder: &str) {
-    if let Ok(folder) = File::open(host, folder) {
-        let _ = folder.sync_all();
     }
 }

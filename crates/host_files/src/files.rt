@@ -2,16 +2,18 @@
 
 ghost use Rattle.std.specs.Prelude.{◌≡◌, [], IfOk};
 
-use crate::drafts::{HostDraft, Old, note_folder, sync_folders};
+use crate::drafts::{HostDraft, Old};
 use crate::locks::{
-    Locked, find_old, is_locked, keep, list_done, mark_done, open_locked, open_trace_file,
-    try_to_write,
+    Locked, find_old, is_locked, keep, list_done, look_again, mark_done, open_locked,
+    open_trace_file, try_to_write,
 };
 use crate::reading::{HostFile, read_some};
 use crate::remarks::Remarks;
 use crate::traces::{TraceFile, TraceSink};
 use dasd_jobs::{FileFault, ImageFiles, SavePlan, Sources, Traces, Written};
-use file_journals::{Notes, SaveFault, clear_folder, folder_of, whole_file};
+use file_journals::{
+    Notes, SaveFault, Told, clear_folder, folder_of, note_folder, sync_folders, whole_file,
+};
 use std::alloc::Global;
 use std::fs::File;
 use std::io::{BufWriter, Error, ErrorKind};
@@ -30,6 +32,8 @@ pub struct HostFiles<'a> {
     cleared: Vec<String>,
     /// The folders of new files, until they are synced.
     unsettled: Vec<String>,
+    /// Whether a folder could not be synced, or a journal not be removed.
+    is_unsettled: bool,
     remarks: &'a Remarks<'a>,
     is_verbose: bool,
     /// What becomes of files that are locked.
@@ -49,6 +53,7 @@ impl<'a> HostFiles<'a> {
             locked: Vec::new(host.alloc()),
             cleared: Vec::new(host.alloc()),
             unsettled: Vec::new(host.alloc()),
+            is_unsettled: false,
             remarks,
             is_verbose: false,
             plan: SavePlan::Replaced,
@@ -65,9 +70,14 @@ impl<'a> HostFiles<'a> {
         self.remarks.clear_line();
     }
 
-    /// Tells what was remarked, on standard error.
+    /// Tells what was remarked, on standard error: all, or what everybody is told.
     pub fn print_remarks(&self) {
-        self.remarks.print();
+        self.remarks.print(self.tells());
+    }
+
+    /// Whether a folder could not be synced, or a journal not be removed, of files that are saved.
+    pub fn is_unsettled(&self) -> bool {
+        self.is_unsettled
     }
 
     // Notes why a file was not written, and which were.
@@ -210,6 +220,9 @@ impl<'a> ImageFiles for HostFiles<'a> {
             Ok(file) => file,
             Err(fault) => return Err(self.remarks.refuse(path, &fault)),
         };
+        if let Err(fault) = look_again(self.locked.as_mut_slice(), &known) {
+            return Err(self.remarks.refuse(path, &fault));
+        }
         self.forewarn(path)?;
         match HostFile::of(alloc, self.remarks, path, file, known.len()) {
             Ok(file) => {
@@ -254,21 +267,31 @@ impl<'a> ImageFiles for HostFiles<'a> {
         let written = self.written.with(path.as_bytes(), draft.trace());
         let node = draft.old_node();
         match draft.put(path) {
-            Ok(()) => {
+            Err(SaveFault::Kept(fault)) => Err(self.not_written(path, &fault)),
+            Err(SaveFault::Begun(fault)) => Err(self.remarks.refuse(path, &fault)),
+            put => {
+                // the other files are saved too, and then the command fails
+                if let Err(SaveFault::Saved(fault)) = &put {
+                    self.remarks.note_fault(path, fault);
+                    self.is_unsettled = true;
+                }
                 self.written = written;
                 mark_done(self.locked.as_mut_slice(), node);
-                if node.is_none() {
-                    note_folder(self.host, &mut self.unsettled, path);
+                if self.locked.iter().filter(|locked| locked.is_done).count() > 1 {
+                    self.remarks.note_once(&Told::Several);
+                }
+                if node.is_none() && !note_folder(self.remarks, &mut self.unsettled, path) {
+                    self.is_unsettled = true;
                 }
                 Ok(())
             }
-            Err(SaveFault::Kept(fault)) => Err(self.not_written(path, &fault)),
-            Err(SaveFault::Begun(fault)) => Err(self.remarks.refuse(path, &fault)),
         }
     }
 
     fn settle(&mut self) {
-        sync_folders(self.host, &mut self.unsettled);
+        if !sync_folders(self.remarks, &mut self.unsettled) {
+            self.is_unsettled = true;
+        }
     }
 
     fn remark<T: fmt::Display>(&mut self, text: &T) {

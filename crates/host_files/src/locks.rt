@@ -2,7 +2,7 @@
 
 use crate::drafts::{HostDraft, Old};
 use crate::remarks::Remarks;
-use file_journals::{Notes, home_of, open_target, whole_file};
+use file_journals::{Notes, home_of, is_same, open_target, whole_file};
 use std::alloc::Global;
 use std::fs::{File, Metadata, OpenOptions, TryLockError};
 use std::io::{Error, ErrorKind};
@@ -19,12 +19,12 @@ pub(crate) type Node = (u64, u64);
 /// A file that is locked.
 #[derive(Drop)]
 pub(crate) struct Locked {
-    _file: File,
-    device: u64,
-    node: u64,
+    file: File,
+    /// What was known of it before it was read.
+    known: Metadata,
     path: String,
     /// Whether a new file has taken its place.
-    is_done: bool,
+    pub(crate) is_done: bool,
 }
 
 /// The files that were replaced, if there is one and there is memory to say so.
@@ -43,7 +43,7 @@ pub(crate) fn list_done(held: &[Locked], alloc: Global) -> Option<String> {
 /// Notes that a new file has taken the place of one that is locked.
 pub(crate) fn mark_done(held: &mut [Locked], node: Option<Node>) {
     for locked in held.iter_mut() {
-        if node == Some((locked.device, locked.node)) {
+        if node == Some((locked.known.dev(), locked.known.ino())) {
             locked.is_done = true;
         }
     }
@@ -61,7 +61,25 @@ fn busy(why: &str) -> Error {
 
 /// Whether a file was locked already.
 pub(crate) fn is_locked(locked: &[Locked], known: &Metadata) -> bool {
-    locked.iter().any(|held| held.device == known.dev() && held.node == known.ino())
+    locked.iter().any(|held| is_same(&held.known, known))
+}
+
+/// Keeps what is known now of a file that was locked, before it is read, and whose save was maybe ended.
+pub(crate) fn look_again(held: &mut [Locked], known: &Metadata) -> io::Result<()> {
+    for locked in held.iter_mut() {
+        if is_same(&locked.known, known) {
+            locked.known = locked.file.metadata()?;
+        }
+    }
+    Ok(())
+}
+
+// What was known of a file before it was read.
+fn known_before(held: &[Locked], known: Metadata) -> io::Result<Metadata> {
+    match held.iter().find(|it| is_same(&it.known, &known)) {
+        Some(locked) => Ok(locked.known.clone()?),
+        None => Ok(known),
+    }
 }
 
 // Whether a file was locked by this path, which then was another one than the path leads to now.
@@ -135,9 +153,8 @@ pub(crate) fn keep(
     known: &Metadata,
 ) -> io::Result<()> {
     let locked = Locked {
-        _file: file.try_clone()?,
-        device: known.dev(),
-        node: known.ino(),
+        file: file.try_clone()?,
+        known: known.clone()?,
         path: path.to_string(alloc)?,
         is_done: false,
     };
@@ -175,12 +192,21 @@ pub(crate) fn find_old(
     if is_new && was_locked_by(held.as_slice(), path) {
         return Err(wrong("another program has replaced it"));
     }
-    let old = old_at(host, target, known, in_place)?;
+    let Old {
+        path: home,
+        known,
+        target,
+    } = old_at(host, target, known, in_place)?;
     if is_new {
-        keep(held, host.alloc(), path, &file, &old.known)?;
+        keep(held, host.alloc(), path, &file, &known)?;
         whole_file(remarks, path, file, true)?;
+        look_again(held.as_mut_slice(), &known)?;
     }
-    Ok(Some(old))
+    Ok(Some(Old {
+        path: home,
+        known: known_before(held.as_slice(), known)?,
+        target,
+    }))
 }
 
 // The path of a file that is to be written: without symbolic links, where it is replaced.

@@ -24,6 +24,8 @@ pub struct Remarks<'a> {
     host: &'a HostRuntime,
     alloc: Global,
     lines: RefCell<String>,
+    /// Those of them that everybody is told.
+    told: RefCell<String>,
     is_terminal: bool,
     has_stages: Cell<bool>,
     is_shown: Cell<bool>,
@@ -38,6 +40,7 @@ impl<'a> Remarks<'a> {
             host,
             alloc,
             lines: RefCell::new(String::new(alloc)),
+            told: RefCell::new(String::new(alloc)),
             is_terminal: host.stderr().is_terminal(),
             has_stages: Cell::new(false),
             is_shown: Cell::new(false),
@@ -108,12 +111,27 @@ impl<'a> Remarks<'a> {
         }
     }
 
-    /// Writes them to standard error.
-    pub(crate) fn print(&self) {
-        if let Ok(lines) = self.lines.try_borrow() {
+    /// Writes them to standard error, or those alone that everybody is told.
+    pub(crate) fn print(&self, all: bool) {
+        let lines = if all { &self.lines } else { &self.told };
+        if let Ok(lines) = lines.try_borrow() {
             let text = lines.as_str();
             let _ = eprint!(self.host; "{text}");
         }
+    }
+
+    // The line of a remark; none where there is no memory for it.
+    fn line_of<T: fmt::Display>(&self, remark: &T) -> Option<String> {
+        let text = format!(in self.alloc; "{remark}").ok()?;
+        let shown = Shown(text.as_str());
+        format!(in self.alloc; "  {shown}\n").ok()
+    }
+}
+
+// Adds a line, unless there is no memory for it.
+fn add(lines: &RefCell<String>, line: &str) {
+    if let Ok(mut lines) = lines.try_borrow_mut() {
+        let _ = lines.push_str(line);
     }
 }
 
@@ -124,14 +142,28 @@ impl Notes for Remarks<'_> {
 
     // Where there is no memory for a line, it is left out.
     fn note<T: fmt::Display>(&self, remark: &T) {
-        let Ok(text) = format!(in self.alloc; "{remark}") else {
+        if let Some(line) = self.line_of(remark) {
+            add(&self.lines, line.as_str());
+        }
+    }
+
+    fn note_once<T: fmt::Display>(&self, remark: &T) {
+        let Some(line) = self.line_of(remark) else {
             return;
         };
-        let shown = Shown(text.as_str());
-        if let Ok(line) = format!(in self.alloc; "  {shown}\n") {
-            if let Ok(mut lines) = self.lines.try_borrow_mut() {
-                let _ = lines.push_str(line.as_str());
-            }
+        let is_noted = match self.lines.try_borrow() {
+            Ok(lines) => lines.as_str().contains(line.as_str()),
+            Err(_) => false,
+        };
+        if !is_noted {
+            add(&self.lines, line.as_str());
+        }
+    }
+
+    fn tell<T: fmt::Display>(&self, remark: &T) {
+        if let Some(line) = self.line_of(remark) {
+            add(&self.lines, line.as_str());
+            add(&self.told, line.as_str());
         }
     }
 
