@@ -105,7 +105,7 @@ class Pack:
             raise Refused("no free control block in the volume table of contents")
         self.image.put_block(place, ebcdic(name, 44), self.block_of(form, laid, run))
         self.count(max(self.address(place), self.told()[1]), -1)
-        self.take(first, len(laid.tracks))
+        self.say_free(self.free() - {*range(run[0], run[1] + 1)})
         for number, blocks in enumerate(laid.tracks, first):
             self.image.put_blocks(number, blocks)
         self.taken[name] = run
@@ -129,13 +129,7 @@ class Pack:
         if name not in self.taken:
             raise Refused("no such data set")
         place, (first, last) = self.place_of(name), self.taken.pop(name)
-        free = {*range(first, last + 1)}.union(*(range(start, start + has) for start, has in self.free_runs()))
-        starts = sorted(it for it in free if it - 1 not in free)
-        runs = [(it, next(end for end in range(it, self.image.tracks + 1) if end not in free) - it) for it in starts]
-        chain = [it[0] for it in self.blocks() if it[1].data[:1] == b"\xf5"]
-        assert len(chain) == 1 and len(runs) <= 26, "a model of one block of free tracks"
-        spelled = b"".join(map(self.spelled, runs)).ljust(130, b"\0")
-        self.image.put_block(chain[0], b"\5" * 4 + spelled[:40], b"\xf5" + spelled[40:] + bytes(5))
+        self.say_free({*range(first, last + 1)} | self.free())
         told = self.told()[1]
         self.image.put_block(place, bytes(44), bytes(96))
         others = [self.address(it[0]) for it in self.blocks() if it[1].data[:1] == b"\xf1"]
@@ -182,15 +176,18 @@ class Pack:
         blocks = int.from_bytes(data[6:8], "big") + free
         self.image.put_block(place, key, data[:1] + last + blocks.to_bytes(2, "big") + data[8:])
 
-    def take(self, first: int, count: int) -> None:
-        """Shortens the run of free tracks that begins with these."""
-        place = next(it[0] for it in self.blocks() if it[1].data[:1] == b"\xf5")
-        runs = self.free_runs()
-        i = next(at for at, run in enumerate(runs) if run[0] == first and run[1] >= count)
-        runs[i] = first + count, runs[i][1] - count
-        spelled = b"".join(map(self.spelled, runs))
-        key, data = self.image.block(place)
-        self.image.put_block(place, key[:4] + spelled[:40], data[:1] + spelled[40:] + data[91:])
+    def free(self) -> set[int]:
+        """The free tracks that the pack tells."""
+        return set[int]().union(*(range(start, start + has) for start, has in self.free_runs()))
+
+    def say_free(self, free: set[int]) -> None:
+        """The pack tells these as its free tracks, in runs that are each as long as they can be."""
+        starts = sorted(it for it in free if it - 1 not in free)
+        runs = [(it, next(end for end in range(it, self.image.tracks + 1) if end not in free) - it) for it in starts]
+        chain = [it[0] for it in self.blocks() if it[1].data[:1] == b"\xf5"]
+        assert len(chain) == 1 and len(runs) <= 26, "a model of one block of free tracks"
+        spelled = b"".join(map(self.spelled, runs)).ljust(130, b"\0")
+        self.image.put_block(chain[0], b"\5" * 4 + spelled[:40], b"\xf5" + spelled[40:] + bytes(5))
 
 
 def is_name(name: str) -> bool:

@@ -87,6 +87,19 @@ def folder_that_is_written_by_hand_goes_onto_a_volume(s: Scratch) -> None:
         same(s.dasd("extract", "new.ckd", "TEST.LIB(LATER)", "--text"), (0, "IN ALPHA\n", ""))
 
 
+@row
+def folder_is_loaded_in_place_or_beside_the_old_file(s: Scratch) -> None:
+    for words in WAYS:
+        held = fresh(s)
+        os.link(s.path("new.ckd"), s.path("other.ckd"))
+        put_folder(s, BY_HAND, HAND_FILES)
+        same(load(s, "--text", *words)[0], 0)
+        # a file that is replaced leaves its other name the old bytes
+        same(s.path("other.ckd").read_bytes() == held, words == ("--replace",), "the other name")
+        same(s.path("new.ckd").read_bytes() != held, True, "the name")
+        s.path("other.ckd").unlink()
+
+
 def worn_in(s: Scratch) -> None:
     """A volume with cards, a data set with keys over two extents, and a library whose entries have all that such have."""
     keyed: list[Block] = [(ebcdic(f"KEY{number}", 8), bytes([0xC1 + number]) * (number * 300 + 1)) for number in range(8)]

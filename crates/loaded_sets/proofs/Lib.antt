@@ -11,3 +11,4 @@ mod LibraryFits
 mod Made
 mod LibraryPlaced
 mod LibraryRead
+mod Changes

@@ -14,7 +14,7 @@ use Rattle.loaded_sets.specs.PlacedParts.{IsPlaced, IsWritten}
 use Rattle.loaded_sets.proofs.PlacedRead.{one_extent, are_loaded}
 
 module _ (v : Labelled) (set : PlacedSet) (p : Placed) (before now : List (List ℕ)) where
-  module _ (placed : IsPlaced v set p) (a : RecordAddress) (is : IsWritten v set p before a now) (i : ℕ) where
+  module _ (placed : IsPlaced v before set p) (a : RecordAddress) (is : IsWritten v set p before a now) (i : ℕ) where
     module _ (has : HasSet v (contents_of v.geometry now) p.block a i) where
       extents : extents_behind (contents_of v.geometry now).blocks (block_in (contents_of v.geometry now).blocks i) ≡ p.block.extent ∷ []
       extents = one_extent (contents_of v.geometry now).blocks (block_in (contents_of v.geometry now).blocks i) p.block

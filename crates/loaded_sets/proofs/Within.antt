@@ -10,19 +10,18 @@ use Rattle.ckd_track.specs.declared.model.DriveModel.{DriveModel}
 use Rattle.record_tracks.specs.declared.records.NewRecord.{NewRecord}
 use Rattle.record_tracks.specs.Records.{Areas, all_areas}
 use Rattle.record_tracks.specs.Tracks.{Takes, StandsAt, fitting, fitting_on, left_behind, behind_track}
-use Rattle.volume_labels.specs.declared.fields.Extent.{Extent}
 use Rattle.record_tracks.proofs.Listed.{length-all}
 use Rattle.loaded_sets.specs.Sets.{IsLast}
 use Rattle.loaded_sets.proofs.Tracks.{none_behind, one_behind}
-use Rattle.new_labels.specs.Runs.{is_free, IsFirstRun}
+use Rattle.new_labels.specs.Runs.{Space, is_free, IsFirstRun}
 
-on_volume : (g : Geometry) (extents : List Extent) (m : ℕ) → is_free g extents m ≡ true → m < tracks_of g
-on_volume g extents m is = grind (arith, nat_tests)
+on_volume : (g : Geometry) (s : Space) (m : ℕ) → is_free g s m ≡ true → m < tracks_of g
+on_volume g s m is = grind (arith, nat_tests)
 
-pub run_within : (g : Geometry) (extents : List Extent) (tracks first : ℕ) → 1 ≤ tracks → IsFirstRun g extents tracks (Some first)
+pub run_within : (g : Geometry) (s : Space) (tracks first : ℕ) → 1 ≤ tracks → IsFirstRun g s tracks (Some first)
     → first + tracks ≤ tracks_of g
-run_within g extents tracks first some run =
-    let last = on_volume g extents (first + (tracks - 1)) (run.0 (tracks - 1) (omega (arith, some))) in
+run_within g s tracks first some run =
+    let last = on_volume g s (first + (tracks - 1)) (run.0 (tracks - 1) (omega (arith, some))) in
     omega (arith, last, some)
 
 -- records take a track at least

@@ -4,6 +4,7 @@ pub mod Loaded
 pub mod Loads
 pub mod Parts
 pub mod Volumes
+pub mod Space
 pub mod Sets
 pub mod Tables
 pub mod Placed

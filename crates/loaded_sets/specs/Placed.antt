@@ -1,5 +1,5 @@
 -- A volume with a data set that was put onto it.
-use Rattle.std.specs.Prelude.{◌≡◌, ◌⊎◌, ℕ, ◌+◌, ◌-◌, ◌<◌, ◌≤◌, List, [], ◌∷◌, ◌++◌, length, Some}
+use Rattle.std.specs.Prelude.{◌≡◌, ◌⊎◌, ℕ, ◌+◌, ◌-◌, ◌<◌, ◌≤◌, List, [], ◌∷◌, ◌++◌, length, Some, Ok, Err}
 use Rattle.std.specs.List.{position}
 use Rattle.ckd_track.specs.declared.geometries.Geometry.{Geometry}
 use Rattle.record_tracks.specs.Records.{Areas}
@@ -12,6 +12,9 @@ use Rattle.volume_labels.specs.declared.labels.VolumeLabel.{VolumeLabel}
 use Rattle.volume_labels.specs.declared.fields.RecordAddress.{RecordAddress}
 use Rattle.volume_contents.specs.Contents.{Said, contents_of, block_in, slot_at}
 use Rattle.volume_contents.specs.Sets.{has_name, extents_behind}
+use Rattle.volume_changes.specs.declared.blocks.BlockChange.{BlockChange}
+use Rattle.volume_changes.specs.declared.refusal.ChangeRefusal.{ChangeRefusal}
+use Rattle.volume_changes.specs.Space.{taken_of}
 use Rattle.changed_volumes.specs.Changes.{IsHindered}
 use Rattle.loaded_sets.specs.declared.place_fault.PlaceFault.{PlaceFault}
 use Rattle.loaded_sets.specs.declared.place_fault.PlaceFault.TheVariants as fault
@@ -50,15 +53,17 @@ pub record HasSet (v : Labelled) (s : Said) (block : NewDataSet) (a : RecordAddr
 -- The control block of a data set was written into a table of contents, and its records onto its tracks.
 pub record IsWrittenOn (v : Labelled) (set : PlacedSet) (first tracks : ℕ) (block : NewDataSet) (before : List (List ℕ)) (a : RecordAddress)
     (now : List (List ℕ)) : Type 0 where
+  pub changes : List BlockChange
+  pub taken : taken_of v.geometry v.label.contents v.blocks first tracks ≡ Ok changes
   pub listed : List (List ℕ)
-  pub writes : WritesBlock v first tracks (set.name ++ data_set_data block) before a listed
+  pub writes : WritesBlock v changes (set.name ++ data_set_data block) before a listed
   pub holds : HasAreas v.geometry (areas set) first tracks listed now
 
 -- A volume of these slots gets the data set: its tracks and its control block, what becomes of the table and of the tracks, that all other
 -- tracks stay; and that a reader of the volume finds the data set, with one extent, on whose tracks its records are.
 pub record GetsSet (v : Labelled) (set : PlacedSet) (before : List (List ℕ)) (tracks : ℕ) (now : List (List ℕ)) : Type 0 where
   pub first : ℕ
-  pub gets : GetsTracks v (areas set) first tracks
+  pub gets : GetsTracks v before (areas set) first tracks
   pub block : NewDataSet
   pub new : IsNewSet v set first tracks block
   pub address : RecordAddress
@@ -70,6 +75,12 @@ pub record GetsSet (v : Labelled) (set : PlacedSet) (before : List (List ℕ)) (
   pub loaded : IsLoaded v.geometry (extents_behind (contents_of v.geometry now).blocks (block_in (contents_of v.geometry now).blocks place))
       now (areas set) tracks
 
+-- the areas have room, and the blocks of format 5 have none for the runs of free tracks that are left then
+abbrev pub IsUnsaid : ChangeRefusal → Labelled → (slots : List (List ℕ)) → (areas : List Areas) → Type 0
+IsUnsaid r v slots areas =
+    (first : ℕ) × (tracks : ℕ) × GetsTracks v slots areas first tracks
+    × (taken_of v.geometry v.label.contents v.blocks first tracks ≡ Err r)
+
 -- The data set was written so, and a reader of the volume does not find it so.
 pub record IsLost (v : Labelled) (set : PlacedSet) (first tracks : ℕ) (before : List (List ℕ)) : Type 0 where
   pub block : NewDataSet
@@ -79,14 +90,16 @@ pub record IsLost (v : Labelled) (set : PlacedSet) (first tracks : ℕ) (before 
   pub written : IsWrittenOn v set first tracks block before address now
   pub lost : (i : ℕ) → HasSet v (contents_of v.geometry now) block address i → ⊥
 
--- Why a volume does not get a data set: there is no room for its areas; or there is, and no free control block; or a block that would change
--- with it stands on no track of the table, or a reader would not find it.
+-- Why a volume does not get a data set: there is no room for its areas; or there is, and the blocks of format 5 have none for the runs of free
+-- tracks that are left, or there is no free control block; or a block that would change with it stands on no track of the table, or a reader
+-- would not find it.
 abbrev pub HasNoPlace : PlaceRefusal → Labelled → PlacedSet → (slots : List (List ℕ)) → Type 0
-HasNoPlace refusal.NoRoom v set slots = HasNoRoom v (areas set)
+HasNoPlace refusal.NoRoom v set slots = HasNoRoom v slots (areas set)
+HasNoPlace (refusal.Volume r) v set slots = IsUnsaid r v slots (areas set)
 HasNoPlace refusal.NoFreeBlock v set slots =
-    HasNoFree v.geometry v.table.extent slots × (first : ℕ) × (tracks : ℕ) × GetsTracks v (areas set) first tracks
+    HasNoFree v.geometry v.table.extent slots × (first : ℕ) × (tracks : ℕ) × GetsTracks v slots (areas set) first tracks
 HasNoPlace refusal.Unconfirmed v set slots =
-    (first : ℕ) × (tracks : ℕ) × GetsTracks v (areas set) first tracks
+    (first : ℕ) × (tracks : ℕ) × GetsTracks v slots (areas set) first tracks
     × (ChangesElsewhere v first tracks slots ⊎ IsLost v set first tracks slots)
 HasNoPlace r v set slots = ⊥
 

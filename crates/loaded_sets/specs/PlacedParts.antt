@@ -1,5 +1,5 @@
 -- How the code holds what the contracts speak of; no public contract names these.
-use Rattle.std.specs.Prelude.{◌≡◌, ℕ, ◌+◌, ◌-◌, ◌≤◌, List, length, Option, Some}
+use Rattle.std.specs.Prelude.{◌≡◌, ℕ, ◌+◌, ◌-◌, ◌≤◌, List, length, Option, Some, Ok, Err}
 use Rattle.std.specs.List.{position}
 use Rattle.ckd_track.specs.declared.geometries.Geometry.{Geometry}
 use Rattle.ckd_track.specs.Geometry.{tracks_of}
@@ -11,6 +11,7 @@ use Rattle.new_labels.specs.declared.set_blocks.NewDataSet.{NewDataSet}
 use Rattle.new_labels.specs.SetBlocks.{data_set_data, data_set_read}
 use Rattle.new_labels.specs.Extents.{HasRun}
 use Rattle.volume_changes.specs.declared.blocks.BlockChange.{BlockChange}
+use Rattle.volume_changes.specs.Space.{taken_of}
 use Rattle.volume_contents.specs.declared.blocks.Block.{Block}
 use Rattle.volume_contents.specs.Contents.{Said, block_in}
 use Rattle.volume_contents.specs.Sets.{has_name}
@@ -22,18 +23,29 @@ use Rattle.loaded_sets.specs.declared.plans.PlacedSet.{PlacedSet}
 use Rattle.loaded_sets.specs.declared.plans.Placed.{Placed}
 use Rattle.loaded_sets.specs.Volumes.{Labelled}
 use Rattle.loaded_sets.specs.Sets.{areas, GetsTracks, HasNoRoom, IsNewSet}
-use Rattle.loaded_sets.specs.Tables.{HasNoFree, IsFirstFree, ChangesElsewhere, IsOutside, address_on, filled, last_of}
-use Rattle.loaded_sets.specs.Placed.{HasSet, IsWrittenOn}
+use Rattle.loaded_sets.specs.Tables.{HasNoFree, IsFirstFree, ChangesWith, IsOutside, IsOneOutside, address_on, filled, last_of}
+use Rattle.loaded_sets.specs.Placed.{HasSet, IsWrittenOn, IsUnsaid}
 
 -- something hinders it
 abbrev pub IsHinderedBy : PlaceFault → Type 0
 IsHinderedBy (fault.Job f) = IsHindered f
 IsHinderedBy f = ⊥
 
--- it has no room for these areas
-abbrev pub IsUnplaced : PlaceFault → Labelled → (areas : List Areas) → Type 0
-IsUnplaced (fault.Refused refusal.NoRoom) v areas = HasNoRoom v areas
-IsUnplaced f v areas = IsHinderedBy f
+-- it has no room for these areas, or none for the runs of free tracks that are left
+abbrev pub IsUnplaced : PlaceFault → Labelled → (slots : List (List ℕ)) → (areas : List Areas) → Type 0
+IsUnplaced (fault.Refused refusal.NoRoom) v slots areas = HasNoRoom v slots areas
+IsUnplaced (fault.Refused (refusal.Volume r)) v slots areas = IsUnsaid r v slots areas
+IsUnplaced f v slots areas = IsHinderedBy f
+
+-- the blocks of format 5 have no room for the runs that are left behind these tracks
+abbrev pub IsUntaken : PlaceFault → Labelled → (first tracks : ℕ) → Type 0
+IsUntaken (fault.Refused (refusal.Volume r)) v first tracks = taken_of v.geometry v.label.contents v.blocks first tracks ≡ Err r
+IsUntaken f v first tracks = IsHinderedBy f
+
+-- one of the control blocks that would change stands on no track of the table
+abbrev pub IsOneLeftOut : PlaceFault → Geometry → Extent → List BlockChange → Type 0
+IsOneLeftOut (fault.Refused refusal.Unconfirmed) g e changes = IsOneOutside g e changes
+IsOneLeftOut f g e changes = IsHinderedBy f
 
 -- a control block that would change stands on no track of the table
 abbrev pub IsLeftOut : PlaceFault → Geometry → Extent → Option BlockChange → Type 0
@@ -59,14 +71,15 @@ pub record Fills (g : Geometry) (e : Extent) (body : List ℕ) (before : List (L
   pub slots : now ≡ filled before track place body
 
 -- the table has no free control block, or a block that would change stands on none of its tracks
-abbrev pub IsUnlisted : PlaceFault → Labelled → (first tracks : ℕ) → (slots : List (List ℕ)) → Type 0
-IsUnlisted (fault.Refused refusal.NoFreeBlock) v first tracks slots = HasNoFree v.geometry v.table.extent slots
-IsUnlisted (fault.Refused refusal.Unconfirmed) v first tracks slots = ChangesElsewhere v first tracks slots
-IsUnlisted f v first tracks slots = IsHinderedBy f
+abbrev pub IsUnlisted : PlaceFault → Labelled → List BlockChange → (slots : List (List ℕ)) → Type 0
+IsUnlisted (fault.Refused refusal.NoFreeBlock) v changes slots = HasNoFree v.geometry v.table.extent slots
+IsUnlisted (fault.Refused refusal.Unconfirmed) v changes slots = ChangesWith v changes slots
+IsUnlisted f v changes slots = IsHinderedBy f
 
 -- the data set goes there on such a volume
-pub record IsPlaced (v : Labelled) (set : PlacedSet) (p : Placed) : Type 0 where
-  pub gets : GetsTracks v (areas set) p.run.first p.run.tracks
+pub record IsPlaced (v : Labelled) (slots : List (List ℕ)) (set : PlacedSet) (p : Placed) : Type 0 where
+  pub gets : GetsTracks v slots (areas set) p.run.first p.run.tracks
+  pub taken : taken_of v.geometry v.label.contents v.blocks p.run.first p.run.tracks ≡ Ok p.changes.items
   pub some : 1 ≤ p.run.tracks
   pub within : p.run.first + p.run.tracks ≤ tracks_of v.geometry
   pub new : IsNewSet v set p.run.first p.run.tracks p.block

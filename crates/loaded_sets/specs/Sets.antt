@@ -4,10 +4,12 @@ use Rattle.ckd_track.specs.declared.model.DriveModel.{DriveModel}
 use Rattle.record_tracks.specs.Records.{Areas, all_areas, RecordGoesOn, balance_behind}
 use Rattle.record_tracks.specs.Tracks.{Takes, StandsAt, left_behind}
 use Rattle.new_labels.specs.declared.set_blocks.NewDataSet.{NewDataSet}
+use Rattle.new_labels.specs.SetBlocks.{new_fields}
 use Rattle.new_labels.specs.Extents.{extent_of_run}
 use Rattle.new_labels.specs.Runs.{IsFirstRun, IsApart}
 use Rattle.loaded_sets.specs.declared.plans.PlacedSet.{PlacedSet}
 use Rattle.loaded_sets.specs.Volumes.{Labelled, taken_extents}
+use Rattle.loaded_sets.specs.Space.{space}
 
 -- the areas of its records
 abbrev pub areas : PlacedSet → List Areas
@@ -20,17 +22,17 @@ pub record CanBePlaced (model : DriveModel) (set : PlacedSet) : Type 0 where
   pub last : set.last ≤ length set.records.now
 
 -- The areas take so many tracks, and no fewer have room for them. These are the first ones of the volume that stand one behind another and
--- that neither the label nor the table of contents nor a data set has.
-pub record GetsTracks (v : Labelled) (areas : List Areas) (first tracks : ℕ) : Type 0 where
+-- are free: that neither the label nor the table of contents nor a data set has, and that nothing else keeps back.
+pub record GetsTracks (v : Labelled) (slots : List (List ℕ)) (areas : List Areas) (first tracks : ℕ) : Type 0 where
   pub takes : Takes v.geometry.model areas tracks
   pub few : tracks ≤ 65536
-  pub free : IsFirstRun v.geometry (taken_extents v) tracks (Some first)
+  pub free : IsFirstRun v.geometry (space v slots) tracks (Some first)
   pub apart : IsApart v.geometry (taken_extents v) tracks first
 
 -- they take more tracks than a data set can have, or the volume has not so many free ones one behind another
-abbrev pub HasNoRoom : Labelled → (areas : List Areas) → Type 0
-HasNoRoom v areas = (tracks : ℕ) × Takes v.geometry.model areas tracks
-    × ((65536 < tracks) ⊎ IsFirstRun v.geometry (taken_extents v) tracks None)
+abbrev pub HasNoRoom : Labelled → (slots : List (List ℕ)) → (areas : List Areas) → Type 0
+HasNoRoom v slots areas = (tracks : ℕ) × Takes v.geometry.model areas tracks
+    × ((65536 < tracks) ⊎ IsFirstRun v.geometry (space v slots) tracks None)
 
 -- The last of the first so many records stands on this track, from 0 on, with this number, from 1 on; of none it is number 0 of the first
 -- track.
@@ -53,3 +55,4 @@ pub record IsNewSet (v : Labelled) (set : PlacedSet) (first tracks : ℕ) (s : N
   pub last : IsLast v.geometry.model (areas set) set.last s.last.track s.last.number
   pub balance : s.balance ≡ balance_behind v.geometry.model (take s.last.number (left_behind v.geometry.model (areas set) s.last.track))
   pub extent : s.extent ≡ extent_of_run v.geometry first tracks
+  pub kept : s.kept ≡ new_fields

@@ -17,6 +17,7 @@ mod placed_images;
 mod placing;
 mod plans;
 mod saves;
+mod space;
 mod tables;
 mod volumes;
 

@@ -63,7 +63,7 @@ fn place_with(
     ensures placed { IfOk result (λ tracks. GetsSet (labelled volume.now) set.now image.old.slots tracks image.new.slots) }
     ensures fault { IfErr result (λ e. IsNotPlaced e (labelled volume.now) set.now image.old.slots) }
 {
-    let placed = place_set(alloc, volume, set)?;
+    let placed = place_set(alloc, image, slot, volume, set)?;
     let address = write_set(image, slot, volume, set, &placed)?;
     match confirm(alloc, image, volume, &placed.block, address) {
         Ok(()) => Ok(placed.run.tracks),
@@ -82,13 +82,14 @@ fn write_set(
     requires geometry { volume.now.geometry ≡ image.old.geometry }
     requires size { length slot.old ≡ image.old.geometry.track_size }
     requires set { CanBePlaced volume.now.geometry.model set.now }
-    requires placed { IsPlaced (labelled volume.now) set.now placed.now }
+    requires placed { IsPlaced (labelled volume.now) image.old.slots set.now placed.now }
     ensures same { IsSameImage image.old image.new }
     ensures written { IfOk result (λ address. IsWritten (labelled volume.now) set.now placed.now image.old.slots address image.new.slots) }
-    ensures fault { IfErr result (λ e. IsUnlisted e (labelled volume.now) placed.now.run.first placed.now.run.tracks image.old.slots) }
+    ensures fault { IfErr result (λ e. IsUnlisted e (labelled volume.now) placed.now.changes.items image.old.slots) }
 {
     let bytes = data_set_data(&placed.block);
-    let address = write_table(image, slot, volume, placed.run, (&set.name, &bytes))?;
+    let changes = placed.changes.as_slice();
+    let address = write_table(image, slot, volume, changes, (&set.name, &bytes))?;
     write_tracks(image, slot, placed.run, set.records)?;
     Ok(address)
 }

@@ -4,16 +4,21 @@ ghost use Rattle.std.specs.Prelude.{◌≡◌, ◌≤◌, ◌+◌, length, All, 
 ghost use Rattle.ckd_track.specs.Geometry.{tracks_of};
 ghost use Rattle.record_tracks.specs.Records.{all_areas, RecordGoesOn};
 ghost use Rattle.record_tracks.specs.Tracks.{Takes};
+ghost use Rattle.changed_volumes.specs.Changes.{IsSameImage};
 ghost use Rattle.loaded_sets.specs.Volumes.{labelled};
 ghost use Rattle.loaded_sets.specs.Sets.{areas, CanBePlaced, GetsTracks, IsNewSet};
 ghost use Rattle.new_labels.specs.Extents.{HasRun};
 ghost use Rattle.loaded_sets.specs.PlacedParts.{IsPlaced, IsUnplaced};
 
 use crate::place_fault::{PlaceFault, PlaceRefusal, refused};
+use crate::space::{take, track_marks};
 use crate::volumes::{SoundVolume, taken_extents};
-use new_labels::{NewDataSet, extent_of_run, free_run};
+use ckd_image::Image;
+use dasd_files::VolumeFile;
+use new_labels::{NewDataSet, extent_of_run, free_run, new_fields};
 use record_tracks::{LastPlace, NewRecord, last_place, tracks_needed};
 use std::alloc::Global;
+use volume_changes::BlockChange;
 use volume_labels::{Date, RelativeAddress};
 
 /// The most tracks of a data set: their numbers have two bytes.
@@ -61,41 +66,66 @@ pub(crate) struct Run {
 }
 
 /// Where a data set goes on a volume, and what its control block says.
-#[derive(Clone, Copy)]
+#[derive(Drop)]
 pub(crate) struct Placed {
     /// Its tracks.
     pub(crate) run: Run,
+    /// What becomes of the blocks of format 5.
+    pub(crate) changes: Vec<BlockChange>,
     /// What its format 1 block says.
     pub(crate) block: NewDataSet,
 }
 
-/// Where a data set goes on a volume with nothing wrong, and what its control block says.
+/// Where a data set goes on a volume with nothing wrong, and what its control block says. The slot is one of the image.
 ///
 /// # Errors
 ///
 /// The volume has no room for it, or there is no memory.
 pub(crate) fn place_set(
     alloc: Global,
+    image: &mut Image<VolumeFile>,
+    slot: &mut [u8],
     volume: &SoundVolume,
     set: &PlacedSet,
 ) -> Result<Placed, PlaceFault>
-    requires { CanBePlaced volume.now.geometry.model set.now }
-    ensures placed { IfOk result (IsPlaced (labelled volume.now) set.now) }
-    ensures fault { IfErr result (λ e. IsUnplaced e (labelled volume.now) (areas set.now)) }
+    requires geometry { volume.now.geometry ≡ image.old.geometry }
+    requires size { length slot.old ≡ image.old.geometry.track_size }
+    requires set { CanBePlaced volume.now.geometry.model set.now }
+    ensures same { IsSameImage image.old image.new }
+    ensures kept { image.new.slots ≡ image.old.slots }
+    ensures placed { IfOk result (IsPlaced (labelled volume.now) image.old.slots set.now) }
+    ensures fault { IfErr result (λ e. IsUnplaced e (labelled volume.now) image.old.slots (areas set.now)) }
+    ensures size { length slot.new ≡ length slot.old }
 {
-    let run = run_for(alloc, volume, set.records)?;
+    let run = run_for(alloc, image, slot, volume, set.records)?;
+    let changes = take(alloc, volume, run)?;
     let block = new_set(volume, set, run);
-    Ok(Placed { run, block })
+    Ok(Placed {
+        run,
+        changes,
+        block,
+    })
 }
 
 // The first free tracks that have room for records.
-fn run_for(alloc: Global, volume: &SoundVolume, records: &[NewRecord]) -> Result<Run, PlaceFault>
+fn run_for(
+    alloc: Global,
+    image: &mut Image<VolumeFile>,
+    slot: &mut [u8],
+    volume: &SoundVolume,
+    records: &[NewRecord],
+) -> Result<Run, PlaceFault>
+    requires geometry { volume.now.geometry ≡ image.old.geometry }
+    requires size { length slot.old ≡ image.old.geometry.track_size }
     requires each { All (RecordGoesOn volume.now.geometry.model) records.now }
     requires some { 1 ≤ length records.now }
-    ensures tracks { IfOk result (λ run. GetsTracks (labelled volume.now) (all_areas records.now) run.first run.tracks) }
+    ensures same { IsSameImage image.old image.new }
+    ensures kept { image.new.slots ≡ image.old.slots }
+    ensures tracks { IfOk result (λ run. GetsTracks (labelled volume.now) image.old.slots (all_areas records.now) run.first run.tracks) }
     ensures some { IfOk result (λ run. 1 ≤ run.tracks) }
     ensures within { IfOk result (λ run. run.first + run.tracks ≤ tracks_of volume.now.geometry) }
-    ensures fault { IfErr result (λ e. IsUnplaced e (labelled volume.now) (all_areas records.now)) }
+    ensures fault { IfErr result (λ e. IsUnplaced e (labelled volume.now) image.old.slots (all_areas records.now)) }
+    ensures size { length slot.new ≡ length slot.old }
 {
     let geometry = volume.geometry;
     let needed = tracks_needed(geometry.model, records);
@@ -104,7 +134,8 @@ fn run_for(alloc: Global, volume: &SoundVolume, records: &[NewRecord]) -> Result
     }
     let tracks = needed as u32;
     let extents = taken_extents(alloc, volume)?;
-    match free_run(geometry, extents.as_slice(), tracks) {
+    let marks = track_marks(alloc, image, slot, volume)?;
+    match free_run(geometry, extents.as_slice(), marks.as_slice(), tracks) {
         Some(first) => Ok(Run { first, tracks }),
         None => Err(refused(PlaceRefusal::NoRoom)),
     }
@@ -142,5 +173,6 @@ fn new_set(volume: &SoundVolume, set: &PlacedSet, run: Run) -> NewDataSet
         },
         balance,
         extent: extent_of_run(geometry, run.first, run.tracks),
+        kept: new_fields(),
     }
 }

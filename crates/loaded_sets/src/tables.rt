@@ -1,37 +1,32 @@
 //! The table of contents of a volume that gets a data set.
 
-ghost use Rattle.std.specs.Prelude.{◌≡◌, ◌≤◌, ◌<◌, ◌+◌, ◌++◌, min, length, is_some, slice_index, Some, IfOk, OnOk, IfErr};
-ghost use Rattle.std.specs.List.{position};
+ghost use Rattle.std.specs.Prelude.{◌≡◌, ◌≤◌, ◌<◌, ◌+◌, ◌++◌, min, length, slice_index, Some, IfOk, OnOk, IfErr};
 ghost use Rattle.ckd_track.specs.Geometry.{tracks_of};
 ghost use Rattle.ckd_track.specs.Track.{track_in, record_in};
 ghost use Rattle.volume_contents.specs.Contents.{slot_at};
 ghost use Rattle.volume_contents.specs.Runs.{number, address_of_number};
 ghost use Rattle.volume_changes.specs.Blocks.{changed};
 ghost use Rattle.volume_changes.specs.Volumes.{changed_maybe};
-ghost use Rattle.new_labels.specs.Records.{tracks_in};
+ghost use Rattle.volume_changes.specs.Deletions.{all_changed};
 ghost use Rattle.new_labels.specs.Tables.{IsFreePlace};
 ghost use Rattle.changed_volumes.specs.Changes.{IsSameImage};
-ghost use Rattle.loaded_sets.specs.Tables.{StaysOutside, IsFirstFree, WritesBlock, is_behind, last_of, count_change, take_within, take_from, take_change};
+ghost use Rattle.loaded_sets.specs.Tables.{StaysOutside, IsFirstFree, WritesBlock, is_behind, last_of, count_change};
 ghost use Rattle.loaded_sets.specs.Volumes.{labelled};
-ghost use Rattle.loaded_sets.specs.PlacedParts.{Fills, IsLeftOut, IsUnlisted, IsUnfound};
+ghost use Rattle.loaded_sets.specs.PlacedParts.{Fills, IsLeftOut, IsOneLeftOut, IsUnlisted, IsUnfound};
 
 use crate::place_fault::{NO_SLOT, PlaceFault, PlaceRefusal, refused};
-use crate::plans::Run;
 use crate::volumes::SoundVolume;
 use changed_volumes::write_change;
 use ckd_image::{Image, StoreFault};
 use ckd_track::{Geometry, read_slot};
 use dasd_files::VolumeFile;
-use new_labels::{fill_block, find_run, free_block, put_run, run_behind, updated_contents};
+use new_labels::{fill_block, free_block, updated_contents};
 use volume_changes::BlockChange;
-use volume_contents::{Block, find_block};
-use volume_labels::{BlockKind, Extent, FreeTracks, RecordAddress, TrackAddress, free_space_block};
+use volume_contents::find_block;
+use volume_labels::{Extent, RecordAddress, TrackAddress};
 
-/// The most tracks of a volume whose tracks have numbers of two bytes.
-const NEAR_TRACKS: u32 = 65_536;
-
-/// Writes the format 1 block of a data set on these tracks into the first free block of a table of contents, counts it in the block of format
-/// 4, and takes the tracks from the free ones in format 5. It answers where the block stands.
+/// Writes the format 1 block of a data set into the first free block of a table of contents, counts it in the block of format 4, and writes
+/// these changes of the blocks of format 5. It answers where the block stands.
 ///
 /// # Errors
 ///
@@ -40,21 +35,21 @@ pub(crate) fn write_table(
     image: &mut Image<VolumeFile>,
     slot: &mut [u8],
     volume: &SoundVolume,
-    run: Run,
+    changes: &[BlockChange],
     block: (&[u8; 44], &[u8; 96]),
 ) -> Result<RecordAddress, PlaceFault>
     requires geometry { volume.now.geometry ≡ image.old.geometry }
     requires size { length slot.old ≡ image.old.geometry.track_size }
     ensures same { IsSameImage image.old image.new }
-    ensures writes { IfOk result (λ address. WritesBlock (labelled volume.now) run.first run.tracks
+    ensures writes { IfOk result (λ address. WritesBlock (labelled volume.now) changes.now
         (block.entry.0.now ++ block.entry.1.now) image.old.slots address image.new.slots) }
-    ensures fault { IfErr result (λ e. IsUnlisted e (labelled volume.now) run.first run.tracks image.old.slots) }
+    ensures fault { IfErr result (λ e. IsUnlisted e (labelled volume.now) changes.now image.old.slots) }
     ensures size { length slot.new ≡ length slot.old }
 {
     let extent = volume.table.extent;
     let address = fill_free_block(image, slot, extent, block)?;
     write_block(image, slot, extent, count_change(volume, address))?;
-    write_block(image, slot, extent, take_change(volume, run))?;
+    write_blocks(image, slot, extent, changes)?;
     Ok(address)
 }
 
@@ -191,66 +186,24 @@ fn count_change(volume: &SoundVolume, address: RecordAddress) -> Option<BlockCha
     Some(BlockChange { block, key, bytes })
 }
 
-// What becomes of the first block of format 5 with a run of free tracks that begins with these.
-fn take_change(volume: &SoundVolume, run: Run) -> Option<BlockChange>
-    ensures { result ≡ take_change (labelled volume.now) run.first run.tracks }
+// Writes control blocks in the place of others, one after another.
+fn write_blocks(
+    image: &mut Image<VolumeFile>,
+    slot: &mut [u8],
+    extent: Extent,
+    changes: &[BlockChange],
+) -> Result<(), PlaceFault>
+    requires size { length slot.old ≡ image.old.geometry.track_size }
+    ensures same { IsSameImage image.old image.new }
+    ensures slots { OnOk result (image.new.slots ≡ all_changed image.old.geometry changes.now image.old.slots) }
+    ensures others { OnOk result (StaysOutside image.old.geometry extent image.old.slots image.new.slots) }
+    ensures fault { IfErr result (λ e. IsOneLeftOut e image.old.geometry extent changes.now) }
+    ensures size { length slot.new ≡ length slot.old }
 {
-    let i = position_of_free(volume.geometry, volume.blocks, run)?;
-    let block = volume.blocks[i];
-    take_from(volume.geometry, &block, run)
-}
-
-// Which block is that.
-fn position_of_free(geometry: Geometry, blocks: &[Block], run: Run) -> Option<usize>
-    ensures { result ≡ position (λ b. is_some (take_from geometry run.first run.tracks b)) blocks.now }
-{
-    blocks.iter().position(
-        |block: &Block| -> bool
-            ensures { result ≡ is_some (take_from geometry run.first run.tracks block.now) }
-        { take_from(geometry, block, run).is_some() },
-    )
-}
-
-// What becomes of a block, if it is one of format 5 and has such a run.
-fn take_from(geometry: Geometry, block: &Block, run: Run) -> Option<BlockChange>
-    ensures { result ≡ take_from geometry run.first run.tracks block.now }
-{
-    if !matches!(block.kind, BlockKind::FreeSpace) || geometry.tracks() > NEAR_TRACKS {
-        return None;
+    for change in changes {
+        write_on_table(image, slot, extent, change)?;
     }
-    let free = free_space_block(&block.key, &block.bytes).free;
-    let i = find_run(geometry, &free, run.first, run.tracks)?;
-    take_run(geometry, block, (i, free[i]), run.tracks)
-}
-
-// How many tracks a run has.
-fn tracks_in(geometry: Geometry, run: FreeTracks) -> u32
-    ensures { result ≡ tracks_in geometry run }
-{
-    u32::from(run.cylinders) * u32::from(geometry.model.heads()) + u32::from(run.tracks)
-}
-
-// The same with its run of a number, where the volume has all tracks of that.
-fn take_run(
-    geometry: Geometry,
-    block: &Block,
-    run: (usize, FreeTracks),
-    tracks: u32,
-) -> Option<BlockChange>
-    requires there { run.0 < 26 }
-    requires near { tracks_of geometry ≤ 65536 }
-    ensures { result ≡ take_within geometry tracks block.now run.0 run.1 }
-{
-    let (i, run) = run;
-    let has = tracks_in(geometry, run);
-    if has < tracks || u32::from(run.first) + has > geometry.tracks() {
-        return None;
-    }
-    let left = run_behind(geometry, run, tracks);
-    let (mut key, mut bytes) = (block.key, block.bytes);
-    put_run(&mut key, &mut bytes, i, left);
-    let block = *block;
-    Some(BlockChange { block, key, bytes })
+    Ok(())
 }
 
 // Writes a control block in the place of another one, if there is one that changes.

@@ -1,5 +1,6 @@
 -- A track that the addresses of an extent lead to is one that the extent has.
-use Rattle.std.proofs.Common.{◌≡◌, ◌∙◌, ap, refl, ℕ, ◌+◌, ◌-◌, ◌*◌, ◌/◌, ◌%◌, ◌≤◌, ◌<◌, List, Bool, true, false, nat_lt, nat_le, not, ◌&&◌}
+use Rattle.std.proofs.Common.{◌≡◌, ◌∙◌, ap, refl, ℕ, ◌+◌, ◌-◌, ◌*◌, ◌/◌, ◌%◌, ◌≤◌, ◌<◌, ◌==◌}
+use Rattle.std.proofs.Common.{slice_index, Bool, true, false, nat_lt, nat_le, not, ◌&&◌}
 use Rattle.std.proofs.Common.{arith}
 use Rattle.std.proofs.lemmas.Bool.Decides.{nat_tests}
 use Rattle.std.proofs.lemmas.Nat.{mod_below, div_below, div-mul-add, mod-mul-add}
@@ -9,7 +10,7 @@ use Rattle.ckd_track.specs.declared.geometries.Geometry.{Geometry}
 use Rattle.ckd_track.specs.Model.{heads_of}
 use Rattle.volume_labels.specs.declared.fields.Extent.{Extent}
 use Rattle.volume_labels.specs.Addresses.{number_of_track, is_split, is_run, is_in_order, heads_in, tracks_of_extent, track_in}
-use Rattle.new_labels.specs.Runs.{has_track, is_taken, IsFreeRun, IsApart}
+use Rattle.new_labels.specs.Runs.{has_track, is_taken, Space, IsFreeRun, IsApart}
 
 -- of a run of tracks
 in_run : (heads : ℕ) (e : Extent) (m : ℕ) → is_split e ≡ false → m < tracks_of_extent heads e
@@ -60,16 +61,18 @@ has_it heads e m run there true is =
     let order = split_order heads e is run in
     in_split heads e m is order.0 order.1 (rw is at there)
 
-not_second : (a b : Bool) → (a && not b) ≡ true → b ≡ false
-not_second true true e = absurd cc
-not_second true false e = refl
-not_second false b e = absurd cc
+not_third : (a b c : Bool) → (a && (b && not c)) ≡ true → c ≡ false
+not_third true true true e = absurd cc
+not_third true true false e = refl
+not_third true false c e = absurd cc
+not_third false b c e = absurd cc
 
-pub apart : (g : Geometry) (extents : List Extent) (tracks first : ℕ) → IsFreeRun g extents tracks first → IsApart g extents tracks first
-apart g extents tracks first run = λ i there e is ok m within k near same.
+pub apart : (g : Geometry) (s : Space) (tracks first : ℕ) → IsFreeRun g s tracks first → IsApart g s.extents tracks first
+apart g s tracks first run = λ i there e is ok m within k near same.
     let heads = heads_of g.model in
     let has : has_track heads (first + k) e ≡ true = rw same at (has_it heads e m ok within (is_split e) refl) in
-    let taken : is_taken g extents (first + k) ≡ true =
-    list_any_at (has_track heads (first + k)) extents i e there (ap (has_track heads (first + k)) is ∙ has) in
-    let free = not_second (nat_lt 0 (first + k) && nat_lt (first + k) (tracks_of g)) (is_taken g extents (first + k)) (run k near) in
+    let taken : is_taken g s.extents (first + k) ≡ true =
+    list_any_at (has_track heads (first + k)) s.extents i e there (ap (has_track heads (first + k)) is ∙ has) in
+    let free = not_third (nat_lt 0 (first + k) && nat_lt (first + k) (tracks_of g)) (not (slice_index s.marks (first + k) == 0))
+    (is_taken g s.extents (first + k)) (run k near) in
     absurd cc

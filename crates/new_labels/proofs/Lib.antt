@@ -5,5 +5,4 @@ pub mod Apart
 pub mod SetFields
 pub mod Places
 pub mod Reached
-pub mod Rewritten
 pub mod Walked

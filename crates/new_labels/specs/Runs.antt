@@ -1,6 +1,6 @@
--- Free tracks of a volume, by the extents of its data sets and of its table of contents.
-use Rattle.std.specs.Prelude.{◌≡◌, ◌≢◌, ℕ, ◌+◌, ◌/◌, ◌%◌, ◌<◌, Bool, true, ◌&&◌, not, nat_le, nat_lt, if◌then◌else◌, List, length, slice_index_or, Option, Some}
-use Rattle.std.specs.Prelude.{None}
+-- Free tracks of a volume, by the extents of its data sets and of its table of contents, and by what keeps tracks back.
+use Rattle.std.specs.Prelude.{◌≡◌, ◌≢◌, ℕ, ◌+◌, ◌/◌, ◌%◌, ◌<◌, ◌==◌, Bool, true, ◌&&◌, not, nat_le, nat_lt, if◌then◌else◌, List, length, slice_index}
+use Rattle.std.specs.Prelude.{slice_index_or, Option, Some, None}
 use Rattle.std.specs.List.{list_any}
 use Rattle.ckd_track.specs.declared.geometries.Geometry.{Geometry}
 use Rattle.ckd_track.specs.Model.{heads_of}
@@ -23,18 +23,23 @@ has_track heads n e =
 abbrev pub is_taken : Geometry → List Extent → (n : ℕ) → Bool
 is_taken g extents n = list_any (has_track (heads_of g.model) n) extents
 
--- a track that can be given to a data set: the volume has it, it is not that of the label, and no extent has it
-abbrev pub is_free : Geometry → List Extent → (n : ℕ) → Bool
-is_free g extents n = (nat_lt 0 n && nat_lt n (tracks_of g)) && not (is_taken g extents n)
+-- What says whether a track can be given: the extents that are in use, and a mark for each track of the volume, 0 for one that is kept back.
+pub record Space : Type 0 where
+  pub extents : List Extent
+  pub marks : List ℕ
+
+-- a track that can be given to a data set: the volume has it, it is not that of the label, its mark is not 0, and no extent has it
+abbrev pub is_free : Geometry → Space → (n : ℕ) → Bool
+is_free g s n = (nat_lt 0 n && nat_lt n (tracks_of g)) && (not (slice_index s.marks n == 0) && not (is_taken g s.extents n))
 
 -- so many tracks from this one on can be given
-abbrev pub IsFreeRun : Geometry → List Extent → (tracks first : ℕ) → Type 0
-IsFreeRun g extents tracks first = (k : ℕ) → k < tracks → is_free g extents (first + k) ≡ true
+abbrev pub IsFreeRun : Geometry → Space → (tracks first : ℕ) → Type 0
+IsFreeRun g s tracks first = (k : ℕ) → k < tracks → is_free g s (first + k) ≡ true
 
 -- the first such run; none where there is none
-abbrev pub IsFirstRun : Geometry → List Extent → (tracks : ℕ) → Option ℕ → Type 0
-IsFirstRun g extents tracks (Some first) = IsFreeRun g extents tracks first × ((n : ℕ) → n < first → IsFreeRun g extents tracks n → ⊥)
-IsFirstRun g extents tracks None = (n : ℕ) → IsFreeRun g extents tracks n → ⊥
+abbrev pub IsFirstRun : Geometry → Space → (tracks : ℕ) → Option ℕ → Type 0
+IsFirstRun g s tracks (Some first) = IsFreeRun g s tracks first × ((n : ℕ) → n < first → IsFreeRun g s tracks n → ⊥)
+IsFirstRun g s tracks None = (n : ℕ) → IsFreeRun g s tracks n → ⊥
 
 -- No track that the addresses of an extent lead to is among these: neither one of a data set, nor one of the table of contents.
 abbrev pub IsApart : Geometry → List Extent → (tracks first : ℕ) → Type 0

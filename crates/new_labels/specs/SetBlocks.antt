@@ -1,6 +1,6 @@
 -- The control blocks of a new data set (IBM System/360 Operating System, System Control Blocks, 'Data Set Control Block'). Offsets are in
 -- bytes from 0.
-use Rattle.std.specs.Prelude.{ℕ, List, [], ◌∷◌, ◌++◌, drop, replicate}
+use Rattle.std.specs.Prelude.{ℕ, List, [], ◌∷◌, ◌++◌, drop, replicate, slice_index, slice_range}
 use Rattle.volume_labels.specs.declared.fields.TrackAddress.{TrackAddress}
 use Rattle.volume_labels.specs.declared.fields.RecordAddress.{RecordAddress}
 use Rattle.volume_labels.specs.declared.fields.RelativeAddress.{RelativeAddress}
@@ -9,6 +9,7 @@ use Rattle.volume_labels.specs.declared.fields.Date.{Date}
 use Rattle.volume_labels.specs.declared.blocks.DataSetBlock.{DataSetBlock}
 use Rattle.volume_labels.specs.declared.blocks.ContentsBlock.{ContentsBlock}
 use Rattle.volume_labels.specs.Labels.{contents_block_of}
+use Rattle.new_labels.specs.declared.set_blocks.KeptFields.{KeptFields}
 use Rattle.new_labels.specs.declared.set_blocks.NewDataSet.{NewDataSet}
 use Rattle.new_labels.specs.Records.{two}
 
@@ -36,9 +37,9 @@ no_extent = record { kind = 0; number = 0; first = record { cylinder = 0; head =
 abbrev pub numbers_bytes : (created expires : Date) → List ℕ
 numbers_bytes created expires = 0 ∷ 1 ∷ created.year ∷ two created.day ++ (expires.year ∷ two expires.day ++ (1 ∷ []))
 
--- at 38: the organisation and the record format
-abbrev pub form_bytes : (organisation format : ℕ) → List ℕ
-form_bytes organisation format = two organisation ++ (format ∷ [])
+-- at 38: the organisation, the record format and the option code
+abbrev pub form_bytes : (organisation format options : ℕ) → List ℕ
+form_bytes organisation format options = two organisation ++ (format ∷ options ∷ [])
 
 -- at 42: the lengths of a block, of a record and, at 46, of a key
 abbrev pub length_bytes : (block size key : ℕ) → List ℕ
@@ -48,14 +49,29 @@ length_bytes block size key = two block ++ (two size ++ (key ∷ []))
 abbrev pub last_bytes : RelativeAddress → (balance : ℕ) → List ℕ
 last_bytes last balance = two last.track ++ (last.number ∷ two balance)
 
--- Format 1: the serial number at 1; blanks at 18 for the system that made it; zeros at 47, where only keys within records have a place; at 49
--- that this is the last volume of the data set, and that it gets no more tracks where these are full; the extent at 61; no second and third
--- one, and no further block.
+-- What a new data set has of these: blanks at 18 for the system that made it; no option; no place of a key in its records; at 49 that this is
+-- the last volume of the data set, and that it gets no more tracks where these are full.
+abbrev pub new_fields : KeptFields
+new_fields = record {
+  system = replicate 13 0x40 ++ replicate 7 0;
+  options = 0;
+  allocation = 0 ∷ 0 ∷ 0x80 ∷ 0x80 ∷ replicate 3 0;
+}
+
+-- those of a block of format 1
+abbrev pub fields_of : (bytes : List ℕ) → KeptFields
+fields_of bytes = record {
+  system = slice_range bytes 18 38;
+  options = slice_index bytes 41;
+  allocation = slice_range bytes 47 54;
+}
+
+-- Format 1: the serial number at 1; the fields that are kept at 18, 41 and 47; the extent at 61; no second and third one, and no further block.
 abbrev pub data_set_data : NewDataSet → List ℕ
 data_set_data s =
-    0xF1 ∷ s.serial ++ (numbers_bytes s.created s.expires ++ (0 ∷ 0 ∷ replicate 13 0x40 ++ (replicate 7 0 ++ (form_bytes s.organisation s.format
-    ++ (0 ∷ length_bytes s.block_length s.record_length s.key_length ++ (replicate 2 0 ++ (0x80 ∷ 0x80 ∷ replicate 3 0
-    ++ (last_bytes s.last s.balance ++ (0 ∷ 0 ∷ extent_bytes s.extent ++ replicate 25 0)))))))))
+    0xF1 ∷ s.serial ++ (numbers_bytes s.created s.expires ++ (0 ∷ 0 ∷ s.kept.system
+    ++ (form_bytes s.organisation s.format s.kept.options ++ (length_bytes s.block_length s.record_length s.key_length
+    ++ (s.kept.allocation ++ (last_bytes s.last s.balance ++ (0 ∷ 0 ∷ extent_bytes s.extent ++ replicate 25 0)))))))
 
 -- what a reader of the block has, whose key is the name
 abbrev pub data_set_read : NewDataSet → DataSetBlock
@@ -71,7 +87,7 @@ data_set_read s = record {
   block_length = s.block_length;
   record_length = s.record_length;
   key_length = s.key_length;
-  indicators = 0x80;
+  indicators = slice_index s.kept.allocation 2;
   last = s.last;
   balance = s.balance;
   first_extent = s.extent;

@@ -1,9 +1,10 @@
 //! Runs of free tracks.
 
-ghost use Rattle.std.specs.Prelude.{◌≡◌, ◌≤◌, IfSome};
+ghost use Rattle.std.specs.Prelude.{◌≡◌, ◌≤◌, ◌<◌, length, IfSome};
+ghost use Rattle.ckd_track.specs.Geometry.{tracks_of};
 ghost use Rattle.ckd_track.specs.Model.{heads_of};
 ghost use Rattle.volume_labels.specs.Addresses.{number_of_track};
-ghost use Rattle.new_labels.specs.Runs.{shares_track, has_track, is_taken, IsFirstRun, IsApart};
+ghost use Rattle.new_labels.specs.Runs.{shares_track, has_track, is_taken, Space, is_free, IsFirstRun, IsApart};
 
 use ckd_track::{DriveModel, Geometry};
 use volume_labels::{Extent, TrackAddress, is_split};
@@ -50,16 +51,17 @@ pub fn is_taken(geometry: Geometry, extents: &[Extent], track: u32) -> bool
     )
 }
 
-/// The first of so many tracks, one behind another, that no extent has and of which none is that of the volume's label: of several such
-/// runs the first one. None where the volume has no such run.
-pub fn free_run(geometry: Geometry, extents: &[Extent], tracks: u32) -> Option<u32>
-    requires { 1 ≤ tracks }
-    ensures first { IsFirstRun geometry extents.now tracks result }
+/// The first of so many tracks, one behind another, that can be given: no extent has one of them, the mark of each is not 0, and none is that of
+/// the volume's label. Of several such runs the first one; none where the volume has no such run. There is a mark for each track of the volume.
+pub fn free_run(geometry: Geometry, extents: &[Extent], marks: &[u8], tracks: u32) -> Option<u32>
+    requires some { 1 ≤ tracks }
+    requires marks { length marks.now ≡ tracks_of geometry }
+    ensures first { IsFirstRun geometry (record { extents = extents.now; marks = marks.now }) tracks result }
     ensures apart { IfSome result (IsApart geometry extents.now tracks) }
 {
     let mut free = 0;
     for track in 1..geometry.tracks() {
-        if is_taken(geometry, extents, track) {
+        if !is_free(geometry, extents, marks, track) {
             free = 0;
             continue;
         }
@@ -69,4 +71,14 @@ pub fn free_run(geometry: Geometry, extents: &[Extent], tracks: u32) -> Option<u
         }
     }
     None
+}
+
+// Whether a track behind that of the label can be given.
+fn is_free(geometry: Geometry, extents: &[Extent], marks: &[u8], track: u32) -> bool
+    requires some { 1 ≤ track }
+    requires there { track < tracks_of geometry }
+    requires marks { length marks.now ≡ tracks_of geometry }
+    ensures { result ≡ is_free geometry (record { extents = extents.now; marks = marks.now }) track }
+{
+    marks[track as usize] != 0 && !is_taken(geometry, extents, track)
 }

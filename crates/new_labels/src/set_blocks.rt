@@ -2,11 +2,22 @@
 
 ghost use Rattle.std.specs.Prelude.{◌≡◌};
 ghost use Rattle.volume_labels.specs.Labels.{data_set_block_of, contents_block_of};
-ghost use Rattle.new_labels.specs.SetBlocks.{address_bytes, record_bytes, extent_bytes, numbers_bytes, form_bytes, length_bytes, last_bytes, data_set_data};
+ghost use Rattle.new_labels.specs.SetBlocks.{address_bytes, record_bytes, extent_bytes, numbers_bytes, form_bytes, length_bytes, last_bytes, data_set_data, new_fields, fields_of};
 ghost use Rattle.new_labels.specs.SetBlocks.{data_set_read, updated_contents, updated_read};
 
 use ckd_track::overwrite;
 use volume_labels::{Date, Extent, RecordAddress, RelativeAddress, TrackAddress};
+
+/// What a format 1 block says beside the name, the days, the form and the place of its data set; a block that is written anew keeps it.
+#[derive(Clone, Copy)]
+pub struct KeptFields {
+    /// At 18: the code of the system that made the data set, and what stands behind it.
+    pub system: [u8; 20],
+    /// At 41: the option code.
+    pub options: u8,
+    /// At 47: where keys stand in records; the indicators, among which are those of a password; and how more tracks are given to it.
+    pub allocation: [u8; 7],
+}
 
 /// What the format 1 block of a new data set says: one that is on one volume, in one extent.
 #[derive(Clone, Copy)]
@@ -35,6 +46,36 @@ pub struct NewDataSet {
     pub balance: u16,
     /// Its extent.
     pub extent: Extent,
+    /// What else its block says.
+    pub kept: KeptFields,
+}
+
+/// What a data set has of these that is not written anew: blanks, no option, and no more tracks where it is full. It is on its last volume.
+pub fn new_fields() -> KeptFields
+    ensures { result ≡ new_fields }
+{
+    let mut system = [0; 20];
+    overwrite(&mut system, 0, &[0x40; 13]);
+    KeptFields {
+        system,
+        options: 0,
+        allocation: [0, 0, 0x80, 0x80, 0, 0, 0],
+    }
+}
+
+/// Those of a block of format 1.
+pub fn fields_of(bytes: &[u8; 96]) -> KeptFields
+    ensures { result ≡ fields_of bytes.now }
+{
+    let mut system = [0; 20];
+    system.copy_from_slice(&bytes[18..38]);
+    let mut allocation = [0; 7];
+    allocation.copy_from_slice(&bytes[47..54]);
+    KeptFields {
+        system,
+        options: bytes[41],
+        allocation,
+    }
 }
 
 // Cylinder and head of a track.
@@ -72,12 +113,12 @@ fn numbers_bytes(created: Date, expires: Date) -> [u8; 9]
     [0, 1, created.year, d0, d1, expires.year, e0, e1, 1]
 }
 
-// Organisation and record format.
-fn form_bytes(organisation: u16, format: u8) -> [u8; 3]
-    ensures { result ≡ form_bytes organisation format }
+// Organisation, record format and option code.
+fn form_bytes(organisation: u16, format: u8, options: u8) -> [u8; 4]
+    ensures { result ≡ form_bytes organisation format options }
 {
     let [o0, o1] = organisation.to_be_bytes();
-    [o0, o1, format]
+    [o0, o1, format, options]
 }
 
 // The lengths of a block, of a record and of a key.
@@ -106,15 +147,18 @@ pub fn data_set_data(set: &NewDataSet) -> [u8; 96]
     let mut bytes = [0; 96];
     overwrite(&mut bytes, 61, &extent_bytes(set.extent));
     overwrite(&mut bytes, 54, &last_bytes(set.last, set.balance));
-    // the last volume of the data set, and no more tracks where these are full
-    overwrite(&mut bytes, 49, &[0x80, 0x80]);
+    overwrite(&mut bytes, 47, &set.kept.allocation);
     overwrite(
         &mut bytes,
         42,
         &length_bytes(set.block_length, set.record_length, set.key_length),
     );
-    overwrite(&mut bytes, 38, &form_bytes(set.organisation, set.format));
-    overwrite(&mut bytes, 18, &[0x40; 13]);
+    overwrite(
+        &mut bytes,
+        38,
+        &form_bytes(set.organisation, set.format, set.kept.options),
+    );
+    overwrite(&mut bytes, 18, &set.kept.system);
     overwrite(&mut bytes, 7, &numbers_bytes(set.created, set.expires));
     overwrite(&mut bytes, 1, &set.serial);
     overwrite(&mut bytes, 0, &[0xF1]);

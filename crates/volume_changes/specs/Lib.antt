@@ -6,3 +6,4 @@ pub mod Runs
 pub mod FreeBlocks
 pub mod Plans
 pub mod Deletions
+pub mod Space

@@ -97,7 +97,6 @@ fn next_in(blocks: &[Block], holding: usize, i: usize) -> RecordAddress
 fn rewritten(blocks: &[Block], runs: &[FreeTracks], holding: usize, i: usize) -> BlockChange
     requires there { i < length blocks.now }
     requires room { holding ≤ length blocks.now }
-    requires full { 26 * holding ≤ length runs.now + 26 }
     ensures { result ≡ rewritten blocks.now runs.now holding i }
 {
     let block = blocks[i];
@@ -108,7 +107,7 @@ fn rewritten(blocks: &[Block], runs: &[FreeTracks], holding: usize, i: usize) ->
             bytes: [0; 96],
         };
     }
-    let runs = runs_bytes(&runs[RUNS * i..]);
+    let runs = runs_bytes(&runs[(RUNS * i).min(runs.len())..]);
     BlockChange {
         block,
         key: free_space_key(&runs),
@@ -129,7 +128,6 @@ pub(crate) fn changes_of(
     holding: usize,
 ) -> Result<Vec<BlockChange>, AllocError>
     requires room { holding ≤ length blocks.now }
-    requires full { 26 * holding ≤ length runs.now + 26 }
     ensures { IfOk result (λ changes. changes.items ≡ changes_of blocks.now runs.now holding) }
 {
     let mut changes = Vec::new(alloc);

@@ -12,6 +12,7 @@ mod plans;
 mod refusal;
 mod renames;
 mod runs;
+mod space;
 
 pub use crate::blocks::{BlockChange, write_block};
 pub use crate::confirms::is_confirmed;
@@ -20,3 +21,4 @@ pub use crate::names::new_set_name;
 pub use crate::plans::{DeletionPlan, PlanFault, plan_deletion};
 pub use crate::refusal::ChangeRefusal;
 pub use crate::renames::{find_set, plan_rename};
+pub use crate::space::{open_marks, plan_taking};

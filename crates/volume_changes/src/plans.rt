@@ -25,7 +25,7 @@ use volume_labels::{
 };
 
 /// The most tracks of a volume whose tracks have numbers of two bytes.
-const NEAR_TRACKS: u32 = 65_536;
+pub(crate) const NEAR_TRACKS: u32 = 65_536;
 
 /// What is deleted with a data set.
 #[derive(Drop)]
@@ -81,8 +81,8 @@ fn first_free(blocks: &[Block]) -> Option<usize>
     )
 }
 
-// Whether free tracks are kept on a volume with this format 4 block.
-fn keeps_free(alloc: Global, table: &Block, blocks: &[Block]) -> Result<bool, AllocError>
+/// Whether free tracks are kept on a volume with this format 4 block.
+pub(crate) fn keeps_free(alloc: Global, table: &Block, blocks: &[Block]) -> Result<bool, AllocError>
     ensures { IfOk result (λ kept. kept ≡ keeps_free table.now blocks.now) }
 {
     if first_free(blocks).is_none() {
@@ -148,8 +148,12 @@ fn runs_behind(
     runs_of(alloc, geometry, marks)
 }
 
-// The blocks of free tracks, where these are kept.
-fn free_blocks(alloc: Global, kept: bool, blocks: &[Block]) -> Result<Vec<Block>, AllocError>
+/// The blocks of free tracks, where these are kept.
+pub(crate) fn free_blocks(
+    alloc: Global,
+    kept: bool,
+    blocks: &[Block],
+) -> Result<Vec<Block>, AllocError>
     ensures { IfOk result (λ some. some.items ≡ free_blocks kept blocks.now) }
 {
     if !kept {
@@ -207,8 +211,7 @@ fn push_blocks(all: &mut Vec<Block>, more: &[Block]) -> Result<(), AllocError>
 
 // How many of them say free tracks, of which there are so many runs.
 fn holding(kept: bool, runs: usize) -> usize
-    ensures blocks { result ≡ holding kept runs }
-    ensures full { 26 * result ≤ runs + 26 }
+    ensures { result ≡ holding kept runs }
 {
     if !kept {
         return 0;
@@ -273,7 +276,6 @@ fn changes_with(
     holding: usize,
 ) -> Result<Vec<BlockChange>, AllocError>
     requires room { holding ≤ length anew.now }
-    requires full { 26 * holding ≤ length runs.now + 26 }
     ensures { IfOk result (λ changes. changes.items ≡ changes_of anew.now runs.now holding
         ++ table_change doomed.now.table (last_behind doomed.now.contents doomed.now.blocks.now doomed.now.block)
         (free_behind doomed.now.contents (length anew.now) holding) ∷ []) }

@@ -26,8 +26,8 @@ fn has_free(geometry: Geometry, track: u32, piece: FreeTracks) -> bool
     first <= track && track < first + number_of_free(geometry, piece)
 }
 
-// Whether one of the pieces has it.
-fn is_said_free(geometry: Geometry, pieces: &[FreeTracks], track: u32) -> bool
+/// Whether one of the pieces has it.
+pub(crate) fn is_said_free(geometry: Geometry, pieces: &[FreeTracks], track: u32) -> bool
     ensures { result ≡ is_said_free geometry pieces.now track }
 {
     pieces.iter().any(
@@ -70,8 +70,8 @@ pub(crate) fn marks_of(
     Ok(marks)
 }
 
-// One mark more.
-fn push(marks: &mut Vec<u8>, mark: u8) -> Result<(), AllocError>
+/// One mark more.
+pub(crate) fn push(marks: &mut Vec<u8>, mark: u8) -> Result<(), AllocError>
     ensures { IfOk result (λ _. marks.new.items ≡ marks.old.items ++ mark ∷ []) }
 {
     match marks.push(mark) {
