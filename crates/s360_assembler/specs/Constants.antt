@@ -1,6 +1,6 @@
 -- Constants and areas of storage, as operands spell them: how often, a letter for the kind, and what it is.
 use Rattle.std.specs.Prelude.{ℕ, ◌*◌, List, [], ◌∷◌, length, take, drop, slice_index_or, replicate, flat_map, position, Bool, not, ◌&&◌}
-use Rattle.std.specs.Prelude.{◌||◌, ◌==◌, nat_le, Option, Some, None, option_map, option_and_then, if◌then◌else◌}
+use Rattle.std.specs.Prelude.{◌||◌, ◌==◌, nat_le, false, Option, Some, None, option_map, option_and_then, if◌then◌else◌}
 use Rattle.std.specs.List.{position_or_len}
 use Rattle.byteorder.specs.Endian.{big_bytes}
 use Rattle.volume_labels.specs.Ebcdic.{code_page_037}
@@ -14,11 +14,23 @@ abbrev pub ebcdic_of : ℕ → Option ℕ
 ebcdic_of character =
     if nat_le 32 character && nat_le character 126 then position (λ c. c == character) code_page_037 else None
 
--- a text in EBCDIC, if each of its characters has a byte
-abbrev pub ebcdic_text : List ℕ → Option (List ℕ)
-ebcdic_text [] = Some []
-ebcdic_text (character ∷ text) =
-    option_and_then (λ byte. option_map (λ bytes. byte ∷ bytes) (ebcdic_text text)) (ebcdic_of character)
+-- A text between apostrophes in EBCDIC, if each of its characters has a byte. An apostrophe in it is written twice: after the first of
+-- the two, `half` is true, and nothing but the second may follow.
+abbrev pub ebcdic_text : (half : Bool) → List ℕ → Option (List ℕ)
+ebcdic_text half [] = if half then None else Some []
+ebcdic_text half (character ∷ text) =
+    let first = character == 39 && not half in
+    let behind = ebcdic_text first text in
+    if half && not (character == 39) then None
+    else (if first then behind else option_and_then (λ byte. option_map (λ bytes. byte ∷ bytes) behind) (ebcdic_of character))
+
+-- at most 128 bytes
+abbrev pub at_most_128 : List ℕ → Option (List ℕ)
+at_most_128 bytes = if nat_le (length bytes) 128 then Some bytes else None
+
+-- the bytes of C'..': at most 128 characters, in at most 256 bytes of the text
+abbrev pub character_bytes : List ℕ → Option (List ℕ)
+character_bytes text = if nat_le (length text) 256 then option_and_then at_most_128 (ebcdic_text false text) else None
 
 -- How often.
 
@@ -48,7 +60,7 @@ decimal_bytes width most digits = option_map (big_bytes width) (option_and_then 
 abbrev pub bytes_of_kind : (letter : ℕ) → List ℕ → Option (List ℕ)
 bytes_of_kind letter text =
     if letter == 88 then stored_bytes_of text
-    else (if letter == 67 then (if nat_le (length text) 128 then ebcdic_text text else None)
+    else (if letter == 67 then character_bytes text
     else (if letter == 70 then decimal_bytes 4 4294967295 text
     else (if letter == 72 then decimal_bytes 2 65535 text
     else None)))

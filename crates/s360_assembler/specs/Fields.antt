@@ -9,9 +9,10 @@ use Rattle.s360_assembler.specs.declared.fields.Quoting.TheVariants.{Outside, Le
 
 -- Small letters.
 
--- how the byte behind this one is read: within the apostrophes of a text C'..', within others, right behind the letter C, or as all else
+-- How the byte after this one is read: within the apostrophes of a text C'..', within others, or as all else. After the letter C an
+-- apostrophe begins a text, and after the apostrophe that ends one another goes on with it, since an apostrophe in a text is written twice.
 abbrev pub quoting_behind : Quoting → ℕ → Quoting
-quoting_behind Text byte = if byte == 39 || byte == 10 then Outside else Text
+quoting_behind Text byte = if byte == 39 then Letter else (if byte == 10 then Outside else Text)
 quoting_behind Digits byte = if byte == 39 || byte == 10 then Outside else Digits
 quoting_behind Letter byte = if byte == 39 then Text else (if byte == 67 || byte == 99 then Letter else Outside)
 quoting_behind Outside byte = if byte == 39 then Digits else (if byte == 67 || byte == 99 then Letter else Outside)

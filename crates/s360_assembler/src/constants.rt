@@ -1,7 +1,7 @@
 //! Constants and areas of storage, as operands spell them.
 
-ghost use Rattle.std.specs.Prelude.{◌≡◌, ◌≤◌, ◌<◌, option_map, length, position, IfSome};
-ghost use Rattle.s360_assembler.specs.Constants.{ebcdic_of, ebcdic_text, is_no_digit, digits_length, times_of, unit_of, decimal_bytes};
+ghost use Rattle.std.specs.Prelude.{◌≡◌, ◌≤◌, ◌<◌, option_map, length, position, IfSome, false};
+ghost use Rattle.s360_assembler.specs.Constants.{ebcdic_of, ebcdic_text, character_bytes, is_no_digit, digits_length, times_of, unit_of, decimal_bytes};
 ghost use Rattle.s360_assembler.specs.Constants.{bytes_of_kind, letter_and_text, repeated, constant_of, bytes_between};
 ghost use Rattle.s360_assembler.specs.Constants.{boundary_of_kind, boundary_of_unit, length_of_unit, area_of};
 
@@ -59,16 +59,38 @@ fn ebcdic_of(wanted: u8) -> Option<u8>
     None
 }
 
-// A text in EBCDIC.
-fn ebcdic_text(text: &[u8]) -> Option<Bytes>
-    requires { length text.now ≤ 128 }
-    ensures { option_map (λ v. v.items) result ≡ ebcdic_text text.now }
+// A text between apostrophes in EBCDIC. An apostrophe in it is written twice.
+fn ebcdic_text(text: &[u8]) -> Option<ArrayVec<u8, 256>>
+    requires { length text.now ≤ 256 }
+    ensures { option_map (λ v. v.items) result ≡ ebcdic_text false text.now }
 {
     let mut bytes = ArrayVec::new();
+    let mut half = false;
     for character in text {
-        bytes.push(ebcdic_of(*character)?);
+        let is_apostrophe = *character == b'\'';
+        if half && !is_apostrophe {
+            return None;
+        }
+        half = is_apostrophe && !half;
+        if !half {
+            bytes.push(ebcdic_of(*character)?);
+        }
     }
-    Some(bytes)
+    if half { None } else { Some(bytes) }
+}
+
+// The bytes of `C'..'`: at most 128.
+fn character_bytes(text: &[u8]) -> Option<Bytes>
+    ensures { option_map (λ v. v.items) result ≡ character_bytes text.now }
+{
+    if text.len() > 256 {
+        return None;
+    }
+    let bytes = ebcdic_text(text)?;
+    if bytes.len() > 128 {
+        return None;
+    }
+    Some(row_of(bytes.as_slice()))
 }
 
 fn position_of_no_digit(text: &[u8]) -> Option<usize>
@@ -159,7 +181,7 @@ fn bytes_of_kind(letter: u8, text: &[u8]) -> Option<Bytes>
 {
     match letter {
         b'X' if 2 <= text.len() && text.len() <= 256 => bytes_of_digits(text),
-        b'C' if text.len() <= 128 => ebcdic_text(text),
+        b'C' => character_bytes(text),
         b'F' => word_bytes(text),
         b'H' => halfword_bytes(text),
         _ => None,

@@ -33,7 +33,7 @@ pub enum Cause {
     #[error("a count is a number to 65535")]
     Count,
     /// A constant is none.
-    #[error("a constant is X'..', C'..', F'..' or H'..', a number in front of it or not, of 1 to 128 bytes, or A(..)")]
+    #[error("a constant is X'..', C'..' with an apostrophe written twice, F'..' or H'..', a number in front of it or not, of 1 to 128 bytes, or A(..)")]
     Constant,
     /// An area is none.
     #[error("an area is a number and X, C, H, F or D, as 80X, or a length, as CL80")]

@@ -14,7 +14,7 @@ use std::alloc::{AllocError, Global};
 pub enum Quoting {
     /// As all else.
     Outside,
-    /// Right behind the letter C, which begins a text where an apostrophe follows.
+    /// Right after the letter C or after a text: an apostrophe begins a text here, or goes on with it.
     Letter,
     /// Within the apostrophes of a text.
     Text,
@@ -31,6 +31,7 @@ impl Quoting {
         let ends = byte == b'\'' || byte == b'\n';
         let capital = byte.to_ascii_uppercase();
         match self {
+            Quoting::Text if byte == b'\'' => (byte, Quoting::Letter),
             Quoting::Text if ends => (byte, Quoting::Outside),
             Quoting::Text => (byte, Quoting::Text),
             Quoting::Digits if ends => (capital, Quoting::Outside),
