@@ -40,7 +40,9 @@
  * storage as it is and leaves in it what it stored; every other channel stays. So to the program of one channel, what the others
  * store is a change from outside between two of its units, as what the processor stores is.
  *
- * Rules that come from a manual name it: 'PoO' is IBM System/360 Principles of Operation, A22-6821. */
+ * Rules that come from a manual name it: 'PoO' is IBM System/360 Principles of Operation, A22-6821.
+ *
+ * Made by tools/run make/interface of c/interface.toml. */
 #ifndef DASD_H
 #define DASD_H
 

@@ -96,11 +96,12 @@ using Files = Span<const Bytes>;
 namespace detail {
 
 struct Told {
-    dasd_fault code;
+    std::int32_t code;
     const char *name;
     const char *text;
 };
 
+/* c/interface.toml: begin */
 inline constexpr Told faults[] = {
     {DASD_NOTHING_HELD, "DASD_NOTHING_HELD", "the handle holds nothing: it was not made, or was freed"},
     {DASD_IN_USE, "DASD_IN_USE", "the handle holds something already"},
@@ -146,6 +147,7 @@ inline constexpr Told faults[] = {
     {DASD_OTHER_DRIVES, "DASD_OTHER_DRIVES", "a saved state of a channel with other drives"},
     {DASD_NO_TRACK, "DASD_NO_TRACK", "a drive was saved at a track that its volume does not have"},
 };
+/* c/interface.toml: end */
 
 constexpr const Told *told_of(std::int32_t code) noexcept {
     for (const Told &it : faults)
@@ -173,7 +175,7 @@ class Fault : public std::exception {
     /* The number, of enum dasd_fault. */
     std::int32_t code() const noexcept { return refused; }
     /* Its name in dasd.h. */
-    const char *name() const noexcept { return fault_name(refused); }
+    virtual const char *name() const noexcept { return fault_name(refused); }
     /* The sentence that says what it means. */
     const char *what() const noexcept override { return fault_text(refused); }
 
@@ -342,12 +344,14 @@ class Channels {
         detail::done(dasd_attach_new(held(), address, model, cylinders));
     }
 
-    /* Takes a drive off its channel. Its volume is freed, so save it first. The other drives and the channel stay.
-     * DASD_NO_CHANNEL, DASD_NO_DRIVE, DASD_PROGRAM_RUNS, DASD_ENDING_PENDS, DASD_DEVICE_END_OWED. */
+    /* c/interface.toml: begin */
+    /* Takes a drive off its channel. Its volume is freed, so save it first, or keep it by detach_files. The other drives and the
+     * channel stay. DASD_NO_CHANNEL, DASD_NO_DRIVE, DASD_PROGRAM_RUNS, DASD_ENDING_PENDS, DASD_DEVICE_END_OWED. */
     void detach(std::uint16_t address) { detail::done(dasd_detach(held(), address)); }
+    /* c/interface.toml: end */
 
-    /* The same, and the volume's files, with all that was written, are given back, where they lie: none is copied. DASD_NO_MEMORY, and the
-     * faults of detach; std::bad_alloc. */
+    /* Takes a drive off its channel, and gives the volume's files back, with all that was written, where they lie: none is copied.
+     * DASD_NO_MEMORY, and the faults of detach; std::bad_alloc. */
     HeldFiles detach_files(std::uint16_t address) {
         HeldFiles files;
         detail::done(dasd_detach_files(held(), address, files.made()));

@@ -23,7 +23,9 @@
  * every call but the two that attach answers DASD_NOTHING_HELD, before anything else. Only these two and dasd_drive_copy take memory. Its
  * calls stand in libdasd_drive.a; a program that has a subsystem of dasd.h too links both libraries.
  *
- * Rules that come from a manual name it: 'CD' are the IBM component descriptions of the 2841 (A26-5988) and of the 2314 (A26-3599). */
+ * Rules that come from a manual name it: 'CD' are the IBM component descriptions of the 2841 (A26-5988) and of the 2314 (A26-3599).
+ *
+ * Made by tools/run make/interface of c/interface.toml. */
 #ifndef DASD_DRIVE_H
 #define DASD_DRIVE_H
 

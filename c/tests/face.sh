@@ -1,18 +1,23 @@
 #!/bin/sh
-# face.sh CXX ARCHIVE OUT: dasd.hpp has each call and each fault of dasd.h, with its text; and face.cpp passes, without a warning and under
-# sanitizers, by each C++ compiler that is here and for each standard that it knows. Of a call with a size it has the header's face.
+# face.sh CXX ARCHIVE OUT: the face of the archive's header for C++, dasd.hpp for libdasd.a, has each call and each fault of the header, with its
+# text; and its test, face.cpp or drive_face.cpp, passes, without a warning and under sanitizers, by each C++ compiler that is here and for each
+# standard that it knows. Of a call with a size it has the header's face.
 set -eu
 cxx=$1 archive=$2 out=$3
 here=$(dirname "$0")
 work=$(mktemp -d)
 trap 'rm -rf "$work"' EXIT
-wrap=-Wl,--wrap=dasd_lent_sio,--wrap=dasd_check,--wrap=dasd_attach,--wrap=dasd_peek,--wrap=dasd_poke
+name=$(basename "$archive" .a | sed 's/^lib//')
+case $name in
+    dasd) test=face wrap=-Wl,--wrap=dasd_lent_sio,--wrap=dasd_check,--wrap=dasd_attach,--wrap=dasd_peek,--wrap=dasd_poke ;;
+    *) test=drive_face wrap= ;;
+esac
 warnings="-Wall -Wextra -Wpedantic -Wshadow -Wconversion -Werror"
 
-sed -n 's/^u\{0,1\}int32_t \(dasd_[a-z_]*\)(.*/\1/p' "$here/../dasd.h" | sed 's/_sized$//' | sort > "$work/declared"
-grep -o 'dasd_[a-z_]*(' "$here/../dasd.hpp" | tr -d '(' | sort -u > "$work/called"
+sed -n 's/^u\{0,1\}int32_t \(dasd_[a-z_]*\)(.*/\1/p' "$here/../$name.h" | sed 's/_sized$//' | sort > "$work/declared"
+grep -o 'dasd_[a-z_]*(' "$here/../$name.hpp" | tr -d '(' | sort -u > "$work/called"
 diff "$work/declared" "$work/called"
-sed -n 's|^ *\(DASD_[A-Z_0-9]*\) = \(-[0-9]*\),\{0,1\} */\* \(.*\) \*/$|\1 \2 \3|p' "$here/../dasd.h" > "$work/faults"
+sed -n 's|^ *\(DASD_[A-Z_0-9]*\) = \(-[0-9]*\),\{0,1\} */\* \(.*\) \*/$|\1 \2 \3|p' "$here/../$name.h" > "$work/faults"
 test -s "$work/faults"
 
 tried=0
@@ -27,11 +32,11 @@ for compiler in "$cxx" g++ clang++; do
     for standard in c++17 c++20 c++2b; do
         "$@" -std=$standard -fsyntax-only -x c++ - < /dev/null 2> "$work/why" || continue
         # shellcheck disable=SC2086 # the warnings are words
-        "$@" -std=$standard -O1 -g $warnings -fsanitize=address,undefined -fno-sanitize-recover=all $wrap -o "$out/face" "$here/face.cpp" "$archive"
-        "$out/face"
-        "$out/face" texts | diff "$work/faults" -
+        "$@" -std=$standard -O1 -g $warnings -fsanitize=address,undefined -fno-sanitize-recover=all $wrap -o "$out/$test" "$here/$test.cpp" "$archive"
+        "$out/$test"
+        "$out/$test" texts | diff "$work/faults" -
         tried=$((tried + 1))
     done
 done
-echo "face.sh: dasd.hpp passes with $tried of compiler and standard"
+echo "face.sh: $name.hpp passes with $tried of compiler and standard"
 test "$tried" -gt 0

@@ -5,6 +5,7 @@
 set -eu
 make=$1 cc=$2 files=$3
 here=$(cd "$(dirname "$0")/.." && pwd)
+top=$(cd "$here/.." && pwd)
 work=$(mktemp -d)
 trap 'rm -rf "$work"' EXIT
 
@@ -12,15 +13,15 @@ trap 'rm -rf "$work"' EXIT
 mkdir "$work/bin"
 printf '#!/bin/sh\ntouch "%s"\nexit 1\n' "$work/rt_was_called" > "$work/bin/rt"
 chmod +x "$work/bin/rt"
-built=$(sha256sum "$here/libdasd.a" "$here"/libdasd.so.*)
+built=$(sha256sum "$top/libdasd.a" "$top"/libdasd.so.*)
 
 install_with() {
-    PATH=$work/bin:$PATH "$make" -s --no-print-directory -C "$here" "$@"
+    PATH=$work/bin:$PATH "$make" -s --no-print-directory -C "$top" "$@"
 }
 
 install_with install PREFIX="$work/usr"
 test ! -e "$work/rt_was_called"
-test "$built" = "$(sha256sum "$here/libdasd.a" "$here"/libdasd.so.*)"
+test "$built" = "$(sha256sum "$top/libdasd.a" "$top"/libdasd.so.*)"
 cp "$here"/examples/*.c "$here"/examples/*.h "$work/"
 cd "$work"
 if command -v pkg-config >/dev/null; then
@@ -51,7 +52,9 @@ test ! -e "$work/rt_was_called"
 
 # Where nothing is built, nothing is installed, and it says so.
 mkdir "$work/empty"
-cp "$here/Makefile" "$here/dasd.h" "$work/empty/"
+mkdir "$work/empty/c"
+cp "$top/Makefile" "$work/empty/"
+cp "$here/dasd.h" "$work/empty/c/"
 if "$make" -s -C "$work/empty" install PREFIX="$work/none" 2> "$work/why"; then
     echo "install.sh: something was installed of nothing" >&2
     exit 1

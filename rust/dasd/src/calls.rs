@@ -52,7 +52,9 @@ calls! {
     attach_files(address: Address, files: HeldFiles) -> Result<(), (Fault, HeldFiles)>;
     detach_files(address: Address) -> Result<HeldFiles, Fault>;
     attach_new(address: Address, model: DriveModel, cylinders: u16) -> Result<(), Fault>;
+    // c/interface.toml: begin
     detach(address: Address) -> Result<(), Fault>;
+    // c/interface.toml: end
     drive(address: Address) -> Result<DriveView, Fault>;
     sio(address: Address) -> Condition<Status>;
     tio(address: Address) -> Condition<Csw>;

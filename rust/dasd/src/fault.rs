@@ -42,6 +42,7 @@ macro_rules! faults {
     };
 }
 
+// c/interface.toml: begin
 faults! {
     /// the handle holds nothing: it was not made, or was freed
     NothingHeld = -1,
@@ -130,6 +131,7 @@ faults! {
     /// a drive was saved at a track that its volume does not have
     NoTrack = -47,
 }
+// c/interface.toml: end
 
 impl Error for Fault {}
 

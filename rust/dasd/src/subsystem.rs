@@ -222,7 +222,9 @@ impl<Storage> Subsystem<Storage> {
         done(unsafe { sys::dasd_attach_new(&mut *self.handle, address.0, model, cylinders) }).map(drop)
     }
 
-    /// Takes a drive off its channel, and frees its volume, so save it first.
+    // c/interface.toml: begin
+    /// Takes a drive off its channel. Its volume is freed, so save it first, or keep it by [`Subsystem::detach_files`]. The other drives
+    /// and the channel stay.
     ///
     /// # Errors
     ///
@@ -230,6 +232,7 @@ impl<Storage> Subsystem<Storage> {
     pub fn detach(&mut self, address: Address) -> Result<(), Fault> {
         done(unsafe { sys::dasd_detach(&mut *self.handle, address.0) }).map(drop)
     }
+    // c/interface.toml: end
 
     /// A file of a drive's volume, 0 for its first, where the drive's program does not run.
     ///
