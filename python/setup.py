@@ -1,4 +1,4 @@
-"""Builds the package `dasd`, with the library inside where `library/` has its assembly text, as a source distribution has it.
+"""Builds the package `dasd`, with library and program inside where `library/` has their assembly text, as a source distribution has it.
 
 The library is one for any Python of its system, so the wheel's tag names the system alone. DASD_MACHINE builds for another one: for
 `aarch64` the compiler is what CC names, or aarch64-linux-gnu-gcc. Without `library/` the package is pure Python.
@@ -26,7 +26,8 @@ HERE = Path(__file__).resolve().parent
 SOURCES = HERE / "library"
 MACHINE = os.environ.get("DASD_MACHINE") or platform.machine()
 SHARED = "libdasd.so.1"
-LINK = ["-shared", "-s", f"-Wl,-soname,{SHARED}", "-Wl,-z,defs,-z,relro,-z,now,--gc-sections"]
+HARD = "-Wl,-z,relro,-z,now,--gc-sections"
+LINK = ["-shared", "-s", f"-Wl,-soname,{SHARED}", "-Wl,-z,defs", HARD]
 
 
 def compiler() -> List[str]:
@@ -45,22 +46,35 @@ class Package(Distribution):  # type: ignore[misc]
         return SOURCES.is_dir()
 
 
+def text_of(name: str) -> Path:
+    """The assembly text of the library or the program for the machine."""
+    text = SOURCES / f"{name}-{MACHINE}.s"
+    if not text.is_file():
+        sys.exit(f"dasd: there is no {name} for {MACHINE}: {', '.join(sorted(it.name for it in SOURCES.glob('*.s')))} are here")
+    return text
+
+
 class BuildWithLibrary(build_py):  # type: ignore[misc]
-    """The package's files, and the library beside them."""
+    """The package's files, and the library and the program beside them."""
 
     def run(self) -> None:
-        """Copies the package's files, and makes the library where its text is here."""
+        """Copies the package's files, and makes library and program where their texts are here."""
         super().run()
         if SOURCES.is_dir():
             self.compile_library(Path(self.build_lib, "dasd", SHARED))
+            self.compile_program(Path(self.build_lib, "dasd", "program"))
 
     def compile_library(self, made: Path) -> None:
         """Assembles the library for the machine, and links it."""
-        text = SOURCES / f"libdasd-{MACHINE}.s"
-        if not text.is_file():
-            sys.exit(f"dasd: there is no library for {MACHINE}: {', '.join(sorted(it.name for it in SOURCES.glob('*.s')))} are here")
-        sources = [str(text), str(SOURCES / "heap.c"), f"-Wl,--version-script={SOURCES / 'exports.map'}"]
+        sources = [str(text_of("libdasd")), str(SOURCES / "heap.c"), f"-Wl,--version-script={SOURCES / 'exports.map'}"]
         subprocess.run([*compiler(), "-std=c11", "-O2", "-fPIC", *LINK, "-o", str(made), *sources], check=True)
+
+    def compile_program(self, made: Path) -> None:
+        """Assembles the program, and links it with its C library inside; where that can't be had, with the system's."""
+        sources = [str(text_of("dasd")), *(str(SOURCES / it) for it in ("system.c", "heap.c"))]
+        command = [*compiler(), "-std=c11", "-O2", "-fPIC", "-s", HARD, "-Wl,--wrap=main", "-o", str(made), *sources]
+        if subprocess.run([*command, "-static"], check=False, stderr=subprocess.DEVNULL).returncode:
+            subprocess.run(command, check=True)
 
 
 class PlatformWheel(bdist_wheel):  # type: ignore[misc]

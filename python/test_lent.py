@@ -2,6 +2,9 @@
 """Tests of channels over main storage that the program keeps: the calls of test_dasd.py and the vectors of test_vectors.py over memory that goes to another
 place at each call; who may do what with memory while it is lent; and what is refused."""
 
+# It looks at what locks.
+# pylint: disable=protected-access
+
 from __future__ import annotations
 
 import array
@@ -9,6 +12,7 @@ import copy
 import ctypes
 import mmap
 import pickle
+import threading
 import unittest
 import unittest.mock
 from typing import Callable, List, Optional, Sequence, Tuple
@@ -214,6 +218,27 @@ class Keys(unittest.TestCase):
                 self.assertEqual((read_with(disks, program), disks.key(2047)), (stores, kept))
             disks.set_key(2048, 9)
             self.assertEqual((keys[1], keys[0], disks.key(4095)), (9, 0xFF, 9))
+
+    def test_they_are_copied_by_who_calls(self) -> None:
+        """No other thread may call meanwhile: it would write the copy that the library reads."""
+        is_free: List[bool] = []
+        with dasd.LentSubsystem(bytearray(SIZE), bytes(BLOCKS), 1) as disks:
+            now, lock = _handle.Lent.now, disks._handle._lock
+
+            def tries() -> None:
+                is_free.append(lock.acquire(blocking=False))
+                if is_free[-1]:
+                    lock.release()
+
+            def asks(lent: _handle.Lent) -> object:
+                other = threading.Thread(target=tries)
+                other.start()
+                other.join()
+                return now(lent)
+
+            with unittest.mock.patch.object(_handle.Lent, "now", asks):
+                self.assertEqual(disks.sio(0x190), 3)
+        self.assertEqual(is_free, [False])
 
     def test_they_may_lie_in_memory(self) -> None:
         memory = bytearray(SIZE)

@@ -2,6 +2,9 @@
 """Tests of what the module dasd keeps from a program: memory that was freed, calls that meet, and numbers that are cut. The library is
 found as in test_dasd.py; where it is looked for is tested here too."""
 
+# It looks at what locks and at what frees, and ends processes that it forked.
+# pylint: disable=protected-access
+
 from __future__ import annotations
 
 import array
@@ -163,9 +166,11 @@ class Lives(unittest.TestCase):
     def test_the_last_view_frees(self) -> None:
         freed: List[object] = []
         disks = made()
-        handle, view = weakref.ref(disks._handle), disks.storage[4:8]  # pylint: disable=protected-access
+        handle, view = weakref.ref(disks._handle), disks.storage[4:8]
         weakref.finalize(handle(), freed.append, True)
         del disks
+        for change in (lambda: setattr(view.obj, "owner", None), lambda: delattr(view.obj, "owner"), lambda: setattr(view.obj, "x", 1)):
+            self.assertRaises(AttributeError, change)
         gc.collect()
         self.assertEqual(freed, [])
         del view
@@ -286,6 +291,60 @@ class Lives(unittest.TestCase):
         finally:
             sys.setswitchinterval(interval)
         self.assertEqual(during, [0])
+
+
+@unittest.skipUnless(hasattr(os, "fork"), "no process is forked here")
+class Forks(unittest.TestCase):
+    """Processes that are forked while another thread calls."""
+
+    def forked(self, work: Callable[[], object]) -> int:
+        """How a process ends that does this, 0 where it came to its end; it has five seconds."""
+        child = os.fork()
+        if not child:
+            signal.alarm(5)
+            try:
+                work()
+                os._exit(0)
+            finally:
+                os._exit(1)
+        return os.waitpid(child, 0)[1]
+
+    def test_while_another_thread_runs_a_program(self) -> None:
+        """The new process has the subsystem as it was between two calls; the program goes on in both."""
+        with made() as disks:
+            disks.poke(0x100, ENDLESS)
+            self.assertEqual(disks.sio(0x190), 0)
+            runner = threading.Thread(target=lambda: disks.run_on(1, 0xFFFFFFFF))
+            runner.start()
+            while disks._handle._lock.acquire(blocking=False):
+                disks._handle._lock.release()
+                time.sleep(0)
+
+            def goes_on() -> None:
+                assert (disks.tch(0x100), disks.run_on(1, 1000).units, disks.hio(0x190)) == (2, 1000, 2)
+                disks.close()
+
+            self.assertEqual(self.forked(goes_on), 0)
+            disks.storage[0x104] = 0  # the program's first word chains no more
+            runner.join()
+
+    def test_while_another_thread_has_files(self) -> None:
+        """And while it copies from them."""
+        files = dasd.HeldFiles(4)
+        is_held, is_over = threading.Event(), threading.Event()
+
+        def holds() -> None:
+            with files._lock:
+                files._is_copying = True
+                is_held.set()
+                is_over.wait()
+
+        holder = threading.Thread(target=holds)
+        holder.start()
+        is_held.wait()
+        self.assertEqual(self.forked(lambda: files.put(0, b"here")), 0)
+        is_over.set()
+        holder.join()
 
 
 class Places(unittest.TestCase):

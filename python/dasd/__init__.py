@@ -17,7 +17,9 @@ nothing has changed. An address is that of the System/360: 0x190 is drive 90 of 
 dasd.Subsystem(65536, 1, 2), and are reached by their addresses and numbers. A program that keeps main storage itself lends it to a
 dasd.LentSubsystem.
 
-No program in plain Python reaches memory that was freed; any thread may call; and a number out of range is refused, never cut.
+No program in plain Python reaches memory that was freed, but for a finalizer, `__del__`, of a cycle that has a view of `storage`: Python
+calls all finalizers of a cycle before it takes it apart. Any thread may call, and so may a forked process. A number out of range is
+refused, never cut.
 """
 
 from __future__ import annotations

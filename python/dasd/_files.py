@@ -4,16 +4,16 @@ from __future__ import annotations
 
 import ctypes
 import operator
-import threading
 from typing import Callable, NoReturn
 
 from . import _library
 from ._handle import calls, done
+from ._locked import Locked
 
 _MOST = ctypes.c_size_t(-1).value
 
 
-class HeldFiles:
+class HeldFiles(Locked):
     """Files of a volume that no drive has. The library takes the memory for their bytes, `put` fills it piece by piece, `attach_files` has a
     drive take them over, and `detach_files` gives them back: no file is ever there twice.
 
@@ -22,6 +22,7 @@ class HeldFiles:
 
     def __init__(self, *lengths: int) -> None:
         """Files of so many bytes each, one to eight, which are zero. NO_FILES, TOO_MANY_FILES, NO_MEMORY."""
+        super().__init__()
         self._begin()
         sizes = [operator.index(it) for it in lengths]
         if any(it < 0 for it in sizes):
@@ -33,14 +34,13 @@ class HeldFiles:
     def none(cls) -> HeldFiles:
         """None, for a call that gives some."""
         files = cls.__new__(cls)
+        Locked.__init__(files)
         files._begin()
         return files
 
     def _begin(self) -> None:
         self._held = _library.Files()
         self._at = ctypes.byref(self._held)
-        self._lock = threading.RLock()
-        self._is_copying = False
         # another module may be gone before this object, at the end of the interpreter
         self._free = calls.dasd_files_free
 
@@ -60,7 +60,7 @@ class HeldFiles:
 
     def _in_place(self, at: int, count: int, place: int, copy: Callable[[int], bytes]) -> bytes:
         """Copies so many bytes of a file, or to them; `copy` is given where they lie."""
-        shown, number = _library.Storage(), operator.index(place)
+        shown, number = _library.Space(), operator.index(place)
         with self._lock:
             self.lend(lambda handle: done(calls.dasd_files_show(handle, number if 0 <= number <= 255 else 255, ctypes.byref(shown))))
             if not 0 <= at <= shown.len - count:

@@ -3,10 +3,11 @@
 from __future__ import annotations
 
 import ctypes
-import threading
-from typing import Callable, List, Tuple
+from functools import lru_cache
+from typing import Any, Callable, List, NoReturn, Tuple
 
 from . import _library
+from ._locked import Locked
 from ._words import Fault, FaultCode
 
 calls = _library.load()
@@ -22,16 +23,25 @@ def done(code: int) -> int:
     return code
 
 
-class Handle:
+@lru_cache(maxsize=None)
+def owned_type(size: int) -> Any:
+    """The type of main storage of so many bytes that keeps its owner, which a program can't take away."""
+
+    def refuse(*_: object) -> NoReturn:
+        raise AttributeError("main storage has no attributes that can be set")
+
+    return type("OwnedStorage", (_library.storage_type(size),), {"__slots__": ("owner",), "__setattr__": refuse, "__delattr__": refuse})
+
+
+class Handle(Locked):
     """What the library holds for a subsystem. It is freed when the last goes that refers to it: the subsystem, until it is closed, and
     each view of main storage that it owns."""
 
     def __init__(self, make: Callable[[object], int]) -> None:
         """What `make` has a handle that holds nothing hold; it answers what its call does."""
+        super().__init__()
         self._held = _library.Handle()
         self._at = ctypes.byref(self._held)
-        self._lock = threading.RLock()
-        self._is_copying = False
         # another module may be gone before this object, at the end of the interpreter
         self._free = calls.dasd_free
         done(make(self._at))
@@ -150,8 +160,8 @@ class Handle:
         """Main storage itself, which holds this handle as long as a view of it is there."""
         place = _library.Storage()
         self.call("show_storage", ctypes.byref(place))
-        of_all = _library.storage_type(place.len).from_address(place.at)
-        of_all.handle = self
+        of_all = owned_type(place.len).from_address(place.at)  # pylint: disable=no-member
+        object.__setattr__(of_all, "owner", self)
         return memoryview(of_all).cast("B")
 
 
@@ -201,8 +211,9 @@ class LentHandle(Handle):
             self.lent = lent
 
     def over(self, name: str, *arguments: object) -> int:
-        lent = self.lent  # stays until the call is over, whatever is lent meanwhile
-        return self.call("lent_" + name, lent.now(), *arguments)
+        with self._lock:
+            lent = self.lent  # stays until the call is over, whatever a handler of a signal lends meanwhile
+            return self.call("lent_" + name, lent.now(), *arguments)
 
     def step(self, channel: int, units: int) -> int:
         did = ctypes.c_uint32(units)

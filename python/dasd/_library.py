@@ -5,28 +5,32 @@ from __future__ import annotations
 import ctypes
 import os
 from pathlib import Path
-from typing import Any, Dict, List, Type
-
-#: The number of the binary interface that these declarations are.
-INTERFACE = 1
+from typing import Any, Dict, List, Tuple, Type
 
 #: How many bytes of main storage have a key in common.
 BLOCK = 2048
 
+# c/interface.toml: begin
+#: The number of the binary interface that these declarations are.
+INTERFACE = 1
+
 #: How many bytes a saved state has.
 SAVED = 538
 
+#: Room for the lines of any look.
+TRACE_ROOM = 2048
+
 
 class Handle(ctypes.Structure):
-    """What a caller holds of a subsystem; all zero it holds nothing."""
+    """The handle."""
 
     _fields_ = [("stamp", ctypes.c_uint64), ("place", ctypes.c_void_p)]
 
 
-class Files(ctypes.Structure):
-    """What a caller holds of files that no drive has; all zero it holds none."""
+class Wanted(ctypes.Structure):
+    """What dasd_run_until is asked for."""
 
-    _fields_ = [("stamp", ctypes.c_uint64), ("place", ctypes.c_void_p)]
+    _fields_ = [("units", ctypes.c_uint32), ("channel", ctypes.c_uint8), ("until", ctypes.c_uint8), ("reserved", ctypes.c_uint8 * 2)]
 
 
 class Bytes(ctypes.Structure):
@@ -36,7 +40,7 @@ class Bytes(ctypes.Structure):
 
 
 class File(ctypes.Structure):
-    """A file of a volume, as it is shown."""
+    """A file of a volume, to be saved: `len` bytes at `at`."""
 
     _fields_ = [("at", ctypes.c_void_p), ("len", ctypes.c_size_t), ("changes", ctypes.c_uint64)]
 
@@ -47,20 +51,34 @@ class Changed(ctypes.Structure):
     _fields_ = [("at", ctypes.c_size_t), ("len", ctypes.c_size_t), ("track", ctypes.c_size_t), ("next", ctypes.c_size_t)]
 
 
-class Storage(ctypes.Structure):
-    """Where main storage lies."""
+class Files(ctypes.Structure):
+    """Files of a volume that no drive has: a handle too, of 16 bytes, for which all that is said of a `dasd` holds."""
+
+    _fields_ = [("stamp", ctypes.c_uint64), ("place", ctypes.c_void_p)]
+
+
+class Space(ctypes.Structure):
+    """The bytes of a file that no drive has: `len` bytes at `at`."""
 
     _fields_ = [("at", ctypes.c_void_p), ("len", ctypes.c_size_t)]
 
 
-class Memory(ctypes.Structure):
-    """Main storage that a call is lent: its bytes, and the key of each block of them."""
+class Drive(ctypes.Structure):
+    """What is known of a drive without a channel program."""
 
-    _fields_ = [("bytes", ctypes.c_void_p), ("size", ctypes.c_size_t), ("keys", ctypes.c_void_p), ("blocks", ctypes.c_size_t)]
+    _fields_ = [
+        ("model", ctypes.c_uint16),
+        ("cylinders", ctypes.c_uint16),
+        ("cylinder", ctypes.c_uint16),
+        ("head", ctypes.c_uint16),
+        ("arm", ctypes.c_uint8),
+        ("sense", ctypes.c_uint8 * 6),
+        ("reserved", ctypes.c_uint8),
+    ]
 
 
 class Ran(ctypes.Structure):
-    """What came of a run."""
+    """What came of dasd_run_on."""
 
     _fields_ = [
         ("units", ctypes.c_uint32),
@@ -72,7 +90,7 @@ class Ran(ctypes.Structure):
 
 
 class Progress(ctypes.Structure):
-    """What came of a run until something happens."""
+    """What came of dasd_run_until."""
 
     _fields_ = [
         ("cylinders", ctypes.c_uint64),
@@ -96,17 +114,16 @@ class Track(ctypes.Structure):
     _fields_ = [("address", ctypes.c_uint16), ("cylinder", ctypes.c_uint16), ("head", ctypes.c_uint16)]
 
 
-class Drive(ctypes.Structure):
-    """What is known of a drive without a channel program."""
+class State(ctypes.Structure):
+    """A channel, as it is shown."""
 
     _fields_ = [
-        ("model", ctypes.c_uint16),
-        ("cylinders", ctypes.c_uint16),
-        ("cylinder", ctypes.c_uint16),
-        ("head", ctypes.c_uint16),
-        ("arm", ctypes.c_uint8),
-        ("sense", ctypes.c_uint8 * 6),
-        ("reserved", ctypes.c_uint8),
+        ("subchannel", ctypes.c_uint8),
+        ("device", ctypes.c_uint8),
+        ("asked", ctypes.c_uint8),
+        ("drives", ctypes.c_uint8),
+        ("units", ctypes.c_uint8 * 8),
+        ("arms", ctypes.c_uint8 * 8),
     ]
 
 
@@ -148,23 +165,8 @@ class Registers(ctypes.Structure):
     ]
 
 
-class Wanted(ctypes.Structure):
-    """What a run until something happens is asked for."""
-
-    _fields_ = [
-        ("units", ctypes.c_uint32),
-        ("channel", ctypes.c_uint8),
-        ("until", ctypes.c_uint8),
-        ("reserved", ctypes.c_uint8 * 2),
-    ]
-
-
-#: Room for the lines of any look, and how many numbers a trace keeps.
-TRACE_ROOM, TRACE_KEPT = 2048, 32
-
-
 class Moment(ctypes.Structure):
-    """A moment at which a trace looks."""
+    """A moment."""
 
     _fields_ = [
         ("what", ctypes.c_uint8),
@@ -177,87 +179,81 @@ class Moment(ctypes.Structure):
 
 
 class Trace(ctypes.Structure):
-    """A trace of one channel: where its lines go, and what it has seen."""
+    """A trace of one channel."""
 
-    _fields_ = [
-        ("lines", ctypes.c_void_p),
-        ("size", ctypes.c_size_t),
-        ("length", ctypes.c_size_t),
-        ("kept", ctypes.c_uint64 * TRACE_KEPT),
-    ]
+    _fields_ = [("lines", ctypes.c_void_p), ("size", ctypes.c_size_t), ("length", ctypes.c_size_t), ("kept", ctypes.c_uint64 * 32)]
 
 
-class State(ctypes.Structure):
-    """A channel, as it is shown."""
+class Storage(ctypes.Structure):
+    """Main storage: `len` bytes at `at`."""
 
-    _fields_ = [
-        ("subchannel", ctypes.c_uint8),
-        ("device", ctypes.c_uint8),
-        ("asked", ctypes.c_uint8),
-        ("drives", ctypes.c_uint8),
-        ("units", ctypes.c_uint8 * 8),
-        ("arms", ctypes.c_uint8 * 8),
-    ]
+    _fields_ = [("at", ctypes.c_void_p), ("len", ctypes.c_size_t)]
+
+
+class Memory(ctypes.Structure):
+    """Main storage: `size` bytes, and the storage key of each of its `blocks` blocks of 2,048 bytes."""
+
+    _fields_ = [("bytes", ctypes.c_void_p), ("size", ctypes.c_size_t), ("keys", ctypes.c_void_p), ("blocks", ctypes.c_size_t)]
 
 
 def _to(of: Type[ctypes.Structure]) -> Any:
     return ctypes.POINTER(of)
 
 
-_U8, _U16, _U32, _U64, _SIZE = ctypes.c_uint8, ctypes.c_uint16, ctypes.c_uint32, ctypes.c_uint64, ctypes.c_size_t
+_U8, _U16, _U32, _U64, _SIZE, _I32 = ctypes.c_uint8, ctypes.c_uint16, ctypes.c_uint32, ctypes.c_uint64, ctypes.c_size_t, ctypes.c_int32
 
-# The calls that take a handle: their arguments behind it.
-_CALLS: Dict[str, List[Any]] = {
-    "new": [_U32, _U8],
-    "copy": [_to(Handle)],
-    "save": [ctypes.c_char_p, _SIZE, ctypes.POINTER(_SIZE)],
-    "restore": [ctypes.c_char_p, _SIZE],
-    "free": [],
-    "attach": [_U16, _to(Bytes), _SIZE],
-    "attach_new": [_U16, _U16, _U16],
-    "detach": [_U16],
-    "attach_files": [_U16, _to(Files)],
-    "detach_files": [_U16, _to(Files)],
-    "show_file": [_U16, _U8, _to(File)],
-    "next_changed": [_U16, _U8, _U64, _to(Changed)],
-    "show_drive": [_U16, _to(Drive)],
-    "sio": [_U16],
-    "tio": [_U16],
-    "hio": [_U16],
-    "tch": [_U16],
-    "step": [_U8, _U32, ctypes.POINTER(_U32)],
-    "run_on": [_U8, _U32, _to(Ran)],
-    "run_until_sized": [_to(Wanted), _to(Progress), _SIZE],
-    "arrive": [_U16],
-    "is_pending": [_U8],
-    "interrupt": [_U8, ctypes.POINTER(_U16)],
-    "reset": [_U8, _to(Track)],
-    "show_channel": [_U8, _to(State)],
-    "show_program_sized": [_U8, _to(Program), _SIZE],
-    "show_registers_sized": [_U8, _to(Registers), _SIZE],
-    "trace_look": [_to(Trace), _to(Moment)],
-    "show_storage": [_to(Storage)],
-    "peek": [_U32, ctypes.c_char_p, _SIZE],
-    "poke": [_U32, ctypes.c_char_p, _SIZE],
-    "key": [_U32],
-    "set_key": [_U32, _U8],
-    "new_lent": [_U32, _U8],
-    "lent_sio": [_to(Memory), _U16],
-    "lent_tio": [_to(Memory), _U16],
-    "lent_hio": [_to(Memory), _U16],
-    "lent_step": [_to(Memory), _U8, ctypes.POINTER(_U32)],
-    "lent_run_on": [_to(Memory), _U8, _to(Ran)],
-    "lent_run_until_sized": [_to(Memory), _to(Wanted), _to(Progress), _SIZE],
-    "lent_interrupt": [_to(Memory), _U8, ctypes.POINTER(_U16)],
-    "lent_trace_look": [_to(Memory), _to(Trace), _to(Moment)],
+# The calls: what each answers, and its arguments.
+_CALLS: Dict[str, Tuple[Any, List[Any]]] = {
+    "dasd_show_program_sized": (_I32, [_to(Handle), _U8, _to(Program), _SIZE]),
+    "dasd_show_registers_sized": (_I32, [_to(Handle), _U8, _to(Registers), _SIZE]),
+    "dasd_run_until_sized": (_I32, [_to(Handle), _to(Wanted), _to(Progress), _SIZE]),
+    "dasd_version": (_U32, []),
+    "dasd_interface": (_U32, []),
+    "dasd_new": (_I32, [_to(Handle), _U32, _U8]),
+    "dasd_copy": (_I32, [_to(Handle), _to(Handle)]),
+    "dasd_save": (_I32, [_to(Handle), ctypes.c_char_p, _SIZE, ctypes.POINTER(_SIZE)]),
+    "dasd_restore": (_I32, [_to(Handle), ctypes.c_char_p, _SIZE]),
+    "dasd_free": (_I32, [_to(Handle)]),
+    "dasd_check": (_I32, [_to(Bytes), _SIZE]),
+    "dasd_attach": (_I32, [_to(Handle), _U16, _to(Bytes), _SIZE]),
+    "dasd_attach_new": (_I32, [_to(Handle), _U16, _U16, _U16]),
+    "dasd_detach": (_I32, [_to(Handle), _U16]),
+    "dasd_show_file": (_I32, [_to(Handle), _U16, _U8, _to(File)]),
+    "dasd_next_changed": (_I32, [_to(Handle), _U16, _U8, _U64, _to(Changed)]),
+    "dasd_files_new": (_I32, [_to(Files), ctypes.POINTER(_SIZE), _SIZE]),
+    "dasd_files_show": (_I32, [_to(Files), _U8, _to(Space)]),
+    "dasd_attach_files": (_I32, [_to(Handle), _U16, _to(Files)]),
+    "dasd_detach_files": (_I32, [_to(Handle), _U16, _to(Files)]),
+    "dasd_files_free": (_I32, [_to(Files)]),
+    "dasd_show_drive": (_I32, [_to(Handle), _U16, _to(Drive)]),
+    "dasd_sio": (_I32, [_to(Handle), _U16]),
+    "dasd_tio": (_I32, [_to(Handle), _U16]),
+    "dasd_hio": (_I32, [_to(Handle), _U16]),
+    "dasd_tch": (_I32, [_to(Handle), _U16]),
+    "dasd_step": (_I32, [_to(Handle), _U8, _U32, ctypes.POINTER(_U32)]),
+    "dasd_run_on": (_I32, [_to(Handle), _U8, _U32, _to(Ran)]),
+    "dasd_arrive": (_I32, [_to(Handle), _U16]),
+    "dasd_is_pending": (_I32, [_to(Handle), _U8]),
+    "dasd_interrupt": (_I32, [_to(Handle), _U8, ctypes.POINTER(_U16)]),
+    "dasd_reset": (_I32, [_to(Handle), _U8, _to(Track)]),
+    "dasd_show_channel": (_I32, [_to(Handle), _U8, _to(State)]),
+    "dasd_trace_look": (_I32, [_to(Handle), _to(Trace), _to(Moment)]),
+    "dasd_show_storage": (_I32, [_to(Handle), _to(Storage)]),
+    "dasd_peek": (_I32, [_to(Handle), _U32, ctypes.c_char_p, _SIZE]),
+    "dasd_poke": (_I32, [_to(Handle), _U32, ctypes.c_char_p, _SIZE]),
+    "dasd_key": (_I32, [_to(Handle), _U32]),
+    "dasd_set_key": (_I32, [_to(Handle), _U32, _U8]),
+    "dasd_new_lent": (_I32, [_to(Handle), _U32, _U8]),
+    "dasd_lent_sio": (_I32, [_to(Handle), _to(Memory), _U16]),
+    "dasd_lent_tio": (_I32, [_to(Handle), _to(Memory), _U16]),
+    "dasd_lent_hio": (_I32, [_to(Handle), _to(Memory), _U16]),
+    "dasd_lent_step": (_I32, [_to(Handle), _to(Memory), _U8, ctypes.POINTER(_U32)]),
+    "dasd_lent_run_on": (_I32, [_to(Handle), _to(Memory), _U8, _to(Ran)]),
+    "dasd_lent_interrupt": (_I32, [_to(Handle), _to(Memory), _U8, ctypes.POINTER(_U16)]),
+    "dasd_lent_trace_look": (_I32, [_to(Handle), _to(Memory), _to(Trace), _to(Moment)]),
+    "dasd_lent_run_until_sized": (_I32, [_to(Handle), _to(Memory), _to(Wanted), _to(Progress), _SIZE]),
 }
-
-# The calls that take files, and no handle of a subsystem: their arguments behind these.
-_FILES: Dict[str, List[Any]] = {
-    "files_new": [ctypes.POINTER(_SIZE), _SIZE],
-    "files_show": [_U8, _to(Storage)],
-    "files_free": [],
-}
+# c/interface.toml: end
 
 
 def place() -> str:
@@ -275,14 +271,13 @@ def storage_type(size: int) -> Any:
     return ctypes.c_uint8 * size
 
 
-def _declare(library: ctypes.PyDLL, at: str, name: str, arguments: List[Any], result: Any) -> Any:
-    """A call of the library, by its name behind `dasd_`, with its types declared; an ImportError where the library has none."""
+def _declare(library: ctypes.PyDLL, at: str, name: str) -> None:
+    """Declares the types of a call of the library; an ImportError where the library has none."""
     try:
-        call = getattr(library, "dasd_" + name)
+        call = getattr(library, name)
     except AttributeError:
-        raise ImportError(f"{at} has no dasd_{name}: it is older than this module") from None
-    call.argtypes, call.restype = arguments, result
-    return call
+        raise ImportError(f"{at} has no {name}: it is older than this module") from None
+    call.restype, call.argtypes = _CALLS[name]
 
 
 def load() -> ctypes.PyDLL:
@@ -294,13 +289,9 @@ def load() -> ctypes.PyDLL:
         library = ctypes.PyDLL(at)
     except OSError as why:
         raise ImportError(f"libdasd is not to be had ({why}): DASD_LIBRARY names its file, or the system's loader has to know it") from why
-    for name, arguments in _CALLS.items():
-        _declare(library, at, name, [_to(Handle), *arguments], ctypes.c_int32)
-    for name, arguments in _FILES.items():
-        _declare(library, at, name, [_to(Files), *arguments], ctypes.c_int32)
-    _declare(library, at, "check", [_to(Bytes), _SIZE], ctypes.c_int32)
-    _declare(library, at, "version", [], _U32)
-    found = _declare(library, at, "interface", [], _U32)()
+    for name in _CALLS:
+        _declare(library, at, name)
+    found = library.dasd_interface()
     if found != INTERFACE:
         raise ImportError(f"{at} has interface {found}, and this module is for {INTERFACE}")
     return library

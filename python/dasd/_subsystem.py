@@ -206,12 +206,12 @@ class Channels:
         """
         self._call("attach_new", _number("address", address, _U16), _refusable(model, _U16, 0), _refusable(cylinders, _U16, 0))
 
+    # c/interface.toml: begin
     def detach(self, address: int) -> None:
-        """Takes a drive off its channel, and frees its volume, so save it first.
-
-        NO_CHANNEL, NO_DRIVE, PROGRAM_RUNS, ENDING_PENDS, DEVICE_END_OWED.
-        """
+        """Takes a drive off its channel. Its volume is freed, so save it first, or keep it by `detach_files`. The other drives and the channel
+        stay. NO_CHANNEL, NO_DRIVE, PROGRAM_RUNS, ENDING_PENDS, DEVICE_END_OWED."""
         self._call("detach", _number("address", address, _U16))
+    # c/interface.toml: end
 
     def file(self, address: int, place: int = 0) -> VolumeFile:
         """A copy of a file of a drive's volume, 0 for its first, where the drive's program does not run, and the number of its changes.

@@ -6,6 +6,7 @@ import enum
 from typing import List, NamedTuple, Tuple
 
 
+# c/interface.toml: begin
 class FaultCode(enum.IntEnum):
     """The numbers of `enum dasd_fault`, by their names there without DASD_; fault_text has the sentence of each."""
 
@@ -99,6 +100,7 @@ _TEXTS = {
     FaultCode.OTHER_DRIVES: "a saved state of a channel with other drives",
     FaultCode.NO_TRACK: "a drive was saved at a track that its volume does not have",
 }
+# c/interface.toml: end
 
 
 def fault_text(code: int) -> str:
