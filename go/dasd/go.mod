@@ -1,0 +1,3 @@
+module dasd
+
+go 1.19
