@@ -13,7 +13,7 @@ PAIRS = ("o no", "b ae", "e ne", "be a", "s ns", "p np", "l ge", "le g")
 OPPOSITE = {one: other for pair in PAIRS for one, other in (pair.split(), reversed(pair.split()))}
 JUMP = re.compile(r"\tj(\w+)\t(\S+)")
 SECONDS = 4  # of processor time, for each program that is run
-HEAP = HERE / "tarball" / "c" / "heap.c"
+HEAP = TOP / "c" / "heap.c"
 # Each program's name, its sources, its words: in the order in which they are run.
 PROGRAMS: dict[str, tuple[list[Path], list[str], list[str]]] = {
     "vectors": ([TESTS / "vectors.c", TESTS / "deck.c", TESTS / "sha256.c", HEAP], [], [str(TOP / "conformance" / "vectors")]),

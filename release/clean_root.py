@@ -7,6 +7,7 @@ import os
 import re
 import shutil
 import subprocess
+import time
 from pathlib import Path
 from typing import Dict, List, Set
 
@@ -21,6 +22,8 @@ PLAIN = {
     "LC_ALL": "C.UTF-8",
     "DEBIAN_FRONTEND": "noninteractive",
 }
+#: The number of an ordinary user.
+USER = 1000
 SUITE, MIRROR = "bookworm", "http://deb.debian.org/debian"
 
 
@@ -50,9 +53,23 @@ class Root:
 
     def run(self, command: str, **named: str) -> str:
         """What a shell's command prints in /try of the root; names are variables of its environment. It must end with status 0."""
-        inside = 'mount -t proc proc "$1/proc" && exec chroot "$1" /bin/sh -euc "cd /try; $2"'
+        return self.run_as("root", "/try", command, **named)
+
+    def run_by_user(self, command: str) -> str:
+        """The same by an ordinary user, in a home of its own in /try; and how many seconds it took is printed."""
+        (self.place / "try" / "home").mkdir(exist_ok=True)
+        os.chown(self.place / "try" / "home", USER, USER)
+        began = time.monotonic()
+        text = self.run_as(f"{USER}:{USER}", "/try/home", command, HOME="/try/home")
+        last = text.strip().rpartition("\n")[2]
+        print(f"{self.name}: {time.monotonic() - began:.1f} s: {command}{f': {last}' if last else ''}", flush=True)
+        return text
+
+    def run_as(self, user: str, folder: str, command: str, **named: str) -> str:
+        """What a shell's command prints, by this user in this folder of the root."""
+        inside = 'mount -t proc proc "$1/proc" && mount --rbind /dev "$1/dev" && exec chroot --userspec="$2" "$1" /bin/sh -euc "cd $3; $4"'
         environment = {**PLAIN, **named}
-        words = ["unshare", "--mount", "--fork", "sh", "-c", inside, "sh", str(self.place), command]
+        words = ["unshare", "--mount", "--fork", "sh", "-c", inside, "sh", str(self.place), user, folder, command]
         nothing, both = subprocess.DEVNULL, subprocess.STDOUT
         done = subprocess.run(words, env=environment, stdin=nothing, stdout=subprocess.PIPE, stderr=both, check=False)
         text = done.stdout.decode(errors="replace")
@@ -63,11 +80,14 @@ class Root:
         return text
 
     def count_vectors(self, text: str) -> None:
-        """Adds the vectors of which a text says how they came out: by a line 'N of M vectors', or by the suite's table."""
+        """Adds the vectors of which a text says how they came out: by a line 'N of M vectors', by the suite's table, or as `make check` does."""
         for right, all_of_them in re.findall(r"(\d+) of (\d+) vectors", text):
             self.vectors, self.wrong = self.vectors + int(right), self.wrong + int(all_of_them) - int(right)
         for total, right in re.findall(r"(?m)^all +(\d+) +(\d+) ", text):
             self.vectors, self.wrong = self.vectors + int(right), self.wrong + int(total) - int(right)
+
+        for right, wrong in re.findall(r"(?m)^vectors, .*: (\d+) passed, (\d+) failed$", text):
+            self.vectors, self.wrong = self.vectors + int(right), self.wrong + int(wrong)
 
     def play(self, vectors: int, command: str, **named: str) -> None:
         """Runs a command that must play so many vectors, and find all of them right."""

@@ -6,6 +6,7 @@ module that has code of one processor in it is refused.
 """
 
 import re
+import shutil
 import subprocess
 import sys
 import tempfile
@@ -14,8 +15,9 @@ from dataclasses import dataclass
 from pathlib import Path
 
 HERE = Path(__file__).resolve().parent
-sys.path.insert(0, str(HERE.parent))
+sys.path[:0] = [str(HERE), str(HERE.parent)]
 
+import labels
 from tools.common import kept
 from tools.common.kit import kit
 
@@ -47,7 +49,8 @@ MADE = {
     "dasd_cmd": ("dasd", (X86, ARM)),
     "lone_drive_c": ("libdasd_drive", (X86, ARM, WINDOWS)),
 }
-WASM = "libdasd.wasm"
+# What web/ makes of the modules, and how it is called here.
+WASM = {"library.wasm": "libdasd.wasm", "program.wasm": "dasd.wasm"}
 
 PROCESSOR = r' "(?:target-cpu|target-features|tune-cpu)"="[^"]*"'
 # A frame that is larger than a page is touched page by page. LLVM does so inline for AArch64 too; on Windows it calls a function.
@@ -115,7 +118,8 @@ def retargeted(text: str, triple: str, layout: str, dropped: str) -> str:
 
 def compile_for(module: Path, target: Target, made: Path) -> None:
     """Compiles a module for a target, or takes what was made of it on this machine before."""
-    name = kept.sum_of([kept.kit_name(), Path(__file__), module, module.with_suffix(".words"), target.triple, target.suffix])
+    own = [Path(__file__), Path(labels.__file__)]
+    name = kept.sum_of([kept.kit_name(), *own, module, module.with_suffix(".words"), target.triple, target.suffix])
     entry = kept.find("compiled", name)
     if entry is None:
         compile_anew(module, target, made)
@@ -125,7 +129,7 @@ def compile_for(module: Path, target: Target, made: Path) -> None:
 
 
 def compile_anew(module: Path, target: Target, made: Path) -> None:
-    """Compiles a module for a target. The name of what is read is always the same: it stands in what is made."""
+    """Compiles a module for a target. The name of what is read is always the same: it is in what is made. Of a text the names are settled."""
     with tempfile.TemporaryDirectory() as name:
         folder = Path(name)
         read = folder / "module.bc"
@@ -138,30 +142,32 @@ def compile_anew(module: Path, target: Target, made: Path) -> None:
             read.write_text(text, encoding="utf-8")
         out = folder / "made"
         clang(f"--target={target.triple}", *words_for(module, target), "-x", "ir", read.name, "-o", out.name, folder=folder)
-        made.write_bytes(out.read_bytes())
+        if target.is_windows:
+            made.write_bytes(out.read_bytes())
+        else:
+            made.write_text(labels.settled(out.read_text(encoding="utf-8")), encoding="utf-8")
 
 
 def compile_heap(made: Path) -> None:
     """Compiles the three functions by which the libraries take memory on Windows."""
     with tempfile.TemporaryDirectory() as name:
         folder = Path(name)
-        (folder / "heap.ll").write_bytes((HERE / "tarball" / "c" / "heap-windows.ll").read_bytes())
+        (folder / "heap.ll").write_bytes((HERE.parent / "c" / "heap-windows.ll").read_bytes())
         clang(f"--target={WINDOWS.triple}", "-O2", "-fno-addrsig", "-c", "-x", "ir", "heap.ll", "-o", "made", folder=folder)
         made.write_bytes((folder / "made").read_bytes())
 
 
 def compile_wasm(modules: Path, made: Path) -> None:
-    """Has web/ make the library's WebAssembly module; where one of its tools is not here, nothing is made, and a line says so."""
+    """Has web/ make the WebAssembly modules; where one of its tools is not here, nothing is made, and a line says so."""
     web = HERE.parent / "web"
-    if not (web / "Makefile").is_file():
-        return
-    module = web / "out" / "library.wasm"
-    module.unlink(missing_ok=True)
-    ran = subprocess.run(["make", "-s", "-C", str(web), f"MODULES={modules.resolve()}", "out/library.wasm"], check=False)
-    if not module.is_file():
-        print(f"skipped: {made.name} (web/ made none, with status {ran.returncode})")
-        return
-    made.write_bytes(module.read_bytes())
+    for of_web, name in WASM.items():
+        module = web / "out" / of_web
+        module.unlink(missing_ok=True)
+        ran = subprocess.run(["make", "-s", "-C", str(web), f"MODULES={modules.resolve()}", f"out/{of_web}"], check=False)
+        if module.is_file():
+            shutil.copyfile(module, made / name)
+        else:
+            print(f"skipped: {name} (web/ made none, with status {ran.returncode})")
 
 
 def compile_all(modules: Path, made: Path) -> None:
@@ -176,4 +182,4 @@ def compile_all(modules: Path, made: Path) -> None:
         for it in waited:
             it.result()
     compile_heap(made / "heap-x86_64-windows.o")
-    compile_wasm(modules, made / WASM)
+    compile_wasm(modules, made)

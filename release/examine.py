@@ -1,7 +1,6 @@
 """What a release's own check looks at, in modules, in compiled code, and in the tree that is built of it."""
 
 import os
-import re
 import shutil
 import subprocess
 import sys
@@ -16,6 +15,7 @@ import third_party
 import wanted
 from tools.common import kept
 
+MUSL_CC = "musl-gcc"
 ARM_CC = "aarch64-linux-gnu-gcc"
 ARM_ROOT = "/usr/aarch64-linux-gnu"
 WINDOWS_CC = "x86_64-w64-mingw32-gcc"
@@ -71,12 +71,14 @@ def make(tree: Path, *words: str) -> tuple[bool, list[str]]:
 
 def ways() -> list[tuple[str, list[str]]]:
     """The targets whose compiler is here, with make's words; one whose compiler or emulator is not there is named."""
-    found: list[tuple[str, list[str]]] = [("x86_64", [])]
+    found: list[tuple[str, list[str]]] = [("x86_64", ["check"])]
     emulated = f"RUN=qemu-aarch64 -L {ARM_ROOT}"
     wine = next((it for it in ("wine", "wine64") if shutil.which(it)), "wine")
+    # with a RUN the rows are left out, which load libraries of glibc into `dasd`
     for name, compiler, runner, words in (
-        ("aarch64", ARM_CC, "qemu-aarch64", [f"CC={ARM_CC}", emulated]),
-        ("x86_64-windows", WINDOWS_CC, wine, [f"CC={WINDOWS_CC}", f"RUN={wine}"]),
+        ("x86_64-musl", MUSL_CC, "env", [f"CC={MUSL_CC}", "RUN=env", "check"]),
+        ("aarch64", ARM_CC, "qemu-aarch64", [f"CC={ARM_CC}", emulated, "check"]),
+        ("x86_64-windows", WINDOWS_CC, wine, [f"CC={WINDOWS_CC}", f"RUN={wine}", "check-windows"]),
     ):
         missing = [it for it in (compiler, runner) if not shutil.which(it)]
         if missing:
@@ -86,48 +88,34 @@ def ways() -> list[tuple[str, list[str]]]:
     return found
 
 
-# What `make` checks of a tree, and how the paths begin of what it reads nothing of.
-PARTS = {
-    "check-library": ("docs/", "compiled/SHA256SUMS", "compiled/dasd-"),
-    "check-program": ("docs/", "compiled/SHA256SUMS", "compiled/libdasd", "compiled/heap-"),
-}
+# How the paths begin that `make check` reads.
+READ = ("Makefile", "VERSION", "README.md", "c/", "compiled/", "conformance/", "python/", "release/compiled.sha256", "rows/", "sample/", "tools/")
 PACKAGES = Path("/var/lib/dpkg/status")
 
 
-def name_of(tree: Path, words: list[str], part: str) -> str:
-    """A sum of what a part of a tree's check rests on: make's words, Debian's packages, and the tree's files."""
-    known = sorted(it for it in tree.rglob("*") if it.is_file() and not str(it.relative_to(tree)).startswith(PARTS[part]))
-    parts: list[bytes | str | Path] = [part, " ".join(words), *([PACKAGES] if PACKAGES.is_file() else [])]
+def name_of(tree: Path, words: list[str]) -> str:
+    """A sum of what a tree's check rests on: make's words, Debian's packages, and the tree's files."""
+    known = sorted(it for it in tree.rglob("*") if it.is_file() and str(it.relative_to(tree)).startswith(READ))
+    parts: list[bytes | str | Path] = [" ".join(words), *([PACKAGES] if PACKAGES.is_file() else [])]
     for it in known:
         parts += [str(it.relative_to(tree)), it]
     return kept.sum_of(parts)
 
 
-def play_part(tree: Path, name: str, words: list[str], part: str) -> list[str]:
-    """Runs a part of a tree's checks for a target, and prints how many vectors came out right."""
-    went_well, printed = make(tree, *words, part)
-    totals = [line for line in printed if re.match(r"(all|total|python)\b.*\d", line)]
-    print(f"{name}: {part}: {'passed' if went_well else 'FAILED'}", *(f"    {it}" for it in totals), sep="\n")
-    if went_well:
-        return []
-    print(*printed[-15:], sep="\n")
-    return [f"{name}: `make {part}` fails"]
-
-
 def play(tree: Path, name: str, words: list[str]) -> list[str]:
-    """Runs those of a tree's checks for a target that did not pass on this machine before, with the same files, and builds it."""
+    """Has a tree checked for a target, unless that has passed on this machine with the same files, and builds it; what is wrong."""
     make(tree, "clean")
-    found = []
-    for part, made in {part: name_of(tree, words, part) for part in PARTS}.items():
-        if kept.find("played", made):
-            print(f"{name}: {part}: passed on this machine before, with the same files")
-            continue
-        wrong = play_part(tree, name, words, part)
-        found += wrong
-        if not wrong:
-            kept.keep("played", made, {})
-    went_well, printed = make(tree, *words, "all")
-    return found if went_well else [*found, *printed[-15:], f"{name}: `make` fails"]
+    made = name_of(tree, words)
+    if kept.find("played", made):
+        print(f"{name}: passed on this machine before, with the same files")
+        went_well, printed = make(tree, *words[:-1], *([] if "windows" in name else ["all"]))
+        return [] if went_well else [*printed[-15:], f"{name}: `make` fails"]
+    went_well, printed = make(tree, *words)
+    print(f"{name}: {printed[-1] if printed else ''}")
+    if went_well:
+        kept.keep("played", made, {})
+        return []
+    return [*(it for it in printed if " 0 failed" not in it), f"{name}: `make {words[-1]}` fails"]
 
 
 def flags(native: Path, arm: Path) -> list[str]:

@@ -6,7 +6,7 @@
 The flags of `open` are numbers of x86-64 Linux in the module, and O_DIRECT, O_DIRECTORY, O_NOFOLLOW and O_LARGEFILE have others on
 AArch64: a program that used one of them would open files otherwise there, without a word. So each command of `dasd` is run under
 both, over files of its own. Each call must come out with the same flags by name, and with none but these, whose numbers are equal.
-Folders are left out: they are opened by tarball/c/system.c, with the numbers that the target's own C compiler has.
+Folders are left out: they are opened by c/system.c, with the numbers that the target's own C compiler has.
 The images that are left must be equal too. X86_64 and AARCH64 are the two programs; SYSROOT is where qemu finds the loader, if not
 /usr/aarch64-linux-gnu.
 

@@ -26,13 +26,16 @@ need() {
 check_words() {
     [ $# -eq 2 ] || fail "it wants the tree of a release, and the folder for what is made"
     [ -n "${SOURCE_DATE_EPOCH:-}" ] || fail "SOURCE_DATE_EPOCH is not set"
-    for name in VERSION LICENSE THIRD_PARTY PROVED.txt compiled/SHA256SUMS c/dasd.h c/heap.c c/exports.map; do
+    for name in VERSION LICENSE THIRD_PARTY THIRD_PARTY.LGPL-2.1 PROVED.txt release/compiled.sha256 c/dasd.h c/heap.c c/memory.h c/system.c \
+        c/system.h c/exports.map; do
         [ -s "$1/$name" ] || fail "$1 has no $name"
     done
     for machine in x86_64 aarch64; do
         [ -s "$1/compiled/libdasd-$machine.s" ] || fail "$1/compiled has no library for $machine"
+        [ -s "$1/compiled/dasd-$machine.s" ] || fail "$1/compiled has no program for $machine"
     done
-    (cd "$1/compiled" && sha256sum --quiet --strict -c SHA256SUMS) || fail "$1/compiled is not what its SHA256SUMS says"
+    (cd "$1/compiled" && grep '\.s$' ../release/compiled.sha256 | sha256sum --quiet --strict -c) ||
+        fail "$1/compiled is not what release/compiled.sha256 says"
     mkdir -p "$2"
 }
 
@@ -42,14 +45,24 @@ pack() {
         --mode=go=rX,u+rw -cf - "$(basename "$1")")
 }
 
+# put_notices TREE FOLDER: what each that has compiled code inside is given with it.
+put_notices() {
+    for name in LICENSE THIRD_PARTY THIRD_PARTY.LGPL-2.1; do
+        cp "$1/$name" "$2/"
+    done
+}
+
 # put_library TREE FOLDER: the library as a language's source package carries it: its text for each Linux, what it takes memory by, notices.
 put_library() {
     mkdir -p "$2"
-    for name in compiled/libdasd-x86_64.s compiled/libdasd-aarch64.s c/heap.c c/exports.map PROVED.txt THIRD_PARTY; do
+    for name in compiled/libdasd-x86_64.s compiled/libdasd-aarch64.s c/heap.c c/memory.h c/exports.map PROVED.txt THIRD_PARTY; do
         cp "$1/$name" "$2/"
     done
-    # the headers that stand beside heap.c
-    sed -n 's/^#include "\(.*\)"$/\1/p' "$1/c/heap.c" | while read -r header; do
-        cp "$1/c/$header" "$2/"
+}
+
+# put_program TREE FOLDER: the program in the same way, beside the library.
+put_program() {
+    for name in compiled/dasd-x86_64.s compiled/dasd-aarch64.s c/system.c c/system.h; do
+        cp "$1/$name" "$2/"
     done
 }

@@ -32,16 +32,14 @@ AArch64 Linux   Three things of the module's text are changed: the layout of dat
 Windows         The same changes, and the attribute by which the stack is probed. The three functions for memory are written in LLVM's text.
                 Tried by the vectors under Wine; not promised.
 WebAssembly     web/ says what is changed, and what it trusts. Tried by the vectors in Node; not promised.
-All Linux       c/heap.c; and of the program c/system.c, written anew after what the toolchain's objects do, and tested.
+All Linux       c/heap.c; and of the program c/system.c, written after what the toolchain's objects do, and tested.
 
 C, Python, Rust's wrappers and the scripts that make a release are tested, not proved.
 
 How the same bytes are made again
 
-On a machine with this toolchain, in a checkout of this commit that .ci/run has passed:
-
-    .ci/run | tee gate.log
-    release/make_release gate.log
+On a machine with this toolchain, in a checkout of this commit, `make prove` proves everything and compares what it gives with compiled/. And
+`.ci/run | tee gate.log`, then `release/make_release gate.log`, makes all files of the release.
 
 The sources' sum is that of `git ls-files -z crates crates.txt | LC_ALL=C sort -z | xargs -0 sha256sum | sha256sum`. A sum of this list is
 SHA-256; `sha256sum -c` reads its lines.
@@ -71,9 +69,7 @@ def sum_of_sources() -> str:
     return hashlib.sha256("".join(lines).encode()).hexdigest()
 
 
-def proved_text(origin: Origin, compiled: Path, sums: str) -> str:
+def proved_text(origin: Origin, sums: str) -> str:
     """The page. `sums` is the text of compiled.sha256: modules and compiled code."""
-    known = {line.split()[1] for line in sums.splitlines()}
-    others = [it for it in sorted(compiled.iterdir()) if it.name not in known and it.name != "SHA256SUMS"]
-    lines = [f"{sum_of_sources()}  crates\n", sums, *(f"{sha256(it)}  {it.name}\n" for it in others)]
-    return TEXT.format(version=origin.version, commit=origin.commit, kit=origin.kit, gate=origin.gate, sums="".join(lines))
+    lines = f"{sum_of_sources()}  crates\n{sums}"
+    return TEXT.format(version=origin.version, commit=origin.commit, kit=origin.kit, gate=origin.gate, sums=lines)

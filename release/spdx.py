@@ -1,13 +1,17 @@
-"""An SPDX document (version 2.3, JSON) of a release: the tarball's files with their sums, and the crates whose code is compiled into it."""
+"""An SPDX document (version 2.3, JSON) of a release: the tarball's files with their sums, and whatever THIRD_PARTY names as compiled into it."""
 
 import hashlib
 import json
+import re
 import time
 from pathlib import Path
 
-# The licences of which THIRD_PARTY has the notices, as SPDX's list calls them: MIT, but for one crate.
-OTHERS = {"ryu": "Apache-2.0 AND MIT"}
+import identity
+
+# The licences of which THIRD_PARTY has the notices, as SPDX's list calls them: MIT, but for these.
+OTHERS = {"ryu": "Apache-2.0 AND MIT", "memchr": "Unlicense", "compiler-rt": "Apache-2.0 WITH LLVM-exception"}
 OURS = "MIT"
+C_LIBRARY = ("glibc", "NOASSERTION", "LGPL-2.1-or-later")
 
 
 def entry_of(path: Path, tree: Path, number: int) -> dict[str, object]:
@@ -45,13 +49,25 @@ def verification_code(files: list[dict[str, object]]) -> str:
     return hashlib.sha1("".join(values).encode()).hexdigest()
 
 
-def document(tree: Path, version: str, when: int, crates: list[str]) -> str:
-    """The document's text. `crates` are those that THIRD_PARTY has a notice of."""
+def parts_of(notices: str) -> list[tuple[str, str, str]]:
+    """What THIRD_PARTY names: each with its version and its licence, which are NOASSERTION where they are not known."""
+    crates = [(name, "NOASSERTION", OTHERS.get(name, "MIT")) for name in re.findall(r"(?m)^([\w-]+), in the (?:library|program|modules)", notices)]
+    own = re.search(r"(?ms)^Rattle's own libraries, .*?\n\n(.*?):\n", notices)
+    kit = [(f"rattle-{it}", "NOASSERTION", "NOASSERTION") for it in own[1].split(", ")] if own else []
+    followed = [(name, known, OTHERS.get(name, "MIT")) for name, known in re.findall(r"Rust\s+crate `([\w-]+)` ([\d.]+\d)", notices)]
+    unicode = [("unicode-data", "NOASSERTION", "Unicode-3.0")] if "\nThe Unicode License\n" in notices else []
+    return [*crates, *kit, *followed, *unicode, *([C_LIBRARY] if "\nThe GNU C library" in notices else [])]
+
+
+def document(tree: Path, version: str, when: int, notices: str) -> str:
+    """The document's text. `notices` is that of THIRD_PARTY."""
     files = [entry_of(it, tree, number) for number, it in enumerate(sorted(it for it in tree.rglob("*") if it.is_file()), 1)]
-    whole = package_of("dasd", version, f"{OURS} AND Apache-2.0", is_whole=True)
+    named, home = parts_of(notices), identity.value("HOMEPAGE")
+    licences = sorted({OURS, *(it for _, _, licence in named if licence != "NOASSERTION" for it in licence.split(" AND "))})
+    whole = package_of("dasd", version, " AND ".join(licences), is_whole=True)
     whole["packageVerificationCode"] = {"packageVerificationCodeValue": verification_code(files)}
     whole["hasFiles"] = [it["SPDXID"] for it in files]
-    parts = [package_of(crate, "NOASSERTION", OTHERS.get(crate, "MIT"), is_whole=False) for crate in crates]
+    parts = [package_of(name, known, licence, is_whole=False) for name, known, licence in named]
     relations: list[tuple[object, str, object]] = [("SPDXRef-DOCUMENT", "DESCRIBES", whole["SPDXID"])]
     relations += [(whole["SPDXID"], "CONTAINS", it["SPDXID"]) for it in [*files, *parts]]
     return json.dumps(
@@ -60,8 +76,11 @@ def document(tree: Path, version: str, when: int, crates: list[str]) -> str:
             "dataLicense": "CC0-1.0",
             "SPDXID": "SPDXRef-DOCUMENT",
             "name": f"dasd-{version}",
-            "documentNamespace": f"https://sixambra.example/spdx/dasd-{version}-{verification_code(files)}",
-            "creationInfo": {"created": time.strftime("%Y-%m-%dT%H:%M:%SZ", time.gmtime(when)), "creators": ["Organization: Sixambra"]},
+            "documentNamespace": f"{home}/spdx/dasd-{version}-{verification_code(files)}",
+            "creationInfo": {
+                "created": time.strftime("%Y-%m-%dT%H:%M:%SZ", time.gmtime(when)),
+                "creators": [f"Organization: {identity.value('ORGANIZATION')}"],
+            },
             "packages": [whole, *parts],
             "files": files,
             "relationships": [

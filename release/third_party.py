@@ -31,10 +31,21 @@ The library (libdasd) and the program (dasd) are compiled from this repository's
 ports of Rust crates to Rattle, with Rattle's own libraries. This file has the notices of those crates, as they come with the ports. It is
 made by release/third_party.py from the names in the compiled modules.
 """
+BUILTINS = """Functions on numbers of 128 bits, from the LLVM Project's compiler-rt as Debian compiles it (libclang-rt-14-dev-wasm64). It is under the Apache
+License, version 2.0, with the LLVM Exceptions, by which its object code may be given away in a program without its notices.
+"""
 NO_LICENCE = """Rattle's own libraries, of which the kit has no file of a licence
 
 {names}:
 these come with the toolchain of Rattle, which is not public yet. The sources below say at their head whose work they follow.
+"""
+C_LIBRARY = """The GNU C library, in the programs that are linked statically alone
+
+It is in the files dasd-VERSION-MACHINE-linux of a release and in the program `dasd` of the Python wheel, and in nothing that is built from a clone
+but by `make dasd-static`. Copyright (C) 1991-2022 Free Software Foundation, Inc. The GNU C Library is free software; you can redistribute it
+and/or modify it under the terms of the GNU Lesser General Public License as published by the Free Software Foundation; either version 2.1 of
+the License, or (at your option) any later version. Its text is in the file THIRD_PARTY.LGPL-2.1. To link the program with another C library,
+take the release's tarball: `make dasd-static`.
 """
 
 
@@ -89,12 +100,15 @@ def notices(library: str, program: str) -> str:
         files = licence_files(crate)
         parts.append(f"{RULE}\n{crate}, in {where}\n{RULE}\n")
         parts += [f"{it.read_text(encoding='utf-8').strip()}\n" for it in files]
+    parts.append(f"{RULE}\ncompiler-rt, in the modules of WebAssembly\n{RULE}\n\n{BUILTINS}")
     own = ", ".join(it for it in both if it in OF_THE_KIT)
     parts.append(f"{RULE}\n{NO_LICENCE.format(names=own)}{RULE}\n")
     heads = heads_in(library + program, set(both))
     parts += [f"{module}: {head.strip()}\n" for module, head in heads]
     if any("Unicode License" in head for _, head in heads):
         parts.append(f"{RULE}\nThe Unicode License\n{RULE}\n\n{(kit() / 'rattle' / UNICODE).read_text(encoding='utf-8').strip()}\n")
+    title, _, text = C_LIBRARY.partition("\n\n")
+    parts.append(f"{RULE}\n{title}\n{RULE}\n\n{text}")
     return "\n".join(parts)
 
 

@@ -1,33 +1,13 @@
-"""The tree of a release, and the tarball of it: what of the repository goes in beside the compiled code."""
+"""The tree of a release, which is what git has of the commit, with PROVED.txt; and the tarball of it."""
 
-import hashlib
 import lzma
+import os
 import shutil
 import subprocess
-import sys
-import tarfile
-from io import BytesIO
+import tempfile
 from pathlib import Path
 
-from proved import sha256
-
-HERE = Path(__file__).resolve().parent
-TOP = HERE.parent
-
-TAKEN: tuple[str, ...] = ("CHANGELOG.md", "LICENSE", "THIRD_PARTY", "VERSION", "c", "conformance", "docs", "python", "rust")
-# Taken where they stand.
-ALSO = (
-    *("SECURITY.md", "CITATION.cff", "completions", "sample"),
-    *("catalogue/README.md", "catalogue/pyproject.toml", "catalogue/dasd-catalogue", "catalogue/dasd_catalogue"),
-)
-# What of these wants the kit or the repository's tools, or is for the repository alone.
-LEFT_OUT = (
-    *("c/Makefile", "c/.gitignore", "c/tests/install.sh", "c/tests/compiled.sh", "c/tests/newer.sh"),
-    # which plays rows of the repository
-    "c/tests/drive_stage.c",
-    *("sample/make_sample.py", "sample/test_sample.py"),
-)
-SAMPLE = TOP / "sample" / "make_sample.py"
+TOP = Path(__file__).resolve().parent.parent
 
 
 def version() -> str:
@@ -35,9 +15,10 @@ def version() -> str:
     return (TOP / "VERSION").read_text(encoding="utf-8").strip()
 
 
-def git(*words: str) -> bytes:
-    """What git prints of the repository."""
-    return subprocess.run(["git", "-C", str(TOP), *words], check=True, stdout=subprocess.PIPE).stdout
+def git(*words: str, index: Path | None = None) -> bytes:
+    """What git prints of the repository, by another index if one is named."""
+    how = os.environ | ({"GIT_INDEX_FILE": str(index)} if index else {})
+    return subprocess.run(["git", "-C", str(TOP), *words], check=True, stdout=subprocess.PIPE, env=how).stdout
 
 
 def commit_time() -> int:
@@ -45,54 +26,31 @@ def commit_time() -> int:
     return int(git("log", "-1", "--format=%ct"))
 
 
-class Missing(Exception):
-    """What a release has to have, and this checkout does not."""
+def tree_of_crates() -> str:
+    """The id that git gives to crates/ as it is here, once that is committed."""
+    with tempfile.TemporaryDirectory() as folder:
+        index = Path(folder, "index")
+        shutil.copyfile(TOP / git("rev-parse", "--git-path", "index").decode().strip(), index)
+        git("add", "--all", "--", "crates", index=index)
+        return git("write-tree", "--prefix=crates/", index=index).decode().strip()
 
 
-def known_files() -> list[str]:
-    """The files of the repository that go into a release, as git knows them, with new ones that it does not ignore."""
-    missing = [it for it in TAKEN if not (TOP / it).exists()]
-    if missing:
-        raise Missing(f"not here: {', '.join(missing)}")
-    listed = git("ls-files", "-z", "--cached", "--others", "--exclude-standard", "--deduplicate", *TAKEN, *ALSO).decode()
-    return sorted(it for it in listed.split("\0") if it and it not in LEFT_OUT and (TOP / it).is_file())
-
-
-def lay_out(tree: Path, compiled: Path) -> None:
-    """Makes the tree anew: the repository's files, those that only a release has, the sample pack, the compiled code, and its sums."""
+def lay_out(tree: Path) -> None:
+    """Makes the tree anew, of the files that git knows here and of new ones that it does not ignore, as they are now."""
     shutil.rmtree(tree, ignore_errors=True)
-    for name in known_files():
+    listed = git("ls-files", "-z", "--cached", "--others", "--exclude-standard", "--deduplicate").decode()
+    for name in (it for it in listed.split("\0") if it and (TOP / it).is_file()):
         (tree / name).parent.mkdir(parents=True, exist_ok=True)
         shutil.copy(TOP / name, tree / name)
-    shutil.copytree(HERE / "tarball", tree, dirs_exist_ok=True)
-    if SAMPLE.exists():
-        subprocess.run([sys.executable, str(SAMPLE), str(tree / "sample" / "sample.ckd")], check=True)
-    shutil.copytree(compiled, tree / "compiled")
-    lines = [f"{sha256(it)}  {it.name}\n" for it in sorted((tree / "compiled").iterdir())]
-    (tree / "compiled" / "SHA256SUMS").write_text("".join(lines), encoding="utf-8")
 
 
-def pack(tree: Path, made: Path, when: int) -> None:
-    """Packs a tree: names in order, no owner, one time, the usual modes, so that the same files give the same bytes."""
-
-    def plain(entry: tarfile.TarInfo) -> tarfile.TarInfo:
-        entry.uid = entry.gid = 0
-        entry.uname = entry.gname = ""
-        entry.mtime = when
-        entry.mode = 0o755 if entry.isdir() or entry.mode & 0o100 else 0o644
-        return entry
-
-    held = BytesIO()
-    with tarfile.open(fileobj=held, mode="w", format=tarfile.USTAR_FORMAT) as files:
-        files.add(tree, tree.name, recursive=False, filter=plain)
-        for path in sorted(tree.rglob("*")):
-            files.add(path, f"{tree.name}/{path.relative_to(tree)}", recursive=False, filter=plain)
-    made.write_bytes(lzma.compress(held.getvalue(), preset=9 | lzma.PRESET_EXTREME))
+def pack(made: Path, name: str, *added: Path) -> None:
+    """Packs the commit, in a folder of this name, with files added to it. The same commit and files give the same bytes."""
+    words = [f"--add-file={it}" for it in added]
+    packed = git("archive", "--format=tar", f"--prefix={name}/", *words, "HEAD")
+    made.write_bytes(lzma.compress(packed, preset=9 | lzma.PRESET_EXTREME))
 
 
-def differing(tree: Path, packed: Path) -> list[str]:
-    """The files that a tarball does not have as the tree has them, or that the tree does not have."""
-    with tarfile.open(packed) as files:
-        one = {it.name: hashlib.sha256(held.read()).hexdigest() for it in files if (held := files.extractfile(it))}
-    other = {f"{tree.name}/{it.relative_to(tree)}": sha256(it) for it in tree.rglob("*") if it.is_file()}
-    return sorted(it for it in one.keys() | other.keys() if one.get(it) != other.get(it))
+def unpack(packed: Path, folder: Path) -> None:
+    """Unpacks a tarball."""
+    subprocess.run(["tar", "-C", str(folder), "-xf", str(packed)], check=True)

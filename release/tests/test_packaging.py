@@ -3,9 +3,7 @@
 The library is stood in for by assembly that has the names of dasd.h and takes memory alone: neither the kit nor a module is wanted. What
 is made of a release is tried by try_in_clean_root."""
 
-import hashlib
 import os
-import re
 import shutil
 import subprocess
 import sys
@@ -17,36 +15,14 @@ from pathlib import Path
 from typing import Tuple
 
 HERE = Path(__file__).resolve().parent
-RELEASE, TOP = HERE.parent, HERE.parent.parent
-sys.path.insert(0, str(RELEASE))
+RELEASE = HERE.parent
+sys.path[:0] = [str(HERE), str(RELEASE)]
 
+import package_pages
 from clean_root import Root
+from stand_in import CALLS, lay_out, replaced, sum_up
 
-HEAP = """#include <stdlib.h>
-void *rattle_alloc(size_t bytes);
-void *rattle_alloc(size_t bytes) { return malloc(bytes); }
-"""
-CALLS = {"x86_64": "call rattle_alloc@PLT\n\tret", "aarch64": "b rattle_alloc"}
-
-
-def stand_in(machine: str) -> str:
-    """Assembly with the names of dasd.h, each of which takes memory."""
-    names = re.findall(r"(?m)^u?int32_t (dasd_\w+)\(", (TOP / "c" / "dasd.h").read_text(encoding="utf-8"))
-    each = (f'\t.globl {it}\n\t.type {it}, %function\n{it}:\n\t{CALLS[machine]}\n\t.size {it}, .-{it}\n' for it in names)
-    return "\t.text\n" + "".join(each) + '\t.section ".note.GNU-stack","",%progbits\n'
-
-
-def sum_up(compiled: Path) -> None:
-    """Writes the sums of compiled code."""
-    lines = [f"{hashlib.sha256(it.read_bytes()).hexdigest()}  {it.name}\n" for it in sorted(compiled.glob("*.s"))]
-    (compiled / "SHA256SUMS").write_text("".join(lines), encoding="utf-8")
-
-
-def replaced(path: Path, old: str, new: str) -> None:
-    """Plants a fault where the old text stands once."""
-    text = path.read_text(encoding="utf-8")
-    assert text.count(old) == 1, f"{path.name} has {text.count(old)} times: {old}"
-    path.write_text(text.replace(old, new), encoding="utf-8")
+TAKES = "answer(malloc(bytes ? bytes : align))"
 
 
 class Planted(unittest.TestCase):
@@ -57,20 +33,7 @@ class Planted(unittest.TestCase):
         self.addCleanup(room.cleanup)
         self.room = Path(room.name)
         self.tree, self.out = self.room / "dasd", self.room / "out"
-        for name in ("python", "rust"):
-            ignored = shutil.ignore_patterns("__pycache__", "target", ".mypy_cache")
-            shutil.copytree(TOP / name, self.tree / name, ignore=ignored)
-        (self.tree / "c").mkdir()
-        for name in ("VERSION", "LICENSE", "c/dasd.h", "c/exports.map"):
-            shutil.copy(TOP / name, self.tree / name)
-        (self.tree / "c" / "heap.c").write_text(HEAP, encoding="utf-8")
-        for name in ("THIRD_PARTY", "PROVED.txt"):
-            (self.tree / name).write_text("a stand-in\n", encoding="utf-8")
-        compiled = self.tree / "compiled"
-        compiled.mkdir()
-        for machine in CALLS:
-            (compiled / f"libdasd-{machine}.s").write_text(stand_in(machine), encoding="utf-8")
-        sum_up(compiled)
+        lay_out(self.tree)
 
     def make(self, script: str) -> Tuple[int, str]:
         """Calls a script with the tree; its status, and what it printed."""
@@ -86,8 +49,9 @@ class Planted(unittest.TestCase):
     def test_a_whole_tree_gives_wheels_with_the_library(self) -> None:
         self.assertEqual(self.make("make_wheels")[0], 0)
         for machine in CALLS:
-            with zipfile.ZipFile(next(self.out.glob(f"*_{machine}.whl"))) as wheel:
-                self.assertIn("dasd/libdasd.so.1", wheel.namelist())
+            with zipfile.ZipFile(next(self.out.glob(f"dasd-*_{machine}.whl"))) as wheel:
+                self.assertLessEqual({"dasd/libdasd.so.1", "dasd/program"}, set(wheel.namelist()))
+        self.assertTrue(list(self.out.glob("dasd_catalogue-*-py3-none-any.whl")))
 
     def test_a_whole_tree_gives_crates_with_the_library(self) -> None:
         if shutil.which("cargo") is None:
@@ -110,39 +74,58 @@ class Planted(unittest.TestCase):
         text = self.tree / "compiled" / "libdasd-x86_64.s"
         text.write_text(text.read_text(encoding="utf-8") + "\n", encoding="utf-8")
         for script in ("make_packages", "make_wheels", "make_crates"):
-            self.refused(script, "is not what its SHA256SUMS says")
+            self.refused(script, "is not what release/compiled.sha256 says")
 
     def test_a_library_left_out_of_the_wheel(self) -> None:
         setup = self.tree / "python" / "setup.py"
         replaced(setup, '            self.compile_library(Path(self.build_lib, "dasd", SHARED))', "            pass")
         self.refused("make_wheels", "the wheel has no library")
 
+    def test_a_program_left_out_of_the_wheel(self) -> None:
+        setup = self.tree / "python" / "setup.py"
+        replaced(setup, '            self.compile_program(Path(self.build_lib, "dasd", "program"))\n', "")
+        self.refused("make_wheels", "program")
+
     def test_notices_left_out_of_the_wheel(self) -> None:
         replaced(self.tree / "python" / "pyproject.toml", 'license-files = ["LICENSE", "THIRD_PARTY*"]', 'license-files = ["LICENSE"]')
         self.refused("make_wheels", "THIRD_PARTY")
 
     def test_a_library_that_wants_a_later_system(self) -> None:
-        heap = self.tree / "c" / "heap.c"
-        heap.write_text(HEAP.replace("malloc(bytes); }", "arc4random() ? malloc(bytes) : NULL; }"), encoding="utf-8")
+        replaced(self.tree / "c" / "heap.c", TAKES, "answer(arc4random() ? malloc(bytes ? bytes : align) : NULL)")
         self.refused("make_wheels", "the library wants version 2.36 of the C library")
 
     def test_a_call_that_the_library_does_not_show(self) -> None:
         text = self.tree / "compiled" / "libdasd-x86_64.s"
         replaced(text, "\t.globl dasd_tch\n", "")
-        sum_up(self.tree / "compiled")
+        sum_up(self.tree)
         self.refused("make_wheels", "shows other names than dasd.h has")
 
     def test_a_header_left_out_of_the_crate(self) -> None:
         if shutil.which("cargo") is None:
             self.skipTest("no cargo here")
-        (self.tree / "c" / "heap.c").write_text('#include "memory.h"\n' + HEAP, encoding="utf-8")
-        self.refused("make_crates", "memory.h")
+        replaced(self.tree / "c" / "heap.c", '#include "memory.h"', '#include "memory.h"\n#include "planted.h"')
+        self.refused("make_crates", "planted.h")
 
     def test_an_item_of_a_crate_without_a_text(self) -> None:
         if shutil.which("cargo") is None:
             self.skipTest("no cargo here")
         replaced(self.tree / "rust" / "dasd" / "src" / "words.rs", "    /// The storage key of the channel program.\n", "")
         self.refused("make_crates", "missing documentation")
+
+
+class Pages(unittest.TestCase):
+    """The pages of a package that has the pages alone."""
+
+    def test_a_link_that_leads_nowhere_becomes_text(self) -> None:
+        with tempfile.TemporaryDirectory() as room:
+            tree, folder = Path(room, "tree"), Path(room, "folder")
+            (tree / "docs" / "pictures").mkdir(parents=True)
+            (tree / "README.md").write_text("[a](docs/A.md#b) [c](crates/c/README.md) [d](https://d.invalid) [e](#e)\n", encoding="utf-8")
+            (tree / "docs" / "A.md").write_text("[top](../README.md) [c](../crates/c.rt) ![p](pictures/p.png) [v](../try/#vector=v)\n", encoding="utf-8")
+            (tree / "docs" / "pictures" / "p.png").touch()
+            self.assertEqual(package_pages.put(tree, folder), (2, 2))
+            self.assertEqual((folder / "README.md").read_text(), "[a](docs/A.md#b) c [d](https://d.invalid) [e](#e)\n")
+            self.assertEqual((folder / "docs" / "A.md").read_text(), "[top](../README.md) c ![p](pictures/p.png) [v](../try/#vector=v)\n")
 
 
 class Removed(unittest.TestCase):

@@ -1,9 +1,8 @@
-"""Faults planted in a release's tree, each of which the release's own check has to see: in the functions for memory and for the system, in
-sums, and by a file that is missing.
+"""Faults planted in a tree from which a clone builds, each of which has to be reported by its name: in the functions for memory and for the
+system, in compiled/, and between it and the headers.
 
-The compiled code is stood in for by two short texts: no kit is wanted. What the check does over real code is release/check's to try."""
+The compiled code is stood in for by short texts (stand_in.py). What the check does over real code is release/check's to try."""
 
-import re
 import subprocess
 import sys
 import tempfile
@@ -11,12 +10,13 @@ import unittest
 from pathlib import Path
 
 HERE = Path(__file__).resolve().parent
-sys.path[:0] = [str(HERE.parent), str(HERE.parent.parent)]
+sys.path[:0] = [str(HERE), str(HERE.parent), str(HERE.parent.parent)]
 
+import compiled_text
 import examine
-import tree
+from stand_in import calls_of, lay_out, replaced, sum_up, text_of
 
-# Of a file of the tree: what stands there once, and what a mistake makes of it.
+# Of a file of the tree: what it has once, and what a mistake makes of it.
 IN_MEMORY = {
     "no byte for a request of none": ("c/heap.c", "answer(malloc(bytes ? bytes : align))", "answer(malloc(bytes))"),
     "none for one that grows to none": ("c/heap.c", "realloc(old, bytes ? bytes : align)", "realloc(old, bytes)"),
@@ -35,99 +35,159 @@ IN_MEMORY = {
     "errno that is not set": ("c/system.c", "errno = number", "(void)number"),
     "errno that is not read": ("c/system.c", "return errno", "return 0"),
 }
-
-
-def replaced(path: Path, old: str, new: str) -> None:
-    """Plants a fault where the old text stands once."""
-    text = path.read_text(encoding="utf-8")
-    assert text.count(old) == 1, f"{path.name} has {text.count(old)} times: {old}"
-    path.write_text(text.replace(old, new), encoding="utf-8")
+LIBRARIES = ("libdasd.a", "libdasd.so.1", "libdasd_drive.a")
+NAMES = ("sh", "c/tests/names.sh", "cc", "libdasd.a", "libdasd.so.1")
 
 
 class Planted(unittest.TestCase):
-    """A tree of a release with one fault."""
+    """A tree with one fault."""
 
     def setUp(self) -> None:
         room = tempfile.TemporaryDirectory()
         self.addCleanup(room.cleanup)
-        compiled = Path(room.name, "compiled")
-        compiled.mkdir()
-        for name in ("libdasd-x86_64.s", "libdasd-aarch64.s"):
-            (compiled / name).write_text(f"\t.text\n# {name}\n", encoding="utf-8")
         self.tree = Path(room.name, "dasd")
-        tree.lay_out(self.tree, compiled)
+        lay_out(self.tree)
 
-    def passes(self, *goals: str) -> bool:
-        return examine.make(self.tree, *goals)[0]
+    def told(self, *command: str) -> str:
+        """What a command says that has to fail."""
+        ran = subprocess.run(command, cwd=self.tree, capture_output=True, text=True, check=False)
+        self.assertNotEqual(ran.returncode, 0, ran.stdout)
+        return ran.stdout + ran.stderr
+
+    def passes(self, *command: str) -> None:
+        """A command that has to pass."""
+        ran = subprocess.run(command, cwd=self.tree, capture_output=True, text=True, check=False)
+        self.assertEqual(ran.returncode, 0, ran.stdout + ran.stderr)
 
     def test_the_tree_as_it_is(self) -> None:
-        self.assertTrue(self.passes("check-sums", "check-memory"))
+        self.passes("make", *LIBRARIES, "dasd")
+        self.passes(*NAMES)
+        self.passes("sh", "c/tests/names.sh", "cc", "libdasd_drive.a")
+        self.passes("make", "-C", "c", "check-heap")
 
     def test_memory(self) -> None:
         for what, (name, old, new) in IN_MEMORY.items():
             with self.subTest(what):
                 held = (self.tree / name).read_bytes()
                 replaced(self.tree / name, old, new)
-                self.assertFalse(self.passes("check-memory"))
+                self.assertFalse(examine.make(self.tree, "-C", "c", "check-heap")[0])
                 (self.tree / name).write_bytes(held)
 
     def test_a_byte_of_the_code(self) -> None:
-        replaced(self.tree / "compiled/libdasd-aarch64.s", "# lib", "# Lib")
-        self.assertFalse(self.passes("check-sums"))
+        for name in ("libdasd", "libdasd_drive", "dasd"):
+            with self.subTest(name):
+                text = self.tree / f"compiled/{name}-x86_64.s"
+                text.write_text(text.read_text(encoding="utf-8").replace("\tret", "\tnop", 1), encoding="utf-8")
+                built = f"{name}.a" if name.startswith("lib") else name
+                self.assertIn(f"compiled/{name}-x86_64.s is not that of this commit", self.told("make", built))
 
     def test_a_digit_of_a_sum(self) -> None:
-        sums = self.tree / "compiled/SHA256SUMS"
-        text = sums.read_text(encoding="utf-8")
-        sums.write_text(("0" if text[0] != "0" else "1") + text[1:], encoding="utf-8")
-        self.assertFalse(self.passes("check-sums"))
+        sums = self.tree / "release/compiled.sha256"
+        sums.write_text("".join(("0" if it[0] != "0" else "1") + it[1:] for it in sums.read_text(encoding="utf-8").splitlines(True)))
+        self.assertIn("compiled/libdasd-x86_64.s is not that of this commit", self.told("make", "libdasd.a"))
 
-    def test_a_line_that_is_no_sum(self) -> None:
-        sums = self.tree / "compiled/SHA256SUMS"
-        sums.write_text(sums.read_text(encoding="utf-8") + "no sum\n", encoding="utf-8")
-        self.assertFalse(self.passes("check-sums"))
+    def test_a_missing_text(self) -> None:
+        (self.tree / "compiled/dasd-x86_64.s").unlink()
+        self.assertIn("compiled/dasd-x86_64.s is not here", self.told("make", "dasd"))
 
-    def test_a_missing_file(self) -> None:
-        for name, goal in (
-            ("compiled/libdasd-aarch64.s", "check-sums"),
-            ("compiled/SHA256SUMS", "check-sums"),
-            ("c/heap.c", "check-memory"),
-            ("c/system.h", "check-memory"),
-            ("tests/heap_test.c", "check-memory"),
-            ("target.sh", "check-sums"),
-        ):
-            with self.subTest(name):
-                held = (self.tree / name).read_bytes()
-                (self.tree / name).unlink()
-                self.assertFalse(self.passes(goal))
-                (self.tree / name).write_bytes(held)
+    def commit(self) -> str:
+        """Makes the tree a repository of one commit more; the id of its crates/."""
+        git = ("git", "-c", "user.name=a", "-c", "user.email=a@b")
+        self.passes("git", "init", "-q")
+        self.passes(*git, "add", "--all")
+        self.passes(*git, "commit", "-qm", "a commit")
+        return subprocess.run(("git", "rev-parse", "HEAD:crates"), cwd=self.tree, check=True, capture_output=True, text=True).stdout.strip()
 
-    def test_a_tarball_that_is_not_the_tree(self) -> None:
-        packed = self.tree.parent / "packed.tar.xz"
-        tree.pack(self.tree, packed, 0)
-        self.assertEqual(tree.differing(self.tree, packed), [])
-        (self.tree / "LICENSE").unlink()
-        replaced(self.tree / "VERSION", tree.version(), "0.0.0")
-        self.assertEqual(tree.differing(self.tree, packed), ["dasd/LICENSE", "dasd/VERSION"])
+    def test_the_text_of_an_older_commit(self) -> None:
+        (self.tree / "crates").mkdir()
+        (self.tree / "crates" / "one.rt").write_text("old\n", encoding="utf-8")
+        origin = self.tree / "compiled" / "ORIGIN"
+        origin.write_text(f"Crates    {self.commit()}\n", encoding="utf-8")
+        self.commit()
+        self.passes("sh", "tools/build/origin.sh")
+        # text, sums and origin are older, and agree; the crates went on
+        (self.tree / "crates" / "one.rt").write_text("new\n", encoding="utf-8")
+        newer = self.commit()
+        said = self.told("sh", "tools/build/origin.sh")
+        self.assertIn("compiled/ is that of another commit", said)
+        self.assertIn(newer, said)
 
-    def test_a_page_that_a_release_must_have(self) -> None:
-        taken = tree.TAKEN
-        try:
-            tree.TAKEN = (*taken, "NOTICES_OF_NOBODY")
-            self.assertRaisesRegex(tree.Missing, "NOTICES_OF_NOBODY", tree.known_files)
-        finally:
-            tree.TAKEN = taken
+    def test_a_call_that_the_text_lacks(self) -> None:
+        replaced(self.tree / "c/dasd.h", "\nint32_t dasd_free(", "\nint32_t dasd_planted(dasd *d);\n\nint32_t dasd_free(")
+        self.passes("make", *LIBRARIES)
+        self.assertIn("dasd.h declares dasd_planted, and libdasd.a does not have it", self.told(*NAMES))
+
+    def test_a_call_that_the_header_lacks(self) -> None:
+        text = self.tree / "compiled/libdasd-x86_64.s"
+        text.write_text(text_of([*calls_of("dasd.h"), "dasd_planted"], "call rattle_alloc@PLT\n\tret"), encoding="utf-8")
+        sum_up(self.tree)
+        self.passes("make", *LIBRARIES)
+        self.assertIn("libdasd.a shows dasd_planted, and dasd.h does not declare it", self.told(*NAMES))
+
+    def test_a_struct_whose_size_changed(self) -> None:
+        replaced(self.tree / "c/dasd.h", "} dasd_track;", "    uint16_t planted;\n} dasd_track;")
+        self.passes("cc", "-o", "sizes", "c/tests/sizes.c")
+        self.assertIn("dasd_track has 8 bytes in the header, and the compiled library takes 6", self.told("./sizes"))
+
+    def test_a_struct_without_a_size(self) -> None:
+        replaced(self.tree / "c/dasd.h", "} dasd_track;", "} dasd_track;\n\ntypedef struct dasd_planted {\n    int it;\n} dasd_planted;")
+        self.passes("make", *LIBRARIES)
+        self.assertIn("dasd.h has the struct dasd_planted, and sizes.c has no size of it", self.told(*NAMES))
+
+    def test_a_compiler_that_is_not_there(self) -> None:
+        said = self.told("make", "CC=s390x-linux-gnu-gcc", "libdasd.a").splitlines()
+        self.assertIn("make: the compiler s390x-linux-gnu-gcc is missing: Debian's package gcc-s390x-linux-gnu has it", said)
 
     def test_a_target_that_is_not_there(self) -> None:
         compiler = self.tree / "cc"
-        compiler.write_text("#!/bin/sh\ncase $* in *-dumpmachine*) echo s390x-ibm-linux;; *) echo '#define __s390x__ 1';; esac\n")
+        compiler.write_text("#!/bin/sh\ncase $* in *-dumpmachine*) echo s390x-ibm-linux;; *-E*) echo '#define __s390x__ 1';; *) exec gcc \"$@\";; esac\n")
         compiler.chmod(0o755)
-        well, printed = examine.make(self.tree, f"CC={compiler}", "libdasd.a")
-        self.assertFalse(well)
-        self.assertTrue(any(re.search("nothing for s390x-ibm-linux", it) for it in printed), printed)
+        self.assertIn("nothing for s390x-ibm-linux", self.told("make", f"CC={compiler}", "libdasd.a"))
 
     def test_a_build_with_unset_names(self) -> None:
-        ran = subprocess.run(["sh", "-u", str(self.tree / "target.sh"), "cc"], capture_output=True, text=True, check=False)
+        ran = subprocess.run(["sh", "-u", str(self.tree / "tools/build/target.sh"), "cc"], capture_output=True, text=True, check=False)
         self.assertIn(ran.stdout.strip(), ("x86_64", "aarch64"))
+
+
+class Compared(unittest.TestCase):
+    """What the gate compares of compiled/ with what the proved modules give."""
+
+    def setUp(self) -> None:
+        room = tempfile.TemporaryDirectory()
+        self.addCleanup(room.cleanup)
+        self.made, self.kept = Path(room.name, "made"), Path(room.name, "kept")
+        for folder in (self.made, self.kept):
+            folder.mkdir()
+            for name in ("dasd-x86_64.s", "libdasd.wasm"):
+                (folder / name).write_text(name, encoding="utf-8")
+        self.sums = "aa  dasd_c.bc\nbb  dasd-x86_64.s\n"
+        compiled_text.origin, self.origin = lambda sums: f"of {sums}", compiled_text.origin
+        self.addCleanup(setattr, compiled_text, "origin", self.origin)
+        compiled_text.write(self.made, self.sums, self.kept)
+
+    def differing(self) -> list[str]:
+        """What is reported."""
+        return compiled_text.differing(self.made, self.sums, self.kept)
+
+    def test_nothing(self) -> None:
+        self.assertEqual(self.differing(), [])
+
+    def test_a_byte(self) -> None:
+        (self.kept / "dasd-x86_64.s").write_text("other", encoding="utf-8")
+        self.assertEqual(self.differing(), ["compiled/dasd-x86_64.s is not what the proved module gives"])
+
+    def test_files_of_one_side(self) -> None:
+        (self.made / "new-x86_64.s").write_text("", encoding="utf-8")
+        (self.kept / "old-x86_64.s").write_text("", encoding="utf-8")
+        self.assertEqual(self.differing(), ["compiled/new-x86_64.s is not here", "compiled/old-x86_64.s was not made"])
+
+    def test_a_module_of_webassembly_that_could_not_be_made(self) -> None:
+        (self.made / "libdasd.wasm").unlink()
+        self.assertEqual(self.differing(), [])
+
+    def test_of_something_else(self) -> None:
+        self.sums = self.sums.replace("aa", "ab")
+        self.assertEqual(self.differing(), ["compiled/ORIGIN is not that of these crates, modules and kit"])
 
 
 if __name__ == "__main__":
