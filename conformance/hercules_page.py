@@ -9,6 +9,7 @@ from __future__ import annotations
 import os
 import sys
 from typing import List, Optional, Sequence
+from urllib.parse import quote
 
 from ask import compared, read_deck
 from suite.adapters import Emulator
@@ -17,7 +18,12 @@ from suite.vectors import HERE
 
 RESULTS = os.path.join(HERE, "results")
 # What run.py printed of whole runs.
-RUNS = {"as they are": "hercules-3.13.txt", "with a Seek before each program": "hercules-3.13-seek-first.txt"}
+RUNS = {
+    "as they are": "hercules-3.13.txt",
+    "with a Seek before each program": "hercules-3.13-seek-first.txt",
+    "as they are, with the drives of `hdtdasd`": "hercules-3.13-hdtdasd.txt",
+    "as they are, with the channels of `hdtchan`": "hercules-3.13-hdtchan.txt",
+}
 SUMS = ("on manuals alone", "on the profile too", "all")
 
 HEAD = """# What Hercules 3.13 does differently
@@ -49,6 +55,33 @@ where it was.
 `conformance/differ.py model hercules --plain --seek-first --readable --without-profile --lists 700` plays lists by chance whose programs each
 begin with a Seek, and which rest on no choice of this suite. Of 700 seeds 81 made such a list, and 44 came out differently, in 14 ways. Each of
 these is one of the facts above: 8, 11, 12, 16, 17, 25, 28, 32, 33 and 34; this search found 28, 32, 33 and 34.
+
+## With the modules of this repository
+
+[adapters/hercules](../adapters/hercules/README.md) has two modules for the same, unmodified Hercules. `hdtdasd` has drives, under Hercules'
+channel; `hdtchan` has whole channels. Which facts above remain:
+
+| | Hercules alone | With `hdtdasd` | With `hdtchan` |
+|---|---|---|---|
+| Facts that remain | 1 to 34 | 3 to 8, 11 to 14, 20, 21, 22, 29, 33 | 7, which asks for an arm that takes time; it was not played with the option `arms` |
+| Vectors right, of those that can be asked | 67 of 330 | 254 of 330 | 330 of 330 |
+| Random lists that differ | 44 of 81 | not counted | 0 of 35 |
+| The worked utility by IPL | waits for ever, since no device end comes after a seek | `DONE` | `DONE` |
+| The copier of two channels | not run | not run | `DONE` in 60 of 60 runs, with `arms` |
+
+Of what no paper here has: `hdtchan` executes SIOF as SIO and CLRIO as TIO, as a channel without these functions does; HDV leaves the program
+of another drive alone, with condition code 2; CLRCH resets the channel and its drives; and STIDC stores zeros, a selector channel of no model.
+The vectors ask none of these; what is said of HDV, CLRCH and STIDC is from memory of the System/370 manual and not tested.
+
+Instructions of the whole of Hercules for a channel program, by callgrind, as the difference of two counts of programs; a guest starts each by
+SIO and asks by TIO. The library was built without its proofs, by the same compiler:
+
+| Program | Hercules alone | With `hdtdasd` | With `hdtchan` |
+|---|---|---|---|
+| Search ID for the last of 20 records, read it | 20,542 | 25,448 (1.24) | 7,579 (0.37) |
+| the first record, read | 5,648 | 6,536 (1.16) | 7,105 (1.26) |
+| 20 times Read Count, Key and Data | 15,023 | 19,467 (1.30) | 17,701 (1.18) |
+| 20 records formatted | 26,326 | 37,793 (1.44) | 83,854 (3.19) |
 """
 
 
@@ -68,7 +101,8 @@ def section(number: int, path: str, emulator: Emulator) -> str:
     if outcome.broke:
         lines += ["%s." % outcome.broke, ""]
     shown = "- Shown by `conformance/ask.py hercules conformance/hercules/%s`%s." % (name, by_vectors(said["vectors"].split()))
-    lines += ["- The manuals: %s." % said["manual"], "- For an operating system: %s." % said["matters"], shown, ""]
+    run = "- [Run it in the browser](../try/#deck=%s), with both answers." % quote(said["title"], safe="")
+    lines += ["- The manuals: %s." % said["manual"], "- For an operating system: %s." % said["matters"], shown, run, ""]
     return "\n".join(lines)
 
 

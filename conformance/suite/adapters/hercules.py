@@ -31,6 +31,8 @@ TZOFFSET +0000
 OSTAILOR QUIET
 """
 STORAGE = 1 << 24
+# The interval timer's location.
+TIMER = 80
 # On a busy machine Hercules may be asked for storage before its processor has stopped, and leaves none.
 TRIES = 5
 
@@ -40,6 +42,7 @@ class HerculesEmulator(Emulator):
 
     def __init__(self, command: str = "hercules", seek_first: bool = False, seconds: float = 20) -> None:
         self.command, self.seek_first, self.seconds = command, seek_first, seconds
+        self.timers: List[bytes] = []
         self.name = "Hercules 3.13" + (", with a Seek before each program" if seek_first else "")
 
     def play(self, vector: Vector) -> Outcome:
@@ -69,7 +72,7 @@ class HerculesEmulator(Emulator):
             return Outcome(broke=broke or "Hercules left no storage")
         with open(out, "rb") as it:
             kept = it.read()
-        answers = [self.answer(vector, event, kept[at * metal.ENTRY:(at + 1) * metal.ENTRY]) for at, event in enumerate(events)]
+        answers = [self.answer(vector, event, kept[at * metal.ENTRY:(at + 1) * metal.ENTRY], self.timers[at]) for at, event in enumerate(events)]
         try:
             return Outcome(answers, None, {unit: Volume.load([path]) for unit, path in paths.items()})
         except BadImage as why:
@@ -79,6 +82,7 @@ class HerculesEmulator(Emulator):
         """The entries of the events, and the words of the programs that begin with a Seek of the adapter's."""
         machine = Machine(vector.channel, STORAGE, list(vector.before().items()), by_itself=ByItself("step", True))
         entries: List[bytes] = []
+        self.timers = []
         words, channel = b"", vector.channel << 8
         for event in events:
             if event.name == "SIO":
@@ -100,6 +104,7 @@ class HerculesEmulator(Emulator):
                 kind = {"TCH": metal.TCH, "INT": metal.INT}.get(event.name, metal.WAIT)
                 entries.append(metal.entry(kind, channel))
             machine.play(event)
+            self.timers.append(bytes(machine.storage.bytes[TIMER:TIMER + 4]))
         return b"".join(entries) + bytes(metal.ENTRY), words
 
     @staticmethod
@@ -166,9 +171,12 @@ class HerculesEmulator(Emulator):
         return "Hercules ended by signal %d" % -ran.returncode if ran.returncode < 0 else None
 
     @staticmethod
-    def answer(vector: Optional[Vector], event: Event, data: bytes) -> str:
-        """The answer's line of an event, from its entry."""
+    def answer(vector: Optional[Vector], event: Event, data: bytes, timer: bytes = b"") -> str:
+        """The answer's line of an event, from its entry. The interval timer runs: its bytes are shown as `timer`, that no clock has changed."""
         code, number, status, old, shown = metal.read_entry(data)
+        at = TIMER - event.address
+        if timer and -4 < at < len(shown):
+            shown = shown[:max(at, 0)] + timer[max(-at, 0):] + shown[at + 4:]
         name = event.name
         text = status.hex().upper()
         csw = text[:8] + " " + text[8:]
