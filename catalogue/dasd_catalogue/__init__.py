@@ -4,8 +4,8 @@
     dasd-catalogue find 'SYS1.*'
 
 docs/CATALOGUE.md is its page. The modules, from below: `names`, `images`, `says` and `program` know files and what `dasd` prints of them; `asking`
-with `unloading` asks one volume; `engines` asks many, here or over Dask; `walk`, `database`, `merge`, `store` and `scan` keep what came; `queries`
-and `taking` answer; `markup`, `picture`, `pages`, `sides`, `serving` and `report` show it in a browser; `command` is the command.
+with `placing` and `unloading` asks one volume; `engines` asks many, here or over Dask; `walk`, `database`, `merge`, `store` and `scan` keep what
+came; `queries` and `taking` answer; `markup`, `picture`, `pages`, `sides`, `serving` and `report` show it in a browser; `command` is the command.
 """
 
 __version__ = "1.1.0"

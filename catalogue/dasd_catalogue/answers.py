@@ -10,17 +10,6 @@ from .program import Object
 
 
 @dataclass(frozen=True)
-class Way:
-    """How volumes are asked: the file of the program, how many seconds one of its commands may take, how many bytes a packed file may hold, and the
-    folder for what is unloaded, if not one of memory or the system's."""
-
-    program: str
-    patience: float = 3600.0
-    most: int = 16 << 30
-    scratch: str = ""
-
-
-@dataclass(frozen=True)
 class Task:
     """A volume that is to be asked: the number and the paths of its files, the first one's the volume's number too; whether it is asked even where it
     doesn't look like an image; and what the hash of the first file was when it was asked before."""

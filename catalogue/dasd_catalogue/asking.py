@@ -1,8 +1,7 @@
 """One volume is asked once: its findings, its tracks, its contents, and all of its data sets and members with their hashes and texts.
 
-It is only read: `dasd` gets a link to each file, in a folder of its own, so that no name of the archive is a word of a command; a packed file is
-unpacked there. Objects of a kind that isn't known here are left alone. Whatever goes wrong is a fault in the answer, so no volume is lost, and no
-volume stops the others.
+It is only read. Objects of a kind that isn't known here are left alone. Whatever goes wrong is a fault in the answer, so no volume is lost, and no volume
+stops the others.
 """
 
 from __future__ import annotations
@@ -15,10 +14,10 @@ from collections.abc import Callable
 from functools import partial
 
 from . import says
-from .answers import Answer, Finding, Set, Stamp, Task, Way
-from .images import MAGIC, BadPacking, first_bytes, is_called_image, opened, unpack
-from .program import NAME, Fault, Volume
-from .scratch import parent_for, scratch_folder
+from .answers import Answer, Finding, Set, Stamp, Task
+from .images import MAGIC, BadPacking, first_bytes, is_called_image, packing_at
+from .placing import placed
+from .program import Fault, Volume, Way
 from .unloading import unload
 
 #: Faults of this stage are of the machine at that time, and not of the volume: it is asked again by the next scan.
@@ -59,29 +58,12 @@ def _ask_files(answer: Answer, way: Way) -> None:
     if not (is_image or task.is_named or is_called_image(task.paths[0])):
         answer.state = "other"
         return
-    size = sum(os.stat(it).st_size for it in task.paths)
-    with scratch_folder(parent_for(size, way.scratch)) as folder:
-        try:
-            names = put_files(answer, folder, way)
-        except BadPacking as fault:
-            answer.faults.append(("unpack", str(fault)))
-            return
-        ask_volume(answer, Volume(way.program, folder, names, way.patience))
-
-
-def put_files(answer: Answer, folder: bytes, way: Way) -> tuple[str, ...]:
-    """Puts links to the files of a task into a folder, or what they hold where they are packed; their names there."""
-    paths = answer.task.paths
-    names = [NAME] if len(paths) == 1 else [f"{NAME}_{number}" for number in range(1, len(paths) + 1)]
-    for path, name in zip(paths, names):
-        target = os.path.join(folder, os.fsencode(name))
-        with open(path, "rb") as file:
-            answer.packing = opened(file)[0]
-        if answer.packing:
-            unpack(path, target, way.most)
-        else:
-            os.symlink(os.path.abspath(path), target)
-    return tuple(names)
+    answer.packing = packing_at(task.paths[0])
+    try:
+        with placed(task.paths, way) as volume:
+            ask_volume(answer, volume)
+    except BadPacking as fault:
+        answer.faults.append(("unpack", str(fault)))
 
 
 def ask_volume(answer: Answer, volume: Volume) -> None:

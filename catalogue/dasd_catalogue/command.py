@@ -12,11 +12,10 @@ import sys
 from collections.abc import Callable, Iterable
 
 from . import __version__, queries
-from .answers import Way
 from .database import BadCatalogue, open_to_read
 from .engines import BadEngine, engine_for
 from .names import Places, clean, quantity
-from .program import NoProgram, Object, find_program
+from .program import NoProgram, Object, Way, find_program
 from .report import write_report
 from .scan import Wanted, scan
 from .serving import BadAddress, serve
@@ -59,13 +58,38 @@ def parser() -> argparse.ArgumentParser:
     base.add_argument("--database", "-d", default=DATABASE, metavar="FILE", help=f"the catalogue; {DATABASE} where it is not named")
     asked = argparse.ArgumentParser(add_help=False, parents=[base])
     asked.add_argument("--json", action="store_true", help="prints one object of JSON a line")
-    program = argparse.ArgumentParser(add_help=False)
-    program.add_argument("--dasd", default="", metavar="FILE", help="the program dasd, if not that of DASD_PROGRAM or of the path")
-    program.add_argument("--scratch", default="", metavar="DIR", help="a folder for what is unloaded, if not memory or the system's")
+    program = program_words()
     add_scan(commands, [base, program])
     add_questions(commands, asked, program)
     add_pages(commands, base)
     return words
+
+
+def positive(text: str) -> int:
+    """A number above 0."""
+    number = int(text)
+    if number <= 0:
+        raise ValueError(text)
+    return number
+
+
+def program_words() -> argparse.ArgumentParser:
+    """The words of the commands that run `dasd`: which, where, and within what limits."""
+    words = argparse.ArgumentParser(add_help=False)
+    words.add_argument("--dasd", default="", metavar="FILE", help="the program dasd, if not that of DASD_PROGRAM or of the path")
+    words.add_argument("--scratch", default="", metavar="DIR", help="a folder for what is unloaded, if not memory or the system's")
+    words.add_argument("--patience", type=float, default=Way.patience, metavar="SECONDS", help="how long one command of dasd may take; 120")
+    words.add_argument("--memory", type=positive, default=Way.memory, metavar="BYTES", help="how much memory it may have; 1 GiB")
+    more = "how much longer a file that it writes may be than three times the pack; 16 MiB"
+    words.add_argument("--spare", type=positive, default=Way.spare, metavar="BYTES", help=more)
+    words.add_argument("--largest", type=positive, default=Way.most, metavar="BYTES", help="how much a packed file may hold; 16 GiB")
+    return words
+
+
+def way_of(words: Words) -> Way:
+    """How these words have volumes asked."""
+    scratch = os.path.abspath(words.scratch) if words.scratch else ""
+    return Way(find_program(words.dasd), words.patience, words.largest, scratch, words.memory, words.spare)
 
 
 def add_scan(commands: argparse._SubParsersAction[argparse.ArgumentParser], parents: list[argparse.ArgumentParser]) -> None:
@@ -76,8 +100,6 @@ def add_scan(commands: argparse._SubParsersAction[argparse.ArgumentParser], pare
     how.add_argument("--processes", type=int, default=0, metavar="N", help="so many processes; as many as there are processors where it is not named")
     how.add_argument("--scheduler", default="", metavar="ADDRESS", help="the workers of this Dask scheduler, which see the same files")
     it.add_argument("--again", action="store_true", help="asks all, also what has not changed")
-    it.add_argument("--patience", type=float, default=3600.0, metavar="SECONDS", help="how long one command of dasd may take; an hour")
-    it.add_argument("--largest", type=int, default=16 << 30, metavar="BYTES", help="how much a packed file may hold; 16 GiB")
     it.add_argument("--quiet", action="store_true", help="tells nothing of how far it is")
     it.set_defaults(run=run_scan)
 
@@ -127,9 +149,8 @@ def run_scan(words: Words) -> int:
     engine = engine_for(words.processes or os.cpu_count() or 1, words.scheduler)
     if words.scratch and not words.scheduler and not os.path.isdir(words.scratch):
         raise BadEngine(f"there is no folder {words.scratch}")
-    way = Way(find_program(words.dasd), words.patience, words.largest, os.path.abspath(words.scratch) if words.scratch else "")
     paths = [os.fsencode(it) for it in words.paths]
-    came = scan(Wanted(words.database, paths, engine, way, words.again, words.quiet))
+    came = scan(Wanted(words.database, paths, engine, way_of(words), words.again, words.quiet))
     states = ", ".join(f"{count} {state}" for state, count in came.states.items())
     print(f"{came.known} names: {states}", flush=True)
     rate = came.asked / came.seconds if came.seconds else 0.0
@@ -210,8 +231,7 @@ def run_extract(words: Words) -> int:
         places = [place for number in texts for place in queries.places_of_text(connection, number)]
     else:
         places = [place for name in words.names for place in queries.places_of_name(connection, name)]
-    way = Way(find_program(words.dasd), scratch=words.scratch)
-    taking = Taking(words.to, Places.beside(words.database), way, words.text)
+    taking = Taking(words.to, Places.beside(words.database), way_of(words), words.text)
     taken = list(take(connection, places, taking))
     told(taken, words, line_of_taken)
     return 0 if taken and all("file" in it for it in taken) else 1

@@ -19,8 +19,9 @@ from multiprocessing import get_context, parent_process
 from typing import Any, Protocol
 
 from . import __version__
-from .answers import Answer, Task, Way
+from .answers import Answer, Task
 from .asking import ask
+from .program import Way
 
 #: So many tasks for each worker are under way or wait for it.
 AHEAD = 4
@@ -153,7 +154,7 @@ class Dask:
         """By all workers that there are. Where one dies the scheduler gives its tasks to others; a task over which several died is given up."""
         try:
             client = self.distributed.Client(self.address, set_as_default=False)
-        except (OSError, ValueError) as fault:
+        except (OSError, ValueError, TypeError) as fault:  # a TypeError where there are no keys for TLS
             raise BadEngine(f"no scheduler answers at {self.address}: {fault}") from fault
         with client:
             self._examine(client)

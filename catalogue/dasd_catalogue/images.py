@@ -6,6 +6,7 @@ import gzip
 import lzma
 import os
 import re
+import zlib
 from collections.abc import Callable, Iterable
 from typing import BinaryIO
 
@@ -18,6 +19,8 @@ PACKINGS: dict[str, tuple[bytes, Callable[[BinaryIO], BinaryIO]]] = {
     "xz": (b"\xfd7zXZ\0", lzma.LZMAFile),  # type: ignore[dict-item]
 }
 PACKED_SUFFIXES = (b".gz", b".xz")
+#: What is raised of a packed file that is damaged or cut off.
+DAMAGES = (gzip.BadGzipFile, EOFError, zlib.error, lzma.LZMAError)
 NUMBERED = re.compile(rb"(.*)_([1-8])((?:\.[^.]+)?(?:\.gz|\.xz)?)", re.DOTALL)
 SEQUENCE = 17
 MOST_FILES = 8
@@ -26,6 +29,10 @@ CHUNK = 1 << 20
 
 class BadPacking(Exception):
     """What a packed file holds can't be had; the text says why."""
+
+
+class HoldsMore(BadPacking):
+    """A packed file holds more than it may."""
 
 
 def packing_of(start: bytes) -> str:
@@ -40,12 +47,18 @@ def opened(file: BinaryIO) -> tuple[str, BinaryIO]:
     return packing, PACKINGS[packing][1](file) if packing else file
 
 
+def packing_at(path: bytes) -> str:
+    """What the file of a path is packed with; an empty text where it is not."""
+    with open(path, "rb") as file:
+        return opened(file)[0]
+
+
 def first_bytes(path: bytes, count: int) -> bytes:
     """The first bytes of an image, unpacked where it is packed; none where they can't be had."""
     try:
         with open(path, "rb") as file:
             return opened(file)[1].read(count)
-    except (OSError, EOFError, lzma.LZMAError):
+    except (OSError, *DAMAGES):
         return b""
 
 
@@ -57,8 +70,8 @@ def is_called_image(path: bytes) -> bool:
     return name.endswith(SUFFIXES)
 
 
-def unpack(path: bytes, target: bytes, most: int) -> None:
-    """Writes what a packed file holds to a new file of so many bytes at most."""
+def unpack(path: bytes, target: bytes, most: int) -> int:
+    """Writes what a packed file holds to a new file of so many bytes at most; how many it has."""
     left = most
     try:
         with open(path, "rb") as file, open(target, "xb") as out:
@@ -66,12 +79,13 @@ def unpack(path: bytes, target: bytes, most: int) -> None:
             while chunk := packed.read(CHUNK):
                 left -= len(chunk)
                 if left < 0:
-                    raise BadPacking(f"it holds more than {most} bytes")
+                    raise HoldsMore(f"it holds more than {most} bytes")
                 out.write(chunk)
-    except (gzip.BadGzipFile, EOFError, lzma.LZMAError) as fault:
+    except DAMAGES as fault:
         raise BadPacking(f"it can't be unpacked: {fault}") from fault
     except OSError as fault:
         raise BadPacking(f"it can't be unpacked: {os.strerror(fault.errno) if fault.errno else fault}") from fault
+    return most - left
 
 
 def parts_of(folder: bytes, names: Iterable[bytes]) -> dict[bytes, tuple[bytes, int]]:

@@ -1,7 +1,8 @@
 """What a walk met is merged with what the catalogue has: new and changed files wait to be asked, those that are no more there are gone.
 
 Files are numbered in the order of their paths as they are first met, so that it doesn't matter in which order they are answered. A file that has
-several names, by links of either kind, is asked once, by that of its names that is no symbolic link and stands first.
+several names, by links of either kind, is asked once, by that of its names that is no symbolic link and stands first. A file at a new path that holds
+the bytes of one that is gone is that file: it keeps its number, and what was answered.
 """
 
 from __future__ import annotations
@@ -11,6 +12,7 @@ import sqlite3
 from collections.abc import Iterable
 
 from .names import Places, shown
+from .says import file_hash
 from .walk import Met
 
 SEEN = """CREATE TEMP TABLE seen (
@@ -31,6 +33,14 @@ def forget(connection: sqlite3.Connection, file: int) -> None:
         connection.execute(f"DELETE FROM {table} WHERE {column} = ?", (file,))
 
 
+def digest_at(path: bytes) -> bytes:
+    """SHA-256 of the file of a path; nothing where it can't be read, which is told when it is asked."""
+    try:
+        return file_hash(path)
+    except OSError:
+        return b""
+
+
 class Merge:
     """A merge of what was met at and below these paths."""
 
@@ -46,6 +56,7 @@ class Merge:
         run("BEGIN IMMEDIATE")
         self.connection.executemany("INSERT OR REPLACE INTO seen VALUES (?, ?, ?, ?, ?, ?, ?, ?, ?, ?, ?, NULL)", map(self._row, names))
         run(OWNERS)
+        self._put_moved()
         self._put_files()
         self._put_gone()
         self.connection.executemany("INSERT OR IGNORE INTO roots VALUES (?)", [(self.places.kept(it),) for it in self.roots])
@@ -56,6 +67,21 @@ class Merge:
         first = self.places.kept(it.first) if it.first else b""
         numbers = (it.size, it.modified, str(it.device), str(it.inode), it.is_link, it.is_named)
         return (self.places.kept(it.path), it.kind, it.text, *numbers, first, it.part)
+
+    def _put_moved(self) -> None:
+        """Files that are at another path than before get it. Only where a file of its size is gone is a new one read. Of several that hold the same the
+        first by their paths belong together."""
+        run = self.connection.execute
+        gone: dict[int, dict[bytes, list[int]]] = {}
+        for row in run("SELECT id, path, state, size, digest FROM files WHERE digest NOTNULL AND path NOT IN (SELECT path FROM seen) ORDER BY path"):
+            if row["state"] == "gone" or self._is_below(self.places.found(row["path"])):
+                gone.setdefault(row["size"], {}).setdefault(row["digest"], []).append(row["id"])
+        fresh = "SELECT * FROM seen WHERE kind = 'file' AND owner IS NULL AND path NOT IN (SELECT path FROM files) ORDER BY path"
+        for row in run(fresh).fetchall() if gone else ():
+            same = gone[row["size"]].get(digest_at(self.places.found(row["path"]))) if row["size"] in gone else None
+            if same:
+                change = "UPDATE files SET path = ?, shown = ?, modified = ? WHERE id = ?"
+                run(change, (row["path"], shown(row["path"]), row["modified"], same.pop(0)))
 
     def _put_files(self) -> None:
         """New names get their numbers, and each name its state."""

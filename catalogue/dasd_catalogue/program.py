@@ -4,7 +4,10 @@ from __future__ import annotations
 
 import json
 import os
+import resource
+import select
 import shutil
+import signal
 import subprocess
 from collections.abc import Iterator
 from dataclasses import dataclass
@@ -14,9 +17,11 @@ Object = dict[str, Any]
 #: The environment's word for the program's file.
 VARIABLE = "DASD_PROGRAM"
 LINES, FAULTS = b"lines", b"faults"
+MOST_MILLISECONDS = (1 << 31) - 1
 MOST_FAULT = 2000
-#: How faults begin that may be gone another time: the first four are said here, the others by the program.
-PASSING = ("it took", "it was ended", "it ended", "it printed", "read fault", "write fault", "no memory")
+#: How faults begin that may be gone another time: the first five are said here, the others by the program.
+PASSING = ("it took", "it wrote", "it was ended", "it ended", "it printed", "read fault", "write fault", "no memory")
+NO_MEMORY = "no memory"
 #: What the file of a volume is called where it is asked; those of one in several files have a number behind it.
 NAME = "volume"
 
@@ -44,40 +49,93 @@ def version_of(program: str) -> str:
 
 
 @dataclass(frozen=True)
-class Volume:
-    """A volume that is asked: the program, a folder with its files, their names there, and how many seconds a command may take."""
+class Way:
+    """How volumes are asked: the file of the program, how many seconds one of its commands may take, how many bytes a packed file may hold, the folder
+    for what is unloaded, if not one of memory or the system's, how many bytes of addresses a command may have, and by how many a file that it writes
+    may be longer than its volume."""
 
     program: str
+    patience: float = 120.0
+    most: int = 16 << 30
+    scratch: str = ""
+    memory: int = 1 << 30
+    spare: int = 16 << 20
+
+
+@dataclass(frozen=True)
+class Volume:
+    """A volume that is asked: how, a folder with its files, their names there, and how many bytes they have."""
+
+    way: Way
     folder: bytes
     names: tuple[str, ...]
-    patience: float
+    size: int
 
     def ask(self, *words: str) -> Iterator[Object]:
         """The objects that a command prints with `--json`; at the end a Fault is raised where it had one. Words in front of the volume's names."""
         lines, faults = os.path.join(self.folder, LINES), os.path.join(self.folder, FAULTS)
         with open(lines, "wb") as out, open(faults, "wb") as told:
             status = self._run([*words, "--json", "--verbose", *self.names], out, told)
-        fault = status or text_of_fault(faults)
+        fault = status or self._within_limits(text_of_fault(faults))
         with open(lines, "rb") as held:
             for line in held:
                 try:
                     yield json.loads(line)
-                except ValueError:
+                except (ValueError, RecursionError):
                     fault = fault or "it printed a line that is no JSON"
         if fault:
             raise Fault(fault)
 
     def _run(self, words: list[str], out: Any, told: Any) -> str:
         """Runs a command; how it ended otherwise than by itself, or an empty text."""
+        line = [self.way.program, *words]
+        with subprocess.Popen(line, cwd=self.folder, stdin=subprocess.DEVNULL, stdout=out, stderr=told) as process:
+            self._limit(process.pid)
+            try:
+                is_over = ends_within(process.pid, self.way.patience)
+            except BaseException:
+                process.kill()
+                raise
+            if not is_over:
+                process.kill()
+                return f"it took more than {self.way.patience:g} seconds"
+            status = process.wait()
+        if status == -signal.SIGXFSZ:
+            return f"it wrote more than {self.most_written} bytes to a file"
+        if status < 0:
+            return f"it was ended by signal {-status}"
+        return "" if status in (0, 1) else f"it ended with status {status}"
+
+    @property
+    def most_written(self) -> int:
+        """How many bytes a file may have that a command writes. A character of a text has three bytes at most."""
+        return 3 * self.size + self.way.spare
+
+    def _limit(self, process: int) -> None:
+        """Gives a command that has just begun its limits. They count what it took before, and cost no further program and no fork of this process."""
+        limits = {resource.RLIMIT_AS: self.way.memory, resource.RLIMIT_FSIZE: self.most_written, resource.RLIMIT_CORE: 0}
         try:
-            done = subprocess.run(
-                [self.program, *words], cwd=self.folder, stdin=subprocess.DEVNULL, stdout=out, stderr=told, timeout=self.patience, check=False
-            )
-        except subprocess.TimeoutExpired:
-            return f"it took more than {self.patience:g} seconds"
-        if done.returncode < 0:
-            return f"it was ended by signal {-done.returncode}"
-        return "" if done.returncode in (0, 1) else f"it ended with status {done.returncode}"
+            for limit, most in limits.items():
+                hard = resource.prlimit(process, limit)[1]
+                least = most if hard == resource.RLIM_INFINITY else min(most, hard)
+                resource.prlimit(process, limit, (least, least))
+        except ProcessLookupError:  # it is over
+            pass
+
+    def _within_limits(self, fault: str) -> str:
+        """What a command said, with its limit where that may be why."""
+        return f"{fault} within {self.way.memory} bytes" if fault.startswith(NO_MEMORY) else fault
+
+
+def ends_within(process: int, seconds: float) -> bool:
+    """Whether a child of this process ends within so many seconds. Waits for its end itself, where `Popen.wait` would sleep and look again."""
+    file = os.pidfd_open(process)
+    try:
+        end = select.poll()
+        end.register(file, select.POLLIN)
+        return bool(end.poll(min(seconds * 1000, MOST_MILLISECONDS)))
+    finally:
+        os.close(file)
 
 
 class Fault(Exception):

@@ -10,12 +10,11 @@ from dataclasses import dataclass
 from datetime import datetime, timezone
 
 from . import says
-from .answers import Way
 from .database import open_to_write, told
 from .engines import Engine
 from .merge import Merge
 from .names import Places
-from .program import version_of
+from .program import Way, version_of
 from .progress import Progress
 from .store import Store
 from .walk import walk

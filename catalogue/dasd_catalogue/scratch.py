@@ -10,6 +10,7 @@ import functools
 import os
 import shutil
 import stat
+import sys
 import tempfile
 import time
 from collections.abc import Iterator
@@ -17,18 +18,20 @@ from contextlib import contextmanager
 
 PREFIX = "dasd-catalogue-"
 MEMORY = "/dev/shm"
-#: A volume of so many bytes, with what is unloaded of it, is kept in memory where the system has a folder for that.
+#: A volume of so many bytes, unpacked, with what is unloaded of it, is kept in memory where the system has a folder for that.
 MOST_IN_MEMORY = 64 << 20
 #: A folder that was made so many seconds ago has been locked since, if its process lives.
 GRACE = 60
 
 
-def parent_for(size: int, asked: str) -> str:
-    """The folder for a volume of so many bytes: the one that is asked for, or memory, since `dasd` syncs each file that it makes, or the system's."""
+def parents(asked: str) -> list[tuple[str, int]]:
+    """The folders for a volume, each with how many bytes of one it may have: the one that is asked for, or memory, since `dasd` syncs each file that it
+    makes, and then the system's."""
+    anything = sys.maxsize
     if asked:
-        return asked
+        return [(asked, anything)]
     has_memory = os.access(MEMORY, os.W_OK | os.X_OK) and shutil.disk_usage(MEMORY).free > 16 * MOST_IN_MEMORY
-    return MEMORY if has_memory and size <= MOST_IN_MEMORY else tempfile.gettempdir()
+    return [*([(MEMORY, MOST_IN_MEMORY)] if has_memory else []), (tempfile.gettempdir(), anything)]
 
 
 @contextmanager

@@ -9,14 +9,12 @@ from collections.abc import Iterable, Iterator
 from dataclasses import dataclass
 from itertools import groupby
 
-from .answers import Answer, Task, Way
-from .asking import put_files
 from .images import BadPacking
 from .names import Places
-from .program import Fault, Object, Volume
+from .placing import placed
+from .program import Fault, Object, Volume, Way
 from .queries import Place, described
 from .says import Hashes
-from .scratch import parent_for, scratch_folder
 
 ALL = "all"
 
@@ -54,34 +52,37 @@ def taken_at(connection: sqlite3.Connection, place: Place) -> list[Place]:
 
 def take_of_volume(connection: sqlite3.Connection, volume: int, told: list[Object], taking: Taking) -> Iterator[Object]:
     """Takes these out of one volume."""
-    rows = connection.execute("SELECT id, path, size FROM files WHERE id = ?1 OR (of = ?1 AND state = 'part') ORDER BY part", (volume,)).fetchall()
-    task = Task(tuple(it["id"] for it in rows), tuple(taking.places.found(it["path"]) for it in rows))
-    size = sum(it["size"] or 0 for it in rows)
-    with scratch_folder(parent_for(size, taking.way.scratch)) as folder:
-        hashes = Hashes()
-        try:
-            unload_all(task, folder, taking, hashes)
-            fault = ""
-        except (OSError, Fault, BadPacking) as why:
-            fault = str(why)
-        for it in told:
-            source = os.path.join(folder, os.fsencode(ALL), os.fsencode(it["file_name"]))
-            if not os.path.exists(source):
-                yield {**it, "fault": fault or "the pack has it no more"}
-            elif hashes.files.get(it["file_name"], b"").hex() != it["hash"]:
-                yield {**it, "fault": "the pack says something else since it was scanned"}
-            else:
-                yield {**it, **put_file(it, source, taking)}
+    rows = connection.execute("SELECT path FROM files WHERE id = ?1 OR (of = ?1 AND state = 'part') ORDER BY part", (volume,))
+    paths = [taking.places.found(it["path"]) for it in rows]
+    try:
+        with placed(paths, taking.way) as held:
+            yield from take_of_files(held, told, taking)
+    except (OSError, BadPacking) as why:
+        yield from ({**it, "fault": str(why)} for it in told)
 
 
-def unload_all(task: Task, folder: bytes, taking: Taking, hashes: Hashes) -> None:
-    """Unloads all of a volume into a folder, and takes the hashes of what it says now."""
-    names = put_files(Answer(task), folder, taking.way)
-    os.mkdir(os.path.join(folder, os.fsencode(ALL)))
-    words = ["--text"] if taking.is_text else []
-    volume = Volume(taking.way.program, folder, names, taking.way.patience)
+def take_of_files(volume: Volume, told: list[Object], taking: Taking) -> Iterator[Object]:
+    """Takes these out of a volume whose files have their places."""
+    hashes, fault = Hashes(), ""
+    try:
+        unload_all(volume, taking, hashes)
+    except (OSError, Fault) as why:
+        fault = str(why)
+    for it in told:
+        source = os.path.join(volume.folder, os.fsencode(ALL), os.fsencode(it["file_name"]))
+        if not os.path.exists(source):
+            yield {**it, "fault": fault or "the pack has it no more"}
+        elif hashes.files.get(it["file_name"], b"").hex() != it["hash"]:
+            yield {**it, "fault": "the pack says something else since it was scanned"}
+        else:
+            yield {**it, **put_file(it, source, taking)}
+
+
+def unload_all(volume: Volume, taking: Taking, hashes: Hashes) -> None:
+    """Unloads all of a volume into its folder, and takes the hashes of what it says now."""
+    os.mkdir(os.path.join(volume.folder, os.fsencode(ALL)))
     hashes.ask(volume)
-    for _ in volume.ask("extract", "--all", ALL, *words):
+    for _ in volume.ask("extract", "--all", ALL, *(["--text"] if taking.is_text else [])):
         pass
 
 

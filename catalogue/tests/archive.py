@@ -19,10 +19,9 @@ sys.path[:0] = [str(HERE.parent), str(HERE)]
 
 from make_packs import make  # noqa: E402
 
-from dasd_catalogue.answers import Way  # noqa: E402
 from dasd_catalogue.database import open_to_read  # noqa: E402
 from dasd_catalogue.engines import Alone, Engine, Pool  # noqa: E402
-from dasd_catalogue.program import find_program  # noqa: E402
+from dasd_catalogue.program import Way, find_program  # noqa: E402
 from dasd_catalogue.scan import Sum, Wanted, scan  # noqa: E402
 
 #: How many packs the shared archive has; catalogue/check says another number. Among a hundred there is each kind.

@@ -6,6 +6,7 @@ import importlib
 import importlib.util
 import json
 import os
+import shutil
 import signal
 import subprocess
 import sys
@@ -15,7 +16,8 @@ from pathlib import Path
 from typing import Any
 from unittest import mock
 
-from archive import COUNT, HERE, Case, catalogue, packs, scanned
+from archive import COUNT, HERE, Case, catalogue, packs, scanned, typed
+from make_packs import plain
 from rows import differences, rows_of
 
 from dasd_catalogue.engines import BadEngine, Dask
@@ -29,10 +31,11 @@ PATIENCE = 120.0
 class Cluster:
     """A scheduler and its workers."""
 
-    def __init__(self, folder: Path) -> None:
-        self.folder, self.file = folder, folder / "scheduler.json"
+    def __init__(self, folder: Path, settings: dict[str, str] | None = None) -> None:
+        """Has a scheduler; with the settings that its environment names, by TLS."""
+        self.folder, self.file, self.settings = folder, folder / "scheduler.json", settings or {}
         self.processes: list[subprocess.Popen[bytes]] = []
-        self.start("dask_scheduler", "--host", "127.0.0.1", "--port", "0", "--no-dashboard")
+        self.start("dask_scheduler", "--host", "127.0.0.1", "--port", "0", "--no-dashboard", *(["--protocol", "tls"] if settings else []))
         until(self.is_ready, "the scheduler did not come")
 
     def is_ready(self) -> bool:
@@ -44,7 +47,7 @@ class Cluster:
 
     def start(self, module: str, *words: str) -> subprocess.Popen[bytes]:
         """Starts a process."""
-        environment = {**os.environ, "PYTHONPATH": str(HERE.parent), "DASK_DISTRIBUTED__WORKER__MEMORY__TERMINATE": "False"}
+        environment = {**os.environ, **self.settings, "PYTHONPATH": str(HERE.parent), "DASK_DISTRIBUTED__WORKER__MEMORY__TERMINATE": "False"}
         line = [sys.executable, "-m", f"distributed.cli.{module}", "--scheduler-file", str(self.file), *words]
         with open(self.folder / f"log-{len(self.processes)}", "wb") as log:
             process = subprocess.Popen(line, cwd=self.folder, env=environment, stdout=log, stderr=log)
@@ -75,6 +78,17 @@ class Cluster:
             if process.poll() is None:
                 process.kill()
             process.wait()
+
+
+def settings_with_keys(folder: Path) -> dict[str, str]:
+    """The environment by which Dask has the settings of docs/CATALOGUE.md, with keys that are made here."""
+    line = ["openssl", "req", "-x509", "-newkey", "rsa:2048", "-nodes", "-days", "30", "-subj", "/CN=archive", "-keyout", "key.pem", "-out", "cert.pem"]
+    subprocess.run(line, cwd=folder, check=True, capture_output=True)
+    pair = f"{{cert: {folder}/cert.pem, key: {folder}/key.pem}}"
+    tls = f"ca-file: {folder}/cert.pem, scheduler: {pair}, worker: {pair}, client: {pair}"
+    text = f"distributed: {{comm: {{require-encryption: true, tls: {{{tls}}}}}}}\n"
+    (folder / "dask.yaml").write_text(text, encoding="utf-8")
+    return {"DASK_CONFIG": str(folder / "dask.yaml")}
 
 
 def until(holds: object, why: str) -> None:
@@ -118,6 +132,22 @@ class OverDask(Case):
         with mock.patch("dasd_catalogue.engines.__version__", "0.0"):
             with self.assertRaisesRegex(BadEngine, "without this version"):
                 scanned(self.database, [packs()], Dask(cluster.address))
+
+    @unittest.skipUnless(shutil.which("openssl"), "openssl is not here")
+    def test_by_tls_it_lets_in_who_has_the_keys(self) -> None:
+        """And nobody else, who would have it run anything."""
+        settings = settings_with_keys(self.folder)
+        cluster = Cluster(self.folder, settings)
+        self.addCleanup(cluster.close)
+        self.assertTrue(cluster.address.startswith("tls://"))
+        cluster.start_workers(1)
+        (self.folder / "1.ckd").write_bytes(plain(1))
+        words = ("scan", str(self.folder / "1.ckd"), "--scheduler", cluster.address, "--quiet")
+        without = typed(*words, database=self.database)
+        self.assertEqual((without.returncode, without.stdout), (1, ""))
+        self.assertIn("dasd-catalogue: no scheduler answers at tls://", without.stderr)
+        with mock.patch.dict(os.environ, settings):
+            until(lambda: typed(*words, database=self.database).stdout == "1 names: 1 volume\n", "no worker asks")
 
 
 if __name__ == "__main__":

@@ -7,7 +7,7 @@ from collections.abc import Iterator
 
 from archive import Case
 
-from dasd_catalogue.program import Fault, Object, Volume
+from dasd_catalogue.program import Fault, Object, Volume, Way
 from dasd_catalogue.says import Hashes, file_hash
 
 
@@ -37,7 +37,7 @@ class Says(Case):
         """Those of data sets and of members; what came before a fault stays."""
         hashes = Hashes()
         with self.assertRaises(Fault):
-            hashes.ask(Told("dasd", b".", ("volume",), 1.0))
+            hashes.ask(Told(Way("dasd"), b".", ("volume",), 0))
         self.assertEqual(hashes.volume, b"\x11" * 32)
         self.assertEqual(hashes.files, {"SYS1.MACLIB": b"\x22" * 32, "SYS1.MACLIB(OPEN)": b"\x33" * 32})
 

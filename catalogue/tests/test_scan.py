@@ -4,6 +4,7 @@ from __future__ import annotations
 
 import fcntl
 import gzip
+import lzma
 import os
 import sqlite3
 import subprocess
@@ -21,9 +22,10 @@ from tools.common.volume_layouts import count_free
 from tools.common.written_labels import put_label
 
 from dasd_catalogue import says
-from dasd_catalogue.answers import Answer, Task, Way
+from dasd_catalogue.answers import Answer, Task
 from dasd_catalogue.database import BadCatalogue, open_to_write
 from dasd_catalogue.engines import DIED, Alone, Pool
+from dasd_catalogue.program import Way
 from dasd_catalogue.scan import Wanted, scan
 from dasd_catalogue.scratch import scratch_folder
 
@@ -37,6 +39,11 @@ FULL = """#!/bin/sh
 case $1 in extract) echo "dasd: write fault" >&2; exit 1;; esac
 exec {program} "$@"
 """
+
+
+def damaged(packed: bytes) -> bytes:
+    """A packed file with other bytes behind its header, which no packing has there."""
+    return packed[:24] + b"\xff" * 16 + packed[40:]
 
 
 class Ended(Alone):
@@ -247,6 +254,41 @@ class Again(Case):
         self.assertEqual(self.rows("SELECT id FROM files WHERE shown = 'packs/3.ckd'"), number)
         self.same_as_fresh()
 
+    def test_a_pack_that_was_moved_is_the_same_pack(self) -> None:
+        """Wherever it is, with another time too, and in two files; nothing is asked, and each keeps its number."""
+        query = "SELECT id, said FROM files LEFT JOIN volumes ON file = id WHERE state IN ('volume', 'part') ORDER BY id"
+        before = self.rows(query)
+        (self.packs / "inner").rename(self.packs / "moved")
+        (self.packs / "3.ckd").rename(self.packs / "0.ckd")
+        os.utime(self.packs / "0.ckd", ns=(1, 5))
+        self.assertEqual(self.asked_again(), 0)
+        self.assertEqual(self.rows(query), before)
+        self.assertEqual(self.rows("SELECT shown FROM files WHERE state = 'volume' AND shown LIKE '%0.ckd'"), [("packs/0.ckd",)])
+        self.assertEqual(set(self.states()), {"0.ckd", "1.ckd", "2.ckd", "a-link.ckd", "big_1.ckd", "big_2.ckd"})
+        self.same_as_fresh()
+
+    def test_copies_and_other_bytes_are_other_packs(self) -> None:
+        """A copy beside a pack that stays; and a file of its size that holds something else, when the pack is gone."""
+        held = (self.packs / "3.ckd").read_bytes()
+        (self.packs / "copy.ckd").write_bytes(held)
+        self.assertEqual(self.asked_again(), 1)
+        (self.packs / "3.ckd").unlink()
+        (self.packs / "other.ckd").write_bytes(plain(5))
+        self.assertEqual(len(plain(5)), len(held))
+        self.assertEqual(self.asked_again(), 1)
+        self.assertEqual([self.states()[it] for it in ("3.ckd", "copy.ckd", "other.ckd")], ["gone", "volume", "volume"])
+        self.same_as_fresh()
+
+    def test_a_pack_that_is_back_elsewhere(self) -> None:
+        """It was gone when an earlier scan came: it has its number, and is asked again."""
+        number, held = self.rows("SELECT id FROM files WHERE shown = 'packs/3.ckd'"), (self.packs / "3.ckd").read_bytes()
+        (self.packs / "3.ckd").unlink()
+        self.assertEqual(self.asked_again(), 0)
+        (self.packs / "back.ckd").write_bytes(held)
+        self.assertEqual(self.asked_again(), 1)
+        self.assertEqual(self.rows("SELECT id FROM files WHERE shown = 'packs/back.ckd'"), number)
+        self.same_as_fresh()
+
     def test_the_file_of_a_link_is_gone(self) -> None:
         """The link leads nowhere then; and a hard link takes its place."""
         os.link(self.packs / "1.ckd", self.packs / "hard.ckd")
@@ -377,23 +419,18 @@ class Files(Case):
         scanned(self.database, [self.folder / "none.ckd"])
         self.assertEqual(self.rows("SELECT state, stage, text FROM files JOIN faults ON id = file"), [("fault", "walk", "No such file or directory")])
 
-    def test_a_packed_file_that_holds_too_much(self) -> None:
-        """It is told, and leaves nothing."""
-        (self.folder / "big.ckd.gz").write_bytes(gzip.compress(bytes(2_000_000)))
-        small = replace(way(), most=1_000_000, scratch=str(self.folder))
-        scan(Wanted(str(self.database), [os.fsencode(self.folder)], Alone(), small, is_silent=True))
-        self.assertEqual(self.rows("SELECT stage, text FROM faults"), [("unpack", "it holds more than 1000000 bytes")])
-        self.assertEqual(sorted(it.name for it in self.folder.iterdir()), ["big.ckd.gz", "catalogue.db"])
-
-    def test_a_command_that_takes_too_long(self) -> None:
-        """It is ended, and told."""
-        slow = self.folder / "dasd"
-        slow.write_text("#!/bin/sh\nexec sleep 60\n", encoding="utf-8")
-        slow.chmod(0o755)
-        (self.folder / "1.ckd").write_bytes(plain(1))
-        with mock.patch("dasd_catalogue.scan.version_of", return_value=""):
-            scan(Wanted(str(self.database), [os.fsencode(self.folder / "1.ckd")], Alone(), Way(str(slow), patience=0.2), is_silent=True))
-        self.assertEqual(self.rows("SELECT stage, text FROM faults"), [("here", "check: it took more than 0.2 seconds")])
+    def test_damaged_packed_files_beside_good_packs(self) -> None:
+        """Each is a fault of its own, also one whose name makes it a part of an image, and the others are asked."""
+        held = {"NAME_1.ckd.gz": gzip.compress(plain(1), mtime=0), "NAME_2.ckd.xz": lzma.compress(plain(2)), "cut_1.ckd.gz": gzip.compress(plain(3))[:40]}
+        for name, packed in held.items():
+            (self.folder / name).write_bytes(damaged(packed))
+        (self.folder / "good.ckd").write_bytes(plain(4))
+        (self.folder / "good_1.ckd.gz").write_bytes(gzip.compress(plain(5)))
+        self.assertEqual(scanned(self.database, [self.folder]).asked, 5)
+        self.assertEqual(self.states(), {**dict.fromkeys(held, "fault"), "good.ckd": "volume", "good_1.ckd.gz": "volume"})
+        told = self.rows("SELECT DISTINCT stage, substr(text, 1, 20) FROM faults")
+        self.assertEqual(told, [("unpack", "it can't be unpacked")])
+        self.assertEqual(scanned(self.database, []).asked, 0)
 
     def test_the_command_line(self) -> None:
         """A scan by the command, in one process and with its progress on a stream that is no terminal."""
