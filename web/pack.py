@@ -10,12 +10,15 @@ style by their hashes, so no other script can run in it."""
 import base64
 import gzip
 import hashlib
+import json
 import pathlib
 import re
+import subprocess
 import sys
 
 SOURCE = pathlib.Path(__file__).resolve().parent / "src"
-MOST = 1_500_000
+MOST = 2_000_000
+TOP = SOURCE.parent.parent
 PACKED = ["program.wasm", "library.wasm", "examples.json", "example.ckd"]
 IMPORT = re.compile(r"^import \{([^}]*)\} from '\./([\w.]+)';$", re.M)
 EXPORT = re.compile(r"^export (?=(?:async )?(?:const|function|class) (\w+))", re.M)
@@ -66,6 +69,21 @@ def hash_of(text: str) -> str:
     return f"'sha256-{base64.b64encode(hashlib.sha256(text.encode()).digest()).decode()}'"
 
 
+def origin() -> bytes:
+    """What the page says of itself: its version and commit, where it is at home, and the licences of all code in it."""
+    asked = ["git", "-C", str(TOP), "describe", "--always", "--dirty", "--abbrev=12", "--exclude=*"]
+    said = subprocess.run(asked, capture_output=True, text=True, check=False) if (TOP / ".git").exists() else None
+    home = re.search(r"(?m)^HOMEPAGE='([^']*)'$", (TOP / "release" / "identity").read_text(encoding="utf-8"))
+    notices = [(TOP / name).read_text(encoding="utf-8") for name in ["LICENSE", "THIRD_PARTY"]]
+    told = {
+        "version": (TOP / "VERSION").read_text(encoding="utf-8").strip(),
+        "commit": f"commit {said.stdout.strip()}" if said and not said.returncode else "",
+        "home": home[1] if home else "",
+        "notices": f"\n{'=' * 72}\n\n".join(notices),
+    }
+    return json.dumps(told).encode()
+
+
 def page(out: pathlib.Path) -> str:
     """The whole page."""
     script, worker, style = Bundle("page.mjs").script(), Bundle("worker.mjs").script(), (SOURCE / "page.css").read_text(encoding="utf-8")
@@ -73,6 +91,7 @@ def page(out: pathlib.Path) -> str:
         if re.search(r"</(script|style)", text, re.I):
             sys.exit("pack.py: a script or a style has its own end in it")
     parts = [held(name, (out / name).read_bytes()) for name in PACKED]
+    parts.append(held("origin.json", origin()))
     parts.append(f'<script type="text/plain" id="worker">{worker}</script>')
     text = (SOURCE / "page.html").read_text(encoding="utf-8")
     for mark, put in {

@@ -5,13 +5,27 @@ import { amount, button, find, linesOf, make, trackName } from './dom.mjs';
 import { trackDigits } from './records.mjs';
 
 /** @typedef {import('./shapes.mjs').Difference} Difference */
+/** @typedef {import('./shapes.mjs').Volume} Volume */
+/**
+ * @typedef {object} Comparison
+ * @property {[Volume, Volume]} pair
+ * @property {Difference[]} differences
+ * @property {string} sum how many tracks differ, or why none can be compared
+ */
 
 const MOST = 2000;
 
 /** The view of a comparison. */
 export class Compare {
-  /** @param {{open: () => void, ran: () => void, track: (track: number) => void, dumps: (track: number) => Promise<[string, string]>}} hooks */
-  constructor(hooks) {
+  /** @type {[Volume, Volume] | null} */
+  #pair = null;
+
+  /**
+   * @param {import('./engine.mjs').Engine} engine
+   * @param {{open: () => void, ran: () => void, track: (track: number) => void}} hooks
+   */
+  constructor(engine, hooks) {
+    this.engine = engine;
     this.hooks = hooks;
     this.root = find('compare');
     this.heads = 1;
@@ -38,16 +52,30 @@ export class Compare {
   }
 
   /**
-   * @param {string} one
-   * @param {string} other the names of both
-   * @param {number} heads
-   * @param {Difference[]} differences
-   * @param {string} sum what else is said: how many differ, or why none can be compared
+   * Where two volumes differ.
+   * @param {Volume} one
+   * @param {Volume} other
+   * @returns {Promise<Comparison>}
+   */
+  async differ(one, other) {
+    const { same, geometry, tracks } = await this.engine.ask('compare', one.number, other.number);
+    const differences = tracks.flatMap((/** @type {any} */ it) => it.differences.map(
+                                         (/** @type {string} */ text) => ({ track: it.cylinder * other.heads + it.head, text })));
+    const sum =
+      geometry ?? (same ? 'every track is the same.' : `${amount(tracks.length, 'track')} ${tracks.length === 1 ? 'differs' : 'differ'}.`);
+    return { pair: [one, other], differences, sum };
+  }
+
+  /**
+   * @param {Comparison} comparison
+   * @param {boolean} isFormer whether it is of the same volume before and after a deck
    * @param {boolean} isShown whether the first track is chosen
    */
-  show(one, other, heads, differences, sum, isShown) {
+  show({ pair, differences, sum }, isFormer, isShown) {
+    const [one, other] = isFormer ? [`${pair[0].name} before the deck`, `${pair[1].name} after it`] : pair.map(it => it.name);
     this.clear();
-    this.heads = heads;
+    this.#pair = pair;
+    this.heads = pair[1].heads;
     this.told.textContent = `${one} and ${other}: ${sum}`;
     this.sides[0].title.textContent = one;
     this.sides[1].title.textContent = other;
@@ -74,7 +102,7 @@ export class Compare {
     for (const it of this.list.querySelectorAll('[data-track]'))
       it.setAttribute('aria-pressed', String(Number(/** @type {HTMLElement} */ (it).dataset.track) === track));
     this.hooks.track(track);
-    const texts = (await this.hooks.dumps(track)).map(it => linesOf(it));
+    const texts = (await this.#dumps(track)).map(it => linesOf(it));
     if (this.at !== track) return;
     const others = texts.map(it => new Set(it));
     texts.forEach((lines, side) => {
@@ -83,5 +111,16 @@ export class Compare {
       this.sides[side].body.replaceChildren(body);
     });
     this.sides[0].body.querySelector('.differs')?.scrollIntoView({ block: 'nearest' });
+  }
+
+  /**
+   * A track as `dasd dump` prints it, on each side.
+   * @param {number} track
+   * @returns {Promise<string[]>}
+   */
+  async #dumps(track) {
+    const where = [Math.floor(track / this.heads), track % this.heads];
+    return Promise.all((this.#pair ?? []).map(
+      it => this.engine.ask('dump', it.number, ...where).then(({ text }) => text, fault => fault.message)));
   }
 }

@@ -74,7 +74,7 @@ export class Contents {
   draw() {
     const volume = /** @type {Volume} */ (this.volume), wanted = this.inText.checked ? '' : this.field.value.trim().toUpperCase();
     const rows = volume.sets.flatMap((set, number) => this.#rowsOf(set, number, wanted));
-    const table = make('table', {},
+    const table = make('table', { 'aria-labelledby': 'contents-title' },
       make('thead', {},
         make('tr', {},
           ...['Data set', 'Org', 'Format', 'Lrecl', 'Blksz', 'Tracks'].map(

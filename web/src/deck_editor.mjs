@@ -3,7 +3,9 @@
 // what a channel command word means, and a text in the other language are the words of `dasd`.
 
 import { button, find, linesOf, make } from './dom.mjs';
+import { LETTERS } from './ebcdic.mjs';
 import { FaultMark } from './fault_mark.mjs';
+import { FIRST_TEXT } from './first_program.mjs';
 import { WordBuilder } from './word_builder.mjs';
 
 /** @typedef {{number: number, text: string, event: number | null}} DeckLine a line of a deck, and which event it is, if any */
@@ -12,20 +14,9 @@ import { WordBuilder } from './word_builder.mjs';
 /**
  * @typedef {{explain: (kind: string, digits: string) => Promise<string>, fault: (line: string) => Promise<string>, forms: () => Promise<string>,
  *   assemble: (text: string) => Promise<Turned>, disassemble: (deck: string) => Promise<Turned>, go: (event: number) => void,
- *   run: () => void}} Hooks */
+ *   run: () => void, typed: () => void, turned: () => void}} Hooks `typed`: the visitor has changed the text; `turned`: its language */
 
 const PATIENCE = 180;
-/** What stands there to begin with. */
-const FIRST = `* Reads the volume label: key and data of record 3 on cylinder 0, head 0.
-STORE 48 00000400
-STORE 400 0700050040000006 3100050240000005 0800040800000000 0E00060000000054
-STORE 500 00000000000003
-SIO 190
-RUN
-INT
-SHOW 600 32
-SHOW 620 32
-`;
 const MOST_WORDS = 12;
 /** What a field is to those who hear it. */
 const NAMES = { deck: 'The deck, an event a line', words: 'The deck in words, a statement a line' };
@@ -75,7 +66,7 @@ export class DeckEditor {
     const paper = make('div', { class: 'paper' }, this.mark.root, this.field);
     find('editor').replaceChildren(make('div', { class: 'field' }, this.gutter, paper), this.help, this.builder);
     this.#listen();
-    this.write(FIRST);
+    this.write(FIRST_TEXT, 'words');
   }
 
   #listen() {
@@ -86,6 +77,7 @@ export class DeckEditor {
       later = setTimeout(() => this.#look(), PATIENCE);
     };
     this.field.addEventListener('input', () => {
+      this.hooks.typed();
       this.mark.show(null);
       this.#number();
       soon();
@@ -146,6 +138,7 @@ export class DeckEditor {
     }
     this.write(text, language);
     this.turned = { from, to: text };
+    this.hooks.turned();
   }
 
   /** Shows the deck to be written, and not its answers. */
@@ -277,7 +270,7 @@ export class DeckEditor {
           'div', { class: 'event remark' }, make('span', { class: 'number' }, number + 1), make('span', { class: 'line' }, text || ' '));
       const came = answers[event] ?? '',
             said = [{ text: came, kind: 'came' }, ...beside(event)].filter(it => it.text && it.text !== 'STORE OK' && it.text !== 'KEY OK');
-      const words = said.map(it => make('span', { class: `said ${it.kind}` }, it.kind === 'came' ? `→ ${it.text}` : it.text));
+      const words = said.map(it => make('span', { class: `said ${it.kind}` }, ...(it.kind === 'came' ? answered(it.text) : [it.text])));
       return make('div', { class: 'event', 'data-event': event, role: 'button', tabindex: -1 },
         make('span', { class: 'number' }, number + 1), make('span', { class: 'line' }, text), ...words);
     }));
@@ -296,6 +289,20 @@ export class DeckEditor {
       for (const said of /** @type {NodeListOf<HTMLElement>} */ (it.querySelectorAll('.said'))) said.hidden = event >= next;
     }
   }
+}
+
+/**
+ * An answer: what was shown of storage as rows in hexadecimal, with the characters beside them.
+ * @param {string} text
+ * @returns {(Node | string)[]}
+ */
+export function answered(text) {
+  const [, head, digits] = /^(SHOW \w+) ((?:[0-9A-F]{2})+)$/.exec(text) ?? [];
+  if (!digits) return [`→ ${text}`];
+  return [`→ ${head}`, ...(digits.match(/.{1,32}/g) ?? []).map(row => {
+    const letters = (row.match(/../g) ?? []).map(it => LETTERS[parseInt(it, 16)]).join('');
+    return make('span', { class: 'shown' }, make('span', {}, row.replace(/.{8}(?=.)/g, '$& ')), make('span', { class: 'ebcdic' }, letters));
+  })];
 }
 
 /**

@@ -3,6 +3,7 @@
 
 import { DeckEditor, deckLines, faultLine } from './deck_editor.mjs';
 import { find } from './dom.mjs';
+import { Drafts } from './drafts.mjs';
 import { Panel } from './panel.mjs';
 import { Timeline } from './timeline.mjs';
 import { Trace } from './trace.mjs';
@@ -13,6 +14,8 @@ import { Trace } from './trace.mjs';
 /** @typedef {import('./shapes.mjs').Example} Example */
 /** @typedef {import('./stepper.mjs').PlayedEvent} PlayedEvent */
 /** @typedef {import('./tracing.mjs').TraceLine} TraceLine */
+/** @typedef {import('./drafts.mjs').Draft} Draft */
+/** @typedef {{text: string, language: import('./deck_editor.mjs').Language, example: Example | null, storage: number}} Written what stands there */
 /** @typedef {{events: PlayedEvent[], trace: TraceLine[], isTraced: boolean, disagreement: string | null, deck: number, changed: number[]}} Played */
 
 /**
@@ -25,6 +28,7 @@ import { Trace } from './trace.mjs';
 
 const FIXED = { at: 0x40, length: 16 };
 const SHOWN = 512;
+const STORAGE = 65536;
 
 /** All that is seen of a deck. */
 export class DeckView {
@@ -37,7 +41,7 @@ export class DeckView {
     this.engine = engine;
     this.drives = drives;
     this.hooks = hooks;
-    this.storage = 65536;
+    this.storage = STORAGE;
     /** The deck that was run last. */
     this.ran = '';
     /** @type {Played | null} */
@@ -47,6 +51,9 @@ export class DeckView {
     /** @type {Example | null} */
     this.example = null;
     this.moment = 0;
+    /** Whether the visitor changed the text since it was put there. */
+    this.isEdited = false;
+    this.drafts = new Drafts(() => localStorage);
     /** @type {number | null} the moment that is wanted next, while another one is asked for */
     this.wanted = null;
     this.isAsking = false;
@@ -61,13 +68,38 @@ export class DeckView {
       assemble: text => engine.ask('assemble', text),
       disassemble: deck => engine.ask('disassemble', deck),
       go: event => this.time && this.go(this.time.numberOf({ event: event + 1, unit: 0 })),
-      run: () => this.run()
+      run: () => this.run(),
+      typed: () => this.#typed(),
+      turned: () => this.isEdited && this.#typed()
     });
     this.trace = new Trace({ go: moment => this.go(moment) });
     this.panel = new Panel({ explain, from: () => this.time && this.go(this.moment) });
     this.trace.clear();
     find('run').addEventListener('click', () => this.run());
     find('edit').addEventListener('click', () => this.#edit());
+    const [latest] = this.drafts.all();
+    if (latest) this.writeDraft(latest);
+  }
+
+  /** What stands there: to be kept, and put there again. @returns {Written} */
+  get written() { return { text: this.editor.text, language: this.editor.language, example: this.example, storage: this.storage }; }
+
+  /** Whether what stands there would be lost with the page. */
+  get isUnsaved() { return this.isEdited && !this.drafts.isKept; }
+
+  // What is written is kept as it is typed.
+  #typed() {
+    this.isEdited = true;
+    this.drafts.keep(this.editor.text, this.editor.language);
+    find('draft').textContent = this.drafts.isKept ? 'Kept in this browser' : 'Not kept: this browser stores nothing for this page';
+    find('draft').classList.toggle('bad', !this.drafts.isKept);
+  }
+
+  /** @param {Draft} draft goes on being that draft */
+  writeDraft(draft) {
+    this.writeAgain({ text: draft.text, language: draft.language, example: null, storage: STORAGE });
+    this.drafts.current = draft.id;
+    find('draft').textContent = `Your draft of ${new Date(draft.at).toLocaleString('en', { dateStyle: 'medium', timeStyle: 'short' })}`;
   }
 
   /**
@@ -104,11 +136,17 @@ export class DeckView {
    * @param {Example | null} example
    * @param {number} storage
    */
-  write(text, example = null, storage = 65536) {
+  write(text, example = null, storage = STORAGE) { this.writeAgain({ text, language: 'deck', example, storage }); }
+
+  /** @param {Written} written what takes the place of the text that stands there, whose draft stays */
+  writeAgain({ text, language, example, storage }) {
     this.forget();
     this.example = example;
     this.storage = storage;
-    this.editor.write(text);
+    this.isEdited = false;
+    this.drafts.current = null;
+    find('draft').textContent = '';
+    this.editor.write(text, language);
     const about = find('about');
     about.hidden = !example?.about;
     about.textContent = example?.about ?? '';

@@ -36,7 +36,7 @@ export function entriesOf(data) {
  * @returns {Set<number>}
  */
 export function tracksOfMember(volume, set, entry) {
-  const tracks = tracksOf(set, volume.heads), lit = new Set();
+  const tracks = tracksOf(set, volume.heads, volume.tracks.length), lit = new Set();
   for (let at = entry.track; at < tracks.length; at++) {
     const track = tracks[at], records = volume.tracks[track]?.records ?? [];
     const from = at === entry.track ? entry.record : 1;
@@ -55,7 +55,7 @@ export function tracksOfMember(volume, set, entry) {
  */
 export async function directoryOf(volume, set, recordsOn) {
   const entries = [];
-  for (const track of tracksOf(set, volume.heads)) {
+  for (const track of tracksOf(set, volume.heads, volume.tracks.length)) {
     const records = await recordsOn(track), blocks = records.filter(it => it.key.length === NAME && it.data.length === 256);
     entries.push(...blocks.flatMap(it => entriesOf(it.data)));
     if (!blocks.length || blocks.length < records.length - 1) break;

@@ -11,7 +11,10 @@ const CHANNELS = 7;
 
 /** The row of drives above the deck; the one that is pressed is seen in the picture. */
 export class Drives {
-  /** @param {{shown: (drive: Drive) => void, add: (address: number, kind: string) => void, changed: () => void}} hooks */
+  /**
+   * @param {{shown: (drive: Drive) => void, add: (address: number, kind: string) => void, changed: () => void,
+   *   removing: () => void, isUnsaved: (drive: Drive) => boolean}} hooks
+   */
   constructor(hooks) {
     this.hooks = hooks;
     this.root = find('drives');
@@ -79,6 +82,7 @@ export class Drives {
 
   /** @param {Drive} drive */
   #remove(drive) {
+    this.hooks.removing();
     this.set(this.all.filter(it => it !== drive), this.shown === drive ? undefined : this.shown);
     this.hooks.changed();
   }
@@ -93,7 +97,8 @@ export class Drives {
         'aria-pressed': drive === this.shown,
         title: `${drive.volume.model}, ${drive.volume.cylinders} cylinders: seen in the picture when pressed`
       });
-      name.append(make('b', {}, hex(drive.address, 3)), ` ${drive.volume.name}`);
+      const mark = this.hooks.isUnsaved(drive) && make('span', { class: 'unsaved', title: 'Changed, and not saved' }, ' •');
+      name.append(make('b', {}, hex(drive.address, 3)), ` ${drive.volume.name}`, mark || '');
       const off = this.all.length > 1 &&
         button('×', () => this.#remove(drive), { class: 'off', 'aria-label': `Take drive ${hex(drive.address, 3)} off` });
       return make('span', { class: 'drive' }, name, off);

@@ -57,14 +57,14 @@ export class Engine {
   }
 
   /**
-   * Asks with files whose bytes are given away, so that they are not there twice.
+   * Asks with files: bytes are given away, so that they are not there twice; a browser's file is named to the worker, which reads it.
    * @param {string} method
-   * @param {Map<string, Uint8Array>} files
+   * @param {Map<string, Uint8Array | Blob>} files
    * @returns {Promise<any>}
    */
   async give(method, files) {
     await this.#started;
-    return this.#send(method, [files], [...files.values()].map(it => it.buffer));
+    return this.#send(method, [files], [...files.values()].flatMap(it => (it instanceof Uint8Array ? [it.buffer] : [])));
   }
 
   /**

@@ -40,7 +40,7 @@ export async function imageOf(images, name) {
  * The drives of an example, for a Stepper.
  * @param {Images} images
  * @param {Example} example
- * @returns {Promise<import('./stepper.mjs').DeckDrive[]>}
+ * @returns {Promise<({ address: number, files: Map<string, Uint8Array> } | { address: number, model: number, cylinders: number })[]>}
  */
 export async function drivesOf(images, example) {
   return Promise.all(example.volumes.map(async volume => {

@@ -26,10 +26,11 @@ export function tracksOfExtent([first, head, last, lastHead], type, heads, end =
 }
 
 /**
- * The tracks of a data set, in its order.
+ * The tracks of a data set, in its order. A label may name any: those that the volume does not have are left out.
  * @param {DataSet} set
  * @param {number} heads
+ * @param {number} end how many tracks the volume has
  */
-export function tracksOf(set, heads) {
-  return set.extents.flatMap((extent, at) => tracksOfExtent(extent, set.extentTypes[at], heads));
+export function tracksOf(set, heads, end) {
+  return set.extents.flatMap((extent, at) => tracksOfExtent(extent, set.extentTypes[at], heads, end));
 }

@@ -1,8 +1,12 @@
 // @ts-check
-// Files in and out: what is dropped or picked, what is saved, and a tar of many.
+// Files in and out: what is dropped or picked, unpacked where it is a gzip, and what is saved.
 
-const BLOCK = 512;
-const NAME_ROOM = 100;
+import { amount, counted } from './dom.mjs';
+import { collected, through, TooLong } from './packed.mjs';
+
+const MOST_BYTES = 512 * 1024 * 1024;
+const MOST_FILES = 8;
+const GZIP = [0x1F, 0x8B];
 
 /**
  * Files in the order of an image's parts: by name, with numbers as numbers.
@@ -47,33 +51,35 @@ export function listenForDrops(dropped) {
 }
 
 /**
- * A file's header in a tar, by POSIX's interchange format ('ustar').
- * @param {string} name
- * @param {number} length
+ * A file that was picked, unpacked where it is a gzip.
+ * @param {File} file
+ * @returns {Promise<{name: string, blob: Blob}>}
  */
-function header(name, length) {
-  const block = new Uint8Array(BLOCK),
-        put = (/** @type {number} */ at, /** @type {string} */ text) => block.set(new TextEncoder().encode(text), at);
-  const octal = (/** @type {number} */ number, /** @type {number} */ digits) => number.toString(8).padStart(digits, '0');
-  put(0, name);
-  put(100, `${octal(0o644, 7)}\0${octal(0, 7)}\0${octal(0, 7)}\0${octal(length, 11)}\0${octal(0, 11)}\0        0`);
-  put(257, 'ustar\x0000');
-  put(148, `${octal(block.reduce((sum, it) => sum + it, 0), 6)}\0 `);
-  return block;
+async function unpackedFile(file) {
+  const first = new Uint8Array(await file.slice(0, GZIP.length).arrayBuffer().catch(() => { throw new Error(`${file.name} could not be read.`); }));
+  if (GZIP.some((it, at) => first[at] !== it)) return { name: file.name, blob: file };
+  const parts = await collected(through(file, 'DecompressionStream', 'gzip'), MOST_BYTES).catch(fault => {
+    throw new Error(`${file.name}: ${fault instanceof TooLong ? `unpacked it has ${fault.message}, which this page does not take.` : 'its gzip is damaged.'}`);
+  });
+  return { name: file.name.replace(/\.gz$/i, ''), blob: new Blob(/** @type {BlobPart[]} */ (parts)) };
 }
 
 /**
- * A tar of files, whose names have at most 100 bytes: `dasd` spells a data set's name, with a member's, in fewer.
- * @param {Iterable<[string, Uint8Array]>} files
- * @returns {Blob}
+ * The files of one image by their names, unpacked where they are gzips. An Error says that they are too many, too large, or damaged.
+ * @param {File[]} list
+ * @returns {Promise<Map<string, Blob>>}
  */
-export function tarOf(files) {
-  /** @type {BlobPart[]} */
-  const parts = [];
-  for (const [name, bytes] of files) {
-    if (new TextEncoder().encode(name).length > NAME_ROOM) throw new Error(`the name ${name} is too long for a tar`);
-    parts.push(/** @type {BlobPart} */ (header(name, bytes.length)), /** @type {BlobPart} */ (bytes),
-      new Uint8Array((BLOCK - (bytes.length % BLOCK)) % BLOCK));
+export async function unpackedFiles(list) {
+  const bytes = list.reduce((sum, it) => sum + it.size, 0), name = list.map(it => it.name).join(' + ');
+  if (list.length > MOST_FILES) throw new Error(`${amount(list.length, 'file')}: an image has at most ${MOST_FILES}.`);
+  if (bytes > MOST_BYTES) {
+    const most = `This page takes images of up to ${counted(MOST_BYTES)} bytes; the program dasd reads larger ones.`;
+    throw new Error(`${name}: ${counted(bytes)} bytes. ${most}`);
   }
-  return new Blob([...parts, new Uint8Array(2 * BLOCK)], { type: 'application/x-tar' });
+  const files = new Map();
+  for (const it of list) {
+    const unpacked = await unpackedFile(it);
+    files.set(unpacked.name, unpacked.blob);
+  }
+  return files;
 }

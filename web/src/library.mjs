@@ -11,8 +11,19 @@ import { Fault, isTrap } from './fault.mjs';
 /** @typedef {{ units: number, subchannel: number, device: number, asked: boolean }} Ran */
 /** @typedef {{ address: number, cylinder: number, head: number }} Track */
 
-export const SUBCHANNEL = { AVAILABLE: 0, WORKING: 1, ENDED: 2 };
+// c/interface.toml: begin
 export const ARM = { AT_REST: 0, IN_MOTION: 1, ARRIVED: 2 };
+export const SUBCHANNEL = { AVAILABLE: 0, WORKING: 1, ENDED: 2 };
+
+// Where the fields of structs begin, and how many bytes a struct has.
+const BYTES = { BYTES: 16, at: 0, len: 8 };
+const FILE = { BYTES: 24, at: 0, len: 8, changes: 16 };
+const DRIVE = { BYTES: 16, model: 0, cylinders: 2, cylinder: 4, head: 6, arm: 8, sense: 9, reserved: 15 };
+const RUN = { BYTES: 8, units: 0, subchannel: 4, device: 5, asked: 6, reserved: 7 };
+const TRACK = { BYTES: 6, address: 0, cylinder: 2, head: 4 };
+const STATE = { BYTES: 20, subchannel: 0, device: 1, asked: 2, drives: 3, units: 4, arms: 12 };
+const STORAGE = { BYTES: 16, at: 0, len: 8 };
+// c/interface.toml: end
 
 const HANDLE_BYTES = 16, ROOM_BYTES = 64;
 
@@ -97,7 +108,7 @@ export class Subsystem {
    */
   file(address, file = 0) {
     this.#call('show_file', address, file, this.#room);
-    const view = this.#roomView(), at = Number(view.getBigUint64(0, true)), length = Number(view.getBigUint64(8, true));
+    const view = this.#roomView(), at = Number(view.getBigUint64(FILE.at, true)), length = Number(view.getBigUint64(FILE.len, true));
     return this.#bytes().slice(at, at + length);
   }
 
@@ -108,7 +119,7 @@ export class Subsystem {
    */
   changes(address, file = 0) {
     this.#call('show_file', address, file, this.#room);
-    return this.#roomView().getBigUint64(16, true);
+    return this.#roomView().getBigUint64(FILE.changes, true);
   }
 
   /**
@@ -118,8 +129,10 @@ export class Subsystem {
   drive(address) {
     this.#call('show_drive', address, this.#room);
     const view = this.#roomView(), at = Number(this.#room);
-    const [model, cylinders, cylinder, head] = [0, 2, 4, 6].map(it => view.getUint16(it, true));
-    return { model, cylinders, cylinder, head, arm: view.getUint8(8), sense: this.#bytes().slice(at + 9, at + 15) };
+    const [model, cylinders, cylinder, head] =
+      [DRIVE.model, DRIVE.cylinders, DRIVE.cylinder, DRIVE.head].map(it => view.getUint16(it, true));
+    const sense = this.#bytes().slice(at + DRIVE.sense, at + DRIVE.reserved);
+    return { model, cylinders, cylinder, head, arm: view.getUint8(DRIVE.arm), sense };
   }
 
   // --- The processor's instructions: each answers its condition code ---
@@ -143,7 +156,8 @@ export class Subsystem {
   runOn(channel, units) {
     this.#call('run_on', channel, units, this.#room);
     const view = this.#roomView();
-    return { units: view.getUint32(0, true), subchannel: view.getUint8(4), device: view.getUint8(5), asked: view.getUint8(6) === 1 };
+    const [subchannel, device, asked] = [RUN.subchannel, RUN.device, RUN.asked].map(it => view.getUint8(it));
+    return { units: view.getUint32(RUN.units, true), subchannel, device, asked: asked === 1 };
   }
 
   /**
@@ -171,7 +185,8 @@ export class Subsystem {
   reset(channel) {
     if (this.#call('reset', channel, this.#room) === 0) return null;
     const view = this.#roomView();
-    return { address: view.getUint16(0, true), cylinder: view.getUint16(2, true), head: view.getUint16(4, true) };
+    const [address, cylinder, head] = [TRACK.address, TRACK.cylinder, TRACK.head].map(it => view.getUint16(it, true));
+    return { address, cylinder, head };
   }
 
   /**
@@ -180,9 +195,9 @@ export class Subsystem {
    */
   channel(number) {
     this.#call('show_channel', number, this.#room);
-    const at = Number(this.#room), bytes = this.#bytes().slice(at, at + 20), count = bytes[3];
-    const units = [...bytes.slice(4, 4 + count)], arms = [...bytes.slice(12, 12 + count)];
-    return { subchannel: bytes[0], device: bytes[1], asked: bytes[2] === 1, units, arms };
+    const at = Number(this.#room), bytes = this.#bytes().slice(at, at + STATE.BYTES), count = bytes[STATE.drives];
+    const [units, arms] = [STATE.units, STATE.arms].map(it => [...bytes.slice(it, it + count)]);
+    return { subchannel: bytes[STATE.subchannel], device: bytes[STATE.device], asked: bytes[STATE.asked] === 1, units, arms };
   }
 
   // --- Main storage ---
@@ -191,7 +206,8 @@ export class Subsystem {
   storage() {
     this.#call('show_storage', this.#room);
     const view = this.#roomView();
-    return new Uint8Array(this.#exports.memory.buffer, Number(view.getBigUint64(0, true)), Number(view.getBigUint64(8, true)));
+    const [at, length] = [STORAGE.at, STORAGE.len].map(it => Number(view.getBigUint64(it, true)));
+    return new Uint8Array(this.#exports.memory.buffer, at, length);
   }
 
   /**
@@ -299,15 +315,15 @@ export class Subsystem {
     /** @type {bigint[]} */
     const lent = [], instance = this.#exports;
     try {
-      const list = this.#take(16 * files.length);
+      const list = this.#take(BYTES.BYTES * files.length);
       lent.push(list);
       files.forEach((file, number) => {
         const at = this.#take(file.length);
         lent.push(at);
         this.#bytes().set(file, Number(at));
-        const view = new DataView(this.#exports.memory.buffer, Number(list) + 16 * number, 16);
-        view.setBigUint64(0, at, true);
-        view.setBigUint64(8, BigInt(file.length), true);
+        const view = new DataView(this.#exports.memory.buffer, Number(list) + BYTES.BYTES * number, BYTES.BYTES);
+        view.setBigUint64(BYTES.at, at, true);
+        view.setBigUint64(BYTES.len, BigInt(file.length), true);
       });
       call(list, BigInt(files.length));
     } finally {

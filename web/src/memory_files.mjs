@@ -1,38 +1,49 @@
 // @ts-check
 // A host of files that are names and bytes in memory, for a page: some folders, which have to be told, and no links.
 
+import { Whole } from './image.mjs';
 import { ERROR, FLAG, KIND, SystemFault } from './system.mjs';
 
 /** @typedef {import('./system.mjs').FileFacts} FileFacts */
 
+/** @typedef {import('./image.mjs').Image} Image */
+
 /** A file's bytes. Those that a caller gave are never written: the first write makes a copy. */
 class MemoryFile {
   mode = 0o644;
-  #bytes;
+  /** @type {Image} */ #image;
+  /** @type {Uint8Array} */ #bytes = new Uint8Array(0);
   #length;
   #owned = false;
 
   /**
-   * @param {Uint8Array} bytes
+   * @param {Uint8Array | Image} given
    * @param {number} number
    */
-  constructor(bytes, number) {
-    this.#bytes = bytes;
-    this.#length = bytes.length;
+  constructor(given, number) {
+    this.given = given;
+    this.#image = given instanceof Uint8Array ? new Whole(given) : given;
+    this.#length = given.length;
     this.number = number;
   }
 
-  /** The bytes as they are now. Of a file that was not written they are the very ones that were given. */
-  get bytes() { return this.#length === this.#bytes.length ? this.#bytes : this.#bytes.subarray(0, this.#length); }
+  /** The bytes as they are now. Of a file that was not written it is the very one that was given. */
+  get now() { return this.#owned ? this.#bytes.subarray(0, this.#length) : this.given; }
 
   get length() { return this.#length; }
 
+  /**
+   * @param {number} from
+   * @param {number} to
+   */
+  read(from, to) { return this.#owned ? this.#bytes.subarray(from, Math.min(to, this.#length)) : this.#image.read(from, to); }
+
   /** @param {number} length */
   #reach(length) {
-    if (this.#owned && length <= this.#bytes.length) return;
-    const room = length > this.#bytes.length ? Math.max(length, 2 * this.#bytes.length) : this.#bytes.length;
-    const bytes = zeros(room);
-    bytes.set(this.#bytes.subarray(0, this.#length));
+    const held = this.#owned ? this.#bytes.length : this.#image.length;
+    if (this.#owned && length <= held) return;
+    const bytes = zeros(length > held ? Math.max(length, 2 * held) : held);
+    bytes.set(this.read(0, this.#length));
     [this.#bytes, this.#owned] = [bytes, true];
   }
 
@@ -67,7 +78,7 @@ function zeros(length) {
   }
 }
 
-/** @typedef {{ file: MemoryFile, at: number, flags: number }} Opened */
+/** @typedef {{ file: MemoryFile, at: number, flags: number, isFolder?: boolean }} Opened */
 
 export class MemoryFiles {
   /** @type {Map<string, MemoryFile>} */ #names = new Map();
@@ -77,7 +88,7 @@ export class MemoryFiles {
   #next = 3;
 
   /**
-   * @param {Map<string, Uint8Array>} files
+   * @param {Map<string, Uint8Array | Image>} files
    * @param {Uint8Array} input standard input
    * @param {string[]} [folders]
    */
@@ -95,7 +106,7 @@ export class MemoryFiles {
   printed(descriptor) { return joined(this.#printed[descriptor]); }
 
   /** The files as they are now, by name. */
-  files() { return new Map([...this.#names].map(([name, file]) => [name, file.bytes])); }
+  files() { return new Map([...this.#names].map(([name, file]) => [name, file.now])); }
 
   // --- The host's part ---
 
@@ -106,12 +117,22 @@ export class MemoryFiles {
    */
   open(path, flags, mode) {
     const name = nameOf(path);
-    if (this.#folders.has(name)) throw new SystemFault(ERROR.IS_FOLDER);
+    if (name === '' || this.#folders.has(name)) return this.#openedFolder(flags);
     const there = this.#names.get(name);
     if (there && flags & FLAG.CREATES && flags & FLAG.EXCLUSIVE) throw new SystemFault(ERROR.EXISTS);
     const file = there ?? this.#created(name, flags, mode);
     if (flags & FLAG.TRUNCATES) file.resize(0);
     this.#opened.set(this.#next, { file, at: 0, flags });
+    return this.#next++;
+  }
+
+  /**
+   * A folder is opened to have its names synced, and for nothing else.
+   * @param {number} flags
+   */
+  #openedFolder(flags) {
+    if (flags & (FLAG.WRITES | FLAG.CREATES)) throw new SystemFault(ERROR.IS_FOLDER);
+    this.#opened.set(this.#next, { file: new MemoryFile(new Uint8Array(0), this.#next), at: 0, flags, isFolder: true });
     return this.#next++;
   }
 
@@ -145,7 +166,7 @@ export class MemoryFiles {
    * @param {Uint8Array} into
    */
   read(descriptor, into) {
-    const it = this.#at(descriptor), part = it.file.bytes.subarray(it.at, it.at + into.length);
+    const it = this.#readable(descriptor), part = it.file.read(it.at, it.at + into.length);
     into.set(part);
     it.at += part.length;
     return part.length;
@@ -158,7 +179,7 @@ export class MemoryFiles {
    */
   readAt(descriptor, into, at) {
     if (at < 0) throw new SystemFault(ERROR.INVALID);
-    const part = this.#at(descriptor).file.bytes.subarray(at, at + into.length);
+    const part = this.#readable(descriptor).file.read(at, at + into.length);
     into.set(part);
     return part.length;
   }
@@ -193,6 +214,16 @@ export class MemoryFiles {
     return to;
   }
 
+  /**
+   * What is open and has bytes to read.
+   * @param {number} descriptor
+   */
+  #readable(descriptor) {
+    const it = this.#at(descriptor);
+    if (it.isFolder) throw new SystemFault(ERROR.IS_FOLDER);
+    return it;
+  }
+
   /** @param {Uint8Array} path */
   facts(path) {
     const name = nameOf(path);
@@ -201,7 +232,9 @@ export class MemoryFiles {
 
   /** @param {number} descriptor */
   factsOf(descriptor) {
-    return descriptor <= 2 ? factsOf(KIND.PIPE | 0o600) : this.#regular(this.#at(descriptor).file);
+    if (descriptor <= 2) return factsOf(KIND.PIPE | 0o600);
+    const it = this.#at(descriptor);
+    return it.isFolder ? factsOf(KIND.FOLDER | 0o755) : this.#regular(it.file);
   }
 
   /**

@@ -3,6 +3,7 @@
 
 import { Fault } from './fault.mjs';
 import { faultOf } from './deck.mjs';
+import { imageFrom, weightOf } from './image.mjs';
 import { Subsystem } from './library.mjs';
 import { Program, textOf } from './program.mjs';
 import { Stepper } from './stepper.mjs';
@@ -24,7 +25,7 @@ export class Methods {
   #program;
   #volumes;
   #number = 0;
-  /** @type {Map<number, Files>} */ #files = new Map();
+  /** @type {Map<number, Map<string, import('./image.mjs').Image>>} */ #files = new Map();
   /** @type {Map<number, Stepper>} */ #decks = new Map();
 
   /** @param {{ program: WebAssembly.Module, library: WebAssembly.Module }} modules */
@@ -43,14 +44,31 @@ export class Methods {
   // --- Volumes ---
 
   /**
-   * Takes the files of an image.
-   * @param {Files} files
+   * Takes the files of an image, a large one of which is read in slices.
+   * @param {Map<string, Uint8Array | Blob | import('./image.mjs').Image>} given
    * @returns {Opened}
    */
-  open(files) {
+  open(given) {
+    const files = new Map([...given].map(([name, it]) => [name, imageFrom(it, name)]));
     const look = this.#volumes.look(files), volume = ++this.#number;
     this.#files.set(volume, files);
     return { volume, look };
+  }
+
+  /**
+   * What a volume is that is open already.
+   * @param {number} volume
+   */
+  look(volume) { return this.#volumes.look(this.#of(volume)); }
+
+  /**
+   * How many bytes volumes hold in memory together, and others beside them don't.
+   * @param {number[]} volumes
+   * @param {number[]} [beside]
+   */
+  weigh(volumes, beside = []) {
+    const images = (/** @type {number[]} */ numbers) => numbers.flatMap(it => [...this.#of(it).values()]);
+    return weightOf(images(volumes), images(beside));
   }
 
   /**
@@ -72,7 +90,7 @@ export class Methods {
    * The files of a volume, to be saved.
    * @param {number} volume
    */
-  files(volume) { return this.#of(volume); }
+  files(volume) { return new Map([...this.#of(volume)].map(([name, it]) => [name, it.saved()])); }
 
   /**
    * @param {number} volume
@@ -203,6 +221,6 @@ export class Methods {
 
 /** What may be asked for by name. */
 export const METHODS = new Set([
-  'version', 'open', 'format', 'close', 'files', 'dump', 'members', 'extract', 'archive', 'search', 'compare', 'explain',
+  'version', 'open', 'look', 'weigh', 'format', 'close', 'files', 'dump', 'members', 'extract', 'archive', 'search', 'compare', 'explain',
   'deckFault', 'assemble', 'disassemble', 'forms', 'play', 'step', 'next', 'left', 'forget',
 ]);

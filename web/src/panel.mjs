@@ -2,6 +2,7 @@
 // The machine's panel: lamps for subchannels, arms, sense, channel address word and channel status word, and main storage beside it.
 
 import { find, hex, make } from './dom.mjs';
+import { LETTERS } from './ebcdic.mjs';
 
 /** @typedef {import('./shapes.mjs').State} State */
 /** @typedef {import('./stepper.mjs').ChannelAt} ChannelAt */
@@ -27,25 +28,6 @@ const SENSE = [
 ];
 const ALARMS = new Set(['UC', 'UE', 'IL', 'PRG', 'PROT', 'CDC', 'CCC', 'IFC', 'CHN']);
 const NOTHING = /^0*$/;
-
-/** The printed characters of code page 037; a period stands for all others. */
-const LETTERS = (() => {
-  const rows = /** @type {Record<number, string>} */ ({
-    4: ' .........¢.<(+|',
-    5: '&.........!$*);¬',
-    6: '-/........¦,%_>?',
-    7: '.........`:#@\'="',
-    8: '.abcdefghi......',
-    9: '.jklmnopqr......',
-    10: '.~stuvwxyz......',
-    11: '^.........[]....',
-    12: '{ABCDEFGHI......',
-    13: '}JKLMNOPQR......',
-    14: '\\.STUVWXYZ......',
-    15: '0123456789......',
-  });
-  return Array.from({ length: 256 }, (_, it) => rows[it >> 4]?.[it & 15] ?? '.');
-})();
 
 /**
  * Names of the bits of a byte that are on.

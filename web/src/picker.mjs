@@ -2,8 +2,10 @@
 // The choice of a deck: the page's examples, the decks in which Hercules differs, and the vectors of the conformance suite.
 
 import { amount, button, find, make } from './dom.mjs';
+import { titleOf } from './drafts.mjs';
 
 /** @typedef {import('./shapes.mjs').Example} Example */
+/** @typedef {import('./drafts.mjs').Draft} Draft */
 
 const MOST = 60;
 const KINDS = {
@@ -20,7 +22,7 @@ const searched = it => [it.name, it.about, it.group, it.kind, it.deck].join(' ')
 
 /** A dialog with a field that narrows the choice. */
 export class Picker {
-  /** @param {{picked: (example: Example) => void}} hooks */
+  /** @param {{picked: (example: Example) => void, drafts: import('./drafts.mjs').Drafts, draft: (draft: Draft) => void}} hooks */
   constructor(hooks) {
     this.hooks = hooks;
     this.dialog = /** @type {HTMLDialogElement} */ (find('picker'));
@@ -66,7 +68,7 @@ export class Picker {
     const fits = this.all.filter(it => wanted.every(word => searched(it).includes(word)));
     this.count.textContent = amount(fits.length, 'deck');
     const groups = /** @type {(keyof typeof KINDS)[]} */ (Object.keys(KINDS)).filter(kind => fits.some(it => it.kind === kind));
-    this.list.replaceChildren(...groups.flatMap(group => {
+    this.list.replaceChildren(...this.#drafts(wanted), ...groups.flatMap(group => {
       const some = fits.filter(it => it.kind === group), shown = wanted.length ? some.slice(0, 3 * MOST) : some.slice(0, MOST);
       const rest = some.length - shown.length;
       return [
@@ -75,6 +77,28 @@ export class Picker {
                    [])
       ];
     }));
+  }
+
+  // The visitor's own, which the browser keeps.
+  /** @param {string[]} wanted */
+  #drafts(wanted) {
+    const all = this.hooks.drafts.all().filter(it => wanted.every(word => it.text.toLowerCase().includes(word)));
+    if (!all.length) return [];
+    return [make('h3', {}, `Yours, kept in this browser (${all.length})`), ...all.map(it => this.#draft(it))];
+  }
+
+  /** @param {Draft} draft */
+  #draft(draft) {
+    const title = titleOf(draft.text), it = button(title, () => {
+      this.dialog.close();
+      this.hooks.draft(draft);
+    }, { class: 'choice' });
+    it.append(make('span', {}, new Date(draft.at).toLocaleString('en', { dateStyle: 'medium', timeStyle: 'short' })));
+    const off = button('×', () => {
+      this.hooks.drafts.remove(draft.id);
+      this.draw();
+    }, { class: 'off', 'aria-label': `Delete the draft ${title}` });
+    return make('div', { class: 'draft' }, it, off);
   }
 
   /** @param {Example} example */

@@ -6,7 +6,8 @@ import { Fault, isTrap } from './fault.mjs';
 import { MemoryFiles } from './memory_files.mjs';
 import { system } from './system.mjs';
 
-/** @typedef {{ status: number, output: Uint8Array, errors: Uint8Array, files: Map<string, Uint8Array> }} Ended */
+/** @typedef {Map<string, Uint8Array | import('./image.mjs').Image>} Files */
+/** @typedef {{ status: number, output: Uint8Array, errors: Uint8Array, files: Files }} Ended */
 
 /**
  * Bytes as text of UTF-8.
@@ -40,7 +41,7 @@ export function runOver(module, words, host) {
   const instance = new WebAssembly.Instance(module, { env });
   memory.memory = /** @type {WebAssembly.Memory} */ (instance.exports.memory);
   try {
-    return /** @type {() => number} */ (instance.exports.dasd_main)();
+    return /** @type {(count: number, words: bigint) => number} */ (instance.exports.main)(0, 0n);
   } catch (thrown) {
     if (!isTrap(thrown)) throw thrown;
     throw new Fault('TRAPPED', `the program's module stopped (${/** @type {Error} */ (thrown).message})`);
@@ -56,7 +57,7 @@ export class Program {
   /**
    * Runs `dasd` once over files in memory. A file that it did not write comes back as the very same bytes.
    * @param {string[]} words without the program's name
-   * @param {Map<string, Uint8Array>} [files]
+   * @param {Files} [files]
    * @param {string | Uint8Array} [input]
    * @param {string[]} [folders]
    * @returns {Ended}

@@ -2,11 +2,13 @@
 // A track: its records in a strip from the index on and in a table; and the pane of bytes, which shows dumps and texts.
 
 import { amount, button, counted, find, hex, linesOf, make, trackName } from './dom.mjs';
+import { FieldView } from './field_view.mjs';
 
 /** @typedef {import('./shapes.mjs').TrackShape} TrackShape */
 /** @typedef {import('./shapes.mjs').Volume} Volume */
 
-const COUNT_BYTES = 8;
+/** A record's count area. */
+export const COUNT_BYTES = 8;
 const MOST_LINES = 3000;
 
 /** The pane of a track's records. */
@@ -46,7 +48,7 @@ export class Records {
     const home =
       make('tr', {}, make('td', {}, make('abbr', { title: 'Home address' }, 'HA')), make('td', { colspan: 3 }, facts.homeAddress));
     this.root.replaceChildren(
-      make('table', {}, make('thead', {}, head), make('tbody', {}, home, ...records.map((it, place) => this.#row(it, place)))));
+      make('table', { 'aria-labelledby': 'track-title' }, make('thead', {}, head), make('tbody', {}, home, ...records.map((it, place) => this.#row(it, place)))));
   }
 
   /**
@@ -106,7 +108,10 @@ export class Records {
 
 /** The pane of bytes and texts. */
 export class Bytes {
-  constructor() { this.root = find('bytes'); }
+  constructor() {
+    this.root = find('bytes');
+    this.fields = new FieldView(this.root);
+  }
 
   /**
    * @param {string} title
@@ -127,6 +132,18 @@ export class Bytes {
   dump(title, text, actions = []) {
     this.#head(title, actions);
     this.#lines(linesOf(text), line => dumpLine(line));
+  }
+
+  /**
+   * A record as `dasd dump` prints it, and its fields by name: bytes and their meaning light up each other.
+   * @param {string} title
+   * @param {string} text
+   * @param {import('./fields.mjs').Field[]} fields
+   * @param {HTMLElement[]} actions
+   */
+  record(title, text, fields, actions) {
+    this.#head(title, actions);
+    this.fields.show(linesOf(text), fields);
   }
 
   /**

@@ -25,6 +25,7 @@
  * @property {number} number the engine's
  * @property {string} name the names of its files
  * @property {number} bytes the length of its files together
+ * @property {string} [origin] what it was made of, as an address has it: example, or model and cylinders as 2314 5
  * @property {number} model 2311 or 2314
  * @property {number} cylinders
  * @property {number} heads

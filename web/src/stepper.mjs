@@ -4,6 +4,7 @@
 
 import { channelsOf, eventsOf, faultOf, hexOf, play, unitsOf, withoutChannels } from './deck.mjs';
 import { Fault } from './fault.mjs';
+import { imageAfter, imageFrom } from './image.mjs';
 import { Subsystem } from './library.mjs';
 import { Program } from './program.mjs';
 import { compareMoments, differences, fineDeck, momentBehind, timed, traced, woven } from './tracing.mjs';
@@ -16,7 +17,7 @@ import { compareMoments, differences, fineDeck, momentBehind, timed, traced, wov
  */
 /**
  * What a deck runs over. A drive's image is files or a new volume; its address has the channel's number, as 0x190.
- * @typedef {{ address: number, files: Map<string, Uint8Array> } | { address: number, model: number, cylinders: number }} DeckDrive
+ * @typedef {{ address: number, files: import('./volume.mjs').Files } | { address: number, model: number, cylinders: number }} DeckDrive
  * @typedef {{ text: string, storage: number, drives: DeckDrive[], channel?: number }} Deck channel: that of the first drive, or else 1
  */
 /**
@@ -114,7 +115,7 @@ export class Stepper {
   #begun() {
     const library = new Subsystem(this.#modules.library, this.#deck.storage, ...this.#channels);
     for (const drive of this.#deck.drives) {
-      if ('files' in drive) library.attach(drive.address, [...drive.files.values()]);
+      if ('files' in drive) library.attach(drive.address, [...drive.files].map(([name, it]) => imageFrom(it, name).all()));
       else library.attachNew(drive.address, drive.model, drive.cylinders);
       namesOf(drive).forEach((_, place) => this.#changes.set(`${drive.address} ${place}`, library.changes(drive.address, place)));
     }
@@ -170,15 +171,18 @@ export class Stepper {
   }
 
   /**
-   * The files that the deck left of a drive.
+   * The files that the deck left of a drive, those of a volume that was there before it by what it changed in them.
    * @param {number} address
-   * @returns {Map<string, Uint8Array>}
+   * @returns {import('./volume.mjs').Files}
    */
   left(address) {
     this.#end();
     const drive = this.#deck.drives.find(it => it.address === address);
     if (!drive) throw Fault.of(-11);
-    return new Map(namesOf(drive).map((name, place) => [name, this.#library.file(address, place)]));
+    return new Map(namesOf(drive).map((name, place) => {
+      const now = this.#library.file(address, place), before = 'files' in drive && drive.files.get(name);
+      return [name, before ? imageAfter(imageFrom(before, name), now) : now];
+    }));
   }
 
   /**

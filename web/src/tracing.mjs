@@ -142,7 +142,7 @@ export function woven(channels, events, reached) {
  * @param {{ channel: number, storage: number, drives: import('./stepper.mjs').DeckDrive[] }} machine
  */
 export function traced(program, deck, { channel, storage, drives }) {
-  /** @type {Map<string, Uint8Array>} */ const files = new Map();
+  /** @type {import('./program.mjs').Files} */ const files = new Map();
   /** @type {string[]} */ const words = [];
   for (const drive of drives) {
     const unit = hex(drive.address & 255, 2);
@@ -156,7 +156,7 @@ export function traced(program, deck, { channel, storage, drives }) {
   const options = ['--channel', String(channel), '--storage', String(storage), '--trace-to', 'trace', '--trace-whole'];
   const ended = program.run(['run', ...options, ...words], files, deckBytes(deck.text));
   if (ended.status && !ended.output.length) throw refusal(ended);
-  return { answers: textOf(ended.output).split('\n').filter(Boolean), trace: textOf(ended.files.get('trace') ?? new Uint8Array(0)) };
+  return { answers: textOf(ended.output).split('\n').filter(Boolean), trace: textOf(/** @type {Uint8Array | undefined} */ (ended.files.get('trace')) ?? new Uint8Array(0)) };
 }
 
 /**

@@ -9,7 +9,7 @@ import { tarOf } from './tar.mjs';
 
 /**
  * The files of one image by name, in their order.
- * @typedef {Map<string, Uint8Array>} Files
+ * @typedef {Map<string, Uint8Array | import('./image.mjs').Image>} Files
  */
 /** @typedef {{ model: number, cylinders: number, heads: number, slotSize: number }} Geometry */
 /** @typedef {{ identifier: string, keyLength: number, dataLength: number }} RecordShape */
@@ -259,7 +259,8 @@ export class Volumes {
    */
   #unload(files, text) {
     const ended = this.#run(['extract', '--json', ...(text ? ['--text'] : []), '--all', 'out'], files, [], ['out']);
-    const taken = new Map([...ended.files].filter(([name]) => name.startsWith('out/')).map(([name, bytes]) => [name.slice(4), bytes]));
+    const taken = new Map([...ended.files].filter(([name]) => name.startsWith('out/')).map(([name, bytes]) =>
+      [name.slice(4), /** @type {Uint8Array} */ (bytes)]));
     return { unloaded: objects(textOf(ended.output)).filter(it => 'name' in it).map(unloaded), taken };
   }
 

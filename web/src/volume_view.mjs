@@ -5,6 +5,7 @@ import { amount, button, counted, find, make, trackName } from './dom.mjs';
 import { Bytes, Records } from './records.mjs';
 import { Contents } from './contents.mjs';
 import { directoryOf, tracksOfMember } from './directory.mjs';
+import { fieldsOf } from './fields.mjs';
 import { Picture } from './picture.mjs';
 import { saveAs } from './files.mjs';
 import { tracksOf } from './extents.mjs';
@@ -125,10 +126,25 @@ export class VolumeView {
   async #dump(track, place) {
     const { number, heads, tracks } = /** @type {Volume} */ (this.volume), where = [Math.floor(track / heads), track % heads];
     const identifier = place === null ? null : tracks[track].records[place].identifier;
-    const { text } = await this.engine.ask('dump', number, ...where, ...(identifier ? [parseInt(identifier.slice(8), 16)] : []));
+    const { text, records } = await this.engine.ask('dump', number, ...where, ...(identifier ? [parseInt(identifier.slice(8), 16)] : []));
     if (this.picture.chosen !== track || this.records.at !== place) return;
-    this.bytes.dump(identifier ? `Record ${identifier}` : `${trackName(track, heads)}: bytes`, text,
-      identifier ? [button('Whole track', () => this.records.choose(/** @type {number} */ (place)))] : []);
+    const record = records.find((/** @type {any} */ it) => it.identifier === identifier);
+    if (!identifier || !record) return this.bytes.dump(`${trackName(track, heads)}: bytes`, text);
+    this.bytes.record(`Record ${identifier}`, text, fieldsOf(record, this.#kindOf(track)),
+      [button('Whole track', () => this.records.choose(/** @type {number} */ (place)))]);
+  }
+
+  /**
+   * What the records of a track may be.
+   * @param {number} track
+   * @returns {import('./fields.mjs').Kind}
+   */
+  #kindOf(track) {
+    const { heads, label, owner, sets } = /** @type {Volume} */ (this.volume), set = sets[owner[track]];
+    if (track === 0) return 'label';
+    const [first = 0, head = 0, last = -1, lastHead = 0] = label?.contents ?? [];
+    if (track >= first * heads + head && track <= last * heads + lastHead) return 'contents';
+    return set?.organisation === 'PO' ? 'directory' : '';
   }
 
   /** @param {number | null} place */
@@ -141,7 +157,7 @@ export class VolumeView {
   async #set(number) {
     const volume = /** @type {Volume} */ (this.volume);
     if (number === null) return this.picture.light(null);
-    const set = volume.sets[number], tracks = tracksOf(set, volume.heads);
+    const set = volume.sets[number], tracks = tracksOf(set, volume.heads, volume.tracks.length);
     this.picture.light(new Set(tracks));
     if (tracks.length) this.pick(tracks[0]);
     if (set.organisation === 'PO') return this.#library(number);
@@ -163,7 +179,7 @@ export class VolumeView {
     const volume = /** @type {Volume} */ (this.volume), set = volume.sets[number];
     const [entries, members] = await Promise.all([directoryOf(volume, set, track => this.#recordsOn(track)), this.membersOf(number)]);
     const entry = entries.length === members.length ? entries[members.findIndex(it => it.name === name)] : null;
-    const lit = entry ? tracksOfMember(volume, set, entry) : new Set(tracksOf(set, volume.heads));
+    const lit = entry ? tracksOfMember(volume, set, entry) : new Set(tracksOf(set, volume.heads, volume.tracks.length));
     this.picture.light(lit);
     const [first] = lit;
     if (first !== undefined) this.pick(first);

@@ -138,8 +138,9 @@ class Browser:
         return found[0], found[1], found[2]
 
     def severe(self) -> list[str]:
-        """What the console has of errors since it was asked last."""
-        return [str(it["message"]) for it in self.driver.get_log("browser") if it["level"] == "SEVERE"]  # type: ignore[no-untyped-call]
+        """What the console has of errors since it was asked last. That no visitor clicked before a page was left is the test's, and no error."""
+        told = [str(it["message"]) for it in self.driver.get_log("browser") if it["level"] == "SEVERE"]  # type: ignore[no-untyped-call]
+        return [it for it in told if "Blocked attempt to show a 'beforeunload'" not in it]
 
 
 def apart(one: Colour, other: Colour) -> int:

@@ -138,7 +138,11 @@ test('files in memory are as those of a system, and the bytes that were given st
   assert.deepEqual(now('a'), [1, 7, 0]);
   assert.throws(() => files.open(path('none'), 0, 0), failing(ERROR.NO_ENTRY));
   assert.throws(() => files.open(path('no/folder'), FLAG.CREATES | 1, 0o644), failing(ERROR.NO_ENTRY));
-  assert.throws(() => files.open(path('out'), 0, 0), failing(ERROR.IS_FOLDER));
+  assert.throws(() => files.open(path('out'), FLAG.CREATES | 1, 0), failing(ERROR.IS_FOLDER));
+  const folder = files.open(path('out'), 0, 0);
+  assert.throws(() => files.read(folder, new Uint8Array(1)), failing(ERROR.IS_FOLDER));
+  files.sync(folder);
+  files.close(folder);
   const made = files.open(path('out/b'), FLAG.CREATES | FLAG.EXCLUSIVE | 1, 0o640);
   files.write(made, few);
   assert.throws(() => files.open(path('out/b'), FLAG.CREATES | FLAG.EXCLUSIVE | 1, 0o640), failing(ERROR.EXISTS));

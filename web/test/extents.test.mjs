@@ -53,20 +53,20 @@ function owned(volume, set) { return upTo(0, CYLINDERS * HEADS - 1).filter(track
 test('data sets that share cylinders have their own heads of each', () => {
   const volume = looked(['LEFT', [[1, 0, 2, 3]], [SHARED]], ['RIGHT', [[1, 4, 2, 9]], [SHARED]]), [left, right] = volume.sets;
   assert.deepEqual([owned(volume, 0), owned(volume, 1)], [LEFT, RIGHT]);
-  assert.deepEqual([tracksOf(left, HEADS), tracksOf(right, HEADS)], [LEFT, RIGHT]);
+  assert.deepEqual([tracksOf(left, HEADS, Infinity), tracksOf(right, HEADS, Infinity)], [LEFT, RIGHT]);
   assert.equal(owned(volume, -1).length, CYLINDERS * HEADS - LEFT.length - RIGHT.length);
 });
 
 test('data sets of a program that tells no types are drawn straight through', () => {
   const volume = looked(['LEFT', [[1, 0, 2, 3]], undefined], ['RIGHT', [[1, 4, 2, 9]], undefined]), [left, right] = volume.sets;
   assert.deepEqual([owned(volume, 0), owned(volume, 1)], [upTo(10, 23), upTo(24, 29)]);
-  assert.deepEqual([tracksOf(left, HEADS), tracksOf(right, HEADS)], [upTo(10, 23), upTo(14, 29)]);
+  assert.deepEqual([tracksOf(left, HEADS, Infinity), tracksOf(right, HEADS, Infinity)], [upTo(10, 23), upTo(14, 29)]);
 });
 
 test('each extent has its own type, and their tracks follow each other in the data set', () => {
   const volume = looked(['BOTH', [[3, 2, 3, 4], [1, 4, 2, 5], [0, 8, 1, 1]], [DATA, SHARED, DATA]]), [set] = volume.sets;
   const tracks = [32, 33, 34, 14, 15, 24, 25, 8, 9, 10, 11];
-  assert.deepEqual(tracksOf(set, HEADS), tracks);
+  assert.deepEqual(tracksOf(set, HEADS, Infinity), tracks);
   assert.deepEqual(owned(volume, 0), [...tracks].sort((a, b) => a - b));
 });
 
@@ -93,4 +93,13 @@ test('the name of a data set stands on its own heads', () => {
   assert.deepEqual(one, { x: left + cell, y: top, w: 2 * cell, h: 4 * tall, track: 10 });
   assert.deepEqual(other, { x: left + cell, y: top + 4 * tall, w: 2 * cell, h: 6 * tall, track: 14 });
   assert.deepEqual(whole, { x: left + 3 * cell, y: top, w: cell, h: HEADS * tall, track: 32 });
+});
+
+test('sixteen extents of a hostile label that name 65,536 cylinders each are bounded by the volume', () => {
+  const extents = Array.from({ length: 16 }, () => /** @type {[number, number, number, number]} */ ([0, 0, 65535, 65535]));
+  for (const type of [1, 0x80]) {
+    const [set] = looked(['HOSTILE', extents, extents.map(() => type)]).sets, start = performance.now();
+    assert.equal(tracksOf(set, 20, 4060).length, 16 * 4060);
+    assert.ok(performance.now() - start < 1000);
+  }
 });

@@ -3,7 +3,8 @@
 
     firefox.py OUT [PICTURE.png]
 
-The example pack is opened and drawn, a data set lights up, a deck is run, stepped back in and undone. It wants Debian's firefox-esr."""
+The first program runs, the example pack is looked at, a data set lights up, a deck is run, stepped back in and undone; a record's fields, an
+address, About and a draft are looked at. It wants Debian's firefox-esr."""
 
 import base64
 import json
@@ -17,6 +18,7 @@ import time
 from typing import Any
 
 PORT = 29281
+ABOUT = "document.getElementById('origin').textContent.includes('Permission is hereby granted')"
 READY = "document.documentElement.dataset.ready === 'yes'"
 WRITING = """STORE 48 00000400
 STORE 400 0700050040000006 3100050240000005 0800040800000000
@@ -94,6 +96,8 @@ def steps(firefox: Firefox, page: pathlib.Path) -> list[tuple[str, object]]:
     """What is done, and whether it came out right."""
     firefox.ask("WebDriver:Navigate", url=page.resolve().as_uri())
     done: list[tuple[str, object]] = [("the page is ready", firefox.until(READY))]
+    read = "document.getElementById('tour-text').textContent === '000024 IRWIN       0003750.00 DEPT 024'"
+    done.append(("the first program reads its record", firefox.until(read)))
     firefox.run("document.getElementById('empty-example').click()")
     done.append(("the example has twelve data sets", firefox.until("document.querySelectorAll('#contents tbody tr').length === 12")))
     done.append(("and three errors", firefox.run("document.getElementById('wrong').textContent === '3 errors'")))
@@ -105,12 +109,26 @@ def steps(firefox: Firefox, page: pathlib.Path) -> list[tuple[str, object]]:
     done.append(
         ("a deck runs, and its track is framed", firefox.until("page.view.changed.size === 1 && page.deck.moment === page.deck.time.end"))
     )
+    leaving = "(e => (dispatchEvent(e), e.defaultPrevented))(new Event('beforeunload', { cancelable: true }))"
+    unsaved = "document.getElementById('save').classList.contains('unsaved')"
+    done.append(("leaving it asks, and Save is marked", firefox.run(leaving) and firefox.run(unsaved)))
     firefox.run("document.querySelector('[data-step=unit-back]').click(), document.querySelector('[data-step=event-back]').click()")
     done.append(("it is stepped back in", firefox.until("page.deck.time.placeOf(page.deck.moment).event === 6 && !page.deck.isAsking")))
     firefox.run("document.getElementById('undo').click()")
     done.append(("and undone", firefox.until("page.view.changed.size === 0")))
     firefox.run("(page.show('volume'), page.view.pick(36 * 20))")
     done.append(("a track's records are shown", firefox.until("document.querySelectorAll('#records tbody tr').length === 4")))
+    firefox.run("document.querySelector('#records tr[data-place=\"1\"] button').click()")
+    done.append(("a record has fields", firefox.until("document.querySelectorAll('.fields button').length === 6")))
+    firefox.run("document.querySelectorAll('.fields button')[5].focus()")
+    done.append(("which light up its bytes", firefox.until("document.querySelectorAll('#bytes i.lit').length > 100")))
+    firefox.run("void (location.hash = '#deck=A%20read')")
+    done.append(("an address leads to a deck", firefox.until("page.deck.written.example?.name === 'A read'")))
+    firefox.run("document.getElementById('about-page').click()")
+    done.append(("About has the licences", firefox.until(ABOUT)))
+    firefox.run("(document.getElementById('origin').close(), localStorage.clear(), page.deck.write(''))")
+    firefox.run("document.getElementById('text').dispatchEvent(new Event('input'))")
+    done.append(("a text is kept", firefox.run("document.getElementById('draft').textContent") == "Kept in this browser"))
     return done
 
 

@@ -19,7 +19,11 @@ from typing import Any, Callable
 sys.dont_write_bytecode = True
 
 import page_deck as deck
+import page_fields as fields
+import page_kept as kept
+import page_links as links
 import page_manners as manners
+import page_start as start
 import page_volume as volume
 from browser import Browser, Checks
 from native import Native
@@ -38,6 +42,8 @@ class Tried:
 
 # Each check by its name, in the order in which they are made.
 CHECKS: dict[str, Callable[[Tried], None]] = {
+    "start": lambda it: start.check_start(it.browser, it.native, it.checks),
+    "about": lambda it: start.check_about(it.browser, it.checks),
     "contents": lambda it: volume.check_contents(it.browser, it.native, it.checks),
     "picture": lambda it: volume.check_picture(it.browser, it.native, it.checks),
     "findings": lambda it: volume.check_findings(it.browser, it.native, it.checks),
@@ -45,6 +51,7 @@ CHECKS: dict[str, Callable[[Tried], None]] = {
     "lights": lambda it: volume.check_lights(it.browser, it.native, it.checks),
     "members": lambda it: volume.check_members(it.browser, it.native, it.checks, it.downloads),
     "archive": lambda it: volume.check_archive(it.browser, it.checks, it.downloads),
+    "fields": lambda it: fields.check_fields(it.browser, it.native, it.checks),
     "large": lambda it: volume.check_large(it.browser, it.native, it.checks),
     "help": lambda it: deck.check_help(it.browser, it.checks),
     "words": lambda it: deck.check_words(it.browser, it.native, it.checks),
@@ -53,10 +60,17 @@ CHECKS: dict[str, Callable[[Tried], None]] = {
     "trace": lambda it: deck.check_trace(it.browser, it.checks),
     "drives": lambda it: deck.check_drives(it.browser, it.checks),
     "changes": lambda it: deck.check_changes(it.browser, it.native, it.checks, it.downloads),
+    "packs": lambda it: kept.check_packs(it.browser, it.native, it.checks, it.downloads),
+    "texts": lambda it: kept.check_texts(it.browser, it.checks),
+    "packed": lambda it: kept.check_packed(it.browser, it.native, it.checks),
+    "slices": lambda it: kept.check_slices(it.browser, it.native, it.checks),
+    "extents": lambda it: kept.check_extents(it.browser, it.native, it.checks),
     "keys": lambda it: manners.check_keys(it.browser, it.native, it.checks),
     "light": lambda it: manners.check_light(it.browser, it.checks),
     "widths": lambda it: manners.check_widths(it.browser, it.checks),
     "names": lambda it: manners.check_names(it.browser, it.checks),
+    "places": lambda it: links.check_places(it.browser, it.checks),
+    "links": lambda it: links.check_links(it.browser, it.checks, it.examples["examples"]),
     "network": lambda it: manners.check_network(it.browser, it.checks),
     "hostile": lambda it: manners.check_hostile(it.browser, it.native, it.checks),
 }

@@ -32,10 +32,18 @@ CONTRASTS = """(() => {
   return poor;
 })()"""
 
-NAMELESS = """[...document.querySelectorAll('button, input, select, textarea, [role=application], [role=listbox], [role=tab]')]
-  .filter(it => it.checkVisibility() && !it.labels?.length && !it.textContent.trim())
+TABS = ["first", "volume", "deck", "compare"]
+NAMELESS = """[...document.querySelectorAll('button, input, select, textarea, table, [role=application], [role=listbox], [role=tab]')]
+  .filter(it => it.checkVisibility() && !it.labels?.length && (it.tagName === 'TABLE' || !it.textContent.trim()))
   .filter(it => !it.getAttribute('aria-label') && !it.getAttribute('aria-labelledby'))
   .map(it => it.outerHTML.slice(0, 120))"""
+
+# What is pressed and is smaller than 24 pixels to a side; of a tick its label counts.
+SMALL = """[...document.querySelectorAll('button, select, input, summary, a, [role=button], [role=tab]')]
+  .filter(it => it.checkVisibility() && !it.closest('.skip, .hidden'))
+  .map(it => [it.labels?.[0] ?? it, (it.labels?.[0] ?? it).getBoundingClientRect()])
+  .filter(([it, box]) => Math.min(box.width, box.height) < 23.9)
+  .map(([it, box]) => `${it.outerHTML.slice(0, 90)} ${box.width} ${box.height}`)"""
 
 NETWORK = """{
   let refused = 0;
@@ -60,17 +68,17 @@ def check_keys(browser: Browser, native: Native, checks: Checks) -> None:
         if browser.ask("document.activeElement.id") == "empty-example":
             break
     browser.press(Keys.ENTER)
-    checks.that("the example is opened by keys", browser.until("document.querySelectorAll('#contents tbody tr').length > 3"))
+    checks.that(
+        "the example is looked at by keys",
+        browser.until("!document.getElementById('volume').hidden && document.querySelectorAll('#contents tbody tr').length > 3"),
+    )
+    checks.same("and the picture has the focus then", browser.ask("document.activeElement.id"), "pointer")
     check_keys_of_picture(browser, checks)
     check_keys_of_deck(browser, native, checks)
 
 
 def check_keys_of_picture(browser: Browser, checks: Checks) -> None:
     """From the example's picture to its findings."""
-    for _ in range(40):
-        browser.press(Keys.TAB)
-        if browser.ask("document.activeElement.id") == "pointer":
-            break
     browser.press(Keys.ARROW_RIGHT, Keys.ARROW_DOWN, Keys.PAGE_DOWN)
     checks.that(
         "arrows lead through the picture, and tell each track",
@@ -92,6 +100,9 @@ def check_keys_of_deck(browser: Browser, native: Native, checks: Checks) -> None
     checks.that(
         "arrows lead through the views", browser.ask("document.activeElement.id === 'tab-deck' && !document.getElementById('deck').hidden")
     )
+    browser.ask("document.getElementById('as-deck').focus()")
+    browser.press(Keys.ENTER)
+    browser.until("page.deck.editor.language === 'deck'", 20)
     browser.ask("document.getElementById('text').focus()")
     browser.press(Keys.CONTROL + "a")
     browser.press(
@@ -130,7 +141,7 @@ def check_light(browser: Browser, checks: Checks) -> None:
         browser.ask("delete document.documentElement.dataset.theme")
         paper = browser.colour_of("sheet")
         checks.that(f"the system's wish for {wish} is followed", (max(paper) < 80) == (wish == "dark"), paper)
-        for tab in ["volume", "deck", "compare"]:
+        for tab in TABS:
             browser.ask("page.show(arguments[0])", tab)
             poor = browser.ask(CONTRASTS)
             checks.that(f"all words of the view {tab} stand out by 4.5 to 1 in the {wish}", not poor, poor)
@@ -151,10 +162,11 @@ def check_widths(browser: Browser, checks: Checks) -> None:
         browser.driver.execute_cdp_cmd(
             "Emulation.setDeviceMetricsOverride", {"width": width, "height": 900, "deviceScaleFactor": 1, "mobile": False}
         )
-        for tab in ["volume", "deck", "compare"]:
+        for tab in TABS:
             browser.ask("page.show(arguments[0])", tab)
             beyond = browser.ask("document.documentElement.scrollWidth - document.documentElement.clientWidth")
             checks.that(f"at a width of {width} the view {tab} has no bar to the side", beyond <= 0, beyond)
+        browser.ask("page.show('volume')")
         browser.until(f"Math.abs(page.view.picture.layout.width - {width}) < 60", 10)
         x, y = browser.ask("(p => [p.x + p.w / 2, p.y + p.h / 2])(page.view.picture.placeOf(180 * 20 + 4))")
         browser.point(x, y)
@@ -167,10 +179,12 @@ def check_widths(browser: Browser, checks: Checks) -> None:
 
 def check_names(browser: Browser, checks: Checks) -> None:
     """What a screen reader is given."""
-    for tab in ["volume", "deck", "compare"]:
+    for tab in TABS:
         browser.ask("page.show(arguments[0])", tab)
         nameless = browser.ask(NAMELESS)
-        checks.that(f"in the view {tab} nothing that is pressed or filled in lacks a name", not nameless, nameless)
+        checks.that(f"in the view {tab} nothing that is pressed or filled in lacks a name, and no table", not nameless, nameless)
+        small = browser.ask(SMALL)
+        checks.that("and all that is pressed has 24 pixels", not small, small)
     tree = browser.driver.execute_cdp_cmd("Accessibility.getFullAXTree", {})["nodes"]
     roles = {it.get("role", {}).get("value") for it in tree if not it.get("ignored")}
     checks.that(

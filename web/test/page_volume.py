@@ -30,6 +30,7 @@ def example(browser: Browser) -> None:
     """Opens the example pack."""
     browser.open()
     browser.click("#empty-example")
+    browser.until("page.tab === 'volume'")
     browser.until("document.querySelectorAll('#contents tbody tr').length > 3")
     browser.until("document.getElementById('bytes').textContent.includes('VOL1')")
 

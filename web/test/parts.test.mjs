@@ -1,5 +1,5 @@
 // @ts-check
-// memory.c and wide.c in the module, as clang, wasm-ld and binaryen have made them: out/parts.wasm is the two alone.
+// memory.c and the functions on numbers of 128 bits in the module, as clang, lld and binaryen have made them: out/parts.wasm is these alone.
 
 import assert from 'node:assert/strict';
 import test from 'node:test';

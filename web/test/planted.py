@@ -23,7 +23,7 @@ WEB = Path(__file__).resolve().parent.parent
 SECONDS, TIMES = 20, 5
 
 IN_C = ["make", "-s", "check-c"]
-TO_WASM = ["python3", "test/test_to_wasm.py", "-q"]
+MAKE = ["python3", "test/test_make.py", "-q"]
 NAMES = ["node", "--test", "test/names.test.mjs"]
 PARTS = ["node", "--test", "test/parts.test.mjs"]
 ENGINE = ["node", "--test", "test/engine.test.mjs"]
@@ -67,18 +67,7 @@ FAULTS = [
         "the same, and the engine's tests are asked",
         "memory.c", GROWN, "__builtin_wasm_memory_grow(0, pages) != (size_t)-1", [ENGINE], OF_MEMORY,
     ),
-    Fault(
-        "a product loses a carry",
-        "wide.c", "(left >> 32) + (right >> 32) + (middle >> 32)", "(left >> 32) + (right >> 32)", [IN_C, PARTS], OF_MEMORY,
-    ),
-    Fault("a shift by 64 is none", "wide.c", "it.half.high = it.half.low << (by - 64);", "(void)by;", [IN_C, PARTS], OF_MEMORY),
-    Fault("a layout is wrong: pointers of 32 bits", "to_wasm.py", "e-m:e-p:64:64-", "e-m:e-p:32:32-", [TO_WASM], ("out/library.wasm",)),
-    Fault("a layout is wrong: 64 bits stand at multiples of 4", "to_wasm.py", "p20:8:8-i64:64-", "p20:8:8-i64:32-", [TO_WASM]),
-    Fault("assembly is let in", "to_wasm.py", '("asm", ', '("x86_asm", ', [TO_WASM]),
-    Fault(
-        "an intrinsic of x86 is let in",
-        "to_wasm.py", "if intrinsic_of(name) not in INTRINSICS:", 'if intrinsic_of(name) == "":', [TO_WASM],
-    ),
+    Fault("a function that nobody has is let in", "imports.txt", "program write\n", "program write\nprogram nobody\n", [MAKE]),
     Fault("a call is exported no more", "exports.txt", "library dasd_key\n", "", [NAMES], ("out/library.wasm",)),
     Fault("a read in memory is a byte off", "src/memory_files.mjs", READ, READ.replace("at, at", "at + 1, at + 1"), [ENGINE, STEPPER]),
     Fault(
@@ -134,7 +123,7 @@ class Copy:
         """A copy of web/ beside all that its tests look at, without what only the program's module is made of."""
         for it in ("conformance", "c", "docs", "crates", "tools"):
             (room / it).symlink_to(WEB.parent / it)
-        shutil.copytree(WEB, room / "web", ignore=shutil.ignore_patterns("program.ll", "program.o", "*.64.wasm", "__pycache__"))
+        shutil.copytree(WEB, room / "web", ignore=shutil.ignore_patterns("program.o", "*.64.wasm", "__pycache__"))
         return room / "web"
 
     def limit(self, command: list[str]) -> float:

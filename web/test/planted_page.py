@@ -84,7 +84,7 @@ FAULTS = [
     ),
     Fault(
         "a large file is read whatever its size",
-        "page.mjs",
+        "files.mjs",
         "if (bytes > MOST_BYTES)",
         "if (bytes > 4 * MOST_BYTES)",
         "hostile",
@@ -98,7 +98,9 @@ def planted(fault: Fault, out: pathlib.Path, room: pathlib.Path) -> pathlib.Path
     """A page with the fault, beside the examples."""
     web, made = room / "web", room / "out"
     shutil.copytree(WEB / "src", web / "src")
-    shutil.copy(WEB / "pack.py", web / "pack.py")
+    for name in ["web/pack.py", "VERSION", "LICENSE", "THIRD_PARTY", "release/identity"]:
+        (room / name).parent.mkdir(exist_ok=True)
+        shutil.copy(WEB.parent / name, room / name)
     shutil.copytree(out, made)
     path = web / "src" / fault.file
     text = path.read_text(encoding="utf-8")
