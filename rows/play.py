@@ -1,10 +1,10 @@
 #!/usr/bin/env python3
 """Plays the rows of the suites at a built stage, and says of each that comes out wrong what a person needs.
 
-    rows/play.py STAGE [--dasd DASD [--dasd-alone]] [--only NAME] [--show] [SUITE ..]
+    rows/play.py [STAGE] [--dasd DASD [--dasd-alone]] [--only NAME] [--show] [SUITE ..]
 
-STAGE is the program of crates/test_stage, and DASD that of crates/dasd_cmd, for the suites that play it. Without SUITE all are played,
-several at a time. With --only those rows alone whose name has this text, and with --show each line and its answer too. The last
+STAGE is the program of crates/test_stage, and DASD the program `dasd`, for the suites that play it: without STAGE these alone are played. Without
+SUITE all are played, several at a time. With --only those rows alone whose name has this text, and with --show each line and its answer too. The last
 line is 'N rows played, M wrong', and the status 1 where M is not 0.
 """
 from __future__ import annotations
@@ -100,7 +100,7 @@ def told(part: Part, name: str, text: str) -> str:
 def parse_words() -> argparse.Namespace:
     """The words of the command."""
     words = argparse.ArgumentParser(description=__doc__, formatter_class=argparse.RawDescriptionHelpFormatter)
-    words.add_argument("stage", metavar="STAGE")
+    words.add_argument("stage", metavar="STAGE", nargs="?", default="")
     words.add_argument("suites", nargs="*", metavar="SUITE", help=", ".join(SUITES))
     words.add_argument("--dasd", metavar="DASD", default="", help="the program dasd")
     words.add_argument("--dasd-alone", action="store_true", help="of the suites those that play that program")
@@ -109,7 +109,12 @@ def parse_words() -> argparse.Namespace:
     words.add_argument("--first", action="store_true", help="stops at the first row that comes out wrong")
     words.add_argument("--seconds", type=float, default=SECONDS, help="how long the stage may be silent")
     words.add_argument("--processes", type=int, default=os.cpu_count() or 1)
-    return words.parse_intermixed_args()
+    said = words.parse_intermixed_args()
+    if said.stage in SUITES:
+        said.stage, said.suites = "", [said.stage, *said.suites]
+    if not said.stage and not said.dasd:
+        words.error("it wants a stage, or --dasd")
+    return said
 
 
 def played_by(programs: Programs, dasd_alone: bool) -> list[str]:
@@ -119,11 +124,11 @@ def played_by(programs: Programs, dasd_alone: bool) -> list[str]:
 
 def main() -> int:
     said = parse_words()
-    programs = Programs(str(Path(said.stage).resolve()), str(Path(said.dasd).resolve()) if said.dasd else "")
+    programs = Programs(str(Path(said.stage).resolve()) if said.stage else "", str(Path(said.dasd).resolve()) if said.dasd else "")
     unknown = [it for it in said.suites if it not in SUITES]
     if unknown:
         sys.exit("play.py: no such suite: %s" % ", ".join(unknown))
-    suites = said.suites or played_by(programs, said.dasd_alone)
+    suites = said.suites or played_by(programs, said.dasd_alone or not said.stage)
     alone = bool(said.only) or said.show
     parts = [Part(suite, rest, 1 if alone else PARTS, programs, said.only, said.show, said.first, said.seconds)
              for rest in range(1 if alone else PARTS) for suite in suites]

@@ -1,6 +1,7 @@
 """Looks for what is stale in the documents.
 
-- Each crate of crates.txt has a README.md, and a row in docs/MAP.md; README.md at the top has at most 7,168 bytes.
+- Each crate of crates.txt has a README.md, and a row in docs/MAP.md.
+- README.md has the repository's address of release/identity; while that is not set, it says so, and no page has an address that is not set.
 - Each link of a document leads to a file that is there.
 - tools/edits/README.md names the must-fail edits of the gate, each of them.
 - Each file of Rattle or antt that a document names is there: `crates/NAME/src/x.rt`, `NAME/specs/X.antt`; a name without a folder, as `Geometry.antt`,
@@ -17,10 +18,9 @@ import sys
 from collections.abc import Iterator
 from pathlib import Path
 
+from release import identity
 from tools import TOP
 from tools.make import rules
-
-MOST_BYTES = 7168
 
 CODE = re.compile(r"`([^`\n]+)`")
 LINK = re.compile(r"\]\((?!https?:)([^)#\s]+)[^)]*\)")
@@ -49,19 +49,17 @@ def crates() -> list[str]:
 
 
 def documents() -> list[Path]:
-    """All pages of the repository: not what was built, nor the page of a release's own tree."""
+    """All pages of the repository: not what was built."""
     pages = {*TOP.glob("*.md"), *TOP.glob("docs/**/*.md"), *TOP.glob("*/README.md"), *TOP.glob("*/*/README.md")}
-    return sorted(it for it in pages if "out" not in it.parts and it.parent.name != "tarball")
+    return sorted(it for it in pages if "out" not in it.parts)
 
 
 def check_crates(findings: Findings) -> None:
-    """Each crate has its page and its row; the first page is short."""
+    """Each crate has its page and its row."""
     rows = (TOP / "docs/MAP.md").read_text(encoding="utf-8").split("## Which definitions live where")[0]
     for name in crates():
         findings.expect((TOP / "crates" / name / "README.md").is_file(), f"crates/{name}: no README.md")
         findings.expect(f"`{name}`" in rows, f"docs/MAP.md: no row of {name}")
-    size = len((TOP / "README.md").read_bytes())
-    findings.expect(size <= MOST_BYTES, f"README.md has {size} bytes, more than {MOST_BYTES}")
 
 
 def check_edits(findings: Findings) -> None:
@@ -77,10 +75,26 @@ def check_edits(findings: Findings) -> None:
         findings.expect(name in named, f"tools/edits/README.md: no row of {name}")
 
 
+def check_addresses(findings: Findings) -> None:
+    """README.md leads to the repository, or says that it can't yet."""
+    names = TOP / "release/identity"
+    if not names.is_file():
+        return
+    text = (TOP / "README.md").read_text(encoding="utf-8")
+    is_missing, address = "There is no public address" in text, identity.value("REPOSITORY", names)
+    if identity.UNSET in address:
+        findings.expect(is_missing, "README.md does not say that there is no public address yet")
+    else:
+        findings.expect(address in text and not is_missing, "README.md has not the repository's address of release/identity")
+    for page in documents():
+        findings.expect(identity.UNSET + "/" not in page.read_text(encoding="utf-8"), f"{page.relative_to(TOP)}: an address that is not set")
+
+
 def check_links(findings: Findings, page: Path, text: str) -> None:
-    """Each link leads somewhere."""
+    """Each link leads somewhere. The site and packages have the page in the browser at try/, and site/pages.py looks at links to it."""
     for link in LINK.findall(text):
-        findings.expect((page.parent / link).exists(), f"{page.relative_to(TOP)}: nothing at {link}")
+        path = page.parent / link
+        findings.expect(path.exists() or path.resolve() == TOP / "try", f"{page.relative_to(TOP)}: nothing at {link}")
 
 
 def files_named(paragraph: str, own: str | None) -> Iterator[str]:
@@ -135,6 +149,7 @@ def main() -> int:
     check_crates(findings)
     check_edits(findings)
     check_rules(findings)
+    check_addresses(findings)
     for page in documents():
         text = page.read_text(encoding="utf-8")
         check_links(findings, page, text)

@@ -24,7 +24,10 @@ from pathlib import Path
 from tools import TOP
 
 MOST_LINES, MOST_PARAMETERS = 40, 5
-C_WORDS = [f"-I{it}" for it in ("c", "c/tests", "web", "release/tarball/c")]
+C_WORDS = [f"-I{it}" for it in ("c", "c/tests", "web")]
+# Of the modules of Hercules, where `adapters/hercules/fetch` has left its headers.
+HERCULES = Path("adapters/hercules/out/hercules-3.13")
+HERCULES_WORDS = ["-DHAVE_CONFIG_H", "-DEXTERNALGUI", *(f"-isystem{HERCULES / it}" for it in (".", "decNumber", "softfloat"))]
 STANDARDS = {".c": "-std=gnu11", ".cpp": "-std=gnu++17"}
 AT_ONCE = 2
 
@@ -52,8 +55,10 @@ TREES = [
     Tree(("rows/",), ("rows", "conformance")),
     Tree(("catalogue/",), ("catalogue", "catalogue/tests", "."), ("wrong-import-order", "redefined-outer-name", "invalid-name", "protected-access")),
     Tree(("release/",), ("release", "release/tests", ".")),
+    Tree(("fuzz/",), ("fuzz", "catalogue"), ("wrong-import-order",)),
     Tree(("python/",), ("python",)),
     Tree(("site/",), ("site",)),
+    Tree(("adapters/",), ("adapters/hercules/tests",)),
     Tree(("web/examples.py",), ("web", "conformance")),
     Tree(("web/",), ("web", "web/test", ".")),
 ]
@@ -126,7 +131,13 @@ def by_clang_tidy(files: Files) -> list[str]:
     """C and C++, file by file, and a header of C++ with the file that includes it."""
     looked = [(it, STANDARDS[Path(it).suffix]) for it in files.c if Path(it).suffix in STANDARDS]
     words = ["clang-tidy", "--quiet", r"--header-filter=\.hpp$"]
-    return all_of([partial(ran, [*words, it, "--", standard, *C_WORDS]) for it, standard in looked])
+    given = C_WORDS
+    if (TOP / HERCULES / "hercules.h").exists():
+        given = [*C_WORDS, *HERCULES_WORDS]
+    else:
+        print("skipped: clang-tidy over adapters/hercules (no headers of Hercules here)")
+        looked = [(it, standard) for it, standard in looked if not it.startswith("adapters/hercules/")]
+    return all_of([partial(ran, [*words, it, "--", standard, *given]) for it, standard in looked])
 
 
 def by_size(files: Files) -> list[str]:

@@ -4,9 +4,10 @@ Each row makes files, runs commands and says what they print, end with and leave
 odd names and files that are no images; kills, runs at once and traces in tools/gate/real_runs.py, `dasd extract` in tools/gate/real_extracts.py, with
 lengths and keys in tools/gate/real_keyed_extracts.py, record formats that are given and tracks as they stand in tools/gate/real_formats.py, strict
 checks, dumps and comparisons in tools/gate/real_archives.py, findings in tools/gate/real_findings.py, hashes of data sets and members in
-tools/gate/real_hashes.py, links and files that are written in place in tools/gate/real_in_place.py, new volumes with a label in
-tools/gate/real_labels.py, volumes that are changed in tools/gate/real_changes.py and tools/gate/real_deletes.py, odd lengths in
-tools/gate/real_lengths.py, lists in tools/gate/real_lists.py, data sets that are put onto a volume in tools/gate/real_loads.py, texts and blocks with
+tools/gate/real_hashes.py, links and files that are written in place in tools/gate/real_in_place.py, saves that are cut off in
+tools/gate/real_cut_offs.py, new volumes with a label in tools/gate/real_labels.py, volumes that are changed in tools/gate/real_changes.py and
+tools/gate/real_deletes.py, odd lengths in tools/gate/real_lengths.py, lists in tools/gate/real_lists.py, data sets that are put onto a volume in
+tools/gate/real_loads.py, which tracks they get in tools/gate/real_free_tracks.py, texts and blocks with
 lengths and keys among them in tools/gate/real_load_forms.py, members in tools/gate/real_members.py, folders in tools/gate/real_folders.py and
 tools/gate/real_folder_loads.py, options of checks, dumps and runs in tools/gate/real_options.py, data sets that share
 cylinders, tracks that have alternates and parts of data sets in tools/gate/real_packs.py, and what is told beside a fault's line in
@@ -36,6 +37,7 @@ from tools.common.images import slot_at
 from tools.gate import (
     real_archives,
     real_changes,
+    real_cut_offs,
     real_deletes,
     real_extracts,
     real_findings,
@@ -48,6 +50,7 @@ from tools.gate import (
     real_labels,
     real_lengths,
     real_lists,
+    real_free_tracks,
     real_load_forms,
     real_loads,
     real_members,
@@ -63,6 +66,7 @@ from tools.gate.scratch_files import ANSWERS, ONE_VOLUME, ROWS, WAYS, WRITE, How
 OTHERS = (
     real_archives,
     real_changes,
+    real_cut_offs,
     real_deletes,
     real_extracts,
     real_findings,
@@ -75,6 +79,7 @@ OTHERS = (
     real_labels,
     real_lengths,
     real_lists,
+    real_free_tracks,
     real_load_forms,
     real_loads,
     real_members,

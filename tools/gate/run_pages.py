@@ -4,8 +4,8 @@
 
 PAGES below has the pages; `--help` is the help of the program and of each command. How an example is told from other blocks says
 tools/gate/page_examples.py. Each page has an empty folder of its own, in which its examples run one after another by bash: with `dasd` and
-`dasd-catalogue` on the path, the folders of the repository under their names, and the sample pack as pack.ckd, and as big_1.ckd and
-big_2.ckd in two files.
+`dasd-catalogue` on the path, the folders of the repository and its Makefile under their names, and the sample pack as pack.ckd, and as big_1.ckd
+and big_2.ckd in two files.
 Their output is what standard output and standard error have together.
 
 The program is crates/dasd_cmd/out/dasd_cmd, or FILE. What an example needs beside it, and where that is to be had, says NEEDS below;
@@ -30,6 +30,7 @@ from tools.gate.page_examples import BadPage, Example, is_printed, of_help, read
 HELP = "--help"
 PAGES = [
     "README.md",
+    "docs/IMAGE.md",
     "docs/DECKS.md",
     "docs/ASSEMBLER.md",
     "docs/TRACING.md",
@@ -41,12 +42,15 @@ PAGES = [
     "docs/CALLING.md",
     "docs/CONFORMANCE.md",
     "docs/RELEASES.md",
+    "compiled/README.md",
     "docs/WEB.md",
     "python/README.md",
     "docs/dasd.1",
     HELP,
 ]
-FOLDERS = ["c", "catalogue", "conformance", "crates", "docs", "python", "release", "rust", "sample", "tools", "web"]
+# What of the repository is in a page's folder: its folders, and what `make` there reads.
+FOLDERS = ["c", "catalogue", "compiled", "completions", "conformance", "crates", "docs", "python", "release", "rows", "rust", "sample", "tools", "web"]
+FILES = ["Makefile", "VERSION"]
 # So many lines are shown of what an example printed that ended as it must not.
 LAST_LINES = 20
 # How long an example may take, in seconds: one for the kit may build and prove, and Hercules is started anew for each vector.
@@ -69,12 +73,12 @@ def has(*commands: str) -> Callable[[], bool]:
 
 def has_library() -> bool:
     """Whether a program of C can be linked with the library."""
-    return (TOP / "c/libdasd.a").exists() and bool(shutil.which("cc")) and bool(shutil.which("pkg-config"))
+    return (TOP / "libdasd.a").exists() and bool(shutil.which("cc")) and bool(shutil.which("pkg-config"))
 
 
 def has_drive() -> bool:
     """Whether a program of C can be linked with a drive alone."""
-    return (TOP / "c/libdasd_drive.a").exists() and bool(shutil.which("cc"))
+    return (TOP / "libdasd_drive.a").exists() and bool(shutil.which("cc"))
 
 
 def has_module() -> bool:
@@ -84,15 +88,16 @@ def has_module() -> bool:
 
 def has_shared() -> bool:
     """Whether there is the shared library."""
-    return (TOP / "c/libdasd.so.1").exists()
+    return (TOP / "libdasd.so.1").exists()
 
 
 NEEDS = {
     "kit": Need("the kit", has("rt"), True),
-    "library": Need("c/libdasd.a, which `make -C c` makes, a C compiler and pkg-config", has_library),
-    "shared": Need("c/libdasd.so.1, which `make -C c` makes", has_shared),
-    "drive": Need("c/libdasd_drive.a, which `make -C c` makes, and a C compiler", has_drive),
+    "library": Need("libdasd.a, which `make` makes, a C compiler and pkg-config", has_library),
+    "shared": Need("libdasd.so.1, which `make` makes", has_shared),
+    "drive": Need("libdasd_drive.a, which `make` makes, and a C compiler", has_drive),
     "web": Need("web/out/program.wasm, which `make -C web` makes, and node", has_module),
+    "page": Need("compiled/dasd.wasm, which `release/check --write` makes", (TOP / "compiled/dasd.wasm").exists),
     "hercules": Need("Hercules", has("hercules"), True),
     "sqlite3": Need("sqlite3", has("sqlite3")),
     "release": Need("the files of a release", lambda: False),
@@ -101,15 +106,15 @@ NEEDS = {
 
 
 def put_library(folder: Path) -> Path:
-    """The library as `make -C c install` would leave it, in a folder of its own; answers that of its description for pkg-config."""
+    """The library as `make install` would leave it, in a folder of its own; answers that of its description for pkg-config."""
     prefix = folder / "prefix"
     for name in ("include", "lib/pkgconfig"):
         (prefix / name).mkdir(parents=True)
     for header in ("c/dasd.h", "c/dasd.hpp"):
         shutil.copy(TOP / header, prefix / "include")
-    for library in TOP.glob("c/libdasd.[as]*"):
+    for library in TOP.glob("libdasd.[as]*"):
         shutil.copy(library, prefix / "lib")
-    if (prefix / "lib/libdasd.so.1").exists() and not (prefix / "lib/libdasd.so").exists():
+    if (prefix / "lib/libdasd.so.1").exists():
         (prefix / "lib/libdasd.so").symlink_to("libdasd.so.1")
     described = (TOP / "c/dasd.pc.in").read_text(encoding="utf-8")
     version = (TOP / "VERSION").read_text(encoding="utf-8").strip()
@@ -138,14 +143,14 @@ class Reader:
         commands.mkdir()
         (commands / "dasd").symlink_to(dasd)
         (commands / "dasd-catalogue").symlink_to(TOP / "catalogue/dasd-catalogue")
-        for name in FOLDERS:
-            if (TOP / name).is_dir():
+        for name in [*FOLDERS, *FILES]:
+            if (TOP / name).exists():
                 (self.folder / name).symlink_to(TOP / name)
         for name, held in sample_files().items():
             (self.folder / name).write_bytes(held)
         (room / "home").mkdir()
         found = {"PATH": f"{commands}:{os.environ['PATH']}", "HOME": str(room / "home"), "LC_ALL": "C.UTF-8"}
-        python = {"PYTHONDONTWRITEBYTECODE": "1", "PYTHONPATH": str(TOP / "python"), "DASD_LIBRARY": str(TOP / "c/libdasd.so.1")}
+        python = {"PYTHONDONTWRITEBYTECODE": "1", "PYTHONPATH": str(TOP / "python"), "DASD_LIBRARY": str(TOP / "libdasd.so.1")}
         self.environment = {**found, **python, "PKG_CONFIG_PATH": str(put_library(room))}
 
     def prepare(self, page: str) -> None:

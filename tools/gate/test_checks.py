@@ -1,4 +1,6 @@
-"""Tests of check_documents.py, check_version.py and sharpness.py, over a small repository that is made for each: `tools/gate/test_checks.py`."""
+"""Tests of assumptions.py, check_crates.py, check_documents.py, check_messages.py, check_version.py, inline_marks.py and sharpness.py, over
+small repositories of their own:
+`tools/gate/test_checks.py`."""
 
 import contextlib
 import io
@@ -9,8 +11,8 @@ from pathlib import Path
 from types import ModuleType
 from unittest import mock
 
-from tools.gate import check_documents, check_version
-from tools.make import rules
+from tools.gate import check_crates, check_documents, check_messages, check_version
+from tools.make import assumptions, inline_marks, rules
 from tools.measure import sharpness
 
 PAGES = {
@@ -139,8 +141,15 @@ class Checks(unittest.TestCase):
     def test_crate_without_page_and_row(self) -> None:
         self.finds(check_documents, {"crates.txt": "low:\nhigh: low\n"}, "crates/high: no README.md", "docs/MAP.md: no row of high")
 
-    def test_long_first_page(self) -> None:
-        self.finds(check_documents, {"README.md": "x" * 7169}, "README.md has 7169 bytes, more than 7168")
+    def test_address_that_is_not_set(self) -> None:
+        names: dict[str, str | None] = {"release/identity": "REPOSITORY='https://example.invalid/dasd.git'\n"}
+        self.finds(check_documents, names, "README.md does not say that there is no public address yet")
+        names["README.md"] = "There is no public address yet: https://example.invalid/dasd.git\n"
+        self.finds(check_documents, names, "README.md: an address that is not set")
+
+    def test_address_that_the_page_lacks(self) -> None:
+        names: dict[str, str | None] = {"release/identity": "REPOSITORY='https://a.example/dasd.git'\n"}
+        self.finds(check_documents, names, "README.md has not the repository's address of release/identity")
 
     def test_link_to_nothing(self) -> None:
         self.finds(check_documents, {"README.md": "[times](docs/TIMES.md)\n"}, "README.md: nothing at docs/TIMES.md")
@@ -328,6 +337,123 @@ class WrongBodies(unittest.TestCase):
                 planted, left_out = self.plant(folder, "another")
         self.assertEqual(planted, ["low/always_the_first", "low/most_is_least"])
         self.assertIn("low/greatest", left_out)
+
+
+class Clauses(unittest.TestCase):
+    """Which functions have a clause about their result."""
+
+    CODE = """pub fn least(one: u32) -> u32
+    ensures { result ≡ one }
+{
+    one
+}
+
+// pub fn commented()
+fn most<T>(
+    one: u32,
+) -> u32
+    requires { one < 2 }
+{
+    one
+}
+
+impl Least for Pair {
+    fn least(&self) -> u32 {
+        self.one
+    }
+}
+
+impl Most for Pair {
+    fn most(&self) -> u32 {
+        self.one
+    }
+}
+
+#[test]
+fn least_is_least() {
+}
+"""
+
+    def test_functions(self) -> None:
+        with tempfile.TemporaryDirectory() as folder:
+            path = Path(folder, "lib.rt")
+            path.write_text(self.CODE, encoding="utf-8")
+            with mock.patch.object(assumptions, "TOP", Path(folder)):
+                found = list(assumptions.functions_in(path, {"Least"}))
+        self.assertEqual([it.where for it in found], ["lib.rt:1 least", "lib.rt:8 most", "lib.rt:17 least", "lib.rt:23 most"])
+        self.assertEqual([it.has_clause for it in found], [True, False, True, False])
+        self.assertEqual([it.is_public for it in found], [True, False, False, False])
+        self.assertEqual([it.lines for it in found], [5, 7, 3, 3])
+
+
+class Marks(unittest.TestCase):
+    """Marks of sources in the text of a module."""
+
+    def test_marks(self) -> None:
+        source = "#[inline(always)]\n/// Doc\npub fn one(&self) {}\nfn two() {}\n    #[inline]\n    pub(crate) fn three<T>() {}\n"
+        self.assertEqual(list(inline_marks.marked_in(source)), [("one", "alwaysinline"), ("three", "inlinehint")])
+
+    def test_functions_of_a_module(self) -> None:
+        marks = {("low", "words", "one"): "alwaysinline", ("low", "tracks", "two"): "inlinehint"}
+        for symbol, mark in (
+            ("low::words::one", "alwaysinline"),
+            ("low::words::Word::one::<u8>", "alwaysinline"),
+            ("low::Track::two", "inlinehint"),
+            ("low::tracks::two", "inlinehint"),
+            ("low::words::two", None),
+            ("high::words::one", None),
+        ):
+            self.assertEqual(inline_marks.mark_of(symbol, marks), mark, symbol)
+        line = 'define internal i8 @"low::words::one"(ptr %a) #0 {\n'
+        self.assertEqual(inline_marks.with_mark(line, marks), line.replace(" #0", " alwaysinline #0"))
+
+
+class Crates(unittest.TestCase):
+    """What is wrong with crates.txt and docs/MAP.md."""
+
+    LIST = "## The machine\n\n# Words\nlow:\nmid: low core\n\n## The program and its volumes\n\n# Volumes\nhigh: low mid\n"
+    MAP = """## The machine\n\n**Words**\n\n| [`low`](a) | a |\n| [`mid`](a) | a |
+## The program and its volumes\n\n**Volumes**\n\n| [`high`](a) | a |\n"""
+
+    def finds(self, crates: str, page: str, *words: str) -> None:
+        """Each fault has its word, in order."""
+        faults = list(check_crates.faults_of(list(check_crates.crates_of(crates)), page))
+        self.assertEqual([word in fault for word, fault in zip(words, faults, strict=True)], [True] * len(words), faults)
+
+    def test_crates_in_order(self) -> None:
+        self.finds(self.LIST, self.MAP)
+
+    def test_crate_that_uses_one_below_it(self) -> None:
+        self.finds(self.LIST.replace("low:", "low: high"), self.MAP, "low uses high")
+
+    def test_crate_in_another_group(self) -> None:
+        self.finds(self.LIST, self.MAP.replace("**Volumes**", "**Sets**"), "no row of high", "has no high")
+
+    def test_crates_in_another_order(self) -> None:
+        page = self.MAP.replace("low", "x").replace("mid", "low").replace("`x`", "`mid`")
+        self.finds(self.LIST, page, "another order")
+
+
+class Messages(unittest.TestCase):
+    """What is wrong with messages of commits."""
+
+    def finds(self, subject: str, body: str, parents: str, *words: str) -> None:
+        """Each fault has its word, in order."""
+        commits = list(check_messages.commits_in(f"1a2b\0{parents}\0{subject}\0{body}\n\1\n"))
+        faults = [fault for commit in commits for fault in check_messages.faults_of(commit)]
+        self.assertEqual([word in fault for word, fault in zip(words, faults, strict=True)], [True] * len(words))
+
+    def test_good_messages(self) -> None:
+        self.finds("file_journals: refuse a foreign journal", "It was written into another file.", "9f")
+        self.finds("Merge saves behind one journal", "A save of several files is one commit.", "9f 8e")
+
+    def test_bad_messages(self) -> None:
+        self.finds("refuse a foreign journal", "", "9f", "no place", "no body")
+        self.finds("wip: more", "Later.", "9f", "note to oneself")
+        self.finds("rows: " + "a" * 95, "Why.", "9f", "more than 100")
+        for folder in ("/" + "tmp/x", "/" + "home/me", "room" + "/x"):
+            self.finds(f"Merge branch 'next' of {folder}", "It brings the rows.", "9f 8e", "folder")
+            self.finds("rows: more", f"As in {folder} seen.", "9f", "folder")
 
 
 if __name__ == "__main__":

@@ -321,9 +321,9 @@ def reading_the_environment(text: str) -> str:
 def build(tools: ModuleType, top: Path, program: str, made: Path, room: Path) -> None:
     """An unproved build of a program in a copy, with its wrong bodies."""
     setattr(tools, "TOP", top)
-    setattr(tools, "CRATE", top / "crates" / program)
+    setattr(tools, "CRATES", top / "crates")
     (room / program).mkdir()
-    module = tools.module_of_try(tools.kit(), room / program)
+    module = tools.module_of_try(tools.kit(), room / program, program)
     tools.compile_module(tools.kit(), module, made, room / program, reading_the_environment)
 
 
