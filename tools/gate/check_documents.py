@@ -48,10 +48,10 @@ def crates() -> list[str]:
     return [line.split(":")[0].split()[0] for line in lines if line.strip() and not line.startswith("#")]
 
 
-def documents() -> list[Path]:
-    """All pages of the repository: not what was built."""
-    pages = {*TOP.glob("*.md"), *TOP.glob("docs/**/*.md"), *TOP.glob("*/README.md"), *TOP.glob("*/*/README.md")}
-    return sorted(it for it in pages if "out" not in it.parts)
+def documents(top: Path) -> list[Path]:
+    """All pages of a repository: not what was built."""
+    pages = {*top.glob("*.md"), *top.glob("docs/**/*.md"), *top.glob("*/*.md"), *top.glob("*/*/README.md")}
+    return sorted(it for it in pages if "out" not in it.relative_to(top).parts)
 
 
 def check_crates(findings: Findings) -> None:
@@ -86,7 +86,7 @@ def check_addresses(findings: Findings) -> None:
         findings.expect(is_missing, "README.md does not say that there is no public address yet")
     else:
         findings.expect(address in text and not is_missing, "README.md has not the repository's address of release/identity")
-    for page in documents():
+    for page in documents(TOP):
         findings.expect(identity.UNSET + "/" not in page.read_text(encoding="utf-8"), f"{page.relative_to(TOP)}: an address that is not set")
 
 
@@ -150,7 +150,7 @@ def main() -> int:
     check_edits(findings)
     check_rules(findings)
     check_addresses(findings)
-    for page in documents():
+    for page in documents(TOP):
         text = page.read_text(encoding="utf-8")
         check_links(findings, page, text)
         check_files(findings, page, text)
