@@ -29,7 +29,7 @@ GENERATED = ("docs/ASSUMPTIONS.md", "docs/RULES.md", "docs/TRY.md")
 LIMITS = ((r"README\.md", 1200), (r"docs/.*\.md", 4000), (r"crates/[^/]*/README\.md", 150))
 WORDS = (
     r"behind",
-    r"stands?(?! for)|stood",
+    r"stands?(?!-| for)|stood",
     r"(?:is|are|was|were|be|been|gets?) told",
     r"anew",
     r"as ever",
