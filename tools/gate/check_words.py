@@ -34,7 +34,6 @@ WORDS = (
     r"anew",
     r"as ever",
     r"where it",
-    r"lacks?",
     r"but for",
     r"bears?",
     r"a volume says",
