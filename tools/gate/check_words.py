@@ -62,7 +62,7 @@ class Count:
     def row(self, page: str, limit: int | None) -> str:
         """A row of the table."""
         length = f"{self.prose / self.sentences:.1f}" if self.sentences else "-"
-        return f"| {page} | {self.words} | {limit or '-'} | {length} | {self.semicolons:.1f} | {len(self.hits)} |"
+        return f"| {page} | {self.words} | {self.words - self.written} | {limit or '-'} | {length} | {self.semicolons:.1f} | {len(self.hits)} |"
 
 
 @dataclass(frozen=True)
@@ -160,7 +160,7 @@ def report(top: Path, named: Sequence[str], listed: Mapping[str, Allowed]) -> tu
     here = {str(it.relative_to(top)): it for it in documents(top)}
     entries = {page: it for page, it in listed.items() if page in here}
     wrong = 0
-    print("| Page | Words | Limit | Words per sentence | Semicolons per 1,000 words | Hits |", "|---|---|---|---|---|---|", sep="\n")
+    print("| Page | Words | Of these generated | Limit of others | Words per sentence | Semicolons per 1,000 words | Hits |", "|---" * 7 + "|", sep="\n")
     for page in named or here:
         count, allowed = count_of((top / page).read_text(encoding="utf-8")), listed.get(page, Allowed())
         print(count.row(page, limit_of(page)))
