@@ -1,4 +1,4 @@
-"""The stage: a process that reads a line, does one call, and answers with a line. crates/test_stage says which."""
+"""The stage: a process that reads a line, does one call, and answers with a line. README.md says which."""
 from __future__ import annotations
 
 import os
