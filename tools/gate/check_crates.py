@@ -1,13 +1,11 @@
-"""Checks the line around the machine: crates.txt, and docs/MAP.md beside it.
+"""Checks the line around the machine in crates.txt.
 
 - crates.txt has two parts, the machine and the program and its volumes, and in each part groups of crates.
 - A crate uses only crates of the repository that are on the lines above it, so the machine uses nothing of the second part.
-- docs/MAP.md has the same parts, groups and crates in the same order.
 
 Prints what is wrong; the last line is 'N crates and what they use looked at, M wrong', and the status 1 where M is not 0.
 """
 
-import re
 import sys
 from collections.abc import Iterator
 from dataclasses import dataclass
@@ -15,7 +13,6 @@ from dataclasses import dataclass
 from tools import TOP
 
 PARTS = ["The machine", "The program and its volumes"]
-ROW = re.compile(r"\| \[`(\w+)`\]\(")
 
 
 @dataclass(frozen=True)
@@ -41,40 +38,19 @@ def crates_of(text: str) -> Iterator[Crate]:
             yield Crate(name.split()[0], part, group, tuple(uses.split()))
 
 
-def places_in(page: str) -> Iterator[tuple[str, str, str]]:
-    """Part, group and name of each crate that has a row in docs/MAP.md, in order."""
-    part = group = ""
-    for line in page.splitlines():
-        if line.startswith("## "):
-            part = line.removeprefix("## ")
-        elif line.startswith("**") and line.endswith("**"):
-            group = line.strip("*")
-        elif part in PARTS and (row := ROW.match(line)):
-            yield part, group, row[1]
-
-
-def faults_of(crates: list[Crate], page: str) -> Iterator[str]:
+def faults_of(crates: list[Crate]) -> Iterator[str]:
     """What is wrong."""
     names = [crate.name for crate in crates]
     for at, crate in enumerate(crates):
         if crate.part not in PARTS:
             yield f"crates.txt: {crate.name} is in no part"
         yield from (f"crates.txt: {crate.name} uses {used}, which is not above it" for used in crate.uses if used in names[at:])
-    wanted, there = [(crate.part, crate.group, crate.name) for crate in crates], list(places_in(page))
-    for place in wanted:
-        if place not in there:
-            yield f"docs/MAP.md: no row of {place[2]} in '{place[0]}', '{place[1]}'"
-    for place in there:
-        if place not in wanted:
-            yield f"docs/MAP.md: crates.txt has no {place[2]} in '{place[0]}', '{place[1]}'"
-    if sorted(wanted) == sorted(there) and wanted != there:
-        yield "docs/MAP.md: its crates are in another order than those of crates.txt"
 
 
 def main() -> int:
-    """Checks both files."""
+    """Checks the file."""
     crates = list(crates_of((TOP / "crates.txt").read_text(encoding="utf-8")))
-    faults = list(faults_of(crates, (TOP / "docs/MAP.md").read_text(encoding="utf-8")))
+    faults = list(faults_of(crates))
     for fault in faults:
         print(fault)
     print(f"{len(crates)} crates and what they use looked at, {len(faults)} wrong")

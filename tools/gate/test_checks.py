@@ -1,5 +1,5 @@
-"""Tests of assumptions.py, check_crates.py, check_documents.py, check_messages.py, check_version.py, check_words.py, inline_marks.py and
-sharpness.py, over small repositories of their own:
+"""Tests of assumptions.py, check_crates.py, check_documents.py, check_messages.py, check_version.py, check_words.py, inline_marks.py, map.py
+and sharpness.py, over small repositories of their own:
 `tools/gate/test_checks.py`."""
 
 import contextlib
@@ -13,6 +13,7 @@ from unittest import mock
 
 from tools.gate import check_crates, check_documents, check_messages, check_version, check_words
 from tools.make import assumptions, inline_marks, rules
+from tools.make import map as crate_map
 from tools.measure import sharpness
 
 PAGES = {
@@ -409,29 +410,41 @@ class Marks(unittest.TestCase):
 
 
 class Crates(unittest.TestCase):
-    """What is wrong with crates.txt and docs/MAP.md."""
+    """What is wrong with crates.txt, and the tables of docs/MAP.md that are made of it."""
 
     LIST = "## The machine\n\n# Words\nlow:\nmid: low core\n\n## The program and its volumes\n\n# Volumes\nhigh: low mid\n"
-    MAP = """## The machine\n\n**Words**\n\n| [`low`](a) | a |\n| [`mid`](a) | a |
-## The program and its volumes\n\n**Volumes**\n\n| [`high`](a) | a |\n"""
+    MARKS = "".join(f"<!-- {part}: begin -->\nold\n<!-- {part}: end -->\n" for part in check_crates.PARTS)
 
-    def finds(self, crates: str, page: str, *words: str) -> None:
+    def finds(self, text: str, *words: str) -> None:
         """Each fault has its word, in order."""
-        faults = list(check_crates.faults_of(list(check_crates.crates_of(crates)), page))
+        faults = list(check_crates.faults_of(list(check_crates.crates_of(text))))
         self.assertEqual([word in fault for word, fault in zip(words, faults, strict=True)], [True] * len(words), faults)
 
     def test_crates_in_order(self) -> None:
-        self.finds(self.LIST, self.MAP)
+        self.finds(self.LIST)
 
     def test_crate_that_uses_one_below_it(self) -> None:
-        self.finds(self.LIST.replace("low:", "low: high"), self.MAP, "low uses high")
+        self.finds(self.LIST.replace("low:", "low: high"), "low uses high")
 
-    def test_crate_in_another_group(self) -> None:
-        self.finds(self.LIST, self.MAP.replace("**Volumes**", "**Sets**"), "no row of high", "has no high")
+    def test_crate_in_no_part(self) -> None:
+        self.finds(self.LIST.replace("## The machine", "## Machines"), "low is in no part", "mid is in no part")
 
-    def test_crates_in_another_order(self) -> None:
-        page = self.MAP.replace("low", "x").replace("mid", "low").replace("`x`", "`mid`")
-        self.finds(self.LIST, page, "another order")
+    def test_first_sentence(self) -> None:
+        said = "Bytes, as [LABELS](../../docs/LABELS.md) has\nthem, in `a.txt`; pure"
+        self.assertEqual(crate_map.first_sentence(f"# `low`\n\n{said}. More.\n"), "Bytes, as LABELS has them, in `a.txt`; pure")
+        self.assertIsNone(crate_map.first_sentence("# `low`\n\nNo end\n\nThe next. More.\n"))
+
+    def test_tables(self) -> None:
+        crates = list(check_crates.crates_of(self.LIST))
+        page = crate_map.page_of(f"# The map\n{self.MARKS}End\n", crates, {"low": "A word", "mid": "A line", "high": "A volume"})
+        rows = [f"| [`{name}`](../crates/{name}/README.md) | {says} |" for name, says in (("low", "A word"), ("mid", "A line"))]
+        group = "\n".join(["**Words**", "", "| Crate | Is |", "|---|---|", *rows])
+        self.assertIsNotNone(page)
+        self.assertTrue((page or "").startswith(f"# The map\n<!-- The machine: begin -->\n\n{group}\n\n<!-- The machine: end -->\n"), page)
+        self.assertTrue((page or "").endswith("| A volume |\n\n<!-- The program and its volumes: end -->\nEnd\n"), page)
+
+    def test_part_without_a_place(self) -> None:
+        self.assertIsNone(crate_map.page_of("# The map\n", [], {}))
 
 
 class Messages(unittest.TestCase):
