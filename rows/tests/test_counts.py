@@ -1,4 +1,4 @@
-"""That each suite has as many rows as its page says, each with a name of its own."""
+"""That no suite has lost a row, and that each row has a name of its own."""
 from __future__ import annotations
 
 import sys
@@ -15,7 +15,7 @@ ROWS = {"channel": 104, "traces": 63, "cut_programs": 32, "drives": 131, "progra
 
 
 class Counts(unittest.TestCase):
-    """What stands in rows/data."""
+    """The rows in rows/data."""
 
     def test_rows(self) -> None:
         """Each file has its rows; a block that begins with `volume` is none."""
