@@ -28,17 +28,16 @@ SUMS = ("on manuals alone", "on the profile too", "all")
 
 HEAD = """# What Hercules 3.13 does differently
 
-Where Hercules 3.13 (Debian's package `hercules`, 3.13-7) differs from what this suite's vectors say. Each fact comes from a run and has the
-command that shows it. `conformance/hercules_page.py` writes this page.
+Hercules 3.13 (Debian's package `hercules`, 3.13-7) beside this suite's vectors. Each difference comes from a run and has the command that
+shows it. `conformance/hercules_page.py` writes this page.
 
 A small supervisor in System/370 mode, on a bare machine with one processor and 16 MB, issues the instructions of a deck one after another
-and keeps what came of each; storage and images are compared afterwards (`conformance/suite/adapters/hercules.py`). A step waits until the
-program's interruption pends. What can't be asked in this way is left out: units, arrivals, a reset in the middle, storage of another size,
-images in several files.
+and keeps each result; storage and images are compared afterwards (`conformance/suite/adapters/hercules.py`). A step waits until the
+program's interruption pends. Left out are units, arrivals, a reset in the middle, storage of another size, and images in several files.
 
-In each deck below the volume is the suite's `x.img` at 190 unless another is named, and only an event that comes out differently has two
-answers. `must` is what this suite's vectors say; where that is a choice of the suite and no rule of a manual, the text says so. The manuals
-are named as in [FORMAT.md](../conformance/FORMAT.md). Sense bytes 2 to 5 are not compared.
+In each deck the volume is the suite's `x.img` at 190 unless another is named, and only an event with different results has two answers.
+`must` is what this suite's vectors say; the text says so if that is a choice of the suite and no rule of a manual. The manuals are named as
+in [FORMAT.md](../conformance/FORMAT.md). Sense bytes 2 to 5 are not compared.
 """
 
 ALIKE = """
@@ -46,9 +45,8 @@ ALIKE = """
 
 The results below count the vectors that come out right. With a Seek before each program these include data chaining of reads and updates,
 skipping, transfers, searches by identifier and key and with the multi-track bit, reads of every kind and where they leave the track, unit
-exception, updates of data and of keys, formatting writes that fit, a whole track made anew, seeks of each kind (except for sense bytes), Read
-IPL, and images with other track sizes. Images that Hercules wrote are the same track by track; it leaves what stood behind a track's end mark
-where it was.
+exception, updates of data and of keys, formatting writes that fit, a whole track formatted, seeks of each kind (except for sense bytes), Read
+IPL, and images with other track sizes. Images that Hercules wrote are the same track by track; it keeps the bytes after a track's end mark.
 
 ## Lists by chance
 
@@ -69,12 +67,12 @@ channel; `hdtchan` has whole channels. Which facts above remain:
 | The worked utility by IPL | waits for ever, since no device end comes after a seek | `DONE` | `DONE` |
 | The copier of two channels | not run | not run | `DONE` in 60 of 60 runs, with `arms` |
 
-Of what no paper here has: `hdtchan` executes SIOF as SIO and CLRIO as TIO, as a channel without these functions does; HDV leaves the program
-of another drive alone, with condition code 2; CLRCH resets the channel and its drives; and STIDC stores zeros, a selector channel of no model.
-The vectors ask none of these; what is said of HDV, CLRCH and STIDC is from memory of the System/370 manual and not tested.
+No vector asks the following: `hdtchan` executes SIOF as SIO and CLRIO as TIO, as a channel without these functions does; HDV leaves the
+program of another drive alone, with condition code 2; CLRCH resets the channel and its drives; and STIDC stores zeros, a selector channel of
+no model. HDV, CLRCH and STIDC are from memory of the System/370 manual, and not tested.
 
-Instructions of the whole of Hercules for a channel program, by callgrind, as the difference of two counts of programs; a guest starts each by
-SIO and asks by TIO. The library was built without its proofs, by the same compiler:
+Instructions of all of Hercules for a channel program, by callgrind, as the difference of two numbers of programs; a guest starts each by SIO
+and asks by TIO. The library was built without its proofs, by the same compiler:
 
 | Program | Hercules alone | With `hdtdasd` | With `hdtchan` |
 |---|---|---|---|
@@ -128,7 +126,7 @@ def sums(path: str) -> List[List[str]]:
 def results() -> str:
     """The counts of whole runs, and where they stand rule by rule."""
     out = ["", "## Results of the whole suite", "",
-           "Left out are vectors that need what this way of asking lacks; declined are those that name storage where the supervisor stands. A vector",
+           "Left out are vectors that can't be asked in this way; declined are those that name the supervisor's storage. A vector",
            "is wrong with its first difference, and many vectors show the same fact again.", "",
            "| Programs | Vectors | In all | Right | Wrong | Left out | Declined |", "|---|---|---|---|---|---|---|"]
     for title, name in RUNS.items():
