@@ -18,7 +18,7 @@ export async function openAbout() {
     make('div', { class: 'bar' }, make('h2', { id: 'origin-title' }, `Sixambra ${version}`), make('span', { class: 'soft mono' }, commit), make('span', { class: 'grow' }),
       button('Close', () => dialog.close())),
     make('div', { class: 'body' },
-      make('p', {}, 'Up to eight IBM 2311 and 2314 disk drives on each selector channel of a System/360, and the program dasd, as two modules of WebAssembly. Their code is proved; the compiler’s last step, this page’s scripts and the browser are trusted. Nothing leaves this page: it asks no network for anything.'),
+      make('p', {}, 'Up to eight IBM 2311 and 2314 disk drives on each selector channel of a System/360, and the program dasd, as two modules of WebAssembly. Their code is proved; the compiler’s last step, this page’s scripts and the browser are trusted. Nothing leaves this page: it asks its own server for a pack that its address names, and no network for anything else.'),
       make('p', { class: 'links' }, ...links.filter(Boolean)), make('h3', {}, 'Licences of all code in this page'), make('pre', { tabindex: 0 }, notices)));
   dialog.showModal();
 }

@@ -1,7 +1,8 @@
 // @ts-check
-// Places of the page by its address, behind the #: words with values and & between them.
+// Places of the page by its address, after the #: words with values and & between them.
 //
 //   pack=example, pack=2314.5@191    the example pack, or new volumes of a model with so many cylinders, at 190 or where an address is said
+//   pack=./a.ckd.gz, pack=given      a file of the page's own server, by a path that begins with ./, ../ or /; the pack that is in the page
 //   track=45.7                       cylinder and head, of the pack that is named, or that is there
 //   vector=NAME, deck=NAME           a vector of the conformance suite, or another deck to be picked
 //   deck=~...                        a text that is packed into the address: its language, and base64url of its bytes under deflate
@@ -9,7 +10,7 @@
 import { collected, through } from './packed.mjs';
 
 /** @typedef {import('./deck_editor.mjs').Language} Language */
-/** @typedef {{address: number, kind: string}} Pack `kind`: example, or a model and its cylinders as 2314 5 */
+/** @typedef {{address: number, kind: string}} Pack `kind`: example, given, a model and its cylinders as 2314 5, or the address of a file */
 /**
  * @typedef {object} Place
  * @property {Pack[]} packs
@@ -21,6 +22,9 @@ import { collected, through } from './packed.mjs';
 const FIRST_ADDRESS = 0x190;
 const MOST_BYTES = 1_500_000;
 const PACKED = '~';
+const NAMED = new Set(['example', 'given']);
+/** A path, or the address of another server, which is refused by name. */
+const FILE = /^(\.{0,2}[/\\]|[a-z][a-z0-9+.-]*:)/i;
 
 /**
  * The place that an address names; null where it names none that can be.
@@ -33,7 +37,7 @@ export function placeOf(hash) {
   try {
     for (const part of hash.replace(/^#/, '').split('&')) {
       const [, word, value] = /^([a-z]+)=(.*)$/.exec(part) ?? [];
-      if (!word || !take(place, word, decodeURIComponent(value))) return null;
+      if (!word || !take(place, word, value)) return null;
     }
   } catch {
     return null; // an escape that is none
@@ -45,28 +49,43 @@ export function placeOf(hash) {
  * Takes a word into a place; false where it is none.
  * @param {Place} place
  * @param {string} word
- * @param {string} value
+ * @param {string} escaped
  */
-function take(place, word, value) {
-  if (word === 'pack') place.packs = value.split(',').flatMap(packOf);
-  else if (word === 'track') {
+function take(place, word, escaped) {
+  const value = decodeURIComponent(escaped);
+  if (word === 'pack') {
+    const packs = escaped.split(',').map(packOf);
+    place.packs = packs.flatMap(it => it ?? []);
+    return packs.length === place.packs.length;
+  }
+  if (word === 'track') {
     const [, cylinder, head] = /^(\d{1,5})\.(\d{1,5})$/.exec(value) ?? [];
     place.track = cylinder ? { cylinder: Number(cylinder), head: Number(head) } : null;
     return Boolean(cylinder);
   } else if (word === 'deck' && value.startsWith(PACKED)) place.packed = value.slice(1);
   else if (word === 'deck' || word === 'vector') place.named = { kind: word, name: value };
   else return false;
-  return word !== 'pack' || place.packs.length > 0;
+  return true;
 }
 
 /**
- * @param {string} text
- * @returns {Pack[]}
+ * A pack of an address, null where it is none. Which files may be opened, sources.mjs says.
+ * @param {string} escaped with its own commas and signs @ escaped
+ * @returns {Pack | null}
  */
-function packOf(text) {
-  const [, kind, model, cylinders, at] = /^(example|(2311|2314)\.(\d{1,3}))(?:@([0-6][0-9A-Fa-f]{2}))?$/.exec(text) ?? [];
-  if (!kind) return [];
-  return [{ address: at ? parseInt(at, 16) : FIRST_ADDRESS, kind: model ? `${model} ${cylinders}` : kind }];
+function packOf(escaped) {
+  const [, said, at] = /^(.*?)(?:@([0-6][0-9A-Fa-f]{2}))?$/.exec(escaped) ?? [], text = decodeURIComponent(said);
+  const [, model, cylinders] = /^(2311|2314)\.(\d{1,3})$/.exec(text) ?? [], kind = model ? `${model} ${cylinders}` : text;
+  return model || NAMED.has(kind) || FILE.test(kind) ? { address: at ? parseInt(at, 16) : FIRST_ADDRESS, kind } : null;
+}
+
+/**
+ * A pack as an address has it.
+ * @param {Pack} pack
+ */
+function written({ address, kind }) {
+  const said = /^\d+ \d+$/.test(kind) ? kind.replace(' ', '.') : encodeURIComponent(kind).replace(/%2F/g, '/');
+  return said + (address === FIRST_ADDRESS ? '' : `@${address.toString(16).toUpperCase()}`);
 }
 
 /**
@@ -74,10 +93,9 @@ function packOf(text) {
  * @param {Partial<Place>} place
  */
 export function hashOf({ packs = [], track = null, named = null, packed = '' }) {
-  const at = (/** @type {Pack} */ { address }) => (address === FIRST_ADDRESS ? '' : `@${address.toString(16).toUpperCase()}`);
   const parts = [
     named && `${named.kind}=${encodeURIComponent(named.name)}`, packed && `deck=${PACKED}${packed}`,
-    packs.length && `pack=${packs.map(it => it.kind.replace(' ', '.') + at(it)).join(',')}`, track && `track=${track.cylinder}.${track.head}`
+    packs.length && `pack=${packs.map(written).join(',')}`, track && `track=${track.cylinder}.${track.head}`
   ];
   const said = parts.filter(Boolean).join('&');
   return said && `#${said}`;

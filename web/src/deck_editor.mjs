@@ -38,6 +38,12 @@ export function deckLines(text, events) {
  */
 const isEvent = line => line.trim() !== '' && !line.trimStart().startsWith('*');
 
+/**
+ * A text as a field can show it, line by line: a carriage return that ends no line is seen as a sign.
+ * @param {string} text
+ */
+const shownOf = text => text.replace(/\r(?!\n|$)/g, '␍').replace(/\r/g, '');
+
 /** The pane of the deck. */
 export class DeckEditor {
   /** @param {Hooks} hooks */
@@ -57,6 +63,8 @@ export class DeckEditor {
     /** @type {Map<number, string>} what is wrong, by the numbers of lines */
     this.faults = new Map();
     this.asked = 0;
+    /** The text that was put there, and what the field made of it. */
+    this.put = { text: '', shown: '' };
     /** @type {Language} */
     this.language = 'deck';
     /** @type {{from: string, to: string} | null} the text that was turned last, and what it became */
@@ -97,14 +105,16 @@ export class DeckEditor {
     });
   }
 
-  get text() { return this.field.value; }
+  /** What is written: byte for byte what was put there, until the visitor changes it, since a text field has its own ends of lines. */
+  get text() { return this.field.value === this.put.shown ? this.put.text : this.field.value; }
 
   /**
    * @param {string} text
    * @param {Language} [language]
    */
   write(text, language = 'deck') {
-    this.field.value = text;
+    this.field.value = shownOf(text);
+    this.put = { text, shown: this.field.value };
     this.language = language;
     this.field.setAttribute('aria-label', NAMES[language]);
     this.builder.hidden = language === 'words';
@@ -183,14 +193,14 @@ export class DeckEditor {
 
   // What is wrong with the words that are written.
   async #lookAtWords() {
-    const asked = ++this.asked, { fault } = await this.hooks.assemble(this.field.value);
+    const asked = ++this.asked, { fault } = await this.hooks.assemble(this.text);
     if (asked === this.asked) this.#tell(fault);
   }
 
   // What is wrong in each line, and what helps with the one that the cursor is in.
   async #look() {
     if (this.language === 'words') return this.#lookAtWords();
-    const asked = ++this.asked, lines = linesOf(this.field.value);
+    const asked = ++this.asked, lines = linesOf(this.text);
     const told = await Promise.all(lines.map(it => (isEvent(it) ? this.hooks.fault(it) : '')));
     if (asked !== this.asked) return;
     this.faults = new Map([...told.entries()].filter(([, fault]) => fault));

@@ -8,6 +8,8 @@ import { COUNT_BYTES } from './records.mjs';
 const MIDDLE = 150, OUTER = 140, OUTERMOST = 128, INNERMOST = 56, WIDTH = 26, RIGHT = 372;
 /** The part of the circle before record 0: the index. */
 const INDEX = 14;
+/** The part of the circle, of 1, in which a record has room for its name, and not for its number alone. */
+const LONG = 0.1;
 
 /**
  * An element of a drawing.
@@ -67,7 +69,7 @@ export class Disc {
     const names = records.map((_, number) => shape('text', {
       x: MIDDLE + r, y: MIDDLE, 'text-anchor': 'middle', 'dominant-baseline': 'central',
       transform: `rotate(${this.middles[number]} ${MIDDLE} ${MIDDLE}) rotate(90 ${MIDDLE + r} ${MIDDLE})`
-    }, `R${number}`));
+    }, lengths[number] / sum > LONG ? `record ${number}` : `${number}`));
     const index = shape('path', { class: 'index', d: `M${MIDDLE + r - WIDTH / 2} ${MIDDLE} H${MIDDLE + r + WIDTH / 2}`,
       transform: `rotate(${INDEX / 2} ${MIDDLE} ${MIDDLE})` });
     this.track.replaceChildren(...this.parts, ...names, index);

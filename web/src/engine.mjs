@@ -1,6 +1,8 @@
 // @ts-check
 // The engine as the page asks it: a worker, so that the page never waits; each question is a promise.
 
+import { decoded, through } from './packed.mjs';
+
 /** @typedef {import('./worker.mjs').Reply} Reply */
 
 /** A refusal: what was asked for is not done, and `message` says why. */
@@ -14,8 +16,7 @@ export class Refused extends Error {}
 export async function unpacked(name) {
   const text = document.getElementById(name)?.textContent?.trim();
   if (!text) throw new Refused(`the page has no ${name}`);
-  const Gunzip = /** @type {any} */ (globalThis).DecompressionStream, bytes = Uint8Array.from(atob(text), it => it.charCodeAt(0));
-  return new Uint8Array(await new Response(new Blob([bytes]).stream().pipeThrough(new Gunzip('gzip'))).arrayBuffer());
+  return new Uint8Array(await new Response(through(decoded(text), 'DecompressionStream', 'gzip')).arrayBuffer());
 }
 
 /** The worker that has the program and the library. */

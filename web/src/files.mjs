@@ -4,7 +4,7 @@
 import { amount, counted } from './dom.mjs';
 import { collected, through, TooLong } from './packed.mjs';
 
-const MOST_BYTES = 512 * 1024 * 1024;
+export const MOST_BYTES = 512 * 1024 * 1024;
 const MOST_FILES = 8;
 const GZIP = [0x1F, 0x8B];
 
@@ -65,6 +65,15 @@ async function unpackedFile(file) {
 }
 
 /**
+ * The refusal of an image that is too large.
+ * @param {string} name
+ * @param {string} bytes how large it is, in words
+ */
+export function tooLarge(name, bytes) {
+  return new Error(`${name}: ${bytes}. This page takes images of up to ${counted(MOST_BYTES)} bytes; the program dasd reads larger ones.`);
+}
+
+/**
  * The files of one image by their names, unpacked where they are gzips. An Error says that they are too many, too large, or damaged.
  * @param {File[]} list
  * @returns {Promise<Map<string, Blob>>}
@@ -72,10 +81,7 @@ async function unpackedFile(file) {
 export async function unpackedFiles(list) {
   const bytes = list.reduce((sum, it) => sum + it.size, 0), name = list.map(it => it.name).join(' + ');
   if (list.length > MOST_FILES) throw new Error(`${amount(list.length, 'file')}: an image has at most ${MOST_FILES}.`);
-  if (bytes > MOST_BYTES) {
-    const most = `This page takes images of up to ${counted(MOST_BYTES)} bytes; the program dasd reads larger ones.`;
-    throw new Error(`${name}: ${counted(bytes)} bytes. ${most}`);
-  }
+  if (bytes > MOST_BYTES) throw tooLarge(name, `${counted(bytes)} bytes`);
   const files = new Map();
   for (const it of list) {
     const unpacked = await unpackedFile(it);

@@ -44,10 +44,13 @@ BUFFER   DS    CL84
          SHOW  BUFFER+32 32
 `;
 
-/** The words of the first program, as they are explained where they stand. */
+/** The words of the first program, each with what it does. */
 export const FIRST_WORDS = [
   { word: 'SEEK', name: 'Seek', about: 'The arm goes to cylinder 95, head 0.' },
   { word: 'SIDEQ', name: 'Search', about: 'The next record passes under the head. Is it number 3, the one that is wanted? If so, the next word is skipped.' },
   { word: 'TIC', name: 'Transfer in channel', about: 'It was another one: back to the search.' },
-  { word: 'RD', name: 'Read', about: 'The first 80 bytes of the record go to main storage.' },
+  { word: 'RD', name: 'Read', about: 'The first 80 bytes of the record go to main storage: one line of a ledger, as long as a punched card.' },
 ];
+
+/** What is short in these words. */
+export const SHORT = { CC: 'command chaining: the channel goes on to the next word by itself', SLI: 'suppress length indication: that the record is longer is no error' };

@@ -2,18 +2,21 @@
 // The page: its views put together, volumes opened, saved and undone, and what leads from one view to another.
 
 import { openAbout } from './about.mjs';
+import { Changes } from './changes.mjs';
 import { Compare } from './compare.mjs';
-import { amount, counted, find, rove } from './dom.mjs';
+import { amount, counted, find } from './dom.mjs';
 import { DeckView } from './deck_view.mjs';
 import { Drives } from './drives.mjs';
-import { Engine, unpacked } from './engine.mjs';
+import { Engine } from './engine.mjs';
 import { ExampleDecks } from './example_decks.mjs';
-import { inOrder, listenForDrops, saveAs, unpackedFiles } from './files.mjs';
-import { History } from './history.mjs';
+import { saveAs, unpackedFiles } from './files.mjs';
+import { FIRST, FIRST_TEXT, LABEL_TEXT } from './first_program.mjs';
+import { Frame } from './frame.mjs';
+import { Incoming } from './incoming.mjs';
 import { Picker } from './picker.mjs';
 import { Places } from './places.mjs';
 import { Shelf } from './shelf.mjs';
-import { FIRST_TEXT, LABEL_TEXT } from './first_program.mjs';
+import { Sources } from './sources.mjs';
 import { Tour } from './tour.mjs';
 import { VolumeView } from './volume_view.mjs';
 
@@ -22,29 +25,31 @@ import { VolumeView } from './volume_view.mjs';
 /** @typedef {import('./deck_view.mjs').Written} Written */
 
 const FIRST_ADDRESS = 0x190;
-const TABS = ['first', 'volume', 'deck', 'compare'];
-const EXAMPLE = 'example.ckd';
 const STORAGE = 65536;
-const TITLE = document.title;
 
 class Page {
   engine = new Engine();
   shelf = new Shelf(this.engine);
   examples = new ExampleDecks(this.shelf);
-  /** @type {Set<number>} the numbers of volumes that a deck changed, and that nobody saved */
-  unsaved = new Set();
-  history = new History((kept, beside) => this.engine.ask('weigh', kept, beside), lost => this.#dropped(lost));
   /** @type {Volume | null} the volume before the last deck, and the other one of a comparison */
   former = null;
   /** @type {Volume | null} */
   other = null;
-  /** @type {Promise<Volume> | null} the example pack, while it is open */
-  sample = null;
-  /** @type {Volume | null} the same, once it is */
-  sampled = null;
-  tab = 'first';
 
   constructor() {
+    this.frame = new Frame({
+      shown: tab => this.#shown(tab),
+      redraw: () => this.view.redraw(),
+      folded: () => this.view.picture.draw(),
+      closed: () => this.places.stop()
+    });
+    this.sources = new Sources(this.shelf, (text, done, whole) => this.frame.progress(text, done, whole));
+    this.changes = new Changes(this.engine, this.shelf, {
+      drives: () => this.drives,
+      beside: () => [this.former, this.other, this.sources.example],
+      tell: text => this.tell(text)
+    });
+    /** @type {Drives} */
     this.drives = new Drives({
       shown: drive => this.#look(drive, false),
       add: (address, kind) => this.#guard(this.#addDrive(address, kind)),
@@ -52,8 +57,8 @@ class Page {
         this.deck.forget();
         if (this.drives.shown) this.#look(this.drives.shown, false);
       },
-      removing: () => this.#remember({ isReplaced: true }),
-      isUnsaved: drive => this.unsaved.has(drive.volume.number)
+      removing: () => this.changes.remember({ isReplaced: true }),
+      isUnsaved: drive => this.changes.unsaved.has(drive.volume.number)
     });
     this.view = new VolumeView(this.engine, { tell: text => this.tell(text), toVolume: () => this.show('volume') });
     this.deck = new DeckView(this.engine, this.drives, {
@@ -63,7 +68,7 @@ class Page {
       stood: state => this.#stood(state)
     });
     this.compare = new Compare(this.engine, {
-      open: () => this.#pick('other'),
+      open: () => this.incoming.pick('other'),
       ran: () => this.#guard(this.#compareWith(this.former, true)),
       track: track => this.view.pick(track)
     });
@@ -71,20 +76,21 @@ class Page {
       picked: example => this.#guard(this.#example(example)),
       drafts: this.deck.drafts,
       draft: draft => {
-        this.#remember({ written: this.deck.written });
+        this.changes.remember({ written: this.deck.written });
         this.deck.writeDraft(draft);
       }
     });
     this.tour = new Tour(this.engine, {
       pack: () => this.#sample(),
-      arm: (cylinder, moves) => this.tab === 'first' && this.drives.shown?.volume.name === EXAMPLE &&
+      arm: (cylinder, moves) => this.tab === 'first' && this.drives.shown?.volume.origin === 'example' &&
         this.view.stand([{ cylinder, head: 0, moves, name: '190' }]),
       change: text => this.#write(text, 'words')
     });
     this.places = new Places(this.drives, {
       tell: (text, isGood) => this.tell(text, isGood),
       begin: () => this.#begin(),
-      pack: (address, kind) => (kind === 'example' ? this.#sample() : this.shelf.formatAt(address, kind)),
+      hasGiven: () => this.sources.hasGiven,
+      pack: (address, kind, signal) => this.sources.pack(address, kind, signal),
       take: drives => this.takeAll(drives),
       examples: () => this.examples.all(),
       run: example => this.#example(example),
@@ -95,7 +101,10 @@ class Page {
       },
       shown: () => ({ tab: this.tab, track: this.view.picture.chosen, written: this.deck.written })
     });
-    this.wanted = 'volume';
+    this.incoming = new Incoming({
+      taken: (list, wanted) => this.#guard(this.#taken(list, wanted)),
+      dropped: () => (this.tab === 'compare' && this.drives.shown ? 'other' : 'volume')
+    });
     this.#listen();
   }
 
@@ -103,13 +112,6 @@ class Page {
   #guard(work) { return work.catch(fault => this.tell(fault.message)); }
 
   #listen() {
-    const files = /** @type {HTMLInputElement} */ (find('files'));
-    files.addEventListener('change', () => {
-      const list = inOrder(files.files ?? []);
-      files.value = '';
-      if (list.length) this.#guard(this.#taken(list));
-    });
-    for (const id of ['open', 'empty-open']) find(id).addEventListener('click', () => this.#pick('volume'));
     find('empty-example').addEventListener('click', () => this.#guard(this.example()));
     find('new').addEventListener('change', event => this.#guard(this.#new (/** @type {HTMLSelectElement} */ (event.target))));
     find('save').addEventListener('click', () => this.#guard(this.#save()));
@@ -117,94 +119,51 @@ class Page {
     find('about-page').addEventListener('click', () => this.#guard(openAbout()));
     find('link').addEventListener('click', () => this.#guard(this.places.copy()));
     addEventListener('hashchange', () => this.#guard(this.places.arrive(location.hash)));
-    find('fold').addEventListener('click', () => this.#fold(!find('map').classList.contains('folded')));
-    find('theme').addEventListener('click', () => this.#light());
-    find('notice-close').addEventListener('click', () => { find('notice').hidden = true; });
     find('wrong').addEventListener('click', () => {
       this.show('volume');
       document.getElementById('findings')?.scrollIntoView();
     });
     find('pick').addEventListener('click', () => this.#guard(this.#choose()));
-    for (const tab of TABS) find(`tab-${tab}`).addEventListener('click', () => this.show(tab));
-    rove(/** @type {HTMLElement} */ (document.querySelector('header nav')), '[role=tab]', it => this.show(it.id.slice(4)));
-    matchMedia('(prefers-color-scheme: dark)').addEventListener('change', () => this.view.redraw());
     addEventListener('beforeunload', event => {
       if (this.isUnsaved) event.preventDefault();
     });
-    listenForDrops(list => {
-      this.wanted = this.tab === 'compare' && this.drives.shown ? 'other' : 'volume';
-      this.#guard(this.#taken(list));
-    });
   }
+
+  get tab() { return this.frame.tab; }
 
   /**
    * Tells what went wrong, or that something was done.
    * @param {string} text
    * @param {boolean} [isGood]
    */
-  tell(text, isGood = false) {
-    find('notice-text').textContent = text;
-    find('notice').classList.toggle('good', isGood);
-    find('notice').hidden = !text;
-  }
+  tell(text, isGood = false) { this.frame.tell(text, isGood); }
 
   /** @param {string} tab */
-  show(tab) {
-    this.tab = tab;
-    this.#fold(tab !== 'volume');
+  show(tab) { this.frame.show(tab); }
+
+  /** @param {string} tab */
+  #shown(tab) {
     if (tab === 'first') this.#guard(this.tour.start());
     else {
       this.tour.pause();
       if (!this.deck.played && this.view.volume) this.view.stand([]);
     }
-    for (const it of TABS) {
-      find(it).hidden = it !== tab;
-      find(`tab-${it}`).setAttribute('aria-selected', String(it === tab));
-      find(`tab-${it}`).tabIndex = it === tab ? 0 : -1;
-    }
-  }
-
-  /** @param {boolean} isFolded whether a narrow screen does without the picture; a wide one always has it */
-  #fold(isFolded) {
-    find('map').classList.toggle('folded', isFolded);
-    find('fold').setAttribute('aria-expanded', String(!isFolded));
-    this.view.picture.draw();
-  }
-
-  /** @param {string} wanted what the files are for: `volume`, `other`, or a drive's address */
-  #pick(wanted) {
-    this.wanted = wanted;
-    find('files').click();
   }
 
   /**
    * Files that were dropped or picked.
    * @param {File[]} list
+   * @param {string} wanted what they are for: `volume`, `other`, or a drive's address
    */
-  async #taken(list) {
-    const volume = await this.open(list), wanted = this.wanted;
-    this.wanted = 'volume';
+  async #taken(list, wanted) {
+    this.places.stop();
+    const files = await unpackedFiles(list);
+    this.tell('');
+    const volume = await this.shelf.open(files);
     if (wanted === 'volume') this.take(volume);
     else if (wanted === 'other') await this.#compareWith(volume, false);
     else this.#attach(Number(wanted), volume);
-    this.#focus();
-  }
-
-  // What had the focus may be gone with the view that it was in: the picture takes it.
-  #focus() {
-    const has = /** @type {any} */ (document.activeElement), picture = /** @type {any} */ (find('pointer'));
-    if (!has || has === document.body || !has.checkVisibility()) (picture.checkVisibility() ? picture : find('main')).focus({ preventScroll: true });
-  }
-
-  /**
-   * Opens the files of one image.
-   * @param {File[]} list
-   * @returns {Promise<Volume>}
-   */
-  async open(list) {
-    const files = await unpackedFiles(list);
-    this.tell('');
-    return this.shelf.open(files);
+    this.frame.focus();
   }
 
   /**
@@ -220,11 +179,11 @@ class Page {
    */
   takeAll(drives, written = null) {
     this.deck.forget();
-    if (this.drives.all.length) this.#remember({ isReplaced: true, written });
+    if (this.drives.all.length) this.changes.remember({ isReplaced: true, written });
     this.former = this.other = null;
     this.drives.set(drives);
     this.#dropSample();
-    this.#tidy();
+    this.changes.tidy();
     this.compare.clear();
     this.compare.changes.disabled = true;
     this.view.mark(new Set(), '');
@@ -233,53 +192,8 @@ class Page {
     this.show(this.tab === 'first' ? 'volume' : this.tab);
   }
 
-  /**
-   * The drives as they are can be brought back, and a text that another one is going to take the place of.
-   * @param {{isReplaced?: boolean, written?: Written | null}} step
-   */
-  #remember({ isReplaced = false, written = null }) {
-    const { all, shown } = this.drives;
-    const drives = all.map(({ address, volume: { number, name, bytes, origin } }) => ({ address, number, name, bytes, origin }));
-    this.history.add({ drives, shown: all.findIndex(it => it === shown), isReplaced, written });
-    this.#mark();
-  }
-
-  /** @param {import('./history.mjs').Past} past a step that Undo has no more */
-  #dropped({ drives, isReplaced }) {
-    const lost = drives.filter(it => isReplaced && this.unsaved.has(it.number)).map(it => it.name);
-    if (lost.length) this.tell(`Undo has reached its bounds, and no longer has ${lost.join(', ')} as a deck changed it.`);
-  }
-
-  /** Volumes that nothing here has any more are closed. */
-  async #tidy() {
-    const close = () => this.shelf.keep([...this.#numbers, ...this.history.numbers]);
-    close();
-    await this.history.trim(this.#numbers);
-    close();
-    this.#mark();
-  }
-
-  /** The numbers of the volumes that are shown or compared. */
-  get #numbers() {
-    return [...this.drives.all.map(it => it.volume), this.former, this.other, this.sampled].flatMap(it => (it ? [it.number] : []));
-  }
-
   /** Whether leaving the page loses something: a pack that a deck changed, here or for Undo, or a text that the browser does not keep. */
-  get isUnsaved() {
-    const former = this.history.past.filter(it => it.isReplaced).flatMap(it => it.drives.map(drive => drive.number));
-    return this.deck.isUnsaved || [...this.drives.all.map(it => it.volume.number), ...former].some(it => this.unsaved.has(it));
-  }
-
-  // Save has a mark while the volume that is shown is not saved.
-  #mark() {
-    const volume = this.drives.shown?.volume, save = find('save'), isUnsaved = Boolean(volume && this.unsaved.has(volume.number));
-    save.classList.toggle('unsaved', isUnsaved);
-    save.title = isUnsaved ? 'A deck changed this pack, and it is not saved' : '';
-    document.title = `${isUnsaved ? '• ' : ''}${TITLE}`;
-    /** @type {HTMLButtonElement} */ (save).disabled = !volume;
-    /** @type {HTMLButtonElement} */ (find('undo')).disabled = !this.history.past.length;
-    this.drives.draw();
-  }
+  get isUnsaved() { return this.deck.isUnsaved || this.changes.areThere; }
 
   /**
    * Shows a drive's volume.
@@ -293,25 +207,24 @@ class Page {
       `${volume.model}, ${amount(volume.cylinders, 'cylinder')} × ${volume.heads} heads, ${counted(volume.bytes)} bytes`;
     wrong.hidden = !errors && !warnings;
     wrong.textContent = [errors && amount(errors, 'error'), warnings && amount(warnings, 'warning')].filter(Boolean).join(', ');
-    this.#mark();
+    this.changes.mark();
     if (!isSame) this.view.mark(new Set(), '');
     this.view.show(volume, isSame);
     this.view.stand([]);
   }
 
-  /** The example pack, which is unpacked where it is not open. */
+  /** The example pack, and no longer the word that it is unpacked. */
   async #sample() {
-    this.sample ??= unpacked(EXAMPLE).then(bytes => this.shelf.open(new Map([[EXAMPLE, bytes]]))).then(it => ({ ...it, origin: 'example' }));
-    const volume = this.sampled = await this.sample;
+    const volume = await this.sources.sample();
     find('loading').textContent = '';
     return volume;
   }
 
   // The example pack is closed with the first program where others took its place.
   #dropSample() {
-    if (this.drives.all.some(it => it.volume.name === EXAMPLE)) return;
+    if (this.drives.all.some(it => it.volume.origin === 'example')) return;
     this.tour.stop();
-    this.sample = this.sampled = null;
+    this.sources.forgetSample();
   }
 
   /** Opens the example pack. */
@@ -320,7 +233,7 @@ class Page {
     if (this.drives.all.length !== 1 || this.drives.shown?.volume !== volume) this.take(volume);
     if (this.deck.editor.text === LABEL_TEXT) this.deck.editor.write(FIRST_TEXT, 'words');
     this.show(this.tab === 'first' ? 'volume' : this.tab);
-    this.#focus();
+    this.frame.focus();
   }
 
   /**
@@ -330,7 +243,7 @@ class Page {
    */
   #write(text, language) {
     const { written } = this.deck;
-    if (written.text !== text || written.language !== language) this.#remember({ written });
+    if (written.text !== text || written.language !== language) this.changes.remember({ written });
     this.deck.writeAgain({ text, language, example: null, storage: STORAGE });
     this.show('deck');
   }
@@ -348,7 +261,7 @@ class Page {
    * @param {string} kind
    */
   async #addDrive(address, kind) {
-    if (kind === 'files') return this.#pick(String(address));
+    if (kind === 'files') return this.incoming.pick(String(address));
     this.#attach(address, await this.shelf.formatAt(address, kind));
   }
 
@@ -378,8 +291,8 @@ class Page {
       if (!changed.includes(drive.address)) return drive;
       return { address: drive.address, volume: await this.shelf.left(deck, drive) };
     }));
-    this.#remember({});
-    for (const it of next) if (!all.includes(it)) this.unsaved.add(it.volume.number);
+    this.changes.remember({});
+    for (const it of next) if (!all.includes(it)) this.changes.unsaved.add(it.volume.number);
     const at = all.findIndex(it => it === shown), now = next[at] === shown ? next.find((it, i) => it !== all[i]) ?? next[at] : next[at];
     this.former = all[next.indexOf(now)].volume;
     this.drives.set(next, now);
@@ -408,7 +321,7 @@ class Page {
     const volume = this.drives.shown?.volume;
     if (!other || !volume) return;
     this.other = other;
-    await this.#tidy();
+    await this.changes.tidy();
     const found = await this.compare.differ(other, volume);
     this.view.mark(new Set(found.differences.map(it => it.track)), isFormer ? 'changed by the deck' : `differs from ${other.name}`);
     if (isShown) this.show('compare');
@@ -418,33 +331,26 @@ class Page {
   async #save() {
     const { volume } = /** @type {Drive} */ (this.drives.shown);
     for (const [name, bytes] of await this.engine.ask('files', volume.number)) saveAs(name, bytes);
-    this.unsaved.delete(volume.number);
-    this.#mark();
+    this.changes.unsaved.delete(volume.number);
+    this.changes.mark();
   }
 
   async #undo() {
-    const past = this.history.take();
+    const past = this.changes.history.take();
     if (!past) return;
     const there = new Map(this.drives.all.map(it => [it.volume.number, it.volume])), isSame = past.drives.every(it => there.has(it.number));
     const all = await Promise.all(past.drives.map(
       async it => ({ address: it.address, volume: there.get(it.number) ?? await this.shelf.again(it) })));
     if (past.written) this.deck.writeAgain(past.written);
     else this.deck.forget();
-    if (isSame && all.length === this.drives.all.length) return this.#mark();
+    if (isSame && all.length === this.drives.all.length) return this.changes.mark();
     this.former = this.other = null;
     this.compare.clear();
     this.compare.changes.disabled = true;
     this.drives.set(all, all[past.shown]);
     this.view.mark(new Set(), '');
     this.#look(all[past.shown] ?? all[0], !past.isReplaced);
-    await this.#tidy();
-  }
-
-  #light() {
-    const root = document.documentElement,
-          isDark = root.dataset.theme ? root.dataset.theme === 'dark' : matchMedia('(prefers-color-scheme: dark)').matches;
-    root.dataset.theme = isDark ? 'light' : 'dark';
-    this.view.redraw();
+    await this.changes.tidy();
   }
 
   async #choose() { this.picker.open(await this.examples.all()); }
@@ -463,27 +369,26 @@ class Page {
     const opened = this.picker.isHere ? [] : await this.examples.drives(example);
     const { written } = this.deck;
     if (opened.length) this.takeAll(opened, written);
-    else this.#remember({ written });
+    else this.changes.remember({ written });
     this.deck.write(example.deck, example, example.storage);
     this.show('deck');
     await this.deck.run();
   }
 
-  /** The page as it begins: the example pack, and its first program. */
+  /** The page as it begins: the example pack, and its first program; the track is that which it reads. */
   async #begin() {
     const volume = await this.#sample();
     this.drives.set([{ address: FIRST_ADDRESS, volume }]);
     this.#look(this.drives.all[0], false);
+    this.view.pick(FIRST.cylinder * volume.heads + FIRST.head);
     this.show('first');
   }
 
   async start() {
     const { version } = await this.engine.start();
     document.documentElement.dataset.version = version;
-    await this.places.arrive(location.hash).catch(async fault => {
-      if (!this.drives.all.length) await this.#begin();
-      this.tell(fault.message);
-    });
+    await this.places.arrive(location.hash).catch(fault => this.tell(fault.message));
+    if (!this.drives.all.length) await this.#begin();
     document.documentElement.dataset.ready = 'yes';
   }
 }

@@ -14,7 +14,8 @@ import { hashOf, packText, placeOf, unpackText } from './address.mjs';
  * @typedef {object} Hooks
  * @property {(text: string, isGood: boolean) => void} tell
  * @property {() => Promise<void>} begin shows the page as it begins
- * @property {(address: number, kind: string) => Promise<Volume>} pack the example pack, or a new volume
+ * @property {() => boolean} hasGiven whether a pack is inside this page, which then begins with it
+ * @property {(address: number, kind: string, signal: AbortSignal) => Promise<Volume>} pack a pack by its name in an address
  * @property {(drives: Drive[]) => void} take puts these drives in the place of all others
  * @property {() => Promise<Example[]>} examples
  * @property {(example: Example) => Promise<void>} run runs an example
@@ -23,8 +24,16 @@ import { hashOf, packText, placeOf, unpackText } from './address.mjs';
  * @property {() => {tab: string, track: number, written: import('./deck_view.mjs').Written}} shown the view, and what is chosen in it
  */
 
+/** @type {import('./address.mjs').Pack} */
+const GIVEN = { address: 0x190, kind: 'given' };
+
 /** The way from an address to its place, and back. */
 export class Places {
+  /** @type {AbortController | null} the latest arrival, which may be fetching */
+  #going = null;
+  /** @type {Map<string, number>} the volume that was opened last of each kind: a deck leaves another one */
+  #opened = new Map();
+
   /**
    * @param {Drives} drives
    * @param {Hooks} hooks
@@ -35,14 +44,34 @@ export class Places {
   }
 
   /**
-   * Goes to the place that an address names. An Error says why there is none.
+   * Goes to the place that an address names. An Error says why there is none. Where another arrival, or the visitor, is faster, this one ends.
    * @param {string} hash
    */
   async arrive(hash) {
-    const place = placeOf(hash), isEmpty = !this.drives.all.length;
+    this.stop();
+    const { signal } = this.#going = new AbortController();
+    try {
+      await this.#arrive(placeOf(hash), signal);
+    } catch (fault) {
+      if (!signal.aborted) throw fault;
+    }
+  }
+
+  /** Ends an arrival that is fetching: what is shown stays. */
+  stop() {
+    this.#going?.abort();
+    this.hooks.tell('', true);
+  }
+
+  /**
+   * @param {import('./address.mjs').Place | null} place
+   * @param {AbortSignal} signal
+   */
+  async #arrive(place, signal) {
+    const isEmpty = !this.drives.all.length;
     if (place?.named) return this.#arriveAt(place.named);
-    if (place?.packs.length) await this.#openPacks(place.packs);
-    else if (isEmpty) await this.hooks.begin();
+    if (place?.packs.length) await this.#openPacks(place.packs, signal);
+    else if (isEmpty) await (this.hooks.hasGiven() ? this.#openPacks([GIVEN], signal) : this.hooks.begin());
     if (!place) return;
     if (place.packed) {
       const { text, language } = await unpackText(place.packed);
@@ -64,14 +93,24 @@ export class Places {
   async #arriveAt({ kind, name }) {
     const example = (await this.hooks.examples()).find(it => (it.kind === 'vector') === (kind === 'vector') && it.name === name);
     if (example) return this.hooks.run(example);
-    if (!this.drives.all.length) await this.hooks.begin();
     throw new Error(`This page has no ${kind} ${name}.`);
   }
 
-  /** @param {import('./address.mjs').Pack[]} packs */
-  async #openPacks(packs) {
+  /**
+   * Opens packs, those that are there unchanged excepted. They take the place of others once all are open.
+   * @param {import('./address.mjs').Pack[]} packs
+   * @param {AbortSignal} signal
+   */
+  async #openPacks(packs, signal) {
+    /** @type {Drive[]} */
     const opened = [];
-    for (const { address, kind } of packs) opened.push({ address, volume: await this.hooks.pack(address, kind) });
+    const there = this.drives.all;
+    for (const { address, kind } of packs) {
+      const same = there.find(it => it.address === address && it.volume.number === this.#opened.get(kind));
+      opened.push({ address, volume: same?.volume ?? await this.hooks.pack(address, kind, signal) });
+      signal.throwIfAborted();
+    }
+    packs.forEach(({ kind }, at) => this.#opened.set(kind, opened[at].volume.number));
     const isThere = opened.every((it, at) => it.volume === this.drives.all[at]?.volume) && opened.length === this.drives.all.length;
     if (!isThere) this.hooks.take(opened);
   }
@@ -88,7 +127,7 @@ export class Places {
     return hashOf({ packs, packed: await packText(text, language) });
   }
 
-  /** Copies the address of what is shown; where the browser does not let it, the address is told. */
+  /** Copies the address of what is shown; where the browser does not let it, the address is shown. */
   async copy() {
     const link = `${location.href.replace(/#.*$/, '')}${await this.address()}`;
     const own = this.drives.all.filter(it => !it.volume.origin).map(it => it.volume.name);

@@ -1,11 +1,11 @@
 // @ts-check
 // The first minute: a channel program of four words runs over the example pack, word by word, with the arm and the record that is under the
-// head; what each word does stands beside it. All that is shown came of the program: of its trace, and of the machine at that moment.
+// head; what each word does is beside it. All that is shown comes from the program: from its trace, and from the machine at that moment.
 
 import { Disc } from './disc.mjs';
 import { button, find, hex, make } from './dom.mjs';
 import { LETTERS } from './ebcdic.mjs';
-import { FIRST, FIRST_TEXT, FIRST_WORDS } from './first_program.mjs';
+import { FIRST, FIRST_TEXT, FIRST_WORDS, SHORT } from './first_program.mjs';
 
 /** @typedef {import('./engine.mjs').Engine} Engine */
 /** @typedef {import('./shapes.mjs').Volume} Volume */
@@ -32,14 +32,21 @@ export function stepsOf(trace) {
 }
 
 /**
+ * Operands, with what is short in them explained.
+ * @param {string} text as SEEK ARM,CC,6
+ */
+const explained = text => text.split(/\b(CC|SLI)\b/).map(it => (it === 'CC' || it === 'SLI' ? make('abbr', { title: SHORT[it] }, it) : it));
+
+/**
  * A step in words.
  * @param {Step} step
+ * @param {boolean} isPlaying
  */
-function told({ card, record, isFound }) {
+function told({ card, record, isFound }, isPlaying) {
   if (card === 0) return `The arm goes to cylinder ${FIRST.cylinder}.`;
   if (card === 1) return isFound ? `Record ${record} is under the head: this is the one.` : `Record ${record} is under the head. ${record} is not ${FIRST.record}.`;
   if (card === 2) return 'So back to the search, for the next record.';
-  return `Record ${FIRST.record} is read: its first ${FIRST.length} bytes are in main storage.`;
+  return `Record ${FIRST.record} is read: its first ${FIRST.length} bytes are in main storage.${isPlaying ? ' It begins again in a moment.' : ''}`;
 }
 
 /** The view of the first program. */
@@ -63,6 +70,8 @@ export class Tour {
     this.later = undefined;
     this.cards = FIRST_WORDS.map(({ name, about }) => make('li', {}, make('b', {}, name), make('code', {}), make('span', {}, about), make('small', { class: 'mono' })));
     find('cards').replaceChildren(...this.cards);
+    find('cards-key').replaceChildren(...Object.entries(SHORT).flatMap(([it, means]) => [make('b', {}, it), `, ${means}. `]),
+      'Below each word: where it is, and its eight bytes in hexadecimal.');
     this.play = button('Pause', () => this.#toggle(), { class: 'first' });
     find('tour-actions').replaceChildren(this.play, button('◀', () => this.hold(this.at - 1), { 'aria-label': 'One word back' }),
       button('▶', () => this.hold(this.at + 1), { 'aria-label': 'One word on' }), button('Change this program', () => hooks.change(FIRST_TEXT)));
@@ -88,7 +97,7 @@ export class Tour {
     const words = /^STORE 000400 (.*)$/m.exec(text)?.[1].split(' ') ?? [], lines = FIRST_TEXT.split('\n');
     this.cards.forEach((card, at) => {
       const line = lines.find(it => it.slice(9).startsWith(`${FIRST_WORDS[at].word} `)) ?? '';
-      /** @type {HTMLElement} */ (card.children[1]).textContent = line.slice(9, 28).trim().replace(/ +/, ' ');
+      card.children[1].replaceChildren(...explained(line.slice(9, 28).trim().replace(/ +/, ' ')));
       /** @type {HTMLElement} */ (card.children[3]).textContent = `${hex(FIRST.start + WORD * at, 4)}  ${words[at]?.replace(/(.{8})/, '$1 ') ?? ''}`;
     });
   }
@@ -136,12 +145,12 @@ export class Tour {
     const state = await this.engine.ask('step', this.deck, step.at, [{ at: FIRST.buffer, length: FIRST.length }]);
     if (this.at !== at || this.deck === null) return;
     this.cards.forEach((it, card) => it.classList.toggle('now', card === step.card));
-    find('tour-told').textContent = told(step);
+    find('tour-told').textContent = told(step, this.isPlaying);
     if (isFirst) this.#sway();
     else this.#stand(FIRST.cylinder, false);
     const record = step.record ?? (step.card ? this.steps[at - 1]?.record ?? null : null);
     if (record !== null) this.disc.turn(record);
-    const isWanted = step.card === 3 || step.isFound, said = record === null ? '' : `R${record} ${isWanted ? '=' : '≠'} ${FIRST.record}`;
+    const isWanted = step.card === 3 || step.isFound, said = record === null ? '' : `record ${record} ${isWanted ? '=' : '≠'} ${FIRST.record}`;
     this.disc.light(step.card === 2 ? null : record, isWanted ? 'equal' : 'unequal', step.card === 1 ? said : '');
     this.#storage(state.storage[0].bytes, step.card === 3);
     this.#next();

@@ -94,7 +94,7 @@ class Browser:
 
     def take(self, *files: pathlib.Path) -> None:
         """Gives files to the page, as its file dialog does."""
-        self.ask("page.wanted = 'volume'")
+        self.ask("page.incoming.wanted = 'volume'")
         self.find("#files").send_keys("\n".join(str(it.resolve()) for it in files))
 
     def point(self, x: float, y: float) -> None:

@@ -368,7 +368,7 @@ def check_changes(browser: Browser, native: Native, checks: Checks, downloads: p
     changed = bytearray(written.read_bytes())
     changed[512 + 7680 * (36 * 20 + 5) + 60] ^= 0xFF
     other.write_bytes(changed)
-    browser.ask("(page.show('compare'), page.wanted = 'other')")
+    browser.ask("(page.show('compare'), page.incoming.wanted = 'other')")
     browser.find("#files").send_keys(str(other))
     browser.until("document.querySelectorAll('.compare-list [data-track]').length > 0")
     wanted = [line for line in native.text("compare", "other.ckd", "example.ckd").splitlines() if "differ" not in line]
