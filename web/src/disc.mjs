@@ -34,6 +34,8 @@ export class Disc {
     this.middles = [];
     /** @type {Element[]} */
     this.parts = [];
+    /** @type {Element[]} */
+    this.names = [];
     this.track = shape('g', { class: 'track' });
     this.platter = /** @type {SVGElement} */ (shape('g', { class: 'platter' }, shape('circle', { class: 'disk', cx: MIDDLE, cy: MIDDLE, r: OUTER }),
       ...[124, 108, 92, 76, 60].map(r => shape('circle', { class: 'groove', cx: MIDDLE, cy: MIDDLE, r })), this.track,
@@ -66,13 +68,13 @@ export class Disc {
       angle += wide;
       return arc;
     });
-    const names = records.map((_, number) => shape('text', {
+    this.names = records.map((_, number) => shape('text', {
       x: MIDDLE + r, y: MIDDLE, 'text-anchor': 'middle', 'dominant-baseline': 'central',
       transform: `rotate(${this.middles[number]} ${MIDDLE} ${MIDDLE}) rotate(90 ${MIDDLE + r} ${MIDDLE})`
     }, lengths[number] / sum > LONG ? `record ${number}` : `${number}`));
     const index = shape('path', { class: 'index', d: `M${MIDDLE + r - WIDTH / 2} ${MIDDLE} H${MIDDLE + r + WIDTH / 2}`,
       transform: `rotate(${INDEX / 2} ${MIDDLE} ${MIDDLE})` });
-    this.track.replaceChildren(...this.parts, ...names, index);
+    this.track.replaceChildren(...this.parts, ...this.names, index);
   }
 
   /**
@@ -111,5 +113,7 @@ export class Disc {
   light(number, kind, said) {
     this.said.textContent = said;
     this.parts.forEach((it, at) => it.setAttribute('class', `record${at === number ? ` ${kind}` : ''}`));
+    // the head is over the name of a record that is lit
+    this.names.forEach((it, at) => it.setAttribute('class', at === number ? 'under' : ''));
   }
 }

@@ -26,6 +26,8 @@ import { hashOf, packText, placeOf, unpackText } from './address.mjs';
 
 /** @type {import('./address.mjs').Pack} */
 const GIVEN = { address: 0x190, kind: 'given' };
+/** An address that is not one of the page's own elements. */
+const WORD = /^#\w+=/;
 
 /** The way from an address to its place, and back. */
 export class Places {
@@ -51,7 +53,9 @@ export class Places {
     this.stop();
     const { signal } = this.#going = new AbortController();
     try {
-      await this.#arrive(placeOf(hash), signal);
+      const place = placeOf(hash);
+      await this.#arrive(place, signal);
+      if (!place && WORD.test(hash)) throw new Error(`${hash} names no place of this page.`);
     } catch (fault) {
       if (!signal.aborted) throw fault;
     }

@@ -71,7 +71,7 @@ export class Tour {
     this.cards = FIRST_WORDS.map(({ name, about }) => make('li', {}, make('b', {}, name), make('code', {}), make('span', {}, about), make('small', { class: 'mono' })));
     find('cards').replaceChildren(...this.cards);
     find('cards-key').replaceChildren(...Object.entries(SHORT).flatMap(([it, means]) => [make('b', {}, it), `, ${means}. `]),
-      'Below each word: where it is, and its eight bytes in hexadecimal.');
+      make('span', {}, 'Below each word: where it is, and its eight bytes in hexadecimal.'));
     this.play = button('Pause', () => this.#toggle(), { class: 'first' });
     find('tour-actions').replaceChildren(this.play, button('◀', () => this.hold(this.at - 1), { 'aria-label': 'One word back' }),
       button('▶', () => this.hold(this.at + 1), { 'aria-label': 'One word on' }), button('Change this program', () => hooks.change(FIRST_TEXT)));
@@ -150,7 +150,7 @@ export class Tour {
     else this.#stand(FIRST.cylinder, false);
     const record = step.record ?? (step.card ? this.steps[at - 1]?.record ?? null : null);
     if (record !== null) this.disc.turn(record);
-    const isWanted = step.card === 3 || step.isFound, said = record === null ? '' : `record ${record} ${isWanted ? '=' : '≠'} ${FIRST.record}`;
+    const isWanted = step.card === 3 || step.isFound, said = record === null ? '' : `${record} ${isWanted ? '=' : '≠'} ${FIRST.record}`;
     this.disc.light(step.card === 2 ? null : record, isWanted ? 'equal' : 'unequal', step.card === 1 ? said : '');
     this.#storage(state.storage[0].bytes, step.card === 3);
     this.#next();

@@ -16,13 +16,25 @@ test('an address names packs, a track, a vector or a deck', () => {
   assert.deepEqual(placeOf('#example'), placeOf('#pack=example'));
 });
 
+test('an address names files, each at a drive, by paths in which any character may be escaped', () => {
+  const kinds = (/** @type {string} */ hash) => placeOf(hash)?.packs.map(it => [it.kind, it.address.toString(16)]);
+  assert.deepEqual(kinds('#pack=./a.ckd.gz'), [['./a.ckd.gz', '190']]);
+  assert.deepEqual(kinds('#pack=../b/c%20d.ckd@2A1,/e.ckd,given&track=1.2'), [['../b/c d.ckd', '2a1'], ['/e.ckd', '190'], ['given', '190']]);
+  assert.deepEqual(kinds('#pack=.%2Fa%2Cb%40191.ckd%40191@191'), [['./a,b@191.ckd@191', '191']]);
+  assert.deepEqual(kinds('#pack=./a%2523.ckd'), [['./a%23.ckd', '190']]);
+  // these are refused by name, so they are packs of a place
+  assert.deepEqual(kinds('#pack=https://other.example/a.ckd,//other.example/b,%5C%5Cother/c'),
+    [['https://other.example/a.ckd', '190'], ['//other.example/b', '190'], ['\\\\other/c', '190']]);
+});
+
 test('what names no place is none', () => {
-  for (const it of ['', '#', '#main', '#pack=', '#pack=2315.5', '#track=1', '#track=a.b', '#vector', '#deck=%E0%A4%A', '#what=1', '#pack=example&x=1'])
+  for (const it of ['', '#', '#main', '#pack=', '#pack=2315.5', '#pack=a.ckd', '#pack=example,2315.5', '#pack=./%E0%A4%A', '#track=1', '#track=a.b', '#vector', '#deck=%E0%A4%A', '#what=1', '#pack=example&x=1'])
     assert.equal(placeOf(it), null, it);
 });
 
 test('a place is written as its address', () => {
-  for (const it of ['#vector=seek-head', '#deck=A%20read', '#pack=example&track=45.7', '#deck=~dabc&pack=2311.203,2314.5@2A1', '#track=0.0'])
+  for (const it of ['#vector=seek-head', '#deck=A%20read', '#pack=example&track=45.7', '#deck=~dabc&pack=2311.203,2314.5@2A1', '#track=0.0',
+    '#pack=./a%20b%2Cc%40d%26e%23f.ckd@191,/g.ckd', '#pack=given&track=1.2', '#pack=../%25.ckd'])
     assert.equal(hashOf(placeOf(it) ?? {}), it);
   assert.equal(hashOf({}), '');
 });

@@ -19,6 +19,7 @@ from typing import Any, Callable
 sys.dont_write_bytecode = True
 
 import page_deck as deck
+import page_fetched as fetched
 import page_fields as fields
 import page_kept as kept
 import page_links as links
@@ -71,11 +72,14 @@ CHECKS: dict[str, Callable[[Tried], None]] = {
     "names": lambda it: manners.check_names(it.browser, it.checks),
     "places": lambda it: links.check_places(it.browser, it.checks),
     "links": lambda it: links.check_links(it.browser, it.checks, it.examples["examples"]),
+    "returns": lambda it: links.check_returns(it.browser, it.checks, it.examples["examples"]),
+    "fetched": lambda it: fetched.check_fetched(it.browser, it.native, it.checks),
+    "given": lambda it: fetched.check_given(it.browser, it.native, it.checks),
     "network": lambda it: manners.check_network(it.browser, it.checks),
     "hostile": lambda it: manners.check_hostile(it.browser, it.native, it.checks),
 }
 
-# Those before which the example pack is opened anew.
+# Those before which the example pack is opened again.
 OPENED = {"contents", "picture", "findings", "pointer", "lights", "members"}
 
 
