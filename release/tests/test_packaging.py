@@ -3,6 +3,9 @@
 The library is stood in for by assembly that has the names of dasd.h and takes memory alone: neither the kit nor a module is wanted. What
 is made of a release is tried by try_in_clean_root."""
 
+import base64
+import gzip
+import json
 import os
 import shutil
 import subprocess
@@ -125,7 +128,26 @@ class Pages(unittest.TestCase):
             (tree / "docs" / "pictures" / "p.png").touch()
             self.assertEqual(package_pages.put(tree, folder), (2, 2))
             self.assertEqual((folder / "README.md").read_text(), "[a](docs/A.md#b) c [d](https://d.invalid) [e](#e)\n")
-            self.assertEqual((folder / "docs" / "A.md").read_text(), "[top](../README.md) c ![p](pictures/p.png) [v](../try/#vector=v)\n")
+            self.assertEqual((folder / "docs" / "A.md").read_text(), "[top](../README.md) c ![p](pictures/p.png) [v](../try/index.html#vector=v)\n")
+
+    def test_links_are_followed(self) -> None:
+        with tempfile.TemporaryDirectory() as room:
+            folder, page = Path(room), "[top](../README.md) ![p](pictures/p.png) [v](../try/index.html#vector=v) [d](../try/index.html#deck=a%20b) [t](../try/index.html#track=1.1)"
+            (folder / "docs" / "pictures").mkdir(parents=True)
+            (folder / "try").mkdir()
+            (folder / "README.md").write_text("[a](docs/A.md#b) [d](https://d.invalid)\n", encoding="utf-8")
+            (folder / "docs" / "A.md").write_text(page, encoding="utf-8")
+            (folder / "docs" / "pictures" / "p.png").touch()
+            examples = json.dumps({"examples": [{"kind": "vector", "name": "v"}, {"kind": "page", "name": "a b"}]}).encode()
+            text = f'<script id="examples.json">{base64.b64encode(gzip.compress(examples)).decode()}</script>'
+            (folder / "try" / "index.html").write_text(text, encoding="utf-8")
+            self.assertEqual(package_pages.check(folder), (6, 3, []))
+            (folder / "docs" / "A.md").write_text(page.replace("vector=v", "vector=a%20b").replace("/index.html#deck", "/#deck"), encoding="utf-8")
+            self.assertEqual(package_pages.check(folder)[2], ["docs/A.md: the page in the browser has no #vector=a b", "docs/A.md: no file try"])
+            # as dh_compress leaves pages
+            (folder / "docs" / "A.md").unlink()
+            (folder / "docs" / "A.md.gz").write_bytes(gzip.compress(page.encode()))
+            self.assertEqual(package_pages.check(folder)[2], ["README.md: no file docs/A.md"])
 
 
 class Removed(unittest.TestCase):

@@ -4,9 +4,10 @@
     firefox.py OUT [PICTURE.png]
 
 The first program runs, the example pack is looked at, a data set lights up, a deck is run, stepped back in and undone; a record's fields, an
-address, About and a draft are looked at. It wants Debian's firefox-esr."""
+address, a pack that is fetched, About and a draft are looked at. It wants Debian's firefox-esr."""
 
 import base64
+import gzip
 import json
 import pathlib
 import shutil
@@ -16,6 +17,10 @@ import sys
 import tempfile
 import time
 from typing import Any
+
+sys.dont_write_bytecode = True
+
+from server import Server
 
 PORT = 29281
 ABOUT = "document.getElementById('origin').textContent.includes('Permission is hereby granted')"
@@ -124,12 +129,37 @@ def steps(firefox: Firefox, page: pathlib.Path) -> list[tuple[str, object]]:
     done.append(("which light up its bytes", firefox.until("document.querySelectorAll('#bytes i.lit').length > 100")))
     firefox.run("void (location.hash = '#deck=A%20read')")
     done.append(("an address leads to a deck", firefox.until("page.deck.written.example?.name === 'A read'")))
+    done += fetches(firefox, page)
     firefox.run("document.getElementById('about-page').click()")
     done.append(("About has the licences", firefox.until(ABOUT)))
     firefox.run("(document.getElementById('origin').close(), localStorage.clear(), page.deck.write(''))")
     firefox.run("document.getElementById('text').dispatchEvent(new Event('input'))")
     done.append(("a text is kept", firefox.run("document.getElementById('draft').textContent") == "Kept in this browser"))
     return done
+
+
+def fetches(firefox: Firefox, page: pathlib.Path) -> list[tuple[str, object]]:
+    """A pack by its address, over a server; one where the server names another server; and none for a page from a disk."""
+    firefox.run("void (location.hash = '#pack=./example.ckd')")
+    told = "document.getElementById('notice-text').textContent"
+    done: list[tuple[str, object]] = [("a page from a disk says that it can't fetch", firefox.until(f"{told}.includes('opened from a disk')", 20))]
+    other = Server({"/p.ckd": b"x"})
+    server = Server({"/index.html": page.read_bytes(), "/p.ckd.gz": gzip.compress((page.parent / "example.ckd").read_bytes(), 1), "/m": f"{other.url}/p.ckd"})
+    try:
+        firefox.ask("WebDriver:Navigate", url=f"{server.url}/index.html#pack=./p.ckd.gz&track=72.3")
+        title = "document.getElementById('track-title').textContent === 'Cylinder 72, head 3'"
+        done.append(("a pack is opened by its address", firefox.until(f"{READY} && page.drives.shown.volume.name === 'p.ckd' && {title}")))
+        firefox.run("void (location.hash = '#pack=/m')")
+        done.append(("another server that is named is not asked", firefox.until(f"{told}.includes('names another place')", 20) and not other.asked))
+        firefox.run(f"void (location.hash = '#pack={other.url}/p.ckd')")
+        done.append(("nor one in the address", firefox.until(f"{told}.includes('own server')", 20) and not other.asked))
+        firefox.run(f"void fetch('{other.url}/p.ckd').then(() => window.got = 1, () => window.got = 2)")
+        done.append(("and the page's policy refuses it", firefox.until("window.got === 2", 20) and not other.asked))
+    finally:
+        server.close()
+        other.close()
+    firefox.ask("WebDriver:Navigate", url=page.resolve().as_uri())
+    return [*done, ("the page is ready again", firefox.until(READY))]
 
 
 def main() -> int:
