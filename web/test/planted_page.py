@@ -45,7 +45,7 @@ FAULTS = [
         "is drawn at cylinder",
     ),
     Fault(
-        "the panel is stale behind a step back",
+        "the panel is stale after a step back",
         "deck_view.mjs",
         "this.panel.show(state,",
         (
@@ -91,6 +91,25 @@ FAULTS = [
         "800,000,000 bytes",
     ),
     Fault("the page has no policy", "page.html", "default-src 'none'; ", "default-src *; ", "network", "no network"),
+    Fault("the policy lets the page ask any server", "page.html", "connect-src 'self'", "connect-src *", "fetched", "the page's policy refuses another server"),
+    Fault("a redirect is followed", "sources.mjs", "redirect: 'manual'", "redirect: 'follow'", "fetched", "no redirect was followed"),
+    Fault("another server is named, and asked", "sources.mjs", " || url.host !== home.host", "", "fetched", "a file of this page's own server"),
+    Fault(
+        "a fetch goes on that another address has overtaken",
+        "places.mjs",
+        "this.#going?.abort();",
+        "",
+        "fetched",
+        "closing the message ends it",
+    ),
+    Fault(
+        "a text has the ends of lines of its field",
+        "deck_editor.mjs",
+        "return this.field.value === this.put.shown ? this.put.text : this.field.value;",
+        "return this.field.value;",
+        "returns",
+        "and has its own address",
+    ),
 ]
 
 
