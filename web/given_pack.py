@@ -4,8 +4,8 @@
     given_pack.py PAGE OUT --pack FILE [--name NAME]
 
 PAGE is a page that `web/make_page` made. FILE is an image of at most 512 MiB, or the gzip of one; NAME is what the page calls it, FILE's own
-name if it is not given. A FILE that is larger, empty or a damaged gzip, and a PAGE that has no room for a pack, are refused with status 1, and
-OUT stays as it was. Both are read and written in pieces. `put` does the same from Python."""
+name if it is not given. A FILE that is larger, also packed, or empty or a damaged gzip, and a PAGE that has no room for a pack, are refused with status 1, and
+OUT stays as it was. The pack is read and written in pieces. `put` does the same from Python."""
 
 import argparse
 import base64
@@ -19,6 +19,8 @@ from pathlib import Path
 from typing import BinaryIO, Iterator
 
 MOST = 512 << 20
+# a browser has no longer text
+MOST_LETTERS = (1 << 29) - 24
 PIECE = 3 << 18
 PLACE = b"<!--GIVEN-->\n"
 
@@ -57,7 +59,12 @@ def block(pack: Path, name: str) -> Iterator[bytes]:
     """The block of the page, which no browser runs."""
     said = html.escape(name).encode("utf-8", "replace")
     yield b'<script type="application/octet-stream" id="given-pack" data-name="' + said + b'">'
-    yield from packed(pack)
+    letters = 0
+    for part in packed(pack):
+        letters += len(part)
+        if letters > MOST_LETTERS:
+            raise Refused(f"{pack}: packed it has more than {MOST_LETTERS:,} letters, which no browser reads")
+        yield part
     yield b"</script>\n"
 
 

@@ -14,7 +14,6 @@ from page_volume import example
 from server import PAUSE, PIECE, Server
 
 WEB = pathlib.Path(__file__).resolve().parent.parent
-READY = "document.documentElement.dataset.ready === 'yes'"
 # The SHA-256 of the pack that is shown, as it would be saved.
 SUM = """{
   const [[, bytes]] = await page.engine.ask('files', page.drives.shown.volume.number);
@@ -22,13 +21,6 @@ SUM = """{
   return [...new Uint8Array(sum)].map(it => it.toString(16).padStart(2, '0')).join('');
 }"""
 NAMED = "a \u00e4#1,@b.ckd"
-
-
-def at(browser: Browser, url: str) -> None:
-    """Opens a page by its whole address."""
-    browser.driver.get("about:blank")
-    browser.driver.get(url)
-    browser.until(READY)
 
 
 def seen(browser: Browser) -> list[str]:
@@ -71,9 +63,9 @@ def check_fetched(browser: Browser, native: Native, checks: Checks) -> None:
 
 def check_own(browser: Browser, native: Native, checks: Checks, server: Server) -> None:
     """Packs of the page's own server."""
-    at(browser, f"{server.url}/try/index.html#track=1.1")
+    browser.go(f"{server.url}/try/index.html#track=1.1")
     checks.same("an address without a pack's asks the server for the page alone", server.asked, ["/try/index.html"])
-    at(browser, f"{server.url}/try/index.html#pack=../packs/whole.ckd.gz&track=72.3")
+    browser.go(f"{server.url}/try/index.html#pack=../packs/whole.ckd.gz&track=72.3")
     checks.same("a gzip beside the page is opened by its address", seen(browser), ["whole.ckd", ""])
     checks.same("at the track that is named", browser.text("#track-title"), "Cylinder 72, head 3")
     checks.same("with the bytes that the file has", browser.wait_for(SUM), hashlib.sha256((native.folder / "example.ckd").read_bytes()).hexdigest())
@@ -112,7 +104,7 @@ def check_refused(browser: Browser, checks: Checks, server: Server, other: Serve
     checks.same("and what was open stays", browser.text("#name"), before)
     answers = browser.wait_for("{ return fetch(%r).then(() => 'got', () => 'refused') }" % f"{other.url}/other.ckd")
     checks.same("the page's policy refuses another server too", [answers, other.asked], ["refused", []])
-    at(browser, f"{server.url}/try/index.html#pack=../none.ckd")
+    browser.go(f"{server.url}/try/index.html#pack=../none.ckd")
     checks.same("a page that begins so has the example, and says why", seen(browser), ["example.ckd", "../none.ckd could not be fetched: the server answers 404 Not Found"])
 
 
@@ -154,10 +146,10 @@ def check_given(browser: Browser, native: Native, checks: Checks) -> None:
         browser.open()
         checks.same("a page with a pack in it begins with it", [*seen(browser), browser.ask("page.tab")], [name, "", "volume"])
         checks.same("whole", browser.ask("page.view.volume.bytes"), (native.folder / "example.ckd").stat().st_size)
-        at(browser, f"{made.as_uri()}#track=72.3")
+        browser.go(f"{made.as_uri()}#track=72.3")
         checks.same("at a track that is named", [browser.text("#name"), browser.text("#track-title")], [name, "Cylinder 72, head 3"])
         checks.same("which has an address", browser.wait_for("{ return page.places.address() }"), "#pack=given&track=72.3")
-        at(browser, f"{made.as_uri()}#pack=example")
+        browser.go(f"{made.as_uri()}#pack=example")
         checks.same("and an address that names another pack leads there", browser.text("#name"), "example.ckd")
         before, place, after = made.read_bytes().partition(b' data-name="')
         made.write_bytes(before + place + after.replace(b'">H4sI', b'">H4!I', 1))

@@ -41,16 +41,12 @@ def check_links(browser: Browser, checks: Checks, examples: list[dict[str, Any]]
 def check_places(browser: Browser, checks: Checks) -> None:
     """Addresses of packs, tracks and texts, and those that lead nowhere."""
     page = browser.page.resolve().as_uri()
-    browser.driver.get("about:blank")
-    browser.driver.get(f"{page}#pack=example&track=72.3")
-    browser.until("document.documentElement.dataset.ready === 'yes'")
+    browser.go(f"{page}#pack=example&track=72.3")
     checks.same("an address leads to a track", browser.text("#track-title"), "Cylinder 72, head 3")
     checks.same("which has that address", browser.wait_for("{ return page.places.address() }"), "#pack=example&track=72.3")
     write(browser, MINE)
     address = browser.wait_for("{ return page.places.address() }")
-    browser.driver.get("about:blank")
-    browser.driver.get(page + address)
-    browser.until("document.documentElement.dataset.ready === 'yes'")
+    browser.go(page + address)
     seen = browser.ask("[page.deck.editor.text, page.tab, page.drives.shown.volume.name]")
     checks.same("a deck is packed into an address and comes back, over its pack", seen, [MINE, "deck", "example.ckd"])
     browser.ask("(location.hash = '#vector=no-such', 0)")

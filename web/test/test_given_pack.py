@@ -49,6 +49,9 @@ class GivenPack(unittest.TestCase):
         self.top = Path(folder.name)
         self.page, self.out, self.pack = self.top / "page.html", self.top / "out.html", self.top / "p.ckd"
         self.page.write_text(PAGE, encoding="utf-8")
+        small = mock.patch.object(given_pack, "PIECE", 3000)
+        small.start()
+        self.addCleanup(small.stop)
         self.image = random.Random(5).randbytes(3 * given_pack.PIECE + 11)
         self.pack.write_bytes(self.image)
 
@@ -95,6 +98,8 @@ class GivenPack(unittest.TestCase):
             self.refused("more than [0-9,]+ bytes")
         with mock.patch.object(given_pack, "MOST", len(self.image)):
             given_pack.put(self.page, self.out, self.pack)
+        with mock.patch.object(given_pack, "MOST_LETTERS", len(self.image)):
+            self.refused("letters, which no browser reads")
 
     def test_a_page_without_one_place(self) -> None:
         for text in ("<p>", PAGE + PAGE):
