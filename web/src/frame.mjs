@@ -1,7 +1,7 @@
 // @ts-check
-// What is around the views: their tabs, the message below them, the fold of the picture, and the light.
+// What is around the views: tabs, the name of the volume, the message below them, the fold of the picture, and the light.
 
-import { find, rove } from './dom.mjs';
+import { amount, counted, find, rove } from './dom.mjs';
 
 const TABS = ['first', 'volume', 'deck', 'compare'];
 
@@ -65,6 +65,18 @@ export class Frame {
       part.max = whole;
       part.value = Math.min(done, whole);
     } else part.removeAttribute('value');
+  }
+
+  /**
+   * Names the volume that is shown, and counts what is wrong with it.
+   * @param {import('./shapes.mjs').Volume} volume
+   */
+  name({ name, model, cylinders, heads, bytes, findings, sums: { warnings } }) {
+    const wrong = find('wrong'), errors = findings.filter(it => it.severity === 'error').length;
+    find('name').textContent = name;
+    find('facts').textContent = `${model}, ${amount(cylinders, 'cylinder')} × ${heads} heads, ${counted(bytes)} bytes`;
+    wrong.hidden = !errors && !warnings;
+    wrong.textContent = [errors && amount(errors, 'error'), warnings && amount(warnings, 'warning')].filter(Boolean).join(', ');
   }
 
   /** What had the focus may be gone with the view that it was in: the picture takes it. */

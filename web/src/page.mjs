@@ -4,7 +4,7 @@
 import { openAbout } from './about.mjs';
 import { Changes } from './changes.mjs';
 import { Compare } from './compare.mjs';
-import { amount, counted, find } from './dom.mjs';
+import { find } from './dom.mjs';
 import { DeckView } from './deck_view.mjs';
 import { Drives } from './drives.mjs';
 import { Engine } from './engine.mjs';
@@ -73,7 +73,10 @@ class Page {
       track: track => this.view.pick(track)
     });
     this.picker = new Picker({
-      picked: example => this.#guard(this.#example(example)),
+      picked: example => {
+        this.places.stop();
+        this.#guard(this.#example(example));
+      },
       drafts: this.deck.drafts,
       draft: draft => {
         this.changes.remember({ written: this.deck.written });
@@ -123,7 +126,7 @@ class Page {
       this.show('volume');
       document.getElementById('findings')?.scrollIntoView();
     });
-    find('pick').addEventListener('click', () => this.#guard(this.#choose()));
+    find('pick').addEventListener('click', () => this.#guard(this.examples.all().then(all => this.picker.open(all))));
     addEventListener('beforeunload', event => {
       if (this.isUnsaved) event.preventDefault();
     });
@@ -201,12 +204,7 @@ class Page {
    * @param {boolean} isSame
    */
   #look({ volume }, isSame) {
-    const { warnings } = volume.sums, wrong = find('wrong'), errors = volume.findings.filter(it => it.severity === 'error').length;
-    find('name').textContent = volume.name;
-    find('facts').textContent =
-      `${volume.model}, ${amount(volume.cylinders, 'cylinder')} × ${volume.heads} heads, ${counted(volume.bytes)} bytes`;
-    wrong.hidden = !errors && !warnings;
-    wrong.textContent = [errors && amount(errors, 'error'), warnings && amount(warnings, 'warning')].filter(Boolean).join(', ');
+    this.frame.name(volume);
     this.changes.mark();
     if (!isSame) this.view.mark(new Set(), '');
     this.view.show(volume, isSame);
@@ -229,6 +227,7 @@ class Page {
 
   /** Opens the example pack. */
   async example() {
+    this.places.stop();
     const volume = await this.#sample();
     if (this.drives.all.length !== 1 || this.drives.shown?.volume !== volume) this.take(volume);
     if (this.deck.editor.text === LABEL_TEXT) this.deck.editor.write(FIRST_TEXT, 'words');
@@ -251,6 +250,7 @@ class Page {
   /** @param {HTMLSelectElement} field */
   async #new(field) {
     const kind = field.value;
+    this.places.stop();
     field.value = '';
     if (kind === 'example') return this.example();
     if (kind) this.take(await this.shelf.format(kind));
@@ -352,8 +352,6 @@ class Page {
     this.#look(all[past.shown] ?? all[0], !past.isReplaced);
     await this.changes.tidy();
   }
-
-  async #choose() { this.picker.open(await this.examples.all()); }
 
   /**
    * An example by its place among all.
