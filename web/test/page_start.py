@@ -10,22 +10,36 @@ TOP = pathlib.Path(__file__).resolve().parent.parent.parent
 SEEN = """({ told: document.getElementById('tour-told').textContent, card: [...document.querySelectorAll('#cards li')].findIndex(it =>
   it.classList.contains('now')), lit: document.querySelector('#disc .unequal, #disc .equal')?.getAttribute('class') ?? '' })"""
 
+# Where the arm is, and whether it moves, each time that it is drawn while the program begins again.
+SWAY = """{
+  const seen = [], { hooks } = page.tour, { arm } = hooks;
+  hooks.arm = (cylinder, moves) => {
+    seen.push([cylinder, moves]);
+    arm(cylinder, moves);
+  };
+  await page.tour.start();
+  while (seen.at(-1)?.[1] !== false) await new Promise(done => setTimeout(done, 20));
+  hooks.arm = arm;
+  return seen;
+}"""
+
 
 def check_start(browser: Browser, native: Native, checks: Checks) -> None:
     """A page that nobody has touched: the example is there, and its first program runs, word by word, as the program's trace has it."""
     browser.ask("localStorage.clear()")
     browser.open()
     checks.that("without a pack the example is there", browser.text("#name") == "example.ckd" and browser.ask("page.tab") == "first")
-    arm = browser.until("page.view.picture.arms[0]?.moves && page.view.picture.arms[0].cylinder > 0", 10)
-    there = browser.until("page.view.picture.arms[0]?.cylinder === 95 && !page.view.picture.arms[0].moves", 10)
-    checks.that("the arm moves by itself, and arrives", arm and there, browser.ask("page.view.picture.arms"))
+    there = browser.until("page.view.picture.arms[0]?.cylinder === 95 && !page.view.picture.arms[0].moves", 20)
+    checks.that("the arm arrives by itself", there, browser.ask("page.view.picture.arms"))
+    seen = browser.wait_for(SWAY)
+    checks.that("and moves before it does", seen[0][1] and seen[-1] == [95, False], seen)
     browser.click("#tour-actions button")
-    seen: list[dict[str, object]] = []
+    steps: list[dict[str, object]] = []
     for at in range(browser.ask("page.tour.steps.length")):
         browser.wait_for("{ await page.tour.hold(%d) }" % at)
-        seen.append(browser.ask(SEEN))
-    checks.same("its words light up in their order, the search until it finds", [it["card"] for it in seen], [0, 1, 2, 1, 2, 1, 2, 1, 3])
-    lit = [str(it["lit"]).removeprefix("record ") for it in seen]
+        steps.append(browser.ask(SEEN))
+    checks.same("its words light up in their order, the search until it finds", [it["card"] for it in steps], [0, 1, 2, 1, 2, 1, 2, 1, 3])
+    lit = [str(it["lit"]).removeprefix("record ") for it in steps]
     checks.same("with the record that is under the head", lit, ["", *["unequal", ""] * 3, "equal", "equal"])
     deck = native.run("assemble", deck=browser.ask("page.deck.editor.text")).stdout.decode()
     shown = [it.split()[2] for it in native.answers(deck, "90=example.ckd") if it.startswith("SHOW")]
