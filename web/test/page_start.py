@@ -29,7 +29,7 @@ def check_start(browser: Browser, native: Native, checks: Checks) -> None:
     browser.ask("localStorage.clear()")
     browser.open()
     checks.that("without a pack the example is there", browser.text("#name") == "example.ckd" and browser.ask("page.tab") == "first")
-    there = browser.until("page.view.picture.arms[0]?.cylinder === 95 && !page.view.picture.arms[0].moves", 20)
+    there = browser.until("page.view.picture.arms[0]?.cylinder === 95 && !page.view.picture.arms[0].moves")
     checks.that("the arm arrives by itself", there, browser.ask("page.view.picture.arms"))
     seen = browser.wait_for(SWAY)
     checks.that("and moves before it does", seen[0][1] and seen[-1] == [95, False], seen)
