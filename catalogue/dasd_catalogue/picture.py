@@ -1,95 +1,191 @@
-"""A picture of a volume: cylinders across, heads down, each track as full as it is used, in the colour of its data set."""
+"""A picture of a volume, as the page in the browser draws it (web/src/picture_tracks.mjs): each track in the colour of its data set, deeper the fuller it
+is, with marks where something is wrong; and what these mean."""
 
 from __future__ import annotations
 
 import json
+import math
 import sqlite3
 import zlib
+from collections import defaultdict
 from collections.abc import Iterator
 
-from .markup import Child, Html, joined, tag
-from .names import quantity
+from .layout import AXIS, LEFT, Box, Layout, lay_out
+from .markup import Html, joined, tag
+from .owners import NOBODY, extents_of, owners_of
 
 CAPACITY = {2311: 3625, 2314: 7294}
-COLOURS = 8
-WIDTH, HEIGHT = 1180, 12
-#: A cylinder is drawn so wide at most.
-MOST_CELL = 40
-#: So many cylinders are drawn.
-MOST_CYLINDERS = 1180
-FREE, BAD = "free", "bad"
-#: The type of an extent that shares its cylinders with other data sets.
-SHARED = 0x80
+#: So many colours tell data sets apart; those beyond have the same colours with another hatching.
+COLOURS, HATCHINGS = 8, 5
+WIDTH = 1180
+#: The height of a data set's name, and about how wide a letter of it is.
+NAME, LETTER = 15, 6.7
+#: Lines of 6 by 6 units, which are repeated.
+HATCHES = (
+    "M-7 7L1 -1M-1 7L7 -1M5 7L13 -1",
+    "M-7 -1L1 7M-1 -1L7 7M5 -1L13 7",
+    "M1 -1L1 7M4 -1L4 7",
+    "M0 0h2v2h-2zM3 3h2v2h-2z",
+)
+SPACINGS = (1, 2, 5, 10, 20, 50, 100, 200, 500, 1000, 2000, 5000, 10000)
+#: What a pack that was never given a label has: no fault of its tracks.
+UNLABELLED = ("no volume label", "no volume table of contents")
+#: How deep the colours of the legend are.
+DEPTHS = (0.2, 0.45, 0.65, 0.85, 1)
+#: So many data sets are named in a legend.
+MOST_NAMES = 60
 
 
-def picture(connection: sqlite3.Connection, volume: sqlite3.Row) -> Html:
-    """The picture of a volume, as SVG."""
-    if volume["tracks"] is None or not volume["heads"]:
+def picture(connection: sqlite3.Connection, volume: sqlite3.Row, width: int = WIDTH, name: str = "picture") -> Html:
+    """The picture of a volume in this width, as SVG, with its legend; a page that has several gives each a name of its own."""
+    if volume["tracks"] is None or not volume["heads"] or not volume["cylinders"]:
         return tag("p", "The tracks could not be read.")
-    heads, cylinders = volume["heads"], min(volume["cylinders"], MOST_CYLINDERS)
-    cell = max(1, min(MOST_CELL, WIDTH // cylinders))
-    query = "SELECT number, name, extents, extent_types, tracks FROM data_sets WHERE volume = ? ORDER BY number"
-    sets = connection.execute(query, (volume["file"],)).fetchall()
-    names = {it["number"]: f"{it['name']}, {quantity(it['tracks'], 'track')}" for it in sets}
-    paths = paths_of(volume, owners_of(sets, heads), cylinders, cell)
-    shapes = [shape(key, places, names) for key, places in sorted(paths.items(), key=lambda it: str(it[0]))]
-    box = f"0 0 {cylinders * cell} {heads * HEIGHT}"
-    drawn = tag("svg", ground(cylinders, heads, cell), *shapes, viewBox=box, width=cylinders * cell, height=heads * HEIGHT, role="img")
-    note = tag("p", f"The first {cylinders} of {volume['cylinders']} cylinders.") if cylinders < volume["cylinders"] else None
-    return joined([drawn, note])
+    drawn = Picture(connection, volume, width, name)
+    return joined([drawn.svg(), drawn.legend()])
 
 
-def paths_of(volume: sqlite3.Row, owners: dict[int, int], cylinders: int, cell: int) -> dict[int | str, list[str]]:
-    """The tracks as parts of paths, by the data set to which they belong, or by what else they are."""
-    heads, full = volume["heads"], CAPACITY.get(volume["model"], volume["slot_size"])
-    paths: dict[int | str, list[str]] = {}
-    for number, track in enumerate(json.loads(zlib.decompress(volume["tracks"]))[: cylinders * heads]):
-        share = 1.0 if track is None else min(1.0, track[0] / full)
-        place = track_bar(number // heads * cell, number % heads * HEIGHT, cell, share)
-        if place:
-            paths.setdefault(BAD if track is None else owners.get(number, FREE), []).append(place)
-    return paths
+def swatch(number: int) -> Html:
+    """What a data set is drawn with."""
+    return tag("i", class_=f"swatch set-{number % COLOURS}", data_hatching=hatching_of(number) or None)
 
 
-def owners_of(sets: list[sqlite3.Row], heads: int) -> dict[int, int]:
-    """The number of the data set to which a track belongs."""
-    owners: dict[int, int] = {}
-    for it in sets:
-        extents = json.loads(it["extents"])
-        types = json.loads(it["extent_types"]) if it["extent_types"] else [None] * len(extents)
-        for extent, kind in zip(extents, types):
-            for track in tracks_of_extent(extent, kind, heads):
-                owners.setdefault(track, it["number"])
-    return owners
+def hatching_of(number: int) -> int:
+    """The hatching of a data set; 0 is none."""
+    return number // COLOURS % HATCHINGS if number >= 0 else 0
 
 
-def tracks_of_extent(extent: list[int], kind: int | None, heads: int) -> Iterator[int]:
-    """The tracks of an extent, as far as cylinders are drawn. One that shares its cylinders has on each of them the heads from its first to its last;
-    another one, and each whose type `dasd` does not tell, is a run of tracks."""
-    first, head, last, last_head = extent
-    if kind == SHARED:
-        for cylinder in range(first, min(last + 1, MOST_CYLINDERS)):
-            yield from range(cylinder * heads + head, cylinder * heads + min(last_head + 1, heads))
-    else:
-        yield from range(first * heads + head, min(last * heads + last_head + 1, MOST_CYLINDERS * heads))
+class Picture:
+    """The picture of one volume."""
+
+    def __init__(self, connection: sqlite3.Connection, volume: sqlite3.Row, width: int, name: str) -> None:
+        self.name = name
+        self.layout: Layout = lay_out(width, volume["cylinders"], volume["heads"])
+        self.sets = connection.execute("SELECT * FROM data_sets WHERE volume = ? ORDER BY number", (volume["file"],)).fetchall()
+        self.findings = connection.execute(
+            """SELECT severity, cylinder, head FROM findings WHERE volume = ? AND source IN ('check', 'vtoc') AND cylinder NOTNULL
+            AND head NOTNULL AND (kind ISNULL OR kind NOT IN (?, ?)) ORDER BY source DESC, number""",
+            (volume["file"], *UNLABELLED),
+        ).fetchall()
+        self.tracks: list[list[int] | None] = json.loads(zlib.decompress(volume["tracks"]))
+        self.tracks += [None] * (volume["cylinders"] * volume["heads"] - len(self.tracks))
+        self.capacity = CAPACITY.get(volume["model"], volume["slot_size"])
+        self.owners = owners_of(self.sets, volume["heads"], volume["cylinders"])
+
+    def svg(self) -> Html:
+        """The picture."""
+        it = self.layout
+        parts = [self.hatches(), *self.axes(), *self.cells(), *self.labels(), *self.marks()]
+        return tag("svg", *parts, viewBox=f"0 0 {it.width} {it.height}", width=it.width, height=it.height, role="img", aria_label="tracks")
+
+    def hatches(self) -> Html:
+        """The hatchings, for those that use them, and the marks."""
+        wanted = {hatching_of(it["number"]) for it in self.sets} - {0}
+        tiles = [
+            tag("pattern", tag("path", d=lines, class_="spots" if kind == HATCHINGS - 1 else "lines"), id=f"{self.name}-{kind}", **TILE)
+            for kind, lines in enumerate(HATCHES, 1)
+            if kind in wanted
+        ]
+        box = self.layout.mark(0, 0)
+        half = min(7.0, max(box.wide, box.high) / 2 + 2.5)
+        signs = [tag("path", d=square(half) + (cross(half - 3) if it == "error" else ""), id=f"{self.name}-{it}", class_=it) for it in ("error", "warning")]
+        return tag("defs", *tiles, *(signs if self.findings else []))
+
+    def axes(self) -> Iterator[Html]:
+        """The numbers of cylinders and heads."""
+        it = self.layout
+        every = next((number for number in SPACINGS if number / it.per * it.cell >= 34), 20000)
+        for band in range(it.bands):
+            first = band * it.columns * it.per
+            for cylinder in range(math.ceil(first / every) * every, min(first + it.columns * it.per, it.cylinders), every):
+                yield tag("text", cylinder, x=short(LEFT + (cylinder - first) / it.per * it.cell), y=AXIS + band * it.step - 5)
+            for head in range(0, it.heads, 5):
+                yield tag("text", head, x=LEFT - 6, y=AXIS + band * it.step + head * it.tall + 8, class_="n")
+
+    def cells(self) -> Iterator[Html]:
+        """The tracks, those of one data set and one depth together."""
+        places: dict[tuple[int, str, float], list[str]] = defaultdict(list)
+        last: tuple[tuple[int, str, float], Box] | None = None
+        for cylinder, head, box in self.layout.cells():
+            look = self.look(self.shown_in(cylinder, head))
+            if last and last[0] == look and last[1].y == box.y and last[1].x + last[1].wide == box.x:
+                box = Box(last[1].x, box.y, last[1].wide + box.wide, box.high)
+                places[look].pop()
+            places[look].append(f"M{short(box.x)} {box.y}h{short(box.wide)}v{box.high}h-{short(box.wide)}z")
+            last = look, box
+        for (owner, colour, depth), found in sorted(places.items()):
+            title = tag("title", self.sets[owner]["name"] if owner != NOBODY else "of no data set")
+            yield tag("path", title, d="".join(found), class_=colour, opacity=f"{depth:g}")
+            if hatching_of(owner):
+                yield tag("path", d="".join(found), fill=f"url(#{self.name}-{hatching_of(owner)})", opacity=f"{depth:g}")
+
+    def shown_in(self, cylinder: int, head: int) -> int:
+        """The track that a cell shows: of several cylinders the fullest."""
+        heads, last = self.layout.heads, min(cylinder + self.layout.per, self.layout.cylinders)
+        return max((it * heads + head for it in range(cylinder, last)), key=self.used)
+
+    def used(self, track: int) -> int:
+        """How many bytes of a track are used."""
+        held = self.tracks[track]
+        return held[0] if held else 0
+
+    def look(self, track: int) -> tuple[int, str, float]:
+        """The data set of a track, its colour, and how deep that is: faint where the track has nothing, and then by how full it is."""
+        owner, held = self.owners[track], self.tracks[track] or [0, 0]
+        depth = 0.42 + 0.58 * min(1.0, held[0] / self.capacity) if held[0] else 0.75 if owner == NOBODY else 0.2
+        colour = f"set-{owner % COLOURS}" if owner != NOBODY else "other" if held[0] or held[1] > 1 else "bare"
+        return owner, colour, round(depth, 2)
+
+    def labels(self) -> Iterator[Html]:
+        """The names of data sets, each on its largest run, where that has room for it."""
+        for it in self.sets:
+            box, wide = self.layout.largest_run(extents_of(it)), len(it["name"]) * LETTER + 8
+            if box is None:
+                continue
+            is_wide = box.wide >= wide and box.high >= NAME
+            if not is_wide and not (box.high >= wide and box.wide >= NAME):
+                continue
+            back = tag("rect", x=short(-wide / 2), y=-NAME / 2, width=short(wide), height=NAME, rx=3)
+            place = f"translate({short(box.x + box.wide / 2)} {short(box.y + box.high / 2)}){'' if is_wide else ' rotate(-90)'}"
+            yield tag("g", back, tag("text", it["name"], y=3.5), class_="name", transform=place)
+
+    def marks(self) -> Iterator[Html]:
+        """A mark for each track with an error or a warning; the last of several is seen."""
+        places: dict[Box, str] = {}
+        for it in self.findings:
+            if it["cylinder"] < self.layout.cylinders and it["head"] < self.layout.heads:
+                box = self.layout.mark(it["cylinder"], it["head"])
+                places.pop(box, None)
+                places[box] = it["severity"]
+        for box, severity in places.items():
+            yield tag("use", href=f"#{self.name}-{severity}", x=short(box.x + box.wide / 2), y=short(box.y + box.high / 2))
+
+    def legend(self) -> Html:
+        """What colours, depths and marks mean."""
+        scale = tag("span", *(tag("i", class_=f"depth-{place}") for place in range(len(DEPTHS))), class_="scale")
+        names = [tag("li", swatch(it["number"]), it["name"] or "(blanks)") for it in self.sets[:MOST_NAMES]]
+        left = [tag("li", f"and {len(self.sets) - MOST_NAMES} more")] if len(self.sets) > MOST_NAMES else []
+        found = {it["severity"] for it in self.findings}
+        marks = [tag("li", tag("i", class_=f"swatch {it}"), it) for it in ("error", "warning") if it in found]
+        fixed = [tag("li", scale, "empty to full"), tag("li", tag("i", class_="swatch other"), "no data set's")]
+        return tag("ul", *names, *left, *fixed, tag("li", tag("i", class_="swatch bare"), "record 0 alone"), *marks, class_="legend")
 
 
-def track_bar(left: int, top: int, cell: int, share: float) -> str:
-    """A track that is full so far, as a part of a path; an empty text for one that is empty."""
-    high = round((HEIGHT - 1) * share, 1)
-    if share > 0:
-        high = max(high, 1.0)
-    return f"M{left} {top + HEIGHT - 1 - high:g}h{max(cell - 1, 0.8):g}v{high:g}h-{max(cell - 1, 0.8):g}z" if high else ""
+TILE = {"width": 6, "height": 6, "patternUnits": "userSpaceOnUse"}
 
 
-def ground(cylinders: int, heads: int, cell: int) -> Html:
-    """The tracks as they are when they are empty: a row for each head."""
-    rows: list[Child] = [tag("rect", x=0, y=head * HEIGHT, width=cylinders * cell, height=HEIGHT - 1, class_="ground") for head in range(heads)]
-    return tag("g", *rows)
+def short(number: float) -> str:
+    """A number in two decimals at most."""
+    return f"{round(number, 2):g}"
 
 
-def shape(key: int | str, places: list[str], names: dict[int, str]) -> Html:
-    """All tracks of one kind."""
-    if isinstance(key, int):
-        return tag("path", tag("title", names[key]), d="".join(places), class_=f"set-{key % COLOURS}")
-    return tag("path", tag("title", "can't be read" if key == BAD else "of no data set"), d="".join(places), class_=key)
+def square(half: float) -> str:
+    """A square with round corners around the origin."""
+    side = short(2 * half - 4)
+    arcs = [f"a2 2 0 0 1 {it}" for it in ("2 2", "-2 2", "-2 -2", "2 -2")]
+    return f"M{short(2 - half)} {short(-half)}h{side}{arcs[0]}v{side}{arcs[1]}h-{side}{arcs[2]}v-{side}{arcs[3]}z"
+
+
+def cross(arm: float) -> str:
+    """Two strokes through the origin."""
+    near, far = short(-arm), short(arm)
+    return f"M{near} {near}L{far} {far}M{far} {near}L{near} {far}"

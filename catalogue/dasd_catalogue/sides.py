@@ -13,6 +13,8 @@ from .pages import View
 from .picture import picture
 from .queries import Place, described, name_of
 
+#: How wide the picture of one of two volumes is.
+HALF = 575
 #: Texts of more lines are compared line by line, and not searched for what was put in or taken out.
 MOST_LINES = 5000
 
@@ -34,9 +36,9 @@ def volumes(view: View, first: Place, second: Place) -> Html:
     """The pictures and the data sets of two volumes, those of one name in one row."""
     pictures = []
     held: list[dict[str, sqlite3.Row]] = []
-    for place in (first, second):
+    for place, name in ((first, "first"), (second, "second")):
         row = queries.row_at(view.connection, Place(place.volume))
-        pictures.append(tag("div", picture(view.connection, row), class_="picture"))
+        pictures.append(tag("div", picture(view.connection, row, HALF, name), class_="picture"))
         sets = view.connection.execute("SELECT * FROM data_sets WHERE volume = ? ORDER BY number", (place.volume,))
         held.append({it["name"]: it for it in sets})
     names = list(dict.fromkeys([*held[0], *held[1]]))
