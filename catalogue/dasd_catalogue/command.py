@@ -15,6 +15,7 @@ from . import __version__, queries
 from .database import BadCatalogue, open_to_read
 from .engines import BadEngine, engine_for
 from .names import Places, clean, quantity
+from .pack_page import BadPage, page_at
 from .program import NoProgram, Object, Way, find_program
 from .report import write_report
 from .scan import Wanted, scan
@@ -38,7 +39,7 @@ def main() -> int:
         status = run(words)
         sys.stdout.flush()
         return status
-    except (BadCatalogue, BadEngine, NoProgram, BadAddress, sqlite3.Error, OSError) as fault:
+    except (BadCatalogue, BadEngine, NoProgram, BadAddress, BadPage, sqlite3.Error, OSError) as fault:
         if isinstance(fault, BrokenPipeError):
             os.dup2(os.open(os.devnull, os.O_WRONLY), sys.stdout.fileno())
             return 1
@@ -133,12 +134,15 @@ def add_questions(
 
 def add_pages(commands: argparse._SubParsersAction[argparse.ArgumentParser], base: argparse.ArgumentParser) -> None:
     """The words of the commands that show the catalogue in a browser."""
-    it = commands.add_parser("serve", parents=[base], help="shows the catalogue in a browser")
+    paged = argparse.ArgumentParser(add_help=False, parents=[base])
+    paged.add_argument("--page", default="", metavar="FILE", help="the page that shows packs, where it is not found")
+    it = commands.add_parser("serve", parents=[paged], help="shows the catalogue in a browser, and opens packs there")
     it.add_argument("--port", type=int, default=PORT, metavar="N", help=f"{PORT} where it is not named; 0 is any that is free")
     it.add_argument("--address", default="127.0.0.1", metavar="A", help="an address of this machine; its own, the loopback, where it is not named")
     it.set_defaults(run=run_serve)
-    it = commands.add_parser("report", parents=[base], help="writes the same pages as files")
+    it = commands.add_parser("report", parents=[paged], help="writes the same pages as files")
     it.add_argument("--to", required=True, metavar="DIR", help="a folder that is not there yet")
+    it.add_argument("--packs", action="store_true", help="writes for each pack of 512 MiB at most a page that has it inside and shows it")
     it.set_defaults(run=run_report)
 
 
@@ -244,12 +248,19 @@ def line_of_taken(it: Object) -> str:
 
 
 def run_serve(words: Words) -> int:
-    """`serve`, until it is ended."""
-    return serve(words.database, words.address, words.port)
+    """`serve`, until it is ended. Without the page that shows packs nothing links to it."""
+    try:
+        page = page_at(words.page)
+    except BadPage as fault:
+        if words.page:
+            raise
+        page = None
+        print(f"dasd-catalogue: packs are not opened: {fault}", file=sys.stderr)
+    return serve(words.database, words.address, words.port, page)
 
 
 def run_report(words: Words) -> int:
-    """`report`."""
-    count = write_report(words.database, words.to)
+    """`report`: 1 where a pack is left out."""
+    count, has_all = write_report(words.database, words.to, page_at(words.page) if words.packs else None)
     print(f"{count} pages")
-    return 0
+    return 0 if has_all else 1

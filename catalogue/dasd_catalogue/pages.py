@@ -8,7 +8,8 @@ from typing import Protocol
 from . import queries
 from .markup import Child, Html, joined, link, table, tag
 from .names import quantity
-from .picture import COLOURS, picture
+from .owners import extents_of
+from .picture import picture, swatch
 from .program import Object
 from .queries import Place, described, name_of
 
@@ -42,6 +43,12 @@ class Links(Protocol):
 
     def style(self) -> str:
         """The style sheet."""
+
+    def pack(self, volume: sqlite3.Row, track: tuple[int, int] | None = None) -> str:
+        """The page in the browser with the pack of a volume, at a cylinder and head."""
+
+    def pack_fault(self, volume: sqlite3.Row) -> str:
+        """Why that page does not open the pack; an empty text where it does, or where there is no such page at all."""
 
 
 class View:
@@ -113,16 +120,30 @@ class View:
         ]
         names = [row[0] for row in self.connection.execute("SELECT shown FROM files WHERE of = ? ORDER BY state DESC, part, path", (number,))]
         facts += [("also", name) for name in names]
-        parts = [self.facts(facts), tag("div", picture(self.connection, it), class_="picture"), self.data_sets(number)]
-        return self.page(it["shown"], *parts, self.findings(number), self.others(Place(number), "volume", it["said"]))
+        parts = [self.facts(facts), self.opening(it), tag("div", picture(self.connection, it), class_="picture"), self.data_sets(it)]
+        return self.page(it["shown"], *parts, self.findings(it), self.others(Place(number), "volume", it["said"]))
+
+    def opening(self, volume: sqlite3.Row, track: tuple[int, int] | None = None) -> Html | None:
+        """A link to the page in the browser with a pack, at a track of it; or why it does not open it."""
+        target, fault = self.links.pack(volume, track), self.links.pack_fault(volume)
+        if target:
+            where = f" at cylinder {track[0]} head {track[1]}" if track else ""
+            return tag("p", link(target, f"Open this pack{where}"), class_="open")
+        return tag("p", f"This pack is not opened here: {fault}.", class_="soft") if fault else None
+
+    def at_track(self, volume: sqlite3.Row, cylinder: int | None, head: int | None, shown: Child) -> Child:
+        """What is shown of a track, with a link to it."""
+        track = track_of(volume, cylinder, head)
+        return link(self.links.pack(volume, track), shown) if track else shown
 
     @staticmethod
     def facts(facts: list[tuple[str, str]]) -> Html:
         """Names and values, but for those that are empty."""
         return tag("dl", *(joined([tag("dt", name), tag("dd", value)]) for name, value in facts if value))
 
-    def data_sets(self, number: int) -> Html:
+    def data_sets(self, volume: sqlite3.Row) -> Html:
         """The data sets of a volume."""
+        number = volume["file"]
         heads = ["", "Data set", "Org", "Recfm", "Lrecl#", "Blksz#", "Tracks#", "Used#", "Created", "Members#", "Bytes#"]
         rows = self.connection.execute(
             """SELECT *, (SELECT COUNT(*) FROM members WHERE members.volume = data_sets.volume AND data_set = data_sets.number) AS members
@@ -131,9 +152,11 @@ class View:
         )
         found = [
             (
-                tag("i", class_=f"set-{it['number'] % COLOURS}"),
+                swatch(it["number"]),
                 link(self.links.place(Place(number, it["number"])), it["name"] or "(blanks)"),
-                *(it[name] for name in ("organisation", "format", "record_length", "block_length", "tracks", "used", "created")),
+                *(it[name] for name in ("organisation", "format", "record_length", "block_length")),
+                self.at_track(volume, *first_track(it), it["tracks"]),
+                *(it[name] for name in ("used", "created")),
                 it["members"] or "",
                 it["size"],
             )
@@ -141,11 +164,15 @@ class View:
         ]
         return joined([tag("h2", "Data sets"), table(heads, found)]) if found else tag("p", "No data sets.")
 
-    def findings(self, number: int) -> Html:
+    def findings(self, volume: sqlite3.Row) -> Html:
         """What is wrong with a volume."""
+        number = volume["file"]
         rows = self.connection.execute("SELECT * FROM findings WHERE volume = ? ORDER BY number LIMIT ?", (number, ROWS)).fetchall()
         faults = self.connection.execute("SELECT * FROM faults WHERE file = ? ORDER BY number", (number,)).fetchall()
-        found = [(it["severity"], it["source"], place_text(it), it["name"], it["text"]) for it in rows]
+        found: list[tuple[Child, ...]] = []
+        for it in rows:
+            where = self.at_track(volume, it["cylinder"], it["head"], place_text(it))
+            found.append((it["severity"], it["source"], where, it["name"], it["text"]))
         found += [("fault", it["stage"], "", "", it["text"]) for it in faults]
         notes = self.connection.execute("SELECT kind, count FROM notes WHERE volume = ? ORDER BY kind", (number,)).fetchall()
         told = ", ".join(f"{it['count']} of {it['kind']}" for it in notes)
@@ -175,7 +202,7 @@ class View:
 
     def data_set(self, place: Place) -> str:
         """A data set: its fields, its members, or its text."""
-        it = queries.row_at(self.connection, place)
+        it, volume = queries.row_at(self.connection, place), queries.row_at(self.connection, Place(place.volume))
         rows = self.connection.execute("SELECT * FROM members WHERE volume = ? AND data_set = ? ORDER BY number", (place.volume, place.data_set))
         members = [
             (
@@ -189,7 +216,8 @@ class View:
         body = table(["Member", "Bytes#", "", ""], members) if members else self.text(it["text"])
         facts = [("organisation", it["organisation"]), ("records", f"{it['format']} {it['record_length']} in blocks of {it['block_length']}")]
         facts += [("tracks", f"{it['used']} used of {it['tracks']}"), ("created", it["created"] or ""), ("expires", it["expires"] or "")]
-        return self.page(it["name"] or "(blanks)", self.where(place), self.facts(facts), body, self.others(place, "data set", it["said"]))
+        parts = [self.where(place), self.facts(facts), self.opening(volume, track_of(volume, *first_track(it)))]
+        return self.page(it["name"] or "(blanks)", *parts, body, self.others(place, "data set", it["said"]))
 
     def where(self, place: Place) -> Html:
         """The way from the packs to a place."""
@@ -224,9 +252,18 @@ class View:
     def broken(self, page: int = 0) -> str:
         """What is broken, in the order of paths."""
         rows = list(queries.broken(self.connection, True, ROWS + 1, page * ROWS))
-        found = [(it["path"], it["severity"], it["source"], place_text(it), it.get("name", ""), it["text"]) for it in rows[:ROWS]]
+        found = [self.broken_row(it) for it in rows[:ROWS]]
         body = table(["File", "Severity", "Of", "Where", "Name", "What"], found, class_="findings wide")
         return self.page("Broken", body, self.turns(self.links.broken, page, len(rows) > ROWS))
+
+    def broken_row(self, it: Object) -> tuple[Child, ...]:
+        """Something that is broken, with links to its volume, and to its track there."""
+        path, where = it["path"], place_text(it)
+        if "volume" in it:
+            volume = queries.row_at(self.connection, Place(it["volume"]))
+            where = self.at_track(volume, it.get("cylinder"), it.get("head"), where)
+            path = link(self.links.place(Place(it["volume"])), path)
+        return path, it["severity"], it["source"], where, it.get("name", ""), it["text"]
 
     def copies(self, kind: str, page: int = 0) -> str:
         """Groups of copies of a kind."""
@@ -249,3 +286,16 @@ def place_text(it: sqlite3.Row | Object) -> str:
     if held.get("cylinder") is not None:
         return f"cylinder {held['cylinder']} head {held['head']}"
     return f"file {held['part']}" if held.get("part") is not None else ""
+
+
+def track_of(volume: sqlite3.Row, cylinder: int | None, head: int | None) -> tuple[int, int] | None:
+    """The track with these numbers, if a volume has it."""
+    if cylinder is None or head is None or cylinder >= (volume["cylinders"] or 0) or head >= (volume["heads"] or 0):
+        return None
+    return cylinder, head
+
+
+def first_track(data_set: sqlite3.Row) -> tuple[int | None, int | None]:
+    """The cylinder and head at which a data set begins."""
+    extents = extents_of(data_set)
+    return (extents[0][0][0], extents[0][0][1]) if extents else (None, None)

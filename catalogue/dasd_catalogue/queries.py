@@ -129,14 +129,15 @@ def broken(connection: sqlite3.Connection, has_warnings: bool = False, most: int
     """What could not be had of a file, and what is wrong with a volume: errors, and warnings too where they are asked for."""
     severities = "('error', 'warning')" if has_warnings else "('error')"
     rows = connection.execute(
-        f"""SELECT path, shown, file, 'fault' AS severity, stage AS source, NULL AS kind, NULL AS part, NULL AS cylinder, NULL AS head,
-            NULL AS record, NULL AS name, text, number, 0 AS rank FROM faults JOIN files ON id = file
+        f"""SELECT path, shown, volumes.file AS volume, 'fault' AS severity, stage AS source, NULL AS kind, NULL AS part, NULL AS cylinder,
+            NULL AS head, NULL AS record, NULL AS name, text, number, 0 AS rank FROM faults JOIN files ON id = faults.file
+            LEFT JOIN volumes ON volumes.file = id
         UNION ALL SELECT path, shown, volume, severity, source, kind, findings.part, cylinder, head, record, name, text, number, 1
             FROM findings JOIN files ON id = volume WHERE severity IN {severities} ORDER BY path, rank, number
         LIMIT ? OFFSET ?""",
         (most, first),
     )
-    names = ("severity", "source", "kind", "part", "cylinder", "head", "record", "name", "text")
+    names = ("severity", "source", "volume", "kind", "part", "cylinder", "head", "record", "name", "text")
     for row in rows:
         yield {**path_of(row), **{it: row[it] for it in names if row[it] is not None}}
 

@@ -1,13 +1,19 @@
-"""The pages over a catalogue as files, for a server of files: without searches, and without sides."""
+"""The pages over a catalogue as files: without searches and sides, and, if they are asked for, with a page for each pack that has it inside."""
 
 from __future__ import annotations
 
 import os
+import sqlite3
+import sys
 from pathlib import Path
 from urllib.parse import quote
 
 from .database import BadCatalogue, open_to_read
+from .names import Places
+from .pack_page import GIVEN, BadPage, PackPage, place_in
+from .packs import NotGiven, Pack
 from .pages import View
+from .progress import Progress
 from .queries import KINDS, Place
 from .serving import style_sheet
 
@@ -15,10 +21,11 @@ WORDS = {kind: kind.replace(" ", "-") for kind in KINDS}
 
 
 class FileLinks:
-    """Where the files of a report are, from a folder so many levels below it."""
+    """Where the files of a report are, from a folder so many levels below it; and of each volume whose pack was to be put there, why that was not, or an
+    empty text."""
 
-    def __init__(self, depth: int) -> None:
-        self.up = "../" * depth
+    def __init__(self, depth: int, packs: dict[int, str]) -> None:
+        self.up, self.packs_put = "../" * depth, packs
 
     def packs(self, page: int = 0) -> str:
         """A page of the list of packs."""
@@ -49,6 +56,15 @@ class FileLinks:
         """The style sheet."""
         return f"{self.up}page.css"
 
+    def pack(self, volume: sqlite3.Row, track: tuple[int, int] | None = None) -> str:
+        """The page that has the pack of a volume inside."""
+        number = volume["file"]
+        return f"{self.up}{file_of_pack(number)}{place_in(GIVEN, track)}" if self.packs_put.get(number) == "" else ""
+
+    def pack_fault(self, volume: sqlite3.Row) -> str:
+        """Why there is none."""
+        return self.packs_put.get(volume["file"], "")
+
 
 def file_of(place: Place) -> str:
     """The file of a place, below the report's folder."""
@@ -57,12 +73,19 @@ def file_of(place: Place) -> str:
     return f"volumes/{place.volume}/{place.data_set}{'' if place.member is None else f'-{place.member}'}.html"
 
 
-class Report:
-    """A report that is written to a folder."""
+def file_of_pack(volume: int) -> str:
+    """The file of the page that has the pack of a volume inside, below the report's folder."""
+    return f"volumes/{volume}/pack.html"
 
-    def __init__(self, database: str, folder: str) -> None:
-        self.connection = open_to_read(database)
+
+class Report:
+    """A report that is written to a folder, with the packs inside such pages if there is one."""
+
+    def __init__(self, database: str, folder: str, page: PackPage | None = None) -> None:
+        self.connection, self.places = open_to_read(database), Places.beside(database)
         self.folder, self.count = Path(folder), 0
+        self.page = page
+        self.packs: dict[int, str] = {}
 
     def put(self, name: str, page: str) -> None:
         """Writes a page."""
@@ -73,7 +96,7 @@ class Report:
 
     def put_lists(self) -> None:
         """The pages that list packs, what is broken, and copies; each list as long as it has a next page."""
-        view = View(self.connection, FileLinks(0))
+        view = View(self.connection, FileLinks(0, self.packs))
         self.put_list(view.packs, view.links.packs)
         self.put_list(view.broken, view.links.broken)
         for kind in KINDS:
@@ -90,9 +113,34 @@ class Report:
             if f'href="{name(at)}"' not in text:
                 return
 
+    def put_packs(self) -> None:
+        """The pages that have packs inside; says on standard error which are left out, and how far it is."""
+        volumes = self.connection.execute("SELECT file, shown FROM volumes JOIN files ON id = file ORDER BY file").fetchall()
+        progress = Progress(sys.stderr, len(volumes), False)
+        for row in volumes:
+            self.packs[row["file"]] = fault = self.put_pack(row["file"])
+            if fault:
+                print(f"dasd-catalogue: {row['shown']} is left out: {fault}", file=sys.stderr)
+            progress.step()
+        progress.end()
+
+    def put_pack(self, volume: int) -> str:
+        """The page that has the pack of a volume inside; an empty text, or why there is none."""
+        assert self.page is not None
+        path = self.folder / file_of_pack(volume)
+        path.parent.mkdir(parents=True, exist_ok=True)
+        try:
+            with Pack(self.connection, self.places, volume) as pack, open(path, "wb") as file:
+                file.writelines(self.page.with_pack(pack.name, pack.slices()))
+        except (NotGiven, BadPage) as fault:
+            path.unlink(missing_ok=True)
+            return str(fault)
+        self.count += 1
+        return ""
+
     def put_places(self) -> None:
         """The pages of all volumes, data sets and members."""
-        view = View(self.connection, FileLinks(2))
+        view = View(self.connection, FileLinks(2, self.packs))
         for row in self.connection.execute("SELECT file FROM volumes ORDER BY file"):
             self.put(file_of(Place(row[0])), view.volume(row[0]))
         for row in self.connection.execute("SELECT volume, number FROM data_sets ORDER BY 1, 2"):
@@ -101,13 +149,16 @@ class Report:
             self.put(file_of(Place(*row)), view.member(Place(*row)))
 
 
-def write_report(database: str, folder: str) -> int:
-    """Writes a report to a folder that is not there yet; how many pages."""
-    report = Report(database, folder)
+def write_report(database: str, folder: str, page: PackPage | None = None) -> tuple[int, bool]:
+    """Writes a report to a folder that is not there yet, with packs inside copies of the page if it is given; how many pages, and whether all packs that
+    were to be there are."""
+    report = Report(database, folder, page)
     if os.path.lexists(folder):
         raise BadCatalogue(f"{folder} is there")
     report.folder.mkdir(parents=True)
     (report.folder / "page.css").write_bytes(style_sheet())
+    if page:
+        report.put_packs()
     report.put_lists()
     report.put_places()
-    return report.count
+    return report.count, not any(report.packs.values())

@@ -1,7 +1,8 @@
 """The pages over a catalogue, served by one process that only reads, on the loopback where no other address is named.
 
 It answers GET and HEAD alone. On the loopback it answers those alone who ask for it by a name of the loopback, so that no page of another host can
-read it through a visitor's browser. No page has a script, and its policy lets none run.
+read it through a visitor's browser. No page of the catalogue has a script, and its policy lets none run. The page that shows packs (`pack_page`) has
+its own policy, and gets packs (`packs`) by the numbers of their volumes.
 """
 
 from __future__ import annotations
@@ -9,21 +10,29 @@ from __future__ import annotations
 import ipaddress
 import sqlite3
 import sys
-from collections.abc import Callable
+from collections.abc import Callable, Iterator
 from http import HTTPStatus
 from http.server import BaseHTTPRequestHandler, ThreadingHTTPServer
 from importlib import resources
+from itertools import chain
 from typing import ClassVar
 from urllib.parse import parse_qs, quote, urlencode, urlsplit
 
 from . import __version__, queries
 from .database import open_to_read
 from .markup import joined, table, tag
+from .names import Places
+from .pack_page import PackPage, place_in
+from .packs import TOO_LARGE, NotGiven, Pack, is_too_large, name_of_pack
 from .pages import ROWS, View
 from .queries import KINDS, Place
 from .sides import sides
 
 POLICY = "default-src 'none'; style-src 'self'; form-action 'self'; base-uri 'none'; frame-ancestors 'none'"
+#: The page that shows packs says all else itself.
+PAGE_POLICY = "frame-ancestors 'none'"
+#: A browser shows a reason of so many characters.
+MOST_REASON = 200
 
 
 class BadAddress(Exception):
@@ -31,7 +40,10 @@ class BadAddress(Exception):
 
 
 class ServedLinks:
-    """Where pages are served."""
+    """Where pages are served, with that which shows packs or without."""
+
+    def __init__(self, has_page: bool = False) -> None:
+        self.has_page = has_page
 
     def packs(self, page: int = 0) -> str:
         """A page of the list of packs."""
@@ -61,6 +73,16 @@ class ServedLinks:
         """The style sheet."""
         return "/page.css"
 
+    def pack(self, volume: sqlite3.Row, track: tuple[int, int] | None = None) -> str:
+        """The page that shows the pack of a volume."""
+        if not self.has_page or is_too_large(volume):
+            return ""
+        return "/page" + place_in(f"/packs/{volume['file']}/{quote(name_of_pack(volume['shown']), safe='')}", track)
+
+    def pack_fault(self, volume: sqlite3.Row) -> str:
+        """Why it does not."""
+        return TOO_LARGE if self.has_page and is_too_large(volume) else ""
+
 
 def spelled(place: Place) -> str:
     """A place as it stands in an address: its numbers, with hyphens between them."""
@@ -78,8 +100,8 @@ def place_of(text: str) -> Place | None:
 class Site:
     """What is answered to a path and what is asked behind it: a page, or None where there is none."""
 
-    def __init__(self, connection: sqlite3.Connection) -> None:
-        self.view = View(connection, ServedLinks())
+    def __init__(self, connection: sqlite3.Connection, has_page: bool = False) -> None:
+        self.view = View(connection, ServedLinks(has_page))
 
     def answer(self, path: str, asked: dict[str, list[str]]) -> str | None:
         """The page at a path."""
@@ -143,6 +165,7 @@ class Handler(BaseHTTPRequestHandler):
     timeout = 60
     database: ClassVar[str] = ""
     hosts: ClassVar[frozenset[str]] = frozenset()
+    pack_page: ClassVar[PackPage | None] = None
 
     def do_GET(self) -> None:  # pylint: disable=invalid-name
         """A page, or that there is none."""
@@ -157,6 +180,13 @@ class Handler(BaseHTTPRequestHandler):
         if address.path == "/page.css":
             self.send(HTTPStatus.OK, "text/css; charset=utf-8", style_sheet())
             return
+        if address.path == "/page" and self.pack_page:
+            self.send(HTTPStatus.OK, "text/html; charset=utf-8", self.pack_page.text, PAGE_POLICY)
+            return
+        words = address.path.split("/")
+        if words[1:2] == ["packs"] and len(words) in (3, 4) and self.pack_page:
+            self.send_pack(place_of(words[2]))
+            return
         self.send_page(address.path, parse_qs(address.query, errors="replace"))
 
     do_HEAD = do_GET
@@ -165,7 +195,7 @@ class Handler(BaseHTTPRequestHandler):
         """Sends the page at a path, by a connection of its own, or says that there is none."""
         connection = open_to_read(self.database)
         try:
-            page = Site(connection).answer(path, asked)
+            page = Site(connection, self.pack_page is not None).answer(path, asked)
         except queries.NothingThere:
             page = None
         finally:
@@ -175,16 +205,53 @@ class Handler(BaseHTTPRequestHandler):
         else:
             self.send(HTTPStatus.OK, "text/html; charset=utf-8", page.encode("utf-8", "replace"))
 
-    def send(self, status: HTTPStatus, kind: str, body: bytes) -> None:
-        """Sends an answer."""
-        self.send_response(status)
-        heads = {"Content-Type": kind, "Content-Length": str(len(body)), "Content-Security-Policy": POLICY}
-        heads.update({"X-Content-Type-Options": "nosniff", "Referrer-Policy": "no-referrer", "Cache-Control": "no-store"})
-        for name, value in heads.items():
-            self.send_header(name, value)
-        self.end_headers()
+    def send_pack(self, place: Place | None) -> None:
+        """Sends the pack of a volume, or says why it is not given."""
+        connection = open_to_read(self.database)
+        try:
+            if place is None or place.data_set is not None:
+                raise queries.NothingThere
+            pack = Pack(connection, Places.beside(self.database), place.volume)
+            try:
+                with pack:
+                    self.send_slices(pack.slices())
+            except NotGiven as fault:
+                page = View(connection, ServedLinks(True)).page("This pack is not given", tag("p", f"{fault}."))
+                self.send(HTTPStatus.CONFLICT, "text/html; charset=utf-8", page.encode("utf-8", "replace"), reason=str(fault))
+        except queries.NothingThere:
+            self.send(HTTPStatus.NOT_FOUND, "text/plain; charset=utf-8", b"there is no such pack\n")
+        finally:
+            connection.close()
+
+    def send_slices(self, slices: Iterator[bytes]) -> None:
+        """Sends bytes as they come, in chunks. NotGiven if there are none at all; what ends them later ends the connection, so that whoever asked has
+        not all of them, and sees that."""
+        part = next(slices)
+        self.begin(HTTPStatus.OK, {"Content-Type": "application/octet-stream", "Transfer-Encoding": "chunked"})
+        if self.command == "HEAD":
+            return
+        try:
+            for it in chain([part], slices):
+                if it:
+                    self.wfile.write(b"%x\r\n%b\r\n" % (len(it), it))
+            self.wfile.write(b"0\r\n\r\n")
+        except NotGiven:
+            self.close_connection = True
+
+    def send(self, status: HTTPStatus, kind: str, body: bytes, policy: str = POLICY, reason: str = "") -> None:
+        """Sends an answer, with a reason in the place of the status' own words."""
+        self.begin(status, {"Content-Type": kind, "Content-Length": str(len(body)), "Content-Security-Policy": policy}, reason)
         if self.command != "HEAD":
             self.wfile.write(body)
+
+    def begin(self, status: HTTPStatus, heads: dict[str, str], reason: str = "") -> None:
+        """Sends what is before the body of an answer."""
+        said = "".join(it for it in reason if it.isascii() and it.isprintable())[:MOST_REASON]
+        self.send_response(status, said or None)
+        fixed = {"Content-Security-Policy": POLICY, "X-Content-Type-Options": "nosniff", "Referrer-Policy": "no-referrer", "Cache-Control": "no-store"}
+        for name, value in {**fixed, "Cross-Origin-Resource-Policy": "same-origin", **heads}.items():
+            self.send_header(name, value)
+        self.end_headers()
 
     def log_message(self, format: str, *args: object) -> None:  # pylint: disable=redefined-builtin
         """Nothing is logged."""
@@ -217,10 +284,10 @@ def is_loopback(address: str) -> bool:
         return False
 
 
-def server_for(database: str, address: str, port: int) -> Server:
-    """A server of a catalogue."""
+def server_for(database: str, address: str, port: int, page: PackPage | None = None) -> Server:
+    """A server of a catalogue, and of its packs if there is the page that shows them."""
     open_to_read(database).close()
-    handler = type("CatalogueHandler", (Handler,), {"database": database})
+    handler = type("CatalogueHandler", (Handler,), {"database": database, "pack_page": page})
     try:
         server = Server((address, port), handler)
     except (OSError, OverflowError) as fault:
@@ -231,9 +298,9 @@ def server_for(database: str, address: str, port: int) -> Server:
     return server
 
 
-def serve(database: str, address: str, port: int) -> int:
+def serve(database: str, address: str, port: int, page: PackPage | None) -> int:
     """Serves a catalogue until it is ended."""
-    server = server_for(database, address, port)
+    server = server_for(database, address, port, page)
     print(f"http://{quote(address)}:{server.server_address[1]}/ until it is ended", flush=True)
     try:
         server.serve_forever()

@@ -86,8 +86,8 @@ class InBrowser(unittest.TestCase):
         self.assertEqual(browser.title(), name)
         drawn = browser.ask("[...document.querySelectorAll('svg path')].map(it => it.getBoundingClientRect().width)")
         self.assertTrue(drawn and all(it > 0 for it in drawn), drawn)
-        colours = browser.ask("[...document.querySelectorAll('svg path')].map(it => getComputedStyle(it).fill)")
-        self.assertEqual(len(set(colours)), len(colours))
+        seen = browser.ask("[...document.querySelectorAll('svg path')].map(it => getComputedStyle(it).fill + getComputedStyle(it).opacity)")
+        self.assertEqual(len(set(seen)), len(seen))
         browser.press("SYS1.MACLIB")
         browser.press("OPEN")
         self.assertEqual(browser.title(), "SYS1.MACLIB(OPEN)")
@@ -114,7 +114,7 @@ class InBrowser(unittest.TestCase):
         self.assertIn("wrong length", browser.ask("document.querySelector('main').textContent"))
         number = reading().execute("SELECT file FROM volumes WHERE errors > 0 ORDER BY file LIMIT 1").fetchone()[0]
         browser.open(f"/at/{number}")
-        self.assertGreater(browser.ask("document.querySelector('path.bad').getBoundingClientRect().width"), 0)
+        self.assertGreater(browser.ask("document.querySelector('svg use').getBoundingClientRect().width"), 0)
         self.assertEqual(self.told(), [])
 
     def told(self) -> list[Any]:

@@ -22,7 +22,7 @@ from dasd_catalogue.sides import aligned
 VOID = {"meta", "link", "input"}
 ALLOWED = set(
     "html head meta title link body nav b a form input button main section h1 h2 h3 p table thead tbody tr th td span dl dt dd div svg g rect path i"
-    " ul li pre code".split()
+    " ul li pre code defs pattern text use".split()
 )
 
 
@@ -40,7 +40,7 @@ class Reader(html.parser.HTMLParser):
         if tag not in ALLOWED:
             self.wrong.append(tag)
         self.wrong += [name for name, _ in attrs if name.startswith("on") or name == "style"]
-        self.links += [value or "" for name, value in attrs if name == "href"]
+        self.links += [value or "" for name, value in attrs if name == "href" and tag != "use"]
         if tag not in VOID:
             self.open.append(tag)
 
@@ -153,7 +153,8 @@ class Written(Case):
     def test_a_report(self) -> None:
         """Each link leads to a file of it; each volume, data set and member has its page."""
         folder = self.folder / "report"
-        count = write_report(str(catalogue()), str(folder))
+        count, has_all = write_report(str(catalogue()), str(folder))
+        self.assertTrue(has_all)
         files = sorted(folder.rglob("*.html"))
         self.assertEqual(count, len(files))
         for path in files[:: max(1, len(files) // 200)]:
