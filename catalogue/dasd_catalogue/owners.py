@@ -21,8 +21,8 @@ def extents_of(data_set: sqlite3.Row) -> list[tuple[Extent, int | None]]:
 
 
 def cylinders_by_head(extent: Extent, kind: int | None, heads: int) -> Iterator[tuple[int, int, int]]:
-    """Each head on which an extent has tracks, with the first cylinder there and the one after the last. One that shares its cylinders has on each of them
-    the heads from its first to its last; any other is a run of tracks."""
+    """Each head on which an extent has tracks, with the first cylinder there and the one after the last. One that shares its cylinders has on each of
+    them the heads from its first to its last; any other is a run of tracks."""
     first, head, last, last_head = extent
     if kind == SHARED:
         yield from ((it, first, last + 1) for it in range(head, min(last_head + 1, heads)))

@@ -58,10 +58,10 @@ class PackPage:
 
 def page_at(named: str) -> PackPage:
     """The page: in the file that is named, or where it is found."""
-    path = Path(named) if named else next((it for it in FOUND_AT if it.is_file()), None)
-    if path is None:
+    found = [Path(named)] if named else [it for it in FOUND_AT if it.is_file()]
+    if not found:
         raise BadPage(NO_PAGE)
-    return PackPage(path)
+    return PackPage(found[0])
 
 
 def place_in(pack: str, track: tuple[int, int] | None) -> str:

@@ -1,4 +1,4 @@
-"""Packs are given as the archive has them: by the number of their volume alone, unpacked, in slices, and only while their files are those of the scan."""
+"""Packs are given as the archive has them: by the number of their volume alone, unpacked, in slices, and only while their files are what was scanned."""
 
 from __future__ import annotations
 

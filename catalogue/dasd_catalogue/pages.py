@@ -258,7 +258,8 @@ class View:
 
     def broken_row(self, it: Object) -> tuple[Child, ...]:
         """Something that is broken, with links to its volume, and to its track there."""
-        path, where = it["path"], place_text(it)
+        path: Child = it["path"]
+        where: Child = place_text(it)
         if "volume" in it:
             volume = queries.row_at(self.connection, Place(it["volume"]))
             where = self.at_track(volume, it.get("cylinder"), it.get("head"), where)

@@ -1,5 +1,5 @@
-"""A picture of a volume, as the page in the browser draws it (web/src/picture_tracks.mjs): each track in the colour of its data set, deeper the fuller it
-is, with marks where something is wrong; and what these mean."""
+"""A picture of a volume, as the page in the browser draws it (web/src/picture_tracks.mjs): each track in the colour of its data set, deeper the fuller
+it is, with marks where something is wrong; and what these mean."""
 
 from __future__ import annotations
 
@@ -27,11 +27,14 @@ HATCHES = (
     "M1 -1L1 7M4 -1L4 7",
     "M0 0h2v2h-2zM3 3h2v2h-2z",
 )
+#: How far apart the numbers of cylinders may be.
 SPACINGS = (1, 2, 5, 10, 20, 50, 100, 200, 500, 1000, 2000, 5000, 10000)
 #: What a pack that was never given a label has: no fault of its tracks.
 UNLABELLED = ("no volume label", "no volume table of contents")
 #: How deep the colours of the legend are.
 DEPTHS = (0.2, 0.45, 0.65, 0.85, 1)
+#: Hatchings are lines, the last one spots.
+LOOKS = ("", "lines", "lines", "lines", "spots")
 #: So many data sets are named in a legend.
 MOST_NAMES = 60
 
@@ -81,14 +84,14 @@ class Picture:
         """The hatchings, for those that use them, and the marks."""
         wanted = {hatching_of(it["number"]) for it in self.sets} - {0}
         tiles = [
-            tag("pattern", tag("path", d=lines, class_="spots" if kind == HATCHINGS - 1 else "lines"), id=f"{self.name}-{kind}", **TILE)
+            tag("pattern", tag("path", d=lines, class_=LOOKS[kind]), id=f"{self.name}-{kind}", width=6, height=6, patternUnits="userSpaceOnUse")
             for kind, lines in enumerate(HATCHES, 1)
             if kind in wanted
         ]
         box = self.layout.mark(0, 0)
         half = min(7.0, max(box.wide, box.high) / 2 + 2.5)
-        signs = [tag("path", d=square(half) + (cross(half - 3) if it == "error" else ""), id=f"{self.name}-{it}", class_=it) for it in ("error", "warning")]
-        return tag("defs", *tiles, *(signs if self.findings else []))
+        marks = {"error": square(half) + cross(half - 3), "warning": square(half)} if self.findings else {}
+        return tag("defs", *tiles, *(tag("path", d=lines, id=f"{self.name}-{it}", class_=it) for it, lines in marks.items()))
 
     def axes(self) -> Iterator[Html]:
         """The numbers of cylinders and heads."""
@@ -103,20 +106,18 @@ class Picture:
 
     def cells(self) -> Iterator[Html]:
         """The tracks, those of one data set and one depth together."""
-        places: dict[tuple[int, str, float], list[str]] = defaultdict(list)
-        last: tuple[tuple[int, str, float], Box] | None = None
+        places: dict[tuple[int, str, float], list[Box]] = defaultdict(list)
         for cylinder, head, box in self.layout.cells():
-            look = self.look(self.shown_in(cylinder, head))
-            if last and last[0] == look and last[1].y == box.y and last[1].x + last[1].wide == box.x:
-                box = Box(last[1].x, box.y, last[1].wide + box.wide, box.high)
-                places[look].pop()
-            places[look].append(f"M{short(box.x)} {box.y}h{short(box.wide)}v{box.high}h-{short(box.wide)}z")
-            last = look, box
-        for (owner, colour, depth), found in sorted(places.items()):
+            found = places[self.look(self.shown_in(cylinder, head))]
+            if found and found[-1].y == box.y and found[-1].x + found[-1].wide == box.x:
+                box = Box(found[-1].x, box.y, found.pop().wide + box.wide, box.high)
+            found.append(box)
+        for (owner, colour, depth), found in sorted(places.items(), key=lambda it: it[0]):
+            lines = "".join(f"M{short(it.x)} {it.y}h{short(it.wide)}v{it.high}h-{short(it.wide)}z" for it in found)
             title = tag("title", self.sets[owner]["name"] if owner != NOBODY else "of no data set")
-            yield tag("path", title, d="".join(found), class_=colour, opacity=f"{depth:g}")
+            yield tag("path", title, d=lines, class_=colour, opacity=f"{depth:g}")
             if hatching_of(owner):
-                yield tag("path", d="".join(found), fill=f"url(#{self.name}-{hatching_of(owner)})", opacity=f"{depth:g}")
+                yield tag("path", d=lines, fill=f"url(#{self.name}-{hatching_of(owner)})", opacity=f"{depth:g}")
 
     def shown_in(self, cylinder: int, head: int) -> int:
         """The track that a cell shows: of several cylinders the fullest."""
@@ -144,9 +145,9 @@ class Picture:
             is_wide = box.wide >= wide and box.high >= NAME
             if not is_wide and not (box.high >= wide and box.wide >= NAME):
                 continue
-            back = tag("rect", x=short(-wide / 2), y=-NAME / 2, width=short(wide), height=NAME, rx=3)
+            back = tag("rect", x=short(-wide / 2), y=short(-NAME / 2), width=short(wide), height=NAME, rx=3)
             place = f"translate({short(box.x + box.wide / 2)} {short(box.y + box.high / 2)}){'' if is_wide else ' rotate(-90)'}"
-            yield tag("g", back, tag("text", it["name"], y=3.5), class_="name", transform=place)
+            yield tag("g", back, tag("text", it["name"], y="3.5"), class_="name", transform=place)
 
     def marks(self) -> Iterator[Html]:
         """A mark for each track with an error or a warning; the last of several is seen."""
@@ -168,9 +169,6 @@ class Picture:
         marks = [tag("li", tag("i", class_=f"swatch {it}"), it) for it in ("error", "warning") if it in found]
         fixed = [tag("li", scale, "empty to full"), tag("li", tag("i", class_="swatch other"), "no data set's")]
         return tag("ul", *names, *left, *fixed, tag("li", tag("i", class_="swatch bare"), "record 0 alone"), *marks, class_="legend")
-
-
-TILE = {"width": 6, "height": 6, "patternUnits": "userSpaceOnUse"}
 
 
 def short(number: float) -> str:

@@ -3,12 +3,15 @@ the pictures of docs/pictures instead: test_browser.py FOLDER"""
 
 from __future__ import annotations
 
+import functools
 import importlib
 import importlib.util
+import os
 import shutil
 import subprocess
 import sys
 import threading
+import time
 import unittest
 from collections.abc import Callable
 from pathlib import Path
@@ -17,22 +20,59 @@ from typing import Any, ClassVar
 from archive import catalogue, reading, room, scanned
 from make_packs import TOP, pack
 
+from dasd_catalogue.pack_page import PackPage
+from dasd_catalogue.report import write_report
 from dasd_catalogue.serving import server_for
 
 HAS_BROWSER = bool(importlib.util.find_spec("selenium") and shutil.which("chromium") and shutil.which("chromedriver"))
 SIZE = (1240, 860)
+PATIENCE = 300.0
 LIGHTS = {"light": "", "dark": "-dark"}
+
+
+#: Ready with a volume.
+IS_SHOWN = "document.documentElement.dataset.ready === 'yes' && !document.getElementById('map').hidden && Boolean(page.view.volume)"
+#: Of a picture beside the page's own, over the same sheet: how many tracks there are, of how many the colours are apart, and which share of all pixels.
+COMPARED = """
+const [mine, width, height] = arguments, done = arguments[arguments.length - 1];
+const drawn = new Image();
+drawn.onload = () => {
+  const pen = Object.assign(document.createElement('canvas'), { width, height }).getContext('2d');
+  pen.fillStyle = page.view.picture.tracks.colours().sheet;
+  pen.fillRect(0, 0, width, height);
+  pen.drawImage(document.getElementById('tracks'), 0, 0);
+  const theirs = pen.getImageData(0, 0, width, height).data;
+  pen.drawImage(drawn, 0, 0);
+  const own = pen.getImageData(0, 0, width, height).data, { cylinders, heads } = page.view.volume, apart = [];
+  const difference = at => Math.max(...[0, 1, 2].map(it => Math.abs(own[at + it] - theirs[at + it])));
+  for (let track = 0; track < cylinders * heads; track++) {
+    const { x, y, w, h } = page.view.picture.placeOf(track), at = 4 * (Math.floor(y + h / 2) * width + Math.floor(x + w / 2));
+    apart.push(difference(at));
+  }
+  let far = 0;
+  for (let at = 0; at < own.length; at += 4) far += difference(at) > 24;
+  done({ tracks: apart.length, far: apart.filter(it => it > 6).length, pixels: far / (own.length / 4), size: [drawn.width, drawn.height] });
+};
+drawn.src = 'data:image/png;base64,' + mine;
+"""
+
+
+def made_page() -> PackPage | None:
+    """The page in the browser, of the modules in compiled/; None where they are not there."""
+    path = room() / "page.html"
+    done = subprocess.run([str(TOP / "web/make_page"), str(path)], capture_output=True, check=False)
+    return PackPage(path) if done.returncode == 0 else None
 
 
 class Browser:
     """A browser before a catalogue that is served."""
 
-    def __init__(self, database: Path) -> None:
+    def __init__(self, database: Path, page: PackPage | None = None) -> None:
         webdriver: Any = importlib.import_module("selenium.webdriver")
-        self.server = server_for(str(database), "127.0.0.1", 0)
+        self.server = server_for(str(database), "127.0.0.1", 0, page)
         threading.Thread(target=self.server.serve_forever, daemon=True).start()
         options: Any = webdriver.ChromeOptions()
-        for word in ("--headless=new", "--no-sandbox", "--disable-gpu", f"--window-size={SIZE[0]},{SIZE[1]}", "--hide-scrollbars"):
+        for word in ("--headless=new", "--no-sandbox", "--disable-gpu", "--force-device-scale-factor=1", f"--window-size={SIZE[0]},{SIZE[1]}", "--hide-scrollbars"):
             options.add_argument(word)
         options.set_capability("goog:loggingPrefs", {"browser": "ALL"})
         self.driver: Any = webdriver.Chrome(options=options)
@@ -46,6 +86,18 @@ class Browser:
     def open(self, path: str) -> None:
         """Opens a page."""
         self.driver.get(f"http://127.0.0.1:{self.server.server_address[1]}{path}")
+
+    def light(self, name: str) -> None:
+        """Shows pages in this light."""
+        self.driver.execute_cdp_cmd("Emulation.setEmulatedMedia", {"features": [{"name": "prefers-color-scheme", "value": name}]})
+
+    def until(self, script: str) -> None:
+        """Waits until a script's expression holds."""
+        end = time.monotonic() + PATIENCE
+        while not self.ask(script):
+            if time.monotonic() > end:
+                raise AssertionError(f"it does not hold: {script}")
+            time.sleep(0.1)
 
     def ask(self, script: str, *words: object) -> Any:
         """What a script's expression comes to, in the page."""
@@ -117,11 +169,58 @@ class InBrowser(unittest.TestCase):
         self.assertGreater(browser.ask("document.querySelector('svg use').getBoundingClientRect().width"), 0)
         self.assertEqual(self.told(), [])
 
+    def test_a_pack_is_opened_in_the_page(self) -> None:
+        """By the link of a volume, at its broken track by that of a finding, and inside a page of a report; a changed file is told there."""
+        page = made_page()
+        if page is None:
+            self.skipTest("the page can't be made: compiled/ has no modules of this commit")
+        database = example()
+        browser = Browser(database, page)
+        self.addCleanup(browser.close)
+        browser.driver.set_script_timeout(PATIENCE)
+        for light in LIGHTS:
+            browser.light(light)
+            self.compare(browser)
+        browser.open("/broken")
+        where = browser.ask("[...document.querySelectorAll('a')].find(it => it.textContent === 'cylinder 45 head 7').href")
+        browser.driver.get("about:blank")
+        browser.driver.get(where)
+        browser.until(IS_SHOWN)
+        browser.until("page.view.picture.chosen === 45 * 20 + 7")
+        self.assertEqual(browser.ask("document.getElementById('name').textContent"), "large.ckd")
+        report = database.parent / "report"
+        write_report(str(database), str(report), page)
+        browser.driver.get((report / "volumes/1/pack.html").as_uri() + "#pack=given&track=1.2")
+        browser.until(IS_SHOWN)
+        browser.until("page.view.picture.chosen === 12")
+        self.assertEqual(browser.ask("document.getElementById('name').textContent"), "001.ckd")
+        os.utime(database.parent / "packs/large.ckd", ns=(1, 1))
+        browser.driver.get("about:blank")
+        browser.driver.get(where)
+        browser.until("document.getElementById('notice').textContent.includes('packs/large.ckd has changed since it was scanned')")
+
+    def compare(self, browser: Browser) -> None:
+        """The picture of the catalogue beside that of the page, in the same width: each track has the same colour, and little else differs."""
+        volume(browser)
+        size = browser.ask("(it => [it.width, it.height])(document.querySelector('svg').getBoundingClientRect())")
+        shot = browser.driver.find_element("css selector", "svg").screenshot_as_base64
+        where = browser.ask("[...document.querySelectorAll('a')].find(it => it.textContent === 'Open this pack').href")
+        browser.driver.get("about:blank")
+        browser.driver.get(where)
+        browser.until(IS_SHOWN)
+        browser.ask(f"document.getElementById('picture').style.width = '{size[0]}px'")
+        browser.until(f"page.view.picture.layout.width === {size[0]}")
+        found = browser.driver.execute_async_script(COMPARED, shot, *size)
+        self.assertEqual((found["tracks"], found["size"]), (4060, size))
+        self.assertLess(found["far"], 60, found)  # those under names and marks
+        self.assertLess(found["pixels"], 0.02, found)
+
     def told(self) -> list[Any]:
         """What the browser tells of the pages, but that there is no icon."""
         return [it for it in self.browser.driver.get_log("browser") if "favicon" not in it["message"]]
 
 
+@functools.cache
 def example() -> Path:
     """A catalogue of larger packs beside the shared archive's, for the pictures."""
     folder = room() / "archive"
@@ -156,12 +255,11 @@ PICTURES: dict[str, Callable[[Browser], None]] = {"catalogue-volume": volume, "c
 
 def make_pictures(folder: Path) -> int:
     """Makes the pictures, in both lights."""
-    browser = Browser(example())
+    browser = Browser(example(), made_page())
     try:
         for name, shown in PICTURES.items():
             for light, suffix in LIGHTS.items():
-                media = [{"name": "prefers-color-scheme", "value": light}]
-                browser.driver.execute_cdp_cmd("Emulation.setEmulatedMedia", {"features": media})
+                browser.light(light)
                 shown(browser)
                 path = folder / f"{name}{suffix}.png"
                 browser.driver.save_screenshot(str(path))

@@ -101,10 +101,11 @@ class Marked(Drawn):
         svg = self.svg()
         box = lay_out(WIDTH, 2, HEADS).mark(0, 3)
         self.assertEqual(re.findall(r"<use [^>]*>", svg), [f'<use href="#picture-error" x="{box.x + box.wide / 2:g}" y="{box.y + box.high / 2:g}">'])
-        self.assertEqual(re.findall(r'<li><i class="swatch set-(\d)"></i>([^<]*)</li>', svg), [("0", "SYS1.MACLIB"), ("1", "ORDERS.SOURCE"), ("2", "ORDERS.JOBS")])
+        named = re.findall(r'<li><i class="swatch set-(\d)"></i>([^<]*)</li>', svg)
+        self.assertEqual(named, [("0", "SYS1.MACLIB"), ("1", "ORDERS.SOURCE"), ("2", "ORDERS.JOBS")])
         self.assertIn('<i class="swatch error"></i>error', svg)
-        tracks = {name: used for name, used in re.findall(r'class="(set-\d)" opacity="([\d.]+)"', svg)}
-        self.assertTrue(all(0.2 <= float(it) <= 1 for it in tracks.values()), tracks)
+        # the jobs' block of 400 bytes takes 61 + 400 * 537 / 512 of the track's 3,625 (the 2841's description), the end of file behind it none
+        self.assertEqual(re.findall(r'class="set-2" opacity="([\d.]+)"', svg), ["0.5"])
 
     def test_a_new_volume_has_no_mark(self) -> None:
         """That nobody gave it a label is no fault of a track."""
