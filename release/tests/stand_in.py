@@ -53,5 +53,9 @@ def lay_out(tree: Path) -> None:
         for name, header in HEADERS.items():
             (tree / f"compiled/{name}-{machine}.s").write_text(text_of(calls_of(header), body), encoding="utf-8")
         (tree / f"compiled/dasd-{machine}.s").write_text(text_of(["main"], MAIN[machine]), encoding="utf-8")
+    make_page = tree / "web" / "make_page"
+    make_page.parent.mkdir()
+    make_page.write_text("#!/bin/sh\necho '<!--GIVEN-->' > \"$1\"\n", encoding="utf-8")
+    make_page.chmod(0o755)
     (tree / "compiled" / "ORIGIN").write_text("Toolchain none\nCrates    none\n", encoding="utf-8")
     sum_up(tree)

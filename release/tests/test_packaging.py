@@ -103,6 +103,14 @@ class Planted(unittest.TestCase):
         sum_up(self.tree)
         self.refused("make_wheels", "shows other names than dasd.h has")
 
+    def test_a_page_left_out_of_the_catalogue(self) -> None:
+        replaced(self.tree / "catalogue" / "pyproject.toml", '"pack_page.html", ', "")
+        self.refused("make_wheels", "has no pack_page.html")
+
+    def test_a_page_that_is_not_made(self) -> None:
+        replaced(self.tree / "web" / "make_page", "echo", "exit 1; echo")
+        self.refused("make_wheels", "the page that shows packs was not made")
+
     def test_a_header_left_out_of_the_crate(self) -> None:
         if shutil.which("cargo") is None:
             self.skipTest("no cargo here")
