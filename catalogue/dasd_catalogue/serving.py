@@ -207,6 +207,9 @@ class Handler(BaseHTTPRequestHandler):
 
     def send_pack(self, place: Place | None) -> None:
         """Sends the pack of a volume, or says why it is not given."""
+        if self.request_version != self.protocol_version:  # which has no chunks
+            self.send(HTTPStatus.HTTP_VERSION_NOT_SUPPORTED, "text/plain; charset=utf-8", b"packs are given by HTTP/1.1\n")
+            return
         connection = open_to_read(self.database)
         try:
             if place is None or place.data_set is not None:

@@ -72,7 +72,8 @@ class Browser:
         self.server = server_for(str(database), "127.0.0.1", 0, page)
         threading.Thread(target=self.server.serve_forever, daemon=True).start()
         options: Any = webdriver.ChromeOptions()
-        for word in ("--headless=new", "--no-sandbox", "--disable-gpu", "--force-device-scale-factor=1", f"--window-size={SIZE[0]},{SIZE[1]}", "--hide-scrollbars"):
+        plain = ("--headless=new", "--no-sandbox", "--disable-gpu", "--force-device-scale-factor=1", "--hide-scrollbars")
+        for word in (*plain, f"--window-size={SIZE[0]},{SIZE[1]}"):
             options.add_argument(word)
         options.set_capability("goog:loggingPrefs", {"browser": "ALL"})
         self.driver: Any = webdriver.Chrome(options=options)

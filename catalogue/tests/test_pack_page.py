@@ -9,6 +9,7 @@ import http.client
 import lzma
 import os
 import re
+import socket
 import sqlite3
 import subprocess
 import sys
@@ -204,6 +205,9 @@ class Served(Packs):
         self.assertEqual(self.get("/page", Host="evil.example")[0].status, 403)
         self.assertEqual(self.get(f"/packs/{number}", "POST")[0].status, 501)
         self.assertEqual(self.get(f"/packs/{number}", "HEAD")[1], b"")
+        with socket.create_connection(("127.0.0.1", self.port), 60) as raw:
+            raw.sendall(f"GET /packs/{number} HTTP/1.0\r\nHost: localhost:{self.port}\r\n\r\n".encode())
+            self.assertIn(b" 505 ", raw.recv(100))
         (self.archive / "1.ckd").write_bytes(b"")
         answer, body = self.get(f"/packs/{number}")
         self.assertEqual((answer.status, answer.reason), (409, "packs/1.ckd has changed since it was scanned; dasd-catalogue scan asks it again"))
