@@ -105,20 +105,26 @@ def check_refused(browser: Browser, checks: Checks, server: Server, other: Serve
     answers = browser.wait_for("{ return fetch(%r).then(() => 'got', () => 'refused') }" % f"{other.url}/other.ckd")
     checks.same("the page's policy refuses another server too", [answers, other.asked], ["refused", []])
     browser.go(f"{server.url}/try/index.html#pack=../none.ckd")
-    checks.same("a page that begins so has the example, and says why", seen(browser), ["example.ckd", "../none.ckd could not be fetched: the server answers 404 Not Found"])
+    checks.same(
+        "a page that begins so has the example, and says why", seen(browser), ["example.ckd", "../none.ckd could not be fetched: the server answers 404 Not Found"]
+    )
 
 
 def refused(browser: Browser, checks: Checks, address: str, words: str) -> None:
     """An address that the page must refuse with these words."""
     browser.ask("(page.tell(''), location.hash = arguments[0], 0)", f"#pack={address}")
     told = browser.until("!document.getElementById('notice').hidden && document.getElementById('notice-part').hidden", 20)
-    checks.that(f"pack={address.replace('127.0.0.1', 'other')} is refused: {words}", told and words in browser.text("#notice-text"), browser.text("#notice-text"))
+    checks.that(
+        f"pack={address.replace('127.0.0.1', 'other')} is refused: {words}", told and words in browser.text("#notice-text"), browser.text("#notice-text")
+    )
 
 
 def check_progress(browser: Browser, checks: Checks, server: Server) -> None:
     """What takes long is shown, and ends when another one is wanted."""
     browser.ask("(location.hash = '#pack=/slow.ckd', 0)")
-    shown = browser.until("document.getElementById('notice-part').value > 0 && document.getElementById('notice-part').value < document.getElementById('notice-part').max", 20)
+    shown = browser.until(
+        "document.getElementById('notice-part').value > 0 && document.getElementById('notice-part').value < document.getElementById('notice-part').max", 20
+    )
     checks.that("a slow answer has its progress", shown and "Fetching slow.ckd" in browser.text("#notice-text"), seen(browser))
     browser.click("#notice-close")
     time.sleep(12 * PAUSE + 1)
@@ -154,7 +160,9 @@ def check_given(browser: Browser, native: Native, checks: Checks) -> None:
         before, place, after = made.read_bytes().partition(b' data-name="')
         made.write_bytes(before + place + after.replace(b'">H4sI', b'">H4!I', 1))
         browser.open()
-        checks.that("one that is damaged is told, and the page begins as ever", seen(browser)[0] == "example.ckd" and "is damaged" in seen(browser)[1], seen(browser))
+        checks.that(
+            "one that is damaged is told, and the page begins as ever", seen(browser)[0] == "example.ckd" and "is damaged" in seen(browser)[1], seen(browser)
+        )
     finally:
         browser.page = page
         browser.open()
