@@ -105,9 +105,8 @@ def check_refused(browser: Browser, checks: Checks, server: Server, other: Serve
     answers = browser.wait_for("{ return fetch(%r).then(() => 'got', () => 'refused') }" % f"{other.url}/other.ckd")
     checks.same("the page's policy refuses another server too", [answers, other.asked], ["refused", []])
     browser.go(f"{server.url}/try/index.html#pack=../none.ckd")
-    checks.same(
-        "a page that begins so has the example, and says why", seen(browser), ["example.ckd", "../none.ckd could not be fetched: the server answers 404 Not Found"]
-    )
+    why = "../none.ckd could not be fetched: the server answers 404 Not Found"
+    checks.same("a page that begins so has the example, and says why", seen(browser), ["example.ckd", why])
 
 
 def refused(browser: Browser, checks: Checks, address: str, words: str) -> None:
