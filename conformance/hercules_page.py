@@ -28,36 +28,36 @@ SUMS = ("on manuals alone", "on the profile too", "all")
 
 HEAD = """# What Hercules 3.13 does differently
 
-Hercules 3.13 (Debian's package `hercules`, 3.13-7) beside this suite's vectors. Each difference comes from a run and has the command that
-shows it. `conformance/hercules_page.py` writes this page.
+Hercules 3.13 (Debian's package `hercules`, 3.13-7) beside this suite's vectors. Each difference comes from a run:
+`conformance/ask.py hercules DECK` shows it again, and the page in the browser has both answers. `conformance/hercules_page.py` writes this page.
 
-A small supervisor in System/370 mode, on a bare machine with one processor and 16 MB, issues the instructions of a deck one after another
-and keeps each result; storage and images are compared afterwards (`conformance/suite/adapters/hercules.py`). A step waits until the
-program's interruption pends. Left out are units, arrivals, a reset in the middle, storage of another size, and images in several files.
+A small supervisor in System/370 mode, on a bare machine with one processor and 16 MB, issues the instructions of a deck and keeps each result.
+Storage and images are compared afterwards (`conformance/suite/adapters/hercules.py`). A step waits until the program's interruption pends.
+Left out are units, arrivals, a reset in the middle, storage of another size, and images in several files.
 
-In each deck the volume is the suite's `x.img` at 190 unless another is named, and only an event with different results has two answers.
-`must` is what this suite's vectors say; the text says so if that is a choice of the suite and no rule of a manual. The manuals are named as
-in [FORMAT.md](../conformance/FORMAT.md). Sense bytes 2 to 5 are not compared.
+The volume is the suite's `x.img` at 190 unless another is named. Only an event with different results has two answers. `must` is what this
+suite's vectors say, and a choice of the suite is named as one. The manuals are named as in [FORMAT.md](../conformance/FORMAT.md). `Guests` says
+what an operating system notices. Sense bytes 2 to 5 are not compared.
 """
 
 ALIKE = """
 ## What is alike
 
-The results below count the vectors that come out right. With a Seek before each program these include data chaining of reads and updates,
-skipping, transfers, searches by identifier and key and with the multi-track bit, reads of every kind and where they leave the track, unit
-exception, updates of data and of keys, formatting writes that fit, a whole track formatted, seeks of each kind (except for sense bytes), Read
-IPL, and images with other track sizes. Images that Hercules wrote are the same track by track; it keeps the bytes after a track's end mark.
+With a Seek before each program the vectors that come out right include data chaining of reads and updates, skipping, transfers, searches by
+identifier and key and with the multi-track bit, reads of every kind and where they leave the track, unit exception, updates of data and keys,
+formatting writes that fit, a whole track formatted, seeks of each kind (except for sense bytes), Read IPL, and images with other track sizes.
+Images that Hercules wrote are the same track by track. It keeps the bytes after a track's end mark.
 
 ## Lists by chance
 
 `conformance/differ.py model hercules --plain --seek-first --readable --without-profile --lists 700` plays lists by chance whose programs each
-begin with a Seek, and which rest on no choice of this suite. Of 700 seeds 81 made such a list, and 44 came out differently, in 14 ways. Each of
-these is one of the facts above: 8, 11, 12, 16, 17, 25, 28, 32, 33 and 34; this search found 28, 32, 33 and 34.
+begin with a Seek, and which rest on no choice of this suite. Of 700 seeds 81 made such a list, and 44 came out differently, in 14 ways. Each is
+one of the facts 8, 11, 12, 16, 17, 25, 28, 32, 33 and 34. This search found 28, 32, 33 and 34.
 
 ## With the modules of this repository
 
-[adapters/hercules](../adapters/hercules/README.md) has two modules for the same, unmodified Hercules. `hdtdasd` has drives, under Hercules'
-channel; `hdtchan` has whole channels. Which facts above remain:
+[adapters/hercules](../adapters/hercules/README.md) has two modules for the same, unmodified Hercules: `hdtdasd` has drives, under Hercules'
+channel, and `hdtchan` whole channels.
 
 | | Hercules alone | With `hdtdasd` | With `hdtchan` |
 |---|---|---|---|
@@ -67,12 +67,12 @@ channel; `hdtchan` has whole channels. Which facts above remain:
 | The worked utility by IPL | waits for ever, since no device end comes after a seek | `DONE` | `DONE` |
 | The copier of two channels | not run | not run | `DONE` in 60 of 60 runs, with `arms` |
 
-No vector asks the following: `hdtchan` executes SIOF as SIO and CLRIO as TIO, as a channel without these functions does; HDV leaves the
-program of another drive alone, with condition code 2; CLRCH resets the channel and its drives; and STIDC stores zeros, a selector channel of
-no model. HDV, CLRCH and STIDC are from memory of the System/370 manual, and not tested.
+No vector asks the following. `hdtchan` executes SIOF as SIO and CLRIO as TIO, as a channel without these functions does. HDV leaves the program
+of another drive alone, with condition code 2. CLRCH resets the channel and its drives. STIDC stores zeros, a selector channel of no model. HDV,
+CLRCH and STIDC are from memory of the System/370 manual, and not tested.
 
-Instructions of all of Hercules for a channel program, by callgrind, as the difference of two numbers of programs; a guest starts each by SIO
-and asks by TIO. The library was built without its proofs, by the same compiler:
+Instructions of all of Hercules for a channel program, by callgrind, as the difference of two numbers of programs. A guest starts each by SIO and
+asks by TIO. The library was built without its proofs, by the same compiler:
 
 | Program | Hercules alone | With `hdtdasd` | With `hdtchan` |
 |---|---|---|---|
@@ -98,9 +98,9 @@ def section(number: int, path: str, emulator: Emulator) -> str:
     lines += ["```", ""]
     if outcome.broke:
         lines += ["%s." % outcome.broke, ""]
-    shown = "- Shown by `conformance/ask.py hercules conformance/hercules/%s`%s." % (name, by_vectors(said["vectors"].split()))
-    run = "- [Run it in the browser](../try/#deck=%s), with both answers." % quote(said["title"], safe="")
-    lines += ["- The manuals: %s." % said["manual"], "- For an operating system: %s." % said["matters"], shown, run, ""]
+    shown = "- `conformance/hercules/%s`%s." % (name, by_vectors(said["vectors"].split()))
+    run = "[Run it](../try/#deck=%s)." % quote(said["title"], safe="")
+    lines += ["- Manuals: %s." % said["manual"], "- Guests: %s." % said["matters"], shown + " " + run, ""]
     return "\n".join(lines)
 
 
@@ -113,7 +113,7 @@ def note(line: str, answer: str, wanted: Optional[str], broke: Optional[str]) ->
 
 def by_vectors(names: Sequence[str]) -> str:
     """The vectors that show a fact too; '-' where none does."""
-    return "" if names == ["-"] else ", and by the vector%s %s" % ("s" if len(names) > 1 else "", ", ".join("`%s`" % it for it in names))
+    return "" if names == ["-"] else ", vector%s %s" % ("s" if len(names) > 1 else "", ", ".join("`%s`" % it for it in names))
 
 
 def sums(path: str) -> List[List[str]]:
@@ -126,13 +126,14 @@ def sums(path: str) -> List[List[str]]:
 def results() -> str:
     """The counts of whole runs, and where they stand rule by rule."""
     out = ["", "## Results of the whole suite", "",
-           "Left out are vectors that can't be asked in this way; declined are those that name the supervisor's storage. A vector",
+           "Left out are vectors that can't be asked in this way. Declined are those that name the supervisor's storage. A vector",
            "is wrong with its first difference, and many vectors show the same fact again.", "",
+           "<!-- conformance/results: begin -->", "",
            "| Programs | Vectors | In all | Right | Wrong | Left out | Declined |", "|---|---|---|---|---|---|---|"]
     for title, name in RUNS.items():
         out += ["| %s | %s |" % (title, " | ".join(row)) for row in sums(os.path.join(RESULTS, name))]
-    links = " and ".join("[%s](../conformance/results/%s)" % (it, it) for it in RUNS.values())
-    return "\n".join([*out, "", "%s have the same rule by rule." % links])
+    links = ", ".join("[%s](../conformance/results/%s)" % (it, it) for it in RUNS.values())
+    return "\n".join([*out, "", "<!-- conformance/results: end -->", "", "Rule by rule: %s." % links])
 
 
 def main() -> int:
