@@ -140,7 +140,9 @@ class Pages(unittest.TestCase):
 
     def test_links_are_followed(self) -> None:
         with tempfile.TemporaryDirectory() as room:
-            folder, page = Path(room), "[top](../README.md) ![p](pictures/p.png) [v](../try/index.html#vector=v) [d](../try/index.html#deck=a%20b) [t](../try/index.html#track=1.1)"
+            folder = Path(room)
+            places = "[v](../try/index.html#vector=v) [d](../try/index.html#deck=a%20b) [t](../try/index.html#track=1.1)"
+            page = f"[top](../README.md) ![p](pictures/p.png) {places}"
             (folder / "docs" / "pictures").mkdir(parents=True)
             (folder / "try").mkdir()
             (folder / "README.md").write_text("[a](docs/A.md#b) [d](https://d.invalid)\n", encoding="utf-8")
