@@ -32,7 +32,7 @@ def example(browser: Browser) -> None:
     browser.click("#empty-example")
     browser.until("page.tab === 'volume'")
     browser.until("document.querySelectorAll('#contents tbody tr').length > 3")
-    browser.until("document.getElementById('bytes').textContent.includes('VOL1')")
+    browser.until("document.getElementById('bytes').textContent.includes(' HA ')")
 
 
 def check_picture(browser: Browser, native: Native, checks: Checks) -> None:
