@@ -78,17 +78,17 @@ def check_keys(browser: Browser, native: Native, checks: Checks) -> None:
 
 
 def check_keys_of_picture(browser: Browser, checks: Checks) -> None:
-    """From the example's picture to its findings."""
+    """From the example's picture, where the arm is at cylinder 95, to its findings."""
     browser.press(Keys.ARROW_RIGHT, Keys.ARROW_DOWN, Keys.PAGE_DOWN)
     checks.that(
         "arrows lead through the picture, and tell each track",
-        browser.until("document.getElementById('told').textContent.startsWith('Cylinder 11, head 1')", 20),
+        browser.until("document.getElementById('told').textContent.startsWith('Cylinder 106, head 1')", 20),
         browser.text("#told"),
     )
     browser.press("n")
     checks.that(
         "N leads to the next finding",
-        browser.until("document.getElementById('told').textContent.startsWith('Cylinder 45, head 7')", 20),
+        browser.until("document.getElementById('told').textContent.startsWith('Cylinder 171, head 11')", 20),
         browser.text("#told"),
     )
 
