@@ -19,20 +19,20 @@ class Handler(http.server.BaseHTTPRequestHandler):
         self.server.asked.append(self.path)
         body = self.server.files.get(unquote(self.path), 404)
         if isinstance(body, str):
-            self.answer(302, b"", Location=body)
+            self.answer(302, b"", {"Location": body})
         elif isinstance(body, int):
             self.answer(body, b"not here")
         elif self.path.startswith("/cut"):
-            self.answer(200, body[: len(body) // 2], **{"Content-Length": str(len(body))})
+            self.answer(200, body[: len(body) // 2], {"Content-Length": str(len(body))})
         elif self.path.startswith("/huge"):
-            self.answer(200, body, **{"Content-Length": "600000000"})
+            self.answer(200, body, {"Content-Length": "600000000"})
         else:
             self.answer(200, body, slowly=self.path.startswith("/slow"))
 
-    def answer(self, status: int, body: bytes, slowly: bool = False, **heads: str) -> None:
+    def answer(self, status: int, body: bytes, heads: dict[str, str] | None = None, slowly: bool = False) -> None:
         """Sends an answer, and closes the connection."""
         self.send_response(status)
-        for name, value in {"Content-Length": str(len(body)), "Cache-Control": "no-store", **heads}.items():
+        for name, value in {"Content-Length": str(len(body)), "Cache-Control": "no-store", **(heads or {})}.items():
             self.send_header(name, value)
         self.end_headers()
         try:
