@@ -5,18 +5,19 @@ from itertools import groupby
 
 from tools.make.rule_rows import Index, Place, Row
 
-HEAD = """# The rules, and where each stands
+HEAD = """# The index of rules
 
-Each rule of the [conformance suite](CONFORMANCE.md) and each of [the definitions](DEFINITIONS.md), with
+Look for a word in the list from A to Z, or go to the subject. Each rule of the [conformance suite](CONFORMANCE.md) and of
+[the definitions](DEFINITIONS.md) has
 
-- its topic in the manual: *PoO* is *IBM System/360 Principles of Operation*, GA22-6821; *2841 and 2314* are the component descriptions
-  GA26-5988 and GA26-3599; *profile* is a choice of this project, listed in [FORMAT.md](../conformance/FORMAT.md);
-- the definition that says it: crate, module and name. A comment above each definition says what it is;
-- the function that does it. Its contract says what it promises, by the definition or by one made of it. Of a law it is also the function that states it;
-- the vectors that pin it, with their files, three at most. [The last section](#the-vectors-of-each-rule) names all.
-  *By hand* names a file of vectors that were worked out by hand and are computed over the definitions only, *rows* a file of tests of the program.
+- its topic in the manual. *PoO* is *IBM System/360 Principles of Operation*, GA22-6821. *2841 and 2314* are the component descriptions GA26-5988 and
+  GA26-3599. *profile* is a choice of this project, listed in [FORMAT.md](../conformance/FORMAT.md)
+- its definition: crate, module and name
+- the function that does it, whose contract uses the definition or one made of it, and for a law also the function that states it
+- at most three vectors that pin it, with their files ([all vectors](#the-vectors-of-each-rule)). *By hand* is a file of vectors that were worked out
+  by hand and are computed over the definitions only, *rows* a file of tests of the program
 
-To find a rule, look for a word in the list from A to Z, or go to the subject. `tools/make/rules.py` writes this page.
+`tools/make/rules.py` writes this page.
 
 ## Subjects
 
