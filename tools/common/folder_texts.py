@@ -7,7 +7,7 @@ from collections.abc import Iterator
 from dataclasses import dataclass
 
 from tools.common.images import Image, Place
-from tools.common.said_sets import ORGANISATION, PARTITIONED, Block, Tracks, extents_of, safe
+from tools.common.said_sets import ORGANISATION, PARTITIONED, SHARED, USER_LABELS, Block, Tracks, extents_of, extents_said, safe
 from tools.common.volume_layouts import END, control_blocks
 
 TEXT = "data_sets.txt"
@@ -39,13 +39,19 @@ def record_format(bits: int) -> str:
     return f"X'{bits:02X}'" if bits & 1 or not bits & 0xC0 else FORMS[bits & 0xC0] + letters
 
 
-def set_line(name: bytes, data: bytes, directory: int | None) -> str:
+def details(data: bytes, types: set[int]) -> str:
+    """What is told of the volume and of the extents of a data set: nothing of one that is on one volume, in plain extents."""
+    volume, apart = int.from_bytes(data[7:9], "big"), sum(types & {USER_LABELS, SHARED})
+    return f" volume {volume} extents X'{apart:02X}'" if volume > 1 or apart else ""
+
+
+def set_line(name: bytes, data: bytes, directory: int | None, types: set[int]) -> str:
     """The line of a data set."""
     organisation, block, record = (int.from_bytes(data[at : at + 2], "big") for at in (ORGANISATION, 42, 44))
     word = ORGANISATIONS.get(organisation, f"X'{organisation:04X}'")
     behind = "" if directory is None else f" directory {directory}"
     lengths = f"{record} {block} {data[46]}"
-    return f"data set {safe(name)} {word} {record_format(data[40])} {lengths} {day(data[9:12])} {day(data[12:15])}{behind}\n"
+    return f"data set {safe(name)} {word} {record_format(data[40])} {lengths} {day(data[9:12])} {day(data[12:15])}{behind}{details(data, types)}\n"
 
 
 def entries_of(blocks: list[Block]) -> Iterator[Entry]:
@@ -90,11 +96,12 @@ def folder_text(image: Image) -> str:
     for key, data in blocks.values():
         if data[0] != 0xF1:
             continue
+        types = {it[0] for it in extents_said(image, data, blocks)}
         if not data[ORGANISATION] & PARTITIONED:
-            text += set_line(key, data, None)
+            text += set_line(key, data, None, types)
             continue
         tracks = Tracks(image, extents_of(image, data, blocks))
         directory, _ = tracks.blocks()
         entries = list(entries_of(directory))
-        text += set_line(key, data, len(directory)) + "".join(entry_line(tracks, it, entries) for it in entries)
+        text += set_line(key, data, len(directory), types) + "".join(entry_line(tracks, it, entries) for it in entries)
     return text

@@ -67,8 +67,8 @@ def tracks_of(image: Image, extents: list[bytes]) -> list[int]:
     return tracks
 
 
-def extents_of(image: Image, data: bytes, blocks: dict[Place, Block]) -> list[bytes]:
-    """The extents that a format 1 block says, and those of format 3 behind it."""
+def extents_said(image: Image, data: bytes, blocks: dict[Place, Block]) -> list[bytes]:
+    """The extents that a format 1 block says, and those of format 3 behind it, with those for user labels."""
     spelled, behind = data[EXTENTS : EXTENTS + 3 * EXTENT], data[91:96]
     while behind != NO_BLOCK:
         cylinder, head = int.from_bytes(behind[:2], "big"), int.from_bytes(behind[2:4], "big")
@@ -76,7 +76,12 @@ def extents_of(image: Image, data: bytes, blocks: dict[Place, Block]) -> list[by
         if more[:1] == b"\xf3":
             spelled += key[4:44] + more[1:91]
         behind = more[91:96]
-    return [it for it in cut(spelled, EXTENT) if it[0] not in (0, USER_LABELS)]
+    return [it for it in cut(spelled, EXTENT) if it[0]]
+
+
+def extents_of(image: Image, data: bytes, blocks: dict[Place, Block]) -> list[bytes]:
+    """The same without those for user labels: what the data set's tracks are in."""
+    return [it for it in extents_said(image, data, blocks) if it[0] != USER_LABELS]
 
 
 class Tracks:

@@ -7,8 +7,8 @@ Debian's package hercules. Each is put onto a new volume of either drive, behind
 blocks. Compared are the hashes of each data set and member, what the labels say, and, by `dasdls`, `dasdseq`, `dasdcat` and `dasdpdsu`, what Hercules'
 tools read of both. Each difference is a line; the last line is 'N compared, M differ', and the status 1 where M is not 0.
 
-What can't go back is changed in the text of the folder before, as its keeper would: the line of a data set without a record format is taken out, and
-notes that lead to no block of their member are taken for user data. Of what has no end of file the blocks are compared."""
+What can't go back is changed in the text of the folder before, as its keeper would: the lines of what a folder does not carry, and of data sets without
+a record format, are taken out, and notes that lead to no block of their member are taken for user data. Of what has no end of file the blocks are compared."""
 
 import json
 import pathlib
@@ -27,8 +27,8 @@ TEXT = "data_sets.txt"
 TABLE, CYLINDERS = 8, 60
 # A note that leads to no block of its member: its address, and the byte behind it.
 NOTE = re.compile(r" @([0-9A-F]{6})/([0-9A-F]{2})( [0-9A-F]+)?$", re.M)
-# A data set whose first extent is for user labels: `dasdseq` takes it for one of the data set's, and finds nothing behind the end of file in it.
-LABELLED = "FORM.LABELS"
+# The line of a data set that does not go back: a direct one, one without a record format, and one with other extents than plain ones.
+LEFT_OUT = re.compile(r"data set \S+ (DA |\S+ X'00' |.* extents X'..'$)", re.M)
 # The plans whose records are all cards in full blocks.
 CARDS_ALONE = ("SMALL1", "WIDE14")
 
@@ -71,7 +71,7 @@ class Loads:
         taken = pathlib.Path(tempfile.mkdtemp(dir=self.folder))
         readings.run(self.dasd, "extract", "--all", taken, *way.words, image)
         text = (taken / TEXT).read_text(encoding="ascii")
-        sets = [it for it in re.split(r"(?=^data set )", text, flags=re.M) if it and " X'00' " not in it.splitlines()[0]]
+        sets = [it for it in re.split(r"(?=^data set )", text, flags=re.M) if it and not LEFT_OUT.match(it)]
         (taken / TEXT).write_text(NOTE.sub(lambda it: f" {it[1]}{it[2]}{(it[3] or '').strip()}", "".join(sets)), encoding="ascii")
         return taken
 
@@ -116,7 +116,7 @@ class Loads:
         for it in after:
             if it.organisation == "PO":
                 self.compare_members(f"{title} {it.name}", image, new, it)
-            elif it.form[:1] == "F" and it.organisation == "PS" and it.name != LABELLED:
+            elif it.form[:1] == "F" and it.organisation == "PS":
                 found, wanted = (readings.records_by_dasdseq(path, it.name) for path in (new, image))
                 self.comparison.same(f"{title} {it.name} by dasdseq", found, wanted, "dasdseq")
 

@@ -153,6 +153,7 @@ def text_of_a_folder_that_is_wrong_leaves_the_pack(s: Scratch) -> None:
     stays(s, held, None, cards, f"{TEXT}: read fault")
     begins = "a line begins with `data set`, `member` or `alias`, or is a comment behind #"
     name = "a name has capital letters, digits and .-_@#$, and any other byte in EBCDIC as %40; it is one of 44 bytes at most, and of a member of 8"
+    details = "at its end a data set may have `volume`, its number to 65535, `extents`, and the types of these, as X'80'"
     directory = "a partitioned data set, and no other, has at its end `directory` and the number of its blocks, to 65535"
     for lines, number, why in [
         ("dataset TEST.CARDS PS FB 80 160 0 - -\n", 1, begins),
@@ -167,6 +168,10 @@ def text_of_a_folder_that_is_wrong_leaves_the_pack(s: Scratch) -> None:
         ("data set A PS FB 80 160 0 1899-365 -\n", 1, "a day is a year from 1900 to 2155 and its day, as 1974-365, or a hyphen for none"),
         ("data set A PO FB 80 160 0 - -\n", 1, directory),
         ("data set A PS FB 80 160 0 - - directory 1\n", 1, directory),
+        ("data set A PS FB 80 160 0 - - volume 2\n", 1, details),
+        ("data set A PS FB 80 160 0 - - extents X'80' volume 1\n", 1, details),
+        ("data set A PS FB 80 160 0 - - volume 65536 extents X'80'\n", 1, details),
+        ("data set A PO FB 80 160 0 - - directory 1 volume 1 extents 80\n", 1, details),
         (CARDS_LINE + "member A\n", 2, "a member or an alias stands behind its data set, which has a directory"),
     ]:
         stays(s, held, lines, cards, f"{TEXT}: line {number}: {why}")
@@ -270,3 +275,22 @@ def words_of_a_folder_that_is_loaded_are_few(s: Scratch) -> None:
     os.chmod(s.path("new.ckd"), 0o444)
     same(load(s, "--text")[:2], (1, ""))
     is_held(s.path("new.ckd"), held)
+
+
+@row
+def data_set_that_a_folder_does_not_carry_is_refused_by_name(s: Scratch) -> None:
+    held, files = fresh(s), {"TEST.CARDS": b"ONE\n", "A": b"TWO\n"}
+    direct = "a direct data set, whose blocks are found by places that the folder does not have"
+    indexed = "an indexed sequential data set, whose indexes the folder does not have"
+    for organisation, why in [("DA", direct), ("X'2100'", direct), ("IS", indexed), ("X'8100'", indexed)]:
+        stays(s, held, f"{CARDS_LINE}data set A {organisation} F 80 80 0 - -\n", files, f"A: {why}")
+    shared, labelled = "a data set that shares cylinders with others, which the folder does not say", "a data set with user labels, which the folder does not have"
+    for words, why in [
+        ("volume 2 extents X'00'", "part 2 of a data set on several volumes"),
+        ("volume 65535 extents X'C0'", "part 65535 of a data set on several volumes"),
+        ("volume 1 extents X'80'", shared),
+        ("volume 0 extents X'C0'", shared),
+        ("volume 1 extents X'40'", labelled),
+    ]:
+        stays(s, held, f"{CARDS_LINE}data set A PS F 80 80 0 - - {words}\n", files, f"A: {why}")
+        stays(s, held, f"{CARDS_LINE}data set A PO F 80 80 0 - - directory 1 {words}\n", {"TEST.CARDS": b"ONE\n"}, f"A: {why}")

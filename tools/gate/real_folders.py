@@ -6,13 +6,14 @@ The volumes are spelled here, by the layouts of tools/common/written_labels.py, 
 from tools.common.images import Image
 from tools.common.said_sets import Block
 from tools.common.volume_layouts import directory_blocks, ebcdic
+from tools.common.written_labels import SHARED, DataSet
 from tools.gate.real_extracts import END_OF_FILE, card
 from tools.gate.real_hashes import library, pack, sequential
 from tools.gate.scratch_files import Scratch, is_held, row, same
 
 TEXT = "data_sets.txt"
-# Where the fields of a format 1 block are: days, organisation, record format, and the lengths of blocks, records and keys.
-MADE, ORGANISATION, FORMAT, LENGTHS = 9, 38, 40, 42
+# Where the fields of a format 1 block are: days, organisation, record format, the lengths of blocks, records and keys, and the extents.
+MADE, ORGANISATION, FORMAT, LENGTHS, FIRST_EXTENT = 9, 38, 40, 42, 61
 UNUSED: Block = (bytes(8), bytes(256))
 ALPHA: list[Block] = [(b"", card("IN ALPHA"))]
 BETA: list[Block] = [(b"", card("FIRST")), (b"", card("SECOND")), (b"", card("THIRD"))]
@@ -95,6 +96,23 @@ data set NONE X'0000' UTAM 0 0 0 1974-365 1999-365
 """
     for words in ((), ("--with-lengths",), ("--text",)):
         same(taken(s, *words)[1], lines, " ".join(words))
+
+
+@row
+def text_of_a_folder_says_what_it_does_not_carry(s: Scratch) -> None:
+    # a part of several volumes; one that has its heads of a cylinder, and one that has user labels on a track
+    part = DataSet("PART", "PS", 80, 80, [(2, 2)], (0, 1), volume=2, is_last=True)
+    shared = DataSet("SHARED", "PS", 80, 80, [(11, 12)], (0, 1), kind=SHARED)
+    image = pack(s, "pack.ckd", [part, shared, sequential("LABELS", (4, 4), (5, 5)), sequential("PLAIN", (6, 6))], {6: [*ALPHA, END_OF_FILE]})
+    say(image, 5, FIRST_EXTENT, b"\x40")
+    image.save()
+    lines = """\
+data set PART PS FB 80 80 0 1974-365 1999-365 volume 2 extents X'00'
+data set SHARED PS FB 80 80 0 1974-365 1999-365 volume 1 extents X'80'
+data set LABELS PS FB 80 80 0 1974-365 1999-365 volume 1 extents X'40'
+data set PLAIN PS FB 80 80 0 1974-365 1999-365
+"""
+    same(taken(s)[1], lines)
 
 
 @row

@@ -7,18 +7,19 @@ description of the 2311: a block of a directory takes 357 of its 3,625 bytes, a 
 from tools.common.images import Image
 from tools.common.record_forms import with_lengths
 from tools.common.said_sets import Block, blocks_hash
-from tools.common.volume_layouts import directory_blocks
+from tools.common.volume_layouts import directory_blocks, ebcdic
 from tools.gate.real_extracts import END_OF_FILE, card
 from tools.gate.real_folder_loads import fresh, hashes, put_folder
 from tools.gate.real_folder_loads import load as load_all
-from tools.gate.real_folders import UNUSED, entry
+from tools.gate.real_folders import ALPHA, UNUSED, entry, say
+from tools.gate.real_hashes import library, pack, sequential
 from tools.gate.real_loads import spelled_with_keys, tracks
 from tools.gate.scratch_files import WAYS, Ended, Scratch, fault, is_held, row, same
 
 LINES = """\
 data set LIB PO FB 80 160 0 1974-365 2026-001 directory 2
 member ALPHA
-member GAMMA 2/02 0A0B
+member GAMMA 2/00 0A0B
 alias OTHER ALPHA
 data set CARDS PS FB 80 160 0 - -
 """
@@ -43,7 +44,7 @@ def member_is_put_behind_the_others_and_its_entry_in_its_place(s: Scratch) -> No
     alpha = [(b"", card("A") + card("B")), (b"", card("C"))]
     gamma = [(b"", card("G") + card("H")), (b"", card("I") + card("J"))]
     # two blocks of the directory and an end of file, and then ALPHA from record 4 on, GAMMA from 7 on with its second block as 8, and BETA from 10 on
-    entries = [entry("ALPHA", (0, 4)), entry("BETA", (0, 10)), entry("GAMMA", (0, 7), 0x23, bytes([0, 0, 8, 2, 0x0A, 0x0B])), entry("OTHER", (0, 4), 0x80)]
+    entries = [entry("ALPHA", (0, 4)), entry("BETA", (0, 10)), entry("GAMMA", (0, 7), 0x23, bytes([0, 0, 8, 0, 0x0A, 0x0B])), entry("OTHER", (0, 4), 0x80)]
     new = (b"", card("NEW") + card("MEMBER"))
     records = [*directory_blocks(entries, 1), UNUSED, END_OF_FILE, *alpha, END_OF_FILE, *gamma, END_OF_FILE, new, END_OF_FILE]
     for words in WAYS:
@@ -58,6 +59,41 @@ def member_is_put_behind_the_others_and_its_entry_in_its_place(s: Scratch) -> No
         same(label[49:59], bytes([0x80, 0x80, 0, 0, 0, 0, 0, 11]) + left.to_bytes(2, "big"))
         same(s.dasd("vtoc", "new.ckd")[0], 0)
         same(s.dasd("extract", "new.ckd", "LIB(BETA)", "--text"), (0, "NEW\nMEMBER\n", ""))
+
+
+@row
+def label_of_a_library_that_gets_a_member_keeps_what_it_said(s: Scratch) -> None:
+    # behind its two days and its organisation: the code of a system, an option, keys at 3, the last volume with passwords to read and write, and two
+    # cylinders more at a time; and four tracks in two extents, which are put onto four tracks in one
+    kept = {18: ebcdic("IBMOSVS2", 13) + bytes(range(7)), 41: b"\x20", 47: bytes.fromhex("0003" + "94" + "C0000002")}
+    directory = directory_blocks([entry("ALPHA", (0, 3))], 1)
+    for words in WAYS:
+        image = pack(s, "new.ckd", [library("LIB", (2, 3), (7, 8)), sequential("CARDS", (5, 5))], {2: [*directory, END_OF_FILE, *ALPHA, END_OF_FILE]})
+        for at, field in kept.items():
+            say(image, 3, at, field)
+        image.save()
+        was = Image(s.path("new.ckd")).records(1)[3].data
+        s.put("new", b"NEW\n")
+        same(add(s, "BETA", "--text", *words), (0, "loaded LIB(BETA) 4 tracks\n", ""))
+        now = Image(s.path("new.ckd")).records(1)[3].data
+        # one extent, from track 6 to 9; the last block is record 6 of its first track
+        left = 3625 - 357 - 61 - 2 * (144 + 61)
+        there = b"\1\0" + bytes([0, 0, 0, 6, 0, 0, 0, 9])
+        same(now, was[:15] + b"\1" + was[16:54] + bytes([0, 0, 6]) + left.to_bytes(2, "big") + was[59:61] + there + bytes(25))
+        same(s.dasd("vtoc", "new.ckd")[0], 0)
+
+
+@row
+def library_with_a_note_list_gets_no_member(s: Scratch) -> None:
+    # the byte behind an address says that the block there has two addresses itself
+    fresh(s)
+    put_folder(s, LINES.replace("2/00", "2/02"), FILES)
+    same(load_all(s, "--text")[::2], (0, ""))
+    s.put("new", b"NEW\nMEMBER\n")
+    held = s.path("new.ckd").read_bytes()
+    for words in WAYS:
+        same(add(s, "BETA", "--text", *words), fault("entry 2 has a note list, whose addresses would be wrong in the library with the member"))
+        is_held(s.path("new.ckd"), held)
 
 
 @row

@@ -3,12 +3,13 @@ use Rattle.std.specs.Prelude.{◌≡◌, ℕ, zero, suc, ◌+◌, ◌-◌, ◌*�
 use Rattle.std.specs.Prelude.{if◌then◌else◌, List, [], ◌∷◌}
 use Rattle.std.specs.Prelude.{◌++◌, length}
 use Rattle.std.specs.Prelude.{drop, find, slice_index, slice_range, Option, Some, None, option_map, Result, Ok, Err}
-use Rattle.std.specs.List.{flat_map}
+use Rattle.std.specs.List.{flat_map, list_any}
 use Rattle.ckd_track.specs.declared.geometries.Geometry.{Geometry}
 use Rattle.volume_labels.specs.declared.fields.RelativeAddress.{RelativeAddress}
 use Rattle.volume_labels.specs.declared.fields.Extent.{Extent}
 use Rattle.volume_labels.specs.declared.blocks.DataSetBlock.{DataSetBlock}
 use Rattle.volume_labels.specs.Labels.{data_set_block_of}
+use Rattle.volume_labels.specs.Addresses.{is_split}
 use Rattle.volume_labels.specs.declared.directories.DirectoryEntry.{DirectoryEntry}
 use Rattle.volume_labels.specs.declared.directories.DirectoryStep.{DirectoryStep}
 use Rattle.volume_labels.specs.declared.directories.DirectoryStep.TheVariants as step
@@ -20,6 +21,7 @@ use Rattle.dasd_extract.specs.Walk.{Wanted, wanted, source_written}
 use Rattle.dasd_extract.specs.Members.{directory}
 use Rattle.dasd_extract.specs.declared.blocks.ExtractedForm.TheVariants.{Keyed}
 use Rattle.set_forms.specs.declared.forms.SetForm.{SetForm}
+use Rattle.set_forms.specs.declared.forms.SetDetails.{SetDetails}
 use Rattle.set_forms.specs.declared.forms.EntryForm.{EntryForm}
 use Rattle.set_forms.specs.declared.forms.Note.{Note}
 use Rattle.set_forms.specs.declared.forms.Note.TheVariants.{Block, Address}
@@ -30,9 +32,18 @@ use Rattle.dasd_jobs.specs.Written.{Replaced, with_file}
 use Rattle.dasd_unload.specs.declared.fault.UnloadFault.{UnloadFault}
 use Rattle.dasd_unload.specs.Parts.{is_partitioned}
 
+-- the types of extents that are no plain ones: 80 where one shares its cylinders, 40 where one is for user labels
+abbrev pub extent_types : List Extent → ℕ
+extent_types extents = (if list_any is_split extents then 0x80 else 0) + (if list_any (λ e. e.kind == 0x40) extents then 0x40 else 0)
+
+-- what is told of the volume and the extents of a data set; nothing of one that is on one volume, in plain extents
+abbrev pub set_details : DataSetBlock → List Extent → Option SetDetails
+set_details d extents =
+    if nat_le d.volume 1 && (extent_types extents == 0) then None else Some (record { volume = d.volume; extents = extent_types extents })
+
 -- what a label says
-abbrev pub set_form : DataSetBlock → (directory : Option ℕ) → SetForm
-set_form d directory = record {
+abbrev pub set_form : DataSetBlock → List Extent → (directory : Option ℕ) → SetForm
+set_form d extents directory = record {
   name = d.name;
   organisation = d.organisation;
   format = d.format;
@@ -42,6 +53,7 @@ set_form d directory = record {
   created = d.created;
   expires = d.expires;
   directory = directory;
+  details = set_details d extents;
 }
 
 -- how many blocks of 256 bytes a directory has, up to 65535
@@ -150,12 +162,13 @@ directory_lines extents entries bytes g slots =
 -- a partitioned data set with these blocks of its directory
 abbrev pub library_forms : DataSetBlock → List Extent → (bytes : List ℕ) → Geometry → (slots : List (List ℕ)) → List FormLine
 library_forms d extents bytes g slots =
-    Set (set_form d (Some (directory_blocks bytes))) ∷ directory_lines extents (entries_of bytes).entries bytes g slots
+    Set (set_form d extents (Some (directory_blocks bytes))) ∷ directory_lines extents (entries_of bytes).entries bytes g slots
 
 -- a data set with these extents
 abbrev pub set_forms : DataSetBlock → List Extent → Geometry → (slots : List (List ℕ)) → List FormLine
 set_forms d extents g slots =
-    if is_partitioned d then library_forms d extents (source_written (directory extents) g slots).bytes g slots else Set (set_form d None) ∷ []
+    if is_partitioned d then library_forms d extents (source_written (directory extents) g slots).bytes g slots
+    else Set (set_form d extents None) ∷ []
 
 -- a format 1 block is that of a data set; no other is
 abbrev pub block_forms : List table.Block → table.Block → Geometry → (slots : List (List ℕ)) → List FormLine

@@ -205,11 +205,12 @@ pub(crate) fn write_library<V: SlotReader>(
     let Ok(directory) = read_directory(alloc, bytes) else {
         return Err(NO_MEMORY);
     };
-    let form = set_form(&set.block, Some(directory_blocks(bytes)));
+    let extents = set.extents.as_slice();
+    let form = set_form(&set.block, extents, Some(directory_blocks(bytes)));
     push(alloc, text, FormLine::Set(form))?;
     let library = Library {
         alloc,
-        extents: set.extents.as_slice(),
+        extents,
         entries: directory.entries.as_slice(),
         bytes,
     };

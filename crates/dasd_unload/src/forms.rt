@@ -1,14 +1,22 @@
 //! What the text of a folder says of a data set and of the entries of its directory, by its label and by blocks that were read.
 
-ghost use Rattle.std.specs.Prelude.{◌≡◌, ◌≤◌, ◌*◌, ◌++◌, ◌∷◌, [], None, Some, length, OnOk};
+ghost use Rattle.volume_labels.specs.Addresses.{is_split};
+ghost use Rattle.std.specs.Prelude.{◌≡◌, ◌≤◌, ◌==◌, ◌*◌, ◌++◌, ◌∷◌, [], None, Some, length, OnOk};
 ghost use Rattle.set_forms.specs.Forms.{text_of};
-ghost use Rattle.dasd_unload.specs.Described.{set_form, directory_blocks, is_same_place, member_named, note_count, entry_form, user_data, block_size};
+ghost use Rattle.dasd_unload.specs.Described.{extent_types, set_details, set_form, directory_blocks, is_same_place, member_named, note_count, entry_form, user_data, block_size};
 ghost use Rattle.dasd_unload.specs.Described.{block_count, ends_with, block_led_to};
 
 use arrayvec::ArrayVec;
-use set_forms::{EntryForm, FormLine, Note, SetForm, write_form};
+use set_forms::{EntryForm, FormLine, Note, SetDetails, SetForm, write_form};
 use std::alloc::{AllocError, Global};
-use volume_labels::{DIRECTORY_BLOCK, DataSetBlock, DirectoryEntry, RelativeAddress};
+use volume_labels::{
+    DIRECTORY_BLOCK, DataSetBlock, DirectoryEntry, Extent, RelativeAddress, is_split,
+};
+
+/// The types of an extent for user labels, and of one that shares its cylinders.
+const USER_LABELS: u8 = 0x40;
+
+const SHARED: u8 = 0x80;
 
 /// The length of a note in user data, in bytes.
 pub(crate) const NOTE: usize = 4;
@@ -16,9 +24,40 @@ pub(crate) const NOTE: usize = 4;
 /// How many bytes stand before the key of a block that is written with its lengths.
 const LENGTHS: usize = 4;
 
-/// What the label of a data set says.
-pub(crate) fn set_form(block: &DataSetBlock, directory: Option<u16>) -> SetForm
-    ensures { result ≡ set_form block.now directory }
+// The types of extents that are no plain ones: 0x80 where one shares its cylinders, 0x40 where one is for user labels.
+fn extent_types(extents: &[Extent]) -> u8
+    ensures { result ≡ extent_types extents.now }
+{
+    let shared = extents.iter().any(
+        |extent: &Extent| -> bool
+            ensures { result ≡ is_split extent.now }
+        { is_split(*extent) },
+    );
+    let labelled = extents.iter().any(
+        |extent: &Extent| -> bool
+            ensures { result ≡ (extent.now.kind == 0x40) }
+        { extent.kind == USER_LABELS },
+    );
+    let shared = if shared { SHARED } else { 0 };
+    let labelled = if labelled { USER_LABELS } else { 0 };
+    shared + labelled
+}
+
+// What is told of the volume and the extents of a data set; nothing of one that is on one volume, in plain extents.
+fn set_details(block: &DataSetBlock, extents: &[Extent]) -> Option<SetDetails>
+    ensures { result ≡ set_details block.now extents.now }
+{
+    let volume = block.volume;
+    let extents = extent_types(extents);
+    if volume <= 1 && extents == 0 {
+        return None;
+    }
+    Some(SetDetails { volume, extents })
+}
+
+/// What the label of a data set with these extents says.
+pub(crate) fn set_form(block: &DataSetBlock, extents: &[Extent], directory: Option<u16>) -> SetForm
+    ensures { result ≡ set_form block.now extents.now directory }
 {
     SetForm {
         name: block.name,
@@ -30,6 +69,7 @@ pub(crate) fn set_form(block: &DataSetBlock, directory: Option<u16>) -> SetForm
         created: block.created,
         expires: block.expires,
         directory,
+        details: set_details(block, extents),
     }
 }
 
@@ -169,8 +209,9 @@ pub(crate) fn write_set(
     alloc: Global,
     text: &mut Vec<u8>,
     block: &DataSetBlock,
+    extents: &[Extent],
 ) -> Result<(), AllocError>
-    ensures { OnOk result (text.new.items ≡ text.old.items ++ text_of (FormLine.Set (set_form block.now None) ∷ [])) }
+    ensures { OnOk result (text.new.items ≡ text.old.items ++ text_of (FormLine.Set (set_form block.now extents.now None) ∷ [])) }
 {
-    write_form(alloc, text, &FormLine::Set(set_form(block, None)))
+    write_form(alloc, text, &FormLine::Set(set_form(block, extents, None)))
 }

@@ -27,7 +27,7 @@ fn describe_set<V: SlotReader>(
     ensures kept { V.volume volume.new ≡ V.volume volume.old }
 {
     if !is_partitioned(&set.block) {
-        return match write_set(alloc, text, &set.block) {
+        return match write_set(alloc, text, &set.block, set.extents.as_slice()) {
             Ok(()) => Ok(()),
             Err(_) => Err(NO_MEMORY),
         };

@@ -22,6 +22,7 @@ module _ (added : AddedMember) (g : Geometry) (slots : List (List ℕ)) where
   not_read (fault.Refused (refusal.Volume r)) why = why
   not_read (fault.Refused (refusal.Read r)) why = why
   not_read (fault.Refused refusal.NameTaken) why = elim why [ ]
+  not_read (fault.Refused (refusal.NoteList n)) why = elim why [ ]
   not_read (fault.Refused (refusal.Content r)) why = elim why [ ]
   not_read (fault.Refused (refusal.Deletion r)) why = elim why [ ]
   not_read (fault.Refused (refusal.Load r)) why = elim why [ ]
@@ -32,7 +33,8 @@ module _ (added : AddedMember) (g : Geometry) (slots : List (List ℕ)) where
     -- the file has no blocks for it
     pub not_made : (f : NewMemberFault) → IsNotMade f added g.model old → IsNotAdded f added g slots
     not_made (fault.Refused refusal.NameTaken) why = (old, is, why)
-    not_made (fault.Refused (refusal.Content r)) why = (old, is, why.0, why.1)
+    not_made (fault.Refused (refusal.NoteList n)) why = (old, is, why.0, why.1)
+    not_made (fault.Refused (refusal.Content r)) why = (old, is, why.0, why.1, why.2)
     not_made (fault.Refused refusal.NoDataSet) why = elim why [ ]
     not_made (fault.Refused refusal.NotPartitioned) why = elim why [ ]
     not_made (fault.Refused refusal.NoName) why = elim why [ ]
@@ -46,12 +48,13 @@ module _ (added : AddedMember) (g : Geometry) (slots : List (List ℕ)) where
 
     module _ (blocks : List ℕ) (made : MakesBlocks added g.model old blocks) where
       new : HasNew added g slots old blocks
-      new = record { library = is; free = made.0; made = made.1 }
+      new = record { library = is; free = made.0; plain = made.1; made = made.2 }
 
       -- its data set is not deleted
       pub not_deleted : (f : NewMemberFault) → IsNotDeleted f added.library g slots → IsNotAdded f added g slots
       not_deleted (fault.Refused (refusal.Deletion r)) why = (old, blocks, new, why)
       not_deleted (fault.Refused refusal.NameTaken) why = elim why [ ]
+      not_deleted (fault.Refused (refusal.NoteList n)) why = elim why [ ]
       not_deleted (fault.Refused (refusal.Content r)) why = elim why [ ]
       not_deleted (fault.Refused refusal.NoDataSet) why = elim why [ ]
       not_deleted (fault.Refused refusal.NotPartitioned) why = elim why [ ]
@@ -79,6 +82,7 @@ module _ (added : AddedMember) (g : Geometry) (slots : List (List ℕ)) where
             (between, l, record { library = old; blocks = blocks; new = new; deleted = deleted; is = of }, why)
         not_put (fault.Refused (refusal.Deletion r)) why = elim why [ ]
         not_put (fault.Refused refusal.NameTaken) why = elim why [ ]
+        not_put (fault.Refused (refusal.NoteList n)) why = elim why [ ]
         not_put (fault.Refused (refusal.Content r)) why = elim why [ ]
         not_put (fault.Refused refusal.NoDataSet) why = elim why [ ]
         not_put (fault.Refused refusal.NotPartitioned) why = elim why [ ]

@@ -12,12 +12,15 @@ use Rattle.loaded_sets.specs.declared.place_fault.PlaceFault.{PlaceFault}
 use Rattle.loaded_sets.specs.declared.place_fault.PlaceFault.TheVariants as place
 use Rattle.loaded_sets.specs.Volumes.{Labelled, SaysOf, IsUnfit, all_findings}
 use Rattle.loaded_sets.proofs.Fits.{fit}
+use Rattle.loaded_sets.specs.declared.contents.KeptLabel.{KeptLabel}
 use Rattle.loaded_folders.specs.declared.added.OldLibrary.{OldLibrary}
+use Rattle.loaded_folders.specs.declared.old.LibrarySet.{LibrarySet}
 use Rattle.loaded_folders.specs.Faults.{NewMemberFault}
 use Rattle.changed_volumes.specs.declared.fault.ChangeFault.TheVariants as fault
 use Rattle.loaded_folders.specs.declared.member_fault.NewMemberRefusal.TheVariants as refusal
 use Rattle.loaded_folders.specs.Faults.{placing_fault}
-use Rattle.loaded_folders.specs.Libraries.{found_library, library_block, library_unless_unfit, label_in, IsReadOf, IsOld, IsNotRead}
+use Rattle.loaded_folders.specs.Libraries.{found_library, library_block, library_unless_unfit, kept_in, label_in, IsReadOf, IsOld}
+use Rattle.loaded_folders.specs.Libraries.{IsNotRead}
 use Rattle.loaded_folders.specs.MemberParts.{IsNoLibrary, IsLibrarySet, IsNotReadIn}
 
 -- what is known where a call went well, or failed
@@ -50,6 +53,7 @@ module _ (g : Geometry) (slots : List (List ℕ)) (v : Labelled) (says : SaysOf 
     no_library (fault.Refused (refusal.Volume r)) why = elim why [ ]
     no_library (fault.Refused (refusal.Read r)) why = elim why [ ]
     no_library (fault.Refused refusal.NameTaken) why = elim why [ ]
+    no_library (fault.Refused (refusal.NoteList n)) why = elim why [ ]
     no_library (fault.Refused (refusal.Content r)) why = elim why [ ]
     no_library (fault.Refused (refusal.Deletion r)) why = elim why [ ]
     no_library (fault.Refused (refusal.Load r)) why = elim why [ ]
@@ -61,12 +65,15 @@ module _ (g : Geometry) (slots : List (List ℕ)) (v : Labelled) (says : SaysOf 
       at : set.extents.items ≡ extents_behind (contents_of g slots).blocks b
       at = of.extents ∙ ap (λ (l : List Block). extents_behind l b) (sym says.blocks)
 
-      read_so : (old : OldLibrary) → IsReadOf set.block set.extents.items g slots old → IsOld name g slots old
-      read_so old read = record {
+      read_so : (kept : KeptLabel) → kept ≡ kept_in v.geometry b set.extents.items → (old : OldLibrary)
+          → IsReadOf set.block kept set.extents.items g slots old → IsOld name g slots old
+      read_so kept keeps old read = record {
         block = b;
         found = found ∙ is;
-        read = subst (λ (e : List Extent). IsReadOf (label_in b) e g slots old) at
-            (subst (λ (d : DataSetBlock). IsReadOf d set.extents.items g slots old) of.block read);
+        read = subst (λ (e : List Extent). IsReadOf (label_in b) (kept_in g b e) e g slots old) at
+            (subst (λ (d : DataSetBlock). IsReadOf d (kept_in g b set.extents.items) set.extents.items g slots old) of.block
+            (subst (λ (k : KeptLabel). IsReadOf set.block k set.extents.items g slots old)
+            (keeps ∙ ap (λ (h : Geometry). kept_in h b set.extents.items) says.geometry) read));
       }
 
       unread : (f : NewMemberFault) → IsNotReadIn f set.extents.items g slots → IsNotRead f name g slots
@@ -81,16 +88,17 @@ module _ (g : Geometry) (slots : List (List ℕ)) (v : Labelled) (says : SaysOf 
       unread (fault.Refused refusal.NoMemberName) why = elim why [ ]
       unread (fault.Refused (refusal.Volume r)) why = elim why [ ]
       unread (fault.Refused refusal.NameTaken) why = elim why [ ]
+      unread (fault.Refused (refusal.NoteList n)) why = elim why [ ]
       unread (fault.Refused (refusal.Content r)) why = elim why [ ]
       unread (fault.Refused (refusal.Deletion r)) why = elim why [ ]
       unread (fault.Refused (refusal.Load r)) why = elim why [ ]
       unread (fault.Job f) why = why
       unread (fault.Save f) why = elim why [ ]
 
-    pub old_read : (set : DataSet) → IsLibrarySet v.blocks name set → (old : OldLibrary)
-        → IsReadOf set.block set.extents.items g slots old → IsOld name g slots old
-    old_read set (b, is, of) old read = read_so set b is of old read
+    pub old_read : (l : LibrarySet) → IsLibrarySet v.geometry v.blocks name l → (old : OldLibrary)
+        → IsReadOf l.set.block l.kept l.set.extents.items g slots old → IsOld name g slots old
+    old_read l (b, is, of, keeps) old read = read_so l.set b is of l.kept keeps old read
 
-    pub old_unread : (set : DataSet) → IsLibrarySet v.blocks name set → (f : NewMemberFault)
-        → IsNotReadIn f set.extents.items g slots → IsNotRead f name g slots
-    old_unread set (b, is, of) f why = unread set b is of f why
+    pub old_unread : (l : LibrarySet) → IsLibrarySet v.geometry v.blocks name l → (f : NewMemberFault)
+        → IsNotReadIn f l.set.extents.items g slots → IsNotRead f name g slots
+    old_unread l (b, is, of, keeps) f why = unread l.set b is of f why

@@ -1,5 +1,5 @@
 -- Faults, by what they tell.
-use Rattle.std.proofs.Common.{◌≡◌, ◌∙◌, ap, sym, refl, subst, List, [], ◌∷◌, ◌++◌, ℕ, None, Some, Result, inl, inr, append_assoc}
+use Rattle.std.proofs.Common.{◌≡◌, ◌∙◌, ap, sym, refl, subst, List, [], ◌∷◌, ◌++◌, ℕ, Option, None, Some, Result, Ok, Err, IfOk, IfErr, inl, inr, append_assoc}
 use Rattle.ckd_track.specs.declared.geometries.Geometry.{Geometry}
 use Rattle.dasd_jobs.specs.Sources.{SourceFile, ReadsFront}
 use Rattle.dasd_unload.specs.Volumes.{path_in}
@@ -13,14 +13,17 @@ use Rattle.loaded_sets.specs.declared.libraries.LoadedLibrary.{LoadedLibrary}
 use Rattle.loaded_sets.specs.LoadedLibraries as library
 use Rattle.loaded_folders.specs.declared.entries.Unled.{Unled}
 use Rattle.loaded_folders.specs.declared.fault.FolderEntryFault.{FolderEntryFault}
+use Rattle.loaded_folders.specs.declared.fault.Uncarried.{Uncarried}
 use Rattle.loaded_folders.specs.Faults.{FolderFault}
 use Rattle.changed_volumes.specs.declared.fault.ChangeFault.TheVariants as fault
 use Rattle.loaded_folders.specs.declared.fault.FolderRefusal.TheVariants as refusal
 use Rattle.loaded_folders.specs.Sets.{FolderSet}
 use Rattle.loaded_folders.specs.Entries.{EntryParts, EntryRefused, entry_parts, entries_of, entries_behind, on_entry}
 use Rattle.loaded_folders.specs.Reading.{ReadsFiles}
-use Rattle.loaded_folders.specs.Loads.{IsSequential, IsPartitioned, IsStopped, GetsAll}
+use Rattle.loaded_folders.specs.Loads.{uncarried, IsSequential, IsPartitioned, IsRefusedBy, IsStopped, GetsBy, GetsOne}
+use Rattle.loaded_folders.specs.Loads.{GetsAll}
 use Rattle.loaded_folders.specs.Parts.{IsUnled, TellsUnled, TellsEntry, IsNoFile, IsNoMemory, StopsReading, IsToldOf, IsNotBy, IsNotOne}
+use Rattle.loaded_folders.specs.Parts.{IsUncarried}
 use Rattle.loaded_folders.proofs.Chains.{reads_more}
 
 -- the first entry that leads nowhere
@@ -34,6 +37,7 @@ entry_told (fault.Refused refusal.TooLong) data_set name why made next unled tol
 entry_told (fault.Refused (refusal.Line n f)) data_set name why made next unled told = elim told [ ]
 entry_told (fault.Refused (refusal.NoFile n)) data_set name why made next unled told = elim told [ ]
 entry_told (fault.Refused (refusal.Load n f)) data_set name why made next unled told = elim told [ ]
+entry_told (fault.Refused (refusal.Uncarried n f)) data_set name why made next unled told = elim told [ ]
 entry_told (fault.Save f) data_set name why made next unled told = elim told [ ]
 
 -- the same, of the entries behind it
@@ -71,6 +75,7 @@ module _ (folder : List ℕ) (names first others : List (List ℕ)) (n : List �
     read_stops (fault.Refused (refusal.Line k f)) z same is = elim is [ ]
     read_stops (fault.Refused (refusal.Entry k f)) z same is = elim is [ ]
     read_stops (fault.Refused (refusal.Load k f)) z same is = elim is [ ]
+    read_stops (fault.Refused (refusal.Uncarried k f)) z same is = elim is [ ]
     read_stops (fault.Save f) z same is = elim is [ ]
 
     -- it was, and there is no memory for its bytes
@@ -101,6 +106,7 @@ module _ (source : SourceForm) (s : FolderSet) (g : Geometry) (slots : List (Lis
   set_told l (fault.Refused (refusal.Line n x)) f is why told = elim told [ ]
   set_told l (fault.Refused (refusal.NoFile n)) f is why told = elim told [ ]
   set_told l (fault.Refused (refusal.Entry n x)) f is why told = elim told [ ]
+  set_told l (fault.Refused (refusal.Uncarried n x)) f is why told = elim told [ ]
 
   module _ (blocks : ℕ) where
     -- a library is not loaded
@@ -115,6 +121,7 @@ module _ (source : SourceForm) (s : FolderSet) (g : Geometry) (slots : List (Lis
     library_told l (fault.Refused (refusal.Line n x)) f is why told = elim told [ ]
     library_told l (fault.Refused (refusal.NoFile n)) f is why told = elim told [ ]
     library_told l (fault.Refused (refusal.Entry n x)) f is why told = elim told [ ]
+    library_told l (fault.Refused (refusal.Uncarried n x)) f is why told = elim told [ ]
 
     -- an entry of it leads nowhere
     pub no_entry : (r : FolderFault) → TellsEntry r s.lines.form.name (entries_of s.lines.entries)
@@ -125,7 +132,48 @@ module _ (source : SourceForm) (s : FolderSet) (g : Geometry) (slots : List (Lis
     no_entry (fault.Refused (refusal.Line n f)) told = elim told [ ]
     no_entry (fault.Refused (refusal.NoFile n)) told = elim told [ ]
     no_entry (fault.Refused (refusal.Load n f)) told = elim told [ ]
+    no_entry (fault.Refused (refusal.Uncarried n f)) told = elim told [ ]
     no_entry (fault.Save f) told = elim told [ ]
+
+module _ (source : SourceForm) (s : FolderSet) (g : Geometry) (slots : List (List ℕ)) where
+  -- the folder does not carry a data set
+  pub not_carried : (why : Uncarried) → uncarried s.lines.form ≡ Some why → (f : FolderFault) → IsUncarried f s.lines.form.name why
+      → IsNotOne f source s g slots
+  not_carried why is (fault.Refused (refusal.Uncarried n x)) (spelled, same) = (spelled, is ∙ ap Some (sym same))
+  not_carried why is (fault.Job j) told = subst IsHindered (sym told) tt
+  not_carried why is (fault.Refused (refusal.Load n x)) told = elim told [ ]
+  not_carried why is (fault.Refused (refusal.Entry n x)) told = elim told [ ]
+  not_carried why is (fault.Refused refusal.TooLong) told = elim told [ ]
+  not_carried why is (fault.Refused (refusal.Line n x)) told = elim told [ ]
+  not_carried why is (fault.Refused (refusal.NoFile n)) told = elim told [ ]
+  not_carried why is (fault.Save x) told = elim told [ ]
+
+  -- it does, and the data set is not loaded
+  pub not_one : uncarried s.lines.form ≡ None → (directory : Option ℕ) → s.lines.form.directory ≡ directory → (f : FolderFault)
+      → IsNotBy directory f source s g slots → IsNotOne f source s g slots
+  not_one carried directory is (fault.Refused (refusal.Load n x)) why =
+      (carried, subst (λ (d : Option ℕ). IsRefusedBy d (refusal.Load n x) source s g slots) (sym is) why)
+  not_one carried directory is (fault.Refused (refusal.Entry n x)) why =
+      (carried, subst (λ (d : Option ℕ). IsRefusedBy d (refusal.Entry n x) source s g slots) (sym is) why)
+  not_one carried directory is (fault.Job j) why = why
+  not_one carried directory is (fault.Save x) why = why
+  not_one carried directory is (fault.Refused (refusal.Uncarried n x)) why = elim why [ ]
+  not_one carried directory is (fault.Refused refusal.TooLong) why = elim why [ ]
+  not_one carried directory is (fault.Refused (refusal.Line n x)) why = elim why [ ]
+  not_one carried directory is (fault.Refused (refusal.NoFile n)) why = elim why [ ]
+
+  -- the same of a call
+  pub gets_one : uncarried s.lines.form ≡ None → (directory : Option ℕ) → s.lines.form.directory ≡ directory → (r : Result ℕ FolderFault)
+      (now : List (List ℕ)) → IfOk r (λ tracks. GetsBy directory source s g slots tracks now)
+      → IfOk r (λ tracks. GetsOne source s g slots tracks now)
+  gets_one carried directory is (Ok tracks) now loaded =
+      (carried, subst (λ (d : Option ℕ). GetsBy d source s g slots tracks now) (sym is) loaded)
+  gets_one carried directory is (Err f) now loaded = tt
+
+  pub not_one_if : uncarried s.lines.form ≡ None → (directory : Option ℕ) → s.lines.form.directory ≡ directory → (r : Result ℕ FolderFault)
+      → IfErr r (λ f. IsNotBy directory f source s g slots) → IfErr r (λ f. IsNotOne f source s g slots)
+  not_one_if carried directory is (Ok tracks) why = tt
+  not_one_if carried directory is (Err f) why = not_one carried directory is f why
 
 module _ (source : SourceForm) (sets done others : List FolderSet) (s : FolderSet) (all : sets ≡ done ++ s ∷ others) (g : Geometry) where
   module _ (a b : List (List ℕ)) (lines : List ℕ) (loaded : GetsAll source done g a b lines) where

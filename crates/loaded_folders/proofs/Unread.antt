@@ -25,6 +25,7 @@ no_text (fault.Job f) folder a z why = (why.0, inl why.1)
 no_text (fault.Refused (refusal.Line n f)) folder a z why = elim why.0 [ ]
 no_text (fault.Refused (refusal.Entry n f)) folder a z why = elim why.0 [ ]
 no_text (fault.Refused (refusal.Load n f)) folder a z why = elim why.0 [ ]
+no_text (fault.Refused (refusal.Uncarried n f)) folder a z why = elim why.0 [ ]
 no_text (fault.Save f) folder a z why = elim why.0 [ ]
 
 module _ (folder text : List ℕ) (a m : List SourceFile) (has : HasText folder text a m) where
@@ -36,6 +37,7 @@ module _ (folder text : List ℕ) (a m : List SourceFile) (has : HasText folder 
   wrong (fault.Refused (refusal.NoFile n)) why = elim why [ ]
   wrong (fault.Refused (refusal.Entry n f)) why = elim why [ ]
   wrong (fault.Refused (refusal.Load n f)) why = elim why [ ]
+  wrong (fault.Refused (refusal.Uncarried n f)) why = elim why [ ]
   wrong (fault.Save f) why = elim why [ ]
 
   -- there is no memory behind it
@@ -63,6 +65,7 @@ module _ (folder text : List ℕ) (a m : List SourceFile) (has : HasText folder 
       unread (fault.Refused (refusal.Line n f)) why = elim why [ ]
       unread (fault.Refused (refusal.Entry n f)) why = elim why [ ]
       unread (fault.Refused (refusal.Load n f)) why = elim why [ ]
+      unread (fault.Refused (refusal.Uncarried n f)) why = elim why [ ]
       unread (fault.Save f) why = elim why [ ]
 
       module _ (bytes : List (List ℕ)) (read : ReadsFiles folder names bytes m z) where

@@ -1,5 +1,5 @@
 -- A library with a member that was put into it.
-use Rattle.std.specs.Prelude.{◌≡◌, ℕ, Bool, true, false, List, [], ◌∷◌, ◌++◌, map, length, Ok, Err}
+use Rattle.std.specs.Prelude.{◌≡◌, ℕ, Bool, true, false, List, [], ◌∷◌, ◌++◌, map, length, Option, Some, None, Ok, Err}
 use Rattle.std.specs.Global.{Vec}
 use Rattle.ckd_track.specs.declared.geometries.Geometry.{Geometry}
 use Rattle.changed_volumes.specs.declared.images.VolumeChange.TheVariants.{Delete}
@@ -13,14 +13,15 @@ use Rattle.loaded_folders.specs.Faults.{NewMemberFault}
 use Rattle.loaded_folders.specs.declared.member_fault.NewMemberRefusal.{NewMemberRefusal}
 use Rattle.loaded_folders.specs.declared.member_fault.NewMemberRefusal.TheVariants as refusal
 use Rattle.loaded_folders.specs.Libraries.{IsOld, RefusesOld}
-use Rattle.loaded_folders.specs.MemberEntries.{said_by, new_entry, with_entry, names_member}
+use Rattle.loaded_folders.specs.MemberEntries.{said_by, new_entry, with_entry, names_member, note_list}
 use Rattle.loaded_folders.specs.Contents.{member_blocks}
 
--- The library that is put onto the volume: the name, the label and the directory's size of the old one; its entries, with one for the new
+-- The library that is put onto the volume: the name, the label, the tracks and the directory's size of the old one; its entries, with one for the new
 -- member; and its members, with the new one behind them, each with the lengths and the keys of its blocks.
 pub record IsNewLibrary (added : AddedMember) (old : OldLibrary) (blocks : List ℕ) (l : LoadedLibrary) : Type 0 where
   pub name : l.name ≡ added.library
   pub form : l.form ≡ old.form
+  pub kept : l.kept ≡ old.kept
   pub source : l.source ≡ WithLengths
   pub directory_blocks : l.directory_blocks ≡ old.directory_blocks
   pub entries : map said_by l.entries.now
@@ -31,10 +32,16 @@ pub record IsNewLibrary (added : AddedMember) (old : OldLibrary) (blocks : List 
 abbrev pub is_taken : AddedMember → OldLibrary → Bool
 is_taken added old = names_member added.name old.contents.entries.items
 
--- A volume of these slots has the library; no member of it has the name; and the file has these blocks for it.
+-- the first entry of it that leads to a note list, a block that has addresses of others itself; its number, from 1 on
+abbrev pub list_in : OldLibrary → Option ℕ
+list_in old = note_list old.contents.entries.items
+
+-- A volume of these slots has the library; no member of it has the name; no entry of it leads to a note list; and the file has these blocks
+-- for the member.
 pub record HasNew (added : AddedMember) (g : Geometry) (slots : List (List ℕ)) (old : OldLibrary) (blocks : List ℕ) : Type 0 where
   pub library : IsOld added.library g slots old
   pub free : is_taken added old ≡ false
+  pub plain : list_in old ≡ None
   pub made : member_blocks g.model old.form added ≡ Ok blocks
 
 -- behind the deletion of the old data set the slots are these, onto which this library is to be put
@@ -52,12 +59,15 @@ pub record Added (added : AddedMember) (g : Geometry) (before : List (List ℕ))
   pub deleted : IsDeleted added g before between library
   pub loaded : Loaded library g between tracks now
 
--- Why a library does not get a member: it is not there or not whole; a member of it has the name; the file has no blocks for it; its data
--- set is not deleted; or the library with the member is not put onto the volume.
+-- Why a library does not get a member: it is not there or not whole; a member of it has the name; an entry of it leads to a note list, whose
+-- addresses would be wrong behind it; the file has no blocks for it; its data set is not deleted; or the library with the member is not put onto the volume.
 abbrev pub Refuses : NewMemberRefusal → AddedMember → Geometry → (slots : List (List ℕ)) → Type 0
 Refuses refusal.NameTaken added g slots = (old : OldLibrary) × IsOld added.library g slots old × (is_taken added old ≡ true)
+Refuses (refusal.NoteList n) added g slots =
+    (old : OldLibrary) × IsOld added.library g slots old × (is_taken added old ≡ false) × (list_in old ≡ Some n)
 Refuses (refusal.Content f) added g slots =
-    (old : OldLibrary) × IsOld added.library g slots old × (is_taken added old ≡ false) × (member_blocks g.model old.form added ≡ Err f)
+    (old : OldLibrary) × IsOld added.library g slots old × (is_taken added old ≡ false) × (list_in old ≡ None)
+    × (member_blocks g.model old.form added ≡ Err f)
 Refuses (refusal.Deletion r) added g slots =
     (old : OldLibrary) × (blocks : List ℕ) × HasNew added g slots old blocks × (changed_by (Delete added.library) g slots ≡ Err r)
 Refuses (refusal.Load r) added g slots =

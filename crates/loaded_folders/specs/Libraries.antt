@@ -11,6 +11,8 @@ use Rattle.set_forms.specs.Forms.{is_partitioned}
 use Rattle.volume_contents.specs.declared.blocks.Block.{Block}
 use Rattle.volume_contents.specs.Contents.{Said, contents_of, block_in}
 use Rattle.volume_contents.specs.Sets.{extents_behind, has_name}
+use Rattle.volume_contents.specs.Tracks.{tracks_owned}
+use Rattle.new_labels.specs.SetBlocks.{fields_of}
 use Rattle.library_contents.specs.declared.contents.LibraryContents.{LibraryContents}
 use Rattle.library_contents.specs.declared.contents.LibraryReadFault.{LibraryReadFault}
 use Rattle.library_contents.specs.declared.contents.LibraryReadFault.TheVariants as read
@@ -20,6 +22,7 @@ use Rattle.changed_volumes.specs.Changes.{IsNotDone}
 use Rattle.loaded_sets.specs.declared.place_fault.PlaceRefusal.{PlaceRefusal}
 use Rattle.loaded_sets.specs.Volumes.{unfit_of}
 use Rattle.loaded_sets.specs.declared.contents.NewSetForm.{NewSetForm}
+use Rattle.loaded_sets.specs.declared.contents.KeptLabel.{KeptLabel}
 use Rattle.loaded_folders.specs.declared.added.OldLibrary.{OldLibrary}
 use Rattle.loaded_folders.specs.Faults.{NewMemberFault}
 use Rattle.loaded_folders.specs.declared.member_fault.NewMemberRefusal.{NewMemberRefusal}
@@ -34,6 +37,10 @@ form_in d = record {
   created = d.created;
   expires = d.expires;
 }
+
+-- what a library keeps with this control block and these extents: how many tracks it has, and what else its label says
+abbrev pub kept_in : Geometry → Block → List Extent → KeptLabel
+kept_in g b extents = record { tracks = tracks_owned g extents; fields = fields_of b.bytes }
 
 -- what the label of a control block says
 abbrev pub label_in : Block → DataSetBlock
@@ -66,9 +73,11 @@ directory_blocks extents g slots = length (source_written (directory extents) g 
 abbrev pub GivesRead : List Extent → Geometry → (slots : List (List ℕ)) → Result LibraryContents LibraryReadFault → Type 0
 GivesRead extents g slots result = GivesLibrary (library_on extents g slots) (directory_bytes (library_on extents g slots)) result
 
--- a library in these extents that has this label
-pub record IsReadOf (d : DataSetBlock) (extents : List Extent) (g : Geometry) (slots : List (List ℕ)) (old : OldLibrary) : Type 0 where
+-- a library in these extents that has this label, and keeps this
+pub record IsReadOf (d : DataSetBlock) (kept : KeptLabel) (extents : List Extent) (g : Geometry) (slots : List (List ℕ)) (old : OldLibrary)
+    : Type 0 where
   pub form : old.form ≡ form_in d
+  pub keeps : old.kept ≡ kept
   pub directory_blocks : old.directory_blocks ≡ directory_blocks extents g slots
   pub contents : GivesRead extents g slots (Ok old.contents)
 
@@ -84,7 +93,8 @@ IsNotWhole (read.NoBlock n) extents g slots = GivesRead extents g slots (Err (re
 pub record IsOld (name : List ℕ) (g : Geometry) (slots : List (List ℕ)) (old : OldLibrary) : Type 0 where
   pub block : Block
   pub found : found_library g name (contents_of g slots) ≡ Ok block
-  pub read : IsReadOf (label_in block) (extents_behind (contents_of g slots).blocks block) g slots old
+  pub read : IsReadOf (label_in block) (kept_in g block (extents_behind (contents_of g slots).blocks block))
+      (extents_behind (contents_of g slots).blocks block) g slots old
 
 -- it has the library, which is not whole
 pub record IsBroken (f : LibraryReadFault) (name : List ℕ) (g : Geometry) (slots : List (List ℕ)) : Type 0 where

@@ -1,15 +1,17 @@
 -- What of a folder is put onto a volume in files, and what that leaves and prints.
-use Rattle.std.specs.Prelude.{◌≡◌, ◌⊎◌, ℕ, List, [], ◌∷◌, ◌++◌, map, slice_index_or, Option, Some, None, Result, Ok, Err, String}
+use Rattle.std.specs.Prelude.{◌≡◌, ◌⊎◌, ℕ, ◌==◌, not, if◌then◌else◌, bit_and, List, [], ◌∷◌, ◌++◌, map, slice_index_or, Option, Some, None, nat_lt, option_and_then, Result, Ok, Err, String}
 use Rattle.std.specs.Global.{Global}
 use Rattle.std.specs.String.{string_bytes}
 use Rattle.ckd_track.specs.declared.geometries.Geometry.{Geometry}
 use Rattle.dasd_jobs.specs.Sources.{SourceFile}
 use Rattle.dasd_unload.specs.Unloads.{file_name}
 use Rattle.set_forms.specs.declared.forms.SetForm.{SetForm}
+use Rattle.set_forms.specs.declared.forms.SetDetails.{SetDetails}
 use Rattle.changed_volumes.specs.Changes.{Changing, IsNotDone}
 use Rattle.changed_volumes.specs.Files.{Around, TellsChange}
 use Rattle.loaded_sets.specs.declared.contents.LoadedSet.{LoadedSet}
 use Rattle.loaded_sets.specs.declared.contents.NewSetForm.{NewSetForm}
+use Rattle.loaded_sets.specs.Contents.{new_label}
 use Rattle.loaded_sets.specs.declared.contents.SourceForm.{SourceForm}
 use Rattle.loaded_sets.specs.declared.fault.LoadRefusal.{LoadRefusal}
 use Rattle.loaded_sets.specs.Loaded as set
@@ -17,6 +19,8 @@ use Rattle.loaded_sets.specs.Loads.{loaded_line}
 use Rattle.loaded_sets.specs.declared.libraries.LoadedLibrary.{LoadedLibrary}
 use Rattle.loaded_sets.specs.LoadedLibraries as library
 use Rattle.loaded_folders.specs.Faults.{FolderFault}
+use Rattle.loaded_folders.specs.declared.fault.Uncarried.{Uncarried}
+use Rattle.loaded_folders.specs.declared.fault.Uncarried.TheVariants.{Direct, Indexed, Part, Shared, UserLabels}
 use Rattle.loaded_folders.specs.declared.fault.FolderRefusal.{FolderRefusal}
 use Rattle.loaded_folders.specs.declared.fault.FolderRefusal.TheVariants as refusal
 use Rattle.loaded_folders.specs.declared.saves.NewFolder.{NewFolder}
@@ -34,10 +38,28 @@ form_of s = record {
   expires = s.expires;
 }
 
+-- why a folder does not carry a data set, by what its line says of its volume and its extents: the other parts of one on several volumes, which
+-- cylinders are shared, and user labels are not in it
+abbrev pub undetailed : SetDetails → Option Uncarried
+undetailed d =
+    if nat_lt 1 d.volume then Some (Part d.volume)
+    else (if not (bit_and d.extents 0x80 == 0) then Some Shared
+    else (if not (bit_and d.extents 0x40 == 0) then Some UserLabels
+    else None))
+
+-- Why a folder does not carry a data set: the blocks of a direct one are found by their places, and an indexed one has indexes (DS1DSORG); or
+-- what its line says of its volume and its extents.
+abbrev pub uncarried : SetForm → Option Uncarried
+uncarried s =
+    if not (bit_and s.organisation 0x2000 == 0) then Some Direct
+    else (if not (bit_and s.organisation 0x8000 == 0) then Some Indexed
+    else option_and_then undetailed s.details)
+
 -- a data set of a folder as one that is loaded: it has the bytes of its file
 pub record IsSequential (source : SourceForm) (s : FolderSet) (l : LoadedSet) : Type 0 where
   pub name : l.name ≡ s.lines.form.name
   pub form : l.form ≡ form_of s.lines.form
+  pub kept : l.kept ≡ new_label
   pub source_is : l.source ≡ source
   pub bytes : l.bytes.now ≡ slice_index_or s.files 0 []
 
@@ -45,20 +67,22 @@ pub record IsSequential (source : SourceForm) (s : FolderSet) (l : LoadedSet) : 
 pub record IsPartitioned (source : SourceForm) (s : FolderSet) (blocks : ℕ) (l : LoadedLibrary) : Type 0 where
   pub name : l.name ≡ s.lines.form.name
   pub form : l.form ≡ form_of s.lines.form
+  pub kept : l.kept ≡ new_label
   pub source_is : l.source ≡ source
   pub directory : l.directory_blocks ≡ blocks
   pub entries : entries_of s.lines.entries ≡ Ok (map member_parts l.entries.now)
   pub members : map (λ m. m.now) l.members.now ≡ s.files
 
--- a volume gets a data set of a folder: a library, where its line says how many blocks its directory has
+-- a volume gets a data set: a library, where its line says how many blocks its directory has
 abbrev pub GetsBy : (directory : Option ℕ) → SourceForm → FolderSet → Geometry → (before : List (List ℕ)) → (tracks : ℕ)
     → (now : List (List ℕ)) → Type 0
 GetsBy None source s g before tracks now = (l : LoadedSet) × IsSequential source s l × set.Loaded l g before tracks now
 GetsBy (Some blocks) source s g before tracks now =
     (l : LoadedLibrary) × IsPartitioned source s blocks l × library.Loaded l g before tracks now
 
+-- a volume gets a data set of a folder, which carries it
 abbrev pub GetsOne : SourceForm → FolderSet → Geometry → (before : List (List ℕ)) → (tracks : ℕ) → (now : List (List ℕ)) → Type 0
-GetsOne source s g before tracks now = GetsBy s.lines.form.directory source s g before tracks now
+GetsOne source s g before tracks now = (uncarried s.lines.form ≡ None) × GetsBy s.lines.form.directory source s g before tracks now
 
 -- what is printed of a data set with so many tracks: its name is that of its file
 abbrev pub line_of : FolderSet → (tracks : ℕ) → List ℕ
@@ -89,6 +113,12 @@ IsRefusedBy directory (refusal.Entry name f) source s g slots =
     (e : List ℕ) × (string_bytes name ≡ file_name s.lines.form.name (Some e)) × EndsAt directory s (record { name = e; fault = f })
 IsRefusedBy directory r source s g slots = ⊥
 
+-- the folder does not carry a data set, for this reason, and it is told by the name of its file; or it does, and it is not loaded
+abbrev pub IsRefusedOne : FolderRefusal → SourceForm → FolderSet → Geometry → (slots : List (List ℕ)) → Type 0
+IsRefusedOne (refusal.Uncarried name why) source s g slots =
+    (string_bytes name ≡ file_name s.lines.form.name None) × (uncarried s.lines.form ≡ Some why)
+IsRefusedOne r source s g slots = (uncarried s.lines.form ≡ None) × IsRefusedBy s.lines.form.directory r source s g slots
+
 -- One of the data sets is not loaded, behind those before it.
 pub record StopsAt (r : FolderRefusal) (source : SourceForm) (sets : List FolderSet) (g : Geometry) (slots : List (List ℕ)) : Type 0 where
   pub done : List FolderSet
@@ -98,7 +128,7 @@ pub record StopsAt (r : FolderRefusal) (source : SourceForm) (sets : List Folder
   pub between : List (List ℕ)
   pub lines : List ℕ
   pub loaded : GetsAll source done g slots between lines
-  pub refused : IsRefusedBy next.lines.form.directory r source next g between
+  pub refused : IsRefusedOne r source next g between
 
 -- why the data sets of a folder are not put onto a volume in memory: one is not loaded; or something hinders it
 abbrev pub IsStopped : FolderFault → SourceForm → List FolderSet → Geometry → (slots : List (List ℕ)) → Type 0

@@ -1,5 +1,5 @@
 -- The entries of a library with one more.
-use Rattle.std.specs.Prelude.{ℕ, Bool, true, false, List, [], ◌∷◌, ◌++◌, map, take, drop, length, bytes_eq, Option, Some, None}
+use Rattle.std.specs.Prelude.{ℕ, ◌+◌, ◌==◌, not, Bool, option_map, true, false, List, [], ◌∷◌, ◌++◌, map, take, drop, length, bytes_eq, Option, Some, None}
 use Rattle.std.specs.List.{position, list_any}
 use Rattle.std.specs.Ordering.{nat_cmp}
 use Rattle.std.specs.Cmp.Lexicographic.{slice_cmp}
@@ -47,6 +47,14 @@ has_name name e = bytes_eq e.entry.name name
 -- one of the entries has it
 abbrev pub names_member : (name : List ℕ) → List ReadEntry → Bool
 names_member name entries = list_any (has_name name) entries
+
+-- an address in its user data leads to a note list: the byte behind it says how many addresses that block has itself
+abbrev pub has_note_list : ReadEntry → Bool
+has_note_list e = list_any (λ n. not (n.count == 0)) e.notes.items
+
+-- the number of the first entry of which one does, from 1 on
+abbrev pub note_list : List ReadEntry → Option ℕ
+note_list entries = option_map (λ i. i + 1) (position has_note_list entries)
 
 -- of two names the first is less in the collating sequence of EBCDIC
 abbrev pub is_less : Ordering → Bool

@@ -1,22 +1,22 @@
 -- How the code holds what the contracts speak of; no public contract names these.
-use Rattle.std.specs.Prelude.{◌≡◌, ℕ, true, false, List, Some, Result, Ok, Err}
+use Rattle.std.specs.Prelude.{◌≡◌, ℕ, true, false, List, Some, None, Result, Ok, Err}
 use Rattle.std.specs.List.{position}
 use Rattle.ckd_track.specs.declared.geometries.Geometry.{Geometry}
 use Rattle.volume_labels.specs.declared.fields.Extent.{Extent}
 use Rattle.dasd_volumes.specs.Reading.{KnownVolume}
 use Rattle.volume_contents.specs.declared.blocks.Block.{Block}
-use Rattle.volume_contents.specs.declared.sets.DataSet.{DataSet}
+use Rattle.loaded_folders.specs.declared.old.LibrarySet.{LibrarySet}
 use Rattle.volume_contents.specs.Sets.{DataSetOf, has_name}
 use Rattle.loaded_folders.specs.Faults.{NewMemberFault}
 use Rattle.changed_volumes.specs.declared.fault.ChangeFault.TheVariants as fault
 use Rattle.loaded_folders.specs.declared.member_fault.NewMemberRefusal.TheVariants as refusal
-use Rattle.loaded_folders.specs.Libraries.{library_block, directory_blocks, IsNotWhole}
+use Rattle.loaded_folders.specs.Libraries.{library_block, kept_in, directory_blocks, IsNotWhole}
 use Rattle.loaded_folders.specs.declared.added.OldLibrary.{OldLibrary}
 use Rattle.changed_volumes.specs.declared.images.VolumeChange.TheVariants.{Delete}
 use Rattle.changed_volumes.specs.Changes.{IsHinderedBy, changed_by}
 use Rattle.loaded_sets.specs.declared.libraries.LoadedLibrary.{LoadedLibrary}
 use Rattle.loaded_sets.specs.LoadedLibraries.{Loaded, Refuses as RefusesLibrary}
-use Rattle.loaded_folders.specs.Added.{is_taken, IsNewLibrary}
+use Rattle.loaded_folders.specs.Added.{is_taken, list_in, IsNewLibrary}
 use Rattle.loaded_folders.specs.MemberEntries.{EntrySaid}
 use Rattle.loaded_folders.specs.declared.member_entries.KeptEntry.{KeptEntry}
 use Rattle.loaded_folders.specs.Contents.{member_blocks, keyed_or_fault}
@@ -31,8 +31,10 @@ use Rattle.loaded_sets.specs.declared.fault.Unmade.TheVariants as unmade
 use Rattle.loaded_sets.specs.Contents.{blocks_fitting}
 
 -- the data set of the library of a name, whose control block is among these
-abbrev pub IsLibrarySet : List Block → (name : List ℕ) → DataSet → Type 0
-IsLibrarySet blocks name set = (b : Block) × (library_block blocks (position (has_name name) blocks) ≡ Ok b) × DataSetOf blocks b set
+abbrev pub IsLibrarySet : Geometry → List Block → (name : List ℕ) → LibrarySet → Type 0
+IsLibrarySet g blocks name library =
+    (b : Block) × (library_block blocks (position (has_name name) blocks) ≡ Ok b) × DataSetOf blocks b library.set
+    × (library.kept ≡ kept_in g b library.set.extents.items)
 
 -- there is none for this reason, or something hinders it
 abbrev pub IsNoLibrary : NewMemberFault → List Block → (name : List ℕ) → Type 0
@@ -69,15 +71,17 @@ IsUnspelled unmade.OutOfMemory model l key_length c bytes = Unit {0}
 abbrev pub kept : KeptEntry → EntrySaid
 kept e = record { name = e.name; member = e.member; is_alias = e.is_alias; notes = e.notes.items; user_data = e.user_data.now }
 
--- no member of the old library has the name, and the file has these blocks for it
+-- no member of the old library has the name, no entry has a note list, and the file has these blocks for it
 abbrev pub MakesBlocks : AddedMember → DriveModel → OldLibrary → (blocks : List ℕ) → Type 0
-MakesBlocks added model old blocks = (is_taken added old ≡ false) × (member_blocks model old.form added ≡ Ok blocks)
+MakesBlocks added model old blocks =
+    (is_taken added old ≡ false) × (list_in old ≡ None) × (member_blocks model old.form added ≡ Ok blocks)
 
 -- one has, or the file has none, or there is no memory
 abbrev pub IsNotMade : NewMemberFault → AddedMember → DriveModel → OldLibrary → Type 0
 IsNotMade (fault.Refused refusal.NameTaken) added model old = is_taken added old ≡ true
+IsNotMade (fault.Refused (refusal.NoteList n)) added model old = (is_taken added old ≡ false) × (list_in old ≡ Some n)
 IsNotMade (fault.Refused (refusal.Content f)) added model old =
-    (is_taken added old ≡ false) × (member_blocks model old.form added ≡ Err f)
+    (is_taken added old ≡ false) × (list_in old ≡ None) × (member_blocks model old.form added ≡ Err f)
 IsNotMade f added model old = IsHinderedBy f
 
 -- the data set is not deleted for this reason, or something hinders it

@@ -19,13 +19,14 @@ use Rattle.loaded_folders.specs.Faults.{FolderFault}
 use Rattle.changed_volumes.specs.declared.fault.ChangeFault.TheVariants as fault
 use Rattle.loaded_folders.specs.declared.fault.FolderRefusal.TheVariants as refusal
 use Rattle.loaded_folders.specs.declared.fault.FolderEntryFault.{FolderEntryFault}
+use Rattle.loaded_folders.specs.declared.fault.Uncarried.{Uncarried}
 use Rattle.loaded_folders.specs.declared.fault.FolderEntryFault.TheVariants.{NoBlock}
 use Rattle.loaded_folders.specs.declared.sets.SetLines as declared_lines
 use Rattle.loaded_folders.specs.declared.sets.FolderSet as declared
 use Rattle.loaded_folders.specs.Sets.{SetLines, FolderSet}
 use Rattle.loaded_folders.specs.Entries.{EntryParts, EntryRefused}
 use Rattle.loaded_folders.specs.Reading.{text_name, ReadsText, ReadsFiles}
-use Rattle.loaded_folders.specs.Loads.{IsRefusedBy, loading_all}
+use Rattle.loaded_folders.specs.Loads.{IsRefusedBy, IsRefusedOne, loading_all}
 
 -- the data set of a text that the code has
 abbrev pub lines_of : declared_lines.SetLines → SetLines
@@ -110,7 +111,13 @@ abbrev pub IsNotBy : (directory : Option ℕ) → FolderFault → SourceForm →
 IsNotBy directory f source s g slots = IsNotDone f (λ r. IsRefusedBy directory r source s g slots)
 
 abbrev pub IsNotOne : FolderFault → SourceForm → FolderSet → Geometry → (slots : List (List ℕ)) → Type 0
-IsNotOne f source s g slots = IsNotBy s.lines.form.directory f source s g slots
+IsNotOne f source s g slots = IsNotDone f (λ r. IsRefusedOne r source s g slots)
+
+-- it is told by the name of its file why a folder does not carry a data set, or there is no memory for that
+abbrev pub IsUncarried : FolderFault → (name : List ℕ) → Uncarried → Type 0
+IsUncarried (fault.Refused (refusal.Uncarried told why)) name is = (string_bytes told ≡ file_name name None) × (why ≡ is)
+IsUncarried (fault.Job other) name is = other ≡ OutOfMemory
+IsUncarried told name is = ⊥
 
 -- there was no memory, and nothing was done; or the data sets of a folder are put onto the volume in files
 abbrev pub TellsRead : {A : Type 0} → Result A FolderFault → SourceForm → List FolderSet → (paths : List (List ℕ))

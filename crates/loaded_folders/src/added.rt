@@ -1,7 +1,7 @@
 //! What is put into a library, and what the library was before.
 
 use library_contents::LibraryContents;
-use loaded_sets::{NewSetForm, SourceForm};
+use loaded_sets::{KeptLabel, NewSetForm, SourceForm};
 
 /// A member that is put into a library.
 #[derive(Clone, Copy)]
@@ -21,6 +21,8 @@ pub struct AddedMember<'a> {
 pub struct OldLibrary {
     /// What its label said.
     pub form: NewSetForm,
+    /// How many tracks it had, and what else its label said.
+    pub kept: KeptLabel,
     /// How many blocks its directory had.
     pub directory_blocks: usize,
     /// The entries of its directory, and its members.

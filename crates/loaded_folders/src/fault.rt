@@ -17,6 +17,26 @@ pub enum FolderEntryFault {
     NoBlock,
 }
 
+/// Why a folder does not carry a data set: its files and its line do not have all that the data set was.
+#[derive(Clone, Copy, Debug, PartialEq, Eq, Error)]
+pub enum Uncarried {
+    /// It is a direct data set: its blocks are found by their places.
+    #[error("a direct data set, whose blocks are found by places that the folder does not have")]
+    Direct,
+    /// It is an indexed sequential data set.
+    #[error("an indexed sequential data set, whose indexes the folder does not have")]
+    Indexed,
+    /// It is the part of this number of a data set on several volumes.
+    #[error("part {0} of a data set on several volumes")]
+    Part(u16),
+    /// It shares cylinders with others.
+    #[error("a data set that shares cylinders with others, which the folder does not say")]
+    Shared,
+    /// It has user labels.
+    #[error("a data set with user labels, which the folder does not have")]
+    UserLabels,
+}
+
 /// Why a volume does not get the data sets of a folder. It stays as it was.
 #[derive(Debug, Drop, Error)]
 pub enum FolderRefusal {
@@ -32,6 +52,9 @@ pub enum FolderRefusal {
     /// An entry of a directory, by the name of its file, leads nowhere.
     #[error("{0}: {1}")]
     Entry(String, FolderEntryFault),
+    /// The folder does not carry a data set, by the name of its file.
+    #[error("{0}: {1}")]
+    Uncarried(String, Uncarried),
     /// The volume does not get a data set, by the name of its file.
     #[error("{0}: {1}")]
     Load(String, LoadRefusal),

@@ -5,21 +5,33 @@ ghost use Rattle.std.specs.String.{string_bytes};
 ghost use Rattle.changed_volumes.specs.Changes.{IsSameImage};
 ghost use Rattle.dasd_unload.specs.Unloads.{file_name};
 ghost use Rattle.loaded_sets.specs.Loads.{loaded_line};
-ghost use Rattle.loaded_folders.specs.Loads.{form_of, IsSequential, GetsBy, GetsOne, GetsAll, IsStopped};
-ghost use Rattle.loaded_folders.specs.Parts.{folder_set, IsNoMemory, IsToldOf, IsNotBy, IsNotOne};
+ghost use Rattle.loaded_folders.specs.Loads.{form_of, undetailed, uncarried, IsSequential, GetsBy, GetsOne, GetsAll, IsStopped};
+ghost use Rattle.loaded_folders.specs.Parts.{folder_set, IsNoMemory, IsToldOf, IsNotBy, IsNotOne, IsUncarried};
 
 use crate::entries::{entries_of, member_entries};
-use crate::fault::{FolderFault, FolderRefusal, NO_MEMORY};
+use crate::fault::{FolderFault, FolderRefusal, NO_MEMORY, Uncarried};
 use crate::sets::FolderSet;
 use changed_volumes::ChangeFault;
 use ckd_image::Image;
 use dasd_files::VolumeFile;
 use loaded_sets::{
     LoadFault, LoadedLibrary, LoadedSet, NewSetForm, SourceForm, load_image, load_library,
+    new_label,
 };
-use set_forms::SetForm;
+use set_forms::{SetDetails, SetForm};
 use std::alloc::{AllocError, Global};
 use volume_labels::{RecordAttributes, safe_name};
+
+/// The bits of an organisation that say that a data set is direct, and that it is indexed sequential (IBM System/360 Operating System, System
+/// Control Blocks, 'Data Set Control Block', format 1, DS1DSORG).
+const DIRECT: u16 = 0x2000;
+
+const INDEXED: u16 = 0x8000;
+
+/// The bits of the types of extents that say that one shares its cylinders, and that one is for user labels.
+const SHARED: u8 = 0x80;
+
+const USER_LABELS: u8 = 0x40;
 
 // What the label of a data set is to say, by its line.
 fn form_of(line: &SetForm) -> NewSetForm
@@ -77,6 +89,7 @@ fn load_sequential(
     let loaded = LoadedSet {
         name: line.name,
         form: form_of(line),
+        kept: new_label(),
         source,
         bytes: bytes_of(set),
     };
@@ -113,6 +126,7 @@ fn load_partitioned(
     let library = LoadedLibrary {
         name: line.name,
         form: form_of(line),
+        kept: new_label(),
         source,
         directory_blocks: usize::from(blocks),
         entries: entries.as_slice(),
@@ -135,7 +149,50 @@ fn slices(alloc: Global, files: &[Vec<u8>]) -> Result<Vec<&[u8]>, AllocError>
     Ok(all)
 }
 
-// Puts a data set of a folder onto the volume of an image.
+// Why a folder does not carry the data set of a line, if it does not.
+fn uncarried(line: &SetForm) -> Option<Uncarried>
+    ensures { result ≡ uncarried line.now }
+{
+    if line.organisation & DIRECT != 0 {
+        return Some(Uncarried::Direct);
+    }
+    if line.organisation & INDEXED != 0 {
+        return Some(Uncarried::Indexed);
+    }
+    match line.details {
+        Some(details) => undetailed(details),
+        None => None,
+    }
+}
+
+// The same by what the line says of its volume and its extents.
+fn undetailed(details: SetDetails) -> Option<Uncarried>
+    ensures { result ≡ undetailed details }
+{
+    if details.volume > 1 {
+        return Some(Uncarried::Part(details.volume));
+    }
+    if details.extents & SHARED != 0 {
+        return Some(Uncarried::Shared);
+    }
+    if details.extents & USER_LABELS != 0 {
+        return Some(Uncarried::UserLabels);
+    }
+    None
+}
+
+// What it is that a folder does not carry a data set of a name.
+fn of_uncarried(alloc: Global, name: &[u8; 44], why: Uncarried) -> FolderFault
+    ensures { IsUncarried result name.now why }
+{
+    match safe_name(alloc, name) {
+        Ok(name) => ChangeFault::Refused(FolderRefusal::Uncarried(name, why)),
+        Err(_) => NO_MEMORY,
+    }
+}
+
+// Puts a data set of a folder onto the volume of an image, if the folder carries it.
+#[tactic(auto, using(crate::proofs::Told::not_carried, crate::proofs::Told::gets_one, crate::proofs::Told::not_one_if))]
 fn load_one(
     alloc: Global,
     image: &mut Image<VolumeFile>,
@@ -146,7 +203,11 @@ fn load_one(
     ensures loaded { IfOk result (λ tracks. GetsOne source (folder_set set.now) image.old.geometry image.old.slots tracks image.new.slots) }
     ensures fault { IfErr result (λ e. IsNotOne e source (folder_set set.now) image.old.geometry image.old.slots) }
 {
-    match set.lines.form.directory {
+    let line = &set.lines.form;
+    if let Some(why) = uncarried(line) {
+        return Err(of_uncarried(alloc, &line.name, why));
+    }
+    match line.directory {
         None => load_sequential(alloc, image, source, set),
         Some(blocks) => load_partitioned(alloc, image, source, set, blocks),
     }

@@ -21,7 +21,7 @@ mod saves;
 mod sets;
 
 pub use crate::added::{AddedMember, OldLibrary};
-pub use crate::fault::{FolderEntryFault, FolderFault, FolderRefusal};
+pub use crate::fault::{FolderEntryFault, FolderFault, FolderRefusal, Uncarried};
 pub use crate::member_fault::{NewMemberFault, NewMemberRefusal};
 pub use crate::member_images::add_member;
 pub use crate::member_names::new_member_name;

@@ -1,8 +1,8 @@
 //! The entries and the members of a library with one more.
 
-ghost use Rattle.std.specs.Prelude.{◌≡◌, ◌<◌, ◌≤◌, ◌∷◌, ◌++◌, [], map, IfOk, IfSome, OnOk, length};
+ghost use Rattle.std.specs.Prelude.{◌≡◌, ◌<◌, ◌≤◌, ◌==◌, ◌∷◌, ◌++◌, [], not, map, IfOk, IfSome, OnOk, length};
 ghost use Rattle.std.specs.List.{position, list_any};
-ghost use Rattle.loaded_folders.specs.MemberEntries.{note_anew, kept_entry, said_by, has_name, names_member, comes_behind, place_for, new_entry, with_entry};
+ghost use Rattle.loaded_folders.specs.MemberEntries.{note_anew, kept_entry, said_by, has_name, names_member, has_note_list, note_list, comes_behind, place_for, new_entry, with_entry};
 ghost use Rattle.loaded_folders.specs.MemberParts.{kept};
 
 use library_contents::{ReadEntry, ReadNote};
@@ -36,6 +36,29 @@ pub(crate) fn names_member(entries: &[ReadEntry], name: &[u8; 8]) -> bool
             ensures { result ≡ has_name name.entry.now entry.now }
         { has_name(entry, name) },
     )
+}
+
+// Whether an address in the user data of an entry leads to a note list.
+fn has_note_list(entry: &ReadEntry) -> bool
+    ensures { result ≡ has_note_list entry.now }
+{
+    entry.notes.iter().any(
+        |note: &ReadNote| -> bool
+            ensures { result ≡ not (note.now.count == 0) }
+        { note.count != 0 },
+    )
+}
+
+/// The number of the first entry of which one does, from 1 on.
+pub(crate) fn note_list(entries: &[ReadEntry]) -> Option<usize>
+    ensures { result ≡ note_list entries.now }
+{
+    let place = entries.iter().position(
+        |entry: &ReadEntry| -> bool
+            ensures { result ≡ has_note_list entry.now }
+        { has_note_list(entry) },
+    )?;
+    Some(place + 1)
 }
 
 // Whether an entry comes behind a name in the order of names.

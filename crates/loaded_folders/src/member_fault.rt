@@ -35,6 +35,10 @@ pub enum NewMemberRefusal {
     /// A member of the library has the name.
     #[error("a member has this name")]
     NameTaken,
+    /// The entry of this number, from 1 on, leads to a note list: a block that has addresses of others itself, which would be wrong in a library
+    /// that is written anew.
+    #[error("entry {0} has a note list, whose addresses would be wrong in the library with the member")]
+    NoteList(usize),
     /// The file has no blocks for the library.
     #[error(transparent)]
     Content(ContentFault),

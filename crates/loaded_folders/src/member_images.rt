@@ -8,7 +8,7 @@ ghost use Rattle.loaded_folders.specs.MemberParts.{MakesBlocks, IsNotMade, IsNot
 
 use crate::added::{AddedMember, OldLibrary};
 use crate::blocks::member_blocks;
-use crate::member_entries::{member_entries, names_member, with_entry, with_member};
+use crate::member_entries::{member_entries, names_member, note_list, with_entry, with_member};
 use crate::member_fault::{
     NO_MEMORY, NewMemberFault, NewMemberRefusal, of_deletion, of_loading, of_unmade, refused,
 };
@@ -21,13 +21,15 @@ use loaded_sets::{LoadedLibrary, SourceForm, load_library};
 use std::alloc::Global;
 
 /// Puts a member into a library of the volume of an image in memory, and answers how many tracks the library has then. The library is written
-/// anew: its data set is deleted, and its entries and members are put onto the volume, under the same name and label and with a directory of
-/// the same size, with the new member behind the others and its entry where its name belongs. Tracks and addresses may be others then.
+/// anew: its data set is deleted, and its entries and members are put onto the volume, under the same name, with as many tracks at least and a
+/// directory of the same size, with the new member behind the others and its entry where its name belongs. Its label says what it said, with
+/// its days, its password and its secondary allocation, but for its place and its last block. Tracks and addresses may be others then.
 ///
 /// # Errors
 ///
 /// The first of these, in this order: nothing is put onto the volume at all; it has no data set of the name; that has no directory; the
-/// library is not whole; a member of it has the name; the file has no blocks for it; the data set is not deleted; the library with the member
+/// library is not whole; a member of it has the name; an entry of it leads to a note list, whose addresses would be wrong; the file has no
+/// blocks for it; the data set is not deleted; the library with the member
 /// is not put onto the volume, as where its directory has too few blocks. Or there is no memory. The image then holds any bytes.
 pub fn add_member(
     alloc: Global,
@@ -53,7 +55,7 @@ pub fn add_member(
     }
 }
 
-// The blocks of a member's file in such a library, no member of which has the name.
+// The blocks of a member's file in such a library, no member of which has the name, and no entry a note list.
 fn new_blocks(
     alloc: Global,
     model: DriveModel,
@@ -63,8 +65,12 @@ fn new_blocks(
     ensures blocks { IfOk result (λ blocks. MakesBlocks added.now model old.now blocks.items) }
     ensures fault { IfErr result (λ e. IsNotMade e added.now model old.now) }
 {
-    if names_member(old.contents.entries.as_slice(), &added.name) {
+    let entries = old.contents.entries.as_slice();
+    if names_member(entries, &added.name) {
         return Err(refused(NewMemberRefusal::NameTaken));
+    }
+    if let Some(number) = note_list(entries) {
+        return Err(refused(NewMemberRefusal::NoteList(number)));
     }
     match member_blocks(alloc, model, &old.form, added) {
         Ok(blocks) => Ok(blocks),
@@ -114,6 +120,7 @@ fn put_new(
     let library = LoadedLibrary {
         name: added.library,
         form: old.form,
+        kept: old.kept,
         source: SourceForm::WithLengths,
         directory_blocks: old.directory_blocks,
         entries: entries.as_slice(),

@@ -5,7 +5,7 @@ ghost use Rattle.std.specs.List.{position};
 ghost use Rattle.dasd_volumes.specs.Reading.{IsRead};
 ghost use Rattle.volume_contents.specs.Sets.{has_name};
 ghost use Rattle.loaded_sets.specs.Volumes.{labelled};
-ghost use Rattle.loaded_folders.specs.Libraries.{form_in, IsReadOf, IsOld, IsNotRead};
+ghost use Rattle.loaded_folders.specs.Libraries.{form_in, kept_in, IsReadOf, IsOld, IsNotRead};
 ghost use Rattle.loaded_folders.specs.MemberParts.{IsLibrarySet, IsNoLibrary, CountsBlocks, IsNotReadIn};
 
 use crate::added::OldLibrary;
@@ -14,15 +14,17 @@ use crate::member_fault::{
 };
 use changed_volumes::{of_reading as of_volume, read_said};
 use ckd_image::Image;
+use ckd_track::Geometry;
 use counted_io::Counted;
 use dasd_extract::{directory_of, extract};
 use dasd_files::VolumeFile;
 use dasd_volumes::{SlotReader, VolumeFault};
 use library_contents::read_library;
-use loaded_sets::{NewSetForm, SoundVolume, judge, position_of};
+use loaded_sets::{KeptLabel, NewSetForm, SoundVolume, judge, position_of};
+use new_labels::fields_of;
 use set_forms::is_partitioned;
 use std::alloc::Global;
-use volume_contents::{DataSet, data_set_of};
+use volume_contents::{Block, DataSet, data_set_of, tracks_owned};
 use volume_labels::{DIRECTORY_BLOCK, DataSetBlock, Extent, RecordAttributes};
 
 // What a label says that is written again.
@@ -72,38 +74,58 @@ pub(crate) fn read_old(
     read_copy(alloc, image, &set)
 }
 
+/// The data set of a library.
+#[derive(Drop)]
+struct LibrarySet {
+    set: DataSet,
+    kept: KeptLabel,
+}
+
+// What a library keeps: how many tracks it has, and what its control block says.
+fn kept_in(geometry: Geometry, block: &Block, extents: &[Extent]) -> KeptLabel
+    ensures { result ≡ kept_in geometry block.now extents.now }
+{
+    KeptLabel {
+        tracks: tracks_owned(geometry, extents),
+        fields: fields_of(&block.bytes),
+    }
+}
+
 // The library of a name on such a volume.
 fn library_set(
     alloc: Global,
     volume: &SoundVolume,
     name: &[u8; 44],
-) -> Result<DataSet, NewMemberFault>
-    ensures set { IfOk result (IsLibrarySet volume.now.blocks.now name.now) }
+) -> Result<LibrarySet, NewMemberFault>
+    ensures set { IfOk result (IsLibrarySet volume.now.geometry volume.now.blocks.now name.now) }
     ensures fault { IfErr result (λ e. IsNoLibrary e volume.now.blocks.now name.now) }
 {
     let Some(place) = position_of(volume.blocks, name) else {
         return Err(refused(NewMemberRefusal::NoDataSet));
     };
-    let Ok(set) = data_set_of(alloc, volume.blocks, &volume.blocks[place]) else {
+    let block = &volume.blocks[place];
+    let Ok(set) = data_set_of(alloc, volume.blocks, block) else {
         return Err(NO_MEMORY);
     };
     if !is_partitioned(set.block.organisation) {
         return Err(refused(NewMemberRefusal::NotPartitioned));
     }
-    Ok(set)
+    let kept = kept_in(volume.geometry, block, set.extents.as_slice());
+    Ok(LibrarySet { set, kept })
 }
 
 // A library, read of a copy of an image.
 fn read_copy(
     alloc: Global,
     image: &Image<VolumeFile>,
-    set: &DataSet,
+    library: &LibrarySet,
 ) -> Result<OldLibrary, NewMemberFault>
-    ensures old { IfOk result (IsReadOf set.now.block set.now.extents.items image.now.geometry image.now.slots) }
-    ensures fault { IfErr result (λ e. IsNotReadIn e set.now.extents.items image.now.geometry image.now.slots) }
+    ensures old { IfOk result (IsReadOf library.now.set.block library.now.kept library.now.set.extents.items image.now.geometry
+        image.now.slots) }
+    ensures fault { IfErr result (λ e. IsNotReadIn e library.now.set.extents.items image.now.geometry image.now.slots) }
 {
     match image.copy(alloc) {
-        Ok(mut copy) => read_set(alloc, &mut copy, set),
+        Ok(mut copy) => read_set(alloc, &mut copy, library),
         Err(_) => Err(NO_MEMORY),
     }
 }
@@ -112,19 +134,20 @@ fn read_copy(
 fn read_set(
     alloc: Global,
     copy: &mut Image<VolumeFile>,
-    set: &DataSet,
+    library: &LibrarySet,
 ) -> Result<OldLibrary, NewMemberFault>
-    ensures old { IfOk result (IsReadOf set.now.block set.now.extents.items copy.old.geometry copy.old.slots) }
-    ensures fault { IfErr result (λ e. IsNotReadIn e set.now.extents.items copy.old.geometry copy.old.slots) }
+    ensures old { IfOk result (IsReadOf library.now.set.block library.now.kept library.now.set.extents.items copy.old.geometry copy.old.slots) }
+    ensures fault { IfErr result (λ e. IsNotReadIn e library.now.set.extents.items copy.old.geometry copy.old.slots) }
 {
-    let extents = set.extents.as_slice();
+    let extents = library.set.extents.as_slice();
     let directory_blocks = match count_blocks(alloc, copy, extents) {
         Ok(count) => count,
         Err(fault) => return Err(of_volume(fault)),
     };
     match read_library(alloc, copy, extents) {
         Ok(contents) => Ok(OldLibrary {
-            form: form_in(&set.block),
+            form: form_in(&library.set.block),
+            kept: library.kept,
             directory_blocks,
             contents,
         }),

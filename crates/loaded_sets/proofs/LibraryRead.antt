@@ -31,6 +31,7 @@ use Rattle.loaded_sets.specs.declared.libraries.LoadedLibrary.{LoadedLibrary}
 use Rattle.loaded_sets.specs.declared.libraries.NamedLibrary.{NamedLibrary}
 use Rattle.loaded_sets.specs.Members.{MemberBlocks, fitting_members}
 use Rattle.loaded_sets.specs.LoadedLibraries.{IsLibraryOf, GetsRecords, GetsLibrary, IsMemberRead, HasNone}
+use Rattle.loaded_sets.proofs.PlacedRead.{first_loaded}
 use Rattle.loaded_sets.specs.LibraryParts.{HasBlocks, IsNamed, IsNotNamed, IsSet, IsNotSet}
 
 -- what holds of each element and of the one behind them holds of the one of any number
@@ -54,16 +55,17 @@ module _ (v : Labelled) (library : LoadedLibrary) (b : MemberBlocks) (l : NewLib
   model = v.geometry.model
 
   module _ (sound : All (HasBlocks v.geometry.model b.cut) b.members) (before : List (List ℕ)) (tracks : ℕ) (now : List (List ℕ)) where
-    module _ (gets : GetsRecords v library.name (label_of library.form b.layout) l before tracks now) where
+    module _ (gets : GetsRecords v library.name (label_of library.form library.kept b.layout) l before tracks now) where
       abbrev found : List Extent
       found = extents_behind (contents_of v.geometry now).blocks (block_in (contents_of v.geometry now).blocks gets.gets.place)
 
       has : HasRecords v.geometry.model (own_areas v.geometry.model l) v.geometry found now
       has = record {
         same = refl;
-        tracks = tracks;
-        takes = subst (λ (a : List Areas). Takes v.geometry.model a tracks) gets.is.records gets.gets.gets.takes;
-        loaded = subst (λ (a : List Areas). IsLoaded v.geometry found now a tracks) gets.is.records gets.gets.loaded;
+        tracks = gets.gets.gets.room.used;
+        takes = subst (λ (a : List Areas). Takes v.geometry.model a gets.gets.gets.room.used) gets.is.records gets.gets.gets.room.takes;
+        loaded = subst (λ (a : List Areas). IsLoaded v.geometry found now a gets.gets.gets.room.used) gets.is.records
+            (first_loaded v gets.placed before tracks now gets.gets);
       }
 
       member_read : (e : MemberEntry) → IsReadFrom v.geometry.model l (entry_read (entry_contents v.geometry.model l e)).address e.member 0
@@ -101,10 +103,10 @@ module _ (v : Labelled) (library : LoadedLibrary) (b : MemberBlocks) (l : NewLib
 
 -- the library that the code has gets its records, or does not
 module _ (v : Labelled) (library : LoadedLibrary) (b : MemberBlocks) (n : NamedLibrary) (name : n.name ≡ library.name) where
-  module _ (label : n.label ≡ label_of library.form b.layout) (is : IsLibraryOf library b n.library) (slots : List (List ℕ)) where
+  module _ (label : n.label ≡ label_of library.form library.kept b.layout) (is : IsLibraryOf library b n.library) (slots : List (List ℕ)) where
     module _ (fit : fitting_members v.geometry.model library.form.key_length b ≡ Ok b.members) where
       renamed : (tracks : ℕ) (now : List (List ℕ)) → IsNamed v n slots tracks now
-          → GetsRecords v library.name (label_of library.form b.layout) n.library slots tracks now
+          → GetsRecords v library.name (label_of library.form library.kept b.layout) n.library slots tracks now
       renamed tracks now gets =
           subst (λ (its : SetLabel). GetsRecords v library.name its n.library slots tracks now) label
           (subst (λ (its : List ℕ). GetsRecords v its n.label n.library slots tracks now) name gets)

@@ -36,6 +36,7 @@ use Rattle.loaded_sets.specs.Contents.{blocks_unless_taken, layout_of_set, unles
 use Rattle.loaded_sets.specs.Loaded.{IsSetOf}
 use Rattle.loaded_sets.specs.Faults.{placing_fault}
 use Rattle.loaded_sets.specs.Parts.{blocks_for, unmade_fault, IsPut, IsNotPut, IsSet, IsNotSet}
+use Rattle.loaded_sets.proofs.PlacedRead.{first_loaded}
 use Rattle.loaded_sets.proofs.TextLines.{lines_read}
 
 -- records that are the blocks and an end of file are one more than the blocks
@@ -54,7 +55,7 @@ can_be model p b is each last = record {
 }
 
 -- they are those of the data set
-pub set_of : (set : LoadedSet) (b : FileBlocks) (p : PlacedSet) → p.name ≡ set.name → p.label ≡ label_of set.form b.layout
+pub set_of : (set : LoadedSet) (b : FileBlocks) (p : PlacedSet) → p.name ≡ set.name → p.label ≡ label_of set.form set.kept b.layout
     → areas p ≡ areas_of b.cut b.bytes → p.last ≡ length p.records.now - 1 → IsSetOf set b p
 set_of set b p name label is last = record {
   name = name;
@@ -70,15 +71,18 @@ module _ (v : Labelled) (set : LoadedSet) (b : FileBlocks) (p : PlacedSet) (is :
 
     module _ (tracks : ℕ) (now : List (List ℕ)) (read : IsReadBack v.geometry.model b.cut b.bytes)
         (gets : GetsSet v p slots tracks now) where
-      takes : Takes v.geometry.model (areas_of b.cut b.bytes) tracks
-      takes = subst (λ (a : List Areas). Takes v.geometry.model a tracks) is.records gets.gets.takes
+      used : ℕ
+      used = gets.gets.room.used
+
+      takes : Takes v.geometry.model (areas_of b.cut b.bytes) used
+      takes = subst (λ (a : List Areas). Takes v.geometry.model a used) is.records gets.gets.room.takes
 
       loaded : IsLoaded v.geometry
           (extents_behind (contents_of v.geometry now).blocks (block_in (contents_of v.geometry now).blocks gets.place))
-          now (areas_of b.cut b.bytes) tracks
+          now (areas_of b.cut b.bytes) used
       loaded = subst (λ (a : List Areas). IsLoaded v.geometry
-          (extents_behind (contents_of v.geometry now).blocks (block_in (contents_of v.geometry now).blocks gets.place)) now a tracks)
-          is.records gets.loaded
+          (extents_behind (contents_of v.geometry now).blocks (block_in (contents_of v.geometry now).blocks gets.place)) now a used)
+          is.records (first_loaded v p slots tracks now gets)
 
       pub set_is : IsSet v set b slots tracks now
       set_is = (
@@ -87,8 +91,8 @@ module _ (v : Labelled) (set : LoadedSet) (b : FileBlocks) (p : PlacedSet) (is :
           placed = p;
           is = is;
           gets = gets;
-          extracted = λ most enough. read tracks v.geometry _ now most takes refl enough loaded;
-          text = λ size text has. lines_read v.geometry b set.form.key_length fits size text has tracks takes _ now loaded;
+          extracted = λ most enough. read used v.geometry _ now most takes refl enough loaded;
+          text = λ size text has. lines_read v.geometry b set.form.key_length fits size text has used takes _ now loaded;
         },
       )
 

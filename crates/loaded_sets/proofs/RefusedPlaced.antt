@@ -10,16 +10,15 @@ use Rattle.volume_labels.specs.declared.fields.RecordAddress.{RecordAddress}
 use Rattle.loaded_sets.specs.declared.place_fault.PlaceFault.{PlaceFault}
 use Rattle.loaded_sets.specs.declared.place_fault.PlaceFault.TheVariants as fault
 use Rattle.loaded_sets.specs.declared.place_fault.PlaceRefusal.TheVariants as refusal
-use Rattle.record_tracks.specs.Records.{Areas}
 use Rattle.loaded_sets.specs.declared.plans.PlacedSet.{PlacedSet}
 use Rattle.loaded_sets.specs.declared.plans.Placed.{Placed}
 use Rattle.loaded_sets.specs.Volumes.{Labelled}
-use Rattle.loaded_sets.specs.Sets.{areas, GetsTracks}
+use Rattle.loaded_sets.specs.Sets.{GetsTracks}
 use Rattle.loaded_sets.specs.Placed.{IsNotPlaced}
 use Rattle.loaded_sets.specs.PlacedParts.{IsPlaced, IsWritten, IsUnplaced, IsUntaken, IsLeftOut, IsOneLeftOut, IsUnlisted, IsUnseen}
 
 -- the blocks of format 5 have no room for the runs that are left
-pub untaken : (v : Labelled) (slots : List (List ℕ)) (its : List Areas) (first tracks : ℕ)
+pub untaken : (v : Labelled) (slots : List (List ℕ)) (its : PlacedSet) (first tracks : ℕ)
     → GetsTracks v slots its first tracks → (f : PlaceFault) → IsUntaken f v first tracks → IsUnplaced f v slots its
 untaken v slots its first tracks gets (fault.Refused (refusal.Volume r)) why = (first, tracks, gets, why)
 untaken v slots its first tracks gets (fault.Refused refusal.NoRoom) why = elim why [ ]
@@ -29,7 +28,7 @@ untaken v slots its first tracks gets (fault.Refused refusal.NoFreeBlock) why = 
 untaken v slots its first tracks gets (fault.Job f) why = why
 
 module _ (v : Labelled) (set : PlacedSet) (slots : List (List ℕ)) where
-  pub unplaced : (f : PlaceFault) → IsUnplaced f v slots (areas set) → IsNotPlaced f v set slots
+  pub unplaced : (f : PlaceFault) → IsUnplaced f v slots set → IsNotPlaced f v set slots
   unplaced (fault.Refused refusal.NoRoom) why = why
   unplaced (fault.Refused refusal.Unconfirmed) why = elim why [ ]
   unplaced (fault.Refused (refusal.Volume r)) why = why
@@ -37,7 +36,7 @@ module _ (v : Labelled) (set : PlacedSet) (slots : List (List ℕ)) where
   unplaced (fault.Refused refusal.NoFreeBlock) why = elim why [ ]
   unplaced (fault.Job f) why = why
 
-  pub unlisted : (first tracks : ℕ) → GetsTracks v slots (areas set) first tracks → (changes : List BlockChange)
+  pub unlisted : (first tracks : ℕ) → GetsTracks v slots set first tracks → (changes : List BlockChange)
       → taken_of v.geometry v.label.contents v.blocks first tracks ≡ Ok changes → (f : PlaceFault) → IsUnlisted f v changes slots
       → IsNotPlaced f v set slots
   unlisted first tracks gets changes taken (fault.Refused refusal.NoFreeBlock) why = (why, first, tracks, gets)

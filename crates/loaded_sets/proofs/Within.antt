@@ -1,6 +1,7 @@
 -- A run of free tracks is on its volume.
 use Rattle.std.proofs.Common.{◌≡◌, ◌∙◌, ap, sym, refl, ℕ, zero, suc, ◌+◌, ◌-◌, ◌≤◌, ◌<◌, ◌⊎◌, inl, inr}
 use Rattle.std.proofs.Common.{List, [], length, true, Some, arith}
+use Rattle.std.proofs.Math.Nat.{le-max_right}
 use Rattle.std.proofs.Math.Seq.{drop-nil}
 use Rattle.std.proofs.lemmas.Bool.{cases_lt}
 use Rattle.std.proofs.lemmas.Bool.Decides.{nat_tests}
@@ -11,7 +12,8 @@ use Rattle.record_tracks.specs.declared.records.NewRecord.{NewRecord}
 use Rattle.record_tracks.specs.Records.{Areas, all_areas}
 use Rattle.record_tracks.specs.Tracks.{Takes, StandsAt, fitting, fitting_on, left_behind, behind_track}
 use Rattle.record_tracks.proofs.Listed.{length-all}
-use Rattle.loaded_sets.specs.Sets.{IsLast}
+use Rattle.loaded_sets.specs.declared.plans.PlacedSet.{PlacedSet}
+use Rattle.loaded_sets.specs.Sets.{areas, HasRoom, IsLast}
 use Rattle.loaded_sets.proofs.Tracks.{none_behind, one_behind}
 use Rattle.new_labels.specs.Runs.{Space, is_free, IsFirstRun}
 
@@ -31,6 +33,16 @@ some_tracks model records zero some takes =
     let none = none_behind model (all_areas records) ∙ takes.all in
     absurd (omega (arith, some, length-all records, ap length none))
 some_tracks model records (suc n) some takes = omega arith
+
+-- a data set with records gets a track at least
+pub some_room : (model : DriveModel) (set : PlacedSet) (tracks : ℕ) → 1 ≤ length set.records.now → HasRoom model set tracks → 1 ≤ tracks
+some_room model set tracks some room =
+    omega (
+      arith,
+      some_tracks model set.records.now room.used some room.takes,
+      room.all,
+      le-max_right set.label.tracks room.used,
+    )
 
 -- nothing is left behind more tracks than are taken
 none_left : (model : DriveModel) (areas : List Areas) (tracks k : ℕ) → left_behind model areas tracks ≡ []
@@ -56,8 +68,14 @@ stands_within model areas tracks k track number takes stands = by (cases_lt trac
         absurd (omega (arith, fit, stands.first, stands.there))
 
 -- the last of some records stands within two bytes' numbers of tracks
-pub last_within : (model : DriveModel) (areas : List Areas) (tracks count track number : ℕ) → Takes model areas tracks → tracks ≤ 65536
-    → IsLast model areas count track number → track < 65536
-last_within model areas tracks zero track number takes few last = omega (arith, (last.none refl).0)
-last_within model areas tracks (suc k) track number takes few last =
-    omega (arith, few, stands_within model areas tracks (suc k - 1) track number takes (last.some (omega arith)))
+pub last_within : (model : DriveModel) (set : PlacedSet) (tracks count track number : ℕ) → HasRoom model set tracks → tracks ≤ 65536
+    → IsLast model (areas set) count track number → track < 65536
+last_within model set tracks zero track number room few last = omega (arith, (last.none refl).0)
+last_within model set tracks (suc k) track number room few last =
+    omega (
+      arith,
+      few,
+      room.all,
+      le-max_right set.label.tracks room.used,
+      stands_within model (areas set) room.used (suc k - 1) track number room.takes (last.some (omega arith)),
+    )

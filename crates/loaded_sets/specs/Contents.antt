@@ -27,6 +27,8 @@ use Rattle.loaded_sets.specs.declared.plans.SetLabel.{SetLabel}
 use Rattle.loaded_sets.specs.Volumes.{unfit_of}
 use Rattle.loaded_sets.specs.declared.contents.LoadedSet.{LoadedSet}
 use Rattle.loaded_sets.specs.declared.contents.NewSetForm.{NewSetForm}
+use Rattle.loaded_sets.specs.declared.contents.KeptLabel.{KeptLabel}
+use Rattle.new_labels.specs.SetBlocks.{new_fields}
 use Rattle.loaded_sets.specs.declared.contents.SourceForm.{SourceForm}
 use Rattle.loaded_sets.specs.declared.contents.SourceForm.TheVariants as source
 use Rattle.loaded_sets.specs.declared.fault.ContentFault.{ContentFault}
@@ -49,9 +51,13 @@ length_said form.Variable given = given
 length_said form.Spanned given = given
 length_said form.Undefined given = 0
 
--- what the label of a data set of this layout says
-abbrev pub label_of : NewSetForm → Layout → SetLabel
-label_of f l = record {
+-- what a data set keeps that was on no volume: nothing
+abbrev pub new_label : KeptLabel
+new_label = record { tracks = 0; fields = new_fields }
+
+-- what the label of a data set of this layout says that keeps this
+abbrev pub label_of : NewSetForm → KeptLabel → Layout → SetLabel
+label_of f k l = record {
   organisation = f.organisation;
   format = f.attributes.format;
   block_length = l.longest;
@@ -59,6 +65,8 @@ label_of f l = record {
   key_length = f.key_length;
   created = f.created;
   expires = f.expires;
+  tracks = k.tracks;
+  kept = k.fields;
 }
 
 -- The blocks of a data set: how its records lie in them, and how their bytes are told apart.

@@ -73,7 +73,7 @@ abbrev pub IsNotSet : LoadFault → Labelled → LoadedLibrary → MemberBlocks 
 IsNotSet (fault.Refused r) v library b slots =
     (fitting_members v.geometry.model library.form.key_length b ≡ Err r)
     ⊎ ((l : NewLibrary) × (fitting_members v.geometry.model library.form.key_length b ≡ Ok b.members) × IsLibraryOf library b l
-    × HasNone r v library.name (label_of library.form b.layout) l slots)
+    × HasNone r v library.name (label_of library.form library.kept b.layout) l slots)
 IsNotSet f v library b slots = IsHinderedBy f
 
 -- the blocks of a library's members on a volume that can get one
@@ -89,5 +89,5 @@ abbrev pub IsNotPut : LoadFault → Labelled → LoadedLibrary → (slots : List
 IsNotPut (fault.Refused r) v library slots =
     (blocks_for v library ≡ Err r)
     ⊎ ((b : MemberBlocks) × (l : NewLibrary) × (blocks_for v library ≡ Ok b) × IsLibraryOf library b l
-    × HasNone r v library.name (label_of library.form b.layout) l slots)
+    × HasNone r v library.name (label_of library.form library.kept b.layout) l slots)
 IsNotPut f v library slots = IsHinderedBy f

@@ -28,12 +28,12 @@ use Rattle.loaded_sets.specs.Contents.{FileBlocks, label_of, blocks_on}
 -- The records of a data set with these blocks: the blocks, and an end of file behind them; the last one of its label is the last block.
 pub record IsSetOf (set : LoadedSet) (b : FileBlocks) (p : PlacedSet) : Type 0 where
   pub name : p.name ≡ set.name
-  pub label : p.label ≡ label_of set.form b.layout
+  pub label : p.label ≡ label_of set.form set.kept b.layout
   pub records : areas p ≡ areas_of b.cut b.bytes
   pub last : p.last ≡ length (block_areas b.cut b.bytes)
 
 -- What is extracted of the data set of a format 1 block, in a form of the reader's: all of these bytes, and then an end of file on the last
--- of its tracks.
+-- of these tracks, its first.
 abbrev pub IsExtracted : ExtractedForm → Geometry → (slots : List (List ℕ)) → Block → (bytes : List ℕ) → (tracks : ℕ) → Type 0
 IsExtracted f g slots b bytes tracks =
     (most : ℕ) → tracks ≤ most
@@ -52,9 +52,11 @@ pub record GetsBlocks (v : Labelled) (set : LoadedSet) (b : FileBlocks) (before 
   pub placed : PlacedSet
   pub is : IsSetOf set b placed
   pub gets : GetsSet v placed before tracks now
-  pub extracted : IsExtracted (form_of b.cut) v.geometry now (block_in (contents_of v.geometry now).blocks gets.place) b.bytes tracks
+  pub extracted : IsExtracted (form_of b.cut) v.geometry now (block_in (contents_of v.geometry now).blocks gets.place) b.bytes
+      gets.gets.room.used
   pub text : (size : ℕ) (text : List ℕ) → HasLines b size text
-      → IsExtracted (form.Text b.layout) v.geometry now (block_in (contents_of v.geometry now).blocks gets.place) (printed text) tracks
+      → IsExtracted (form.Text b.layout) v.geometry now (block_in (contents_of v.geometry now).blocks gets.place) (printed text)
+      gets.gets.room.used
 
 -- the volume is one that can get the data set, whose file has these blocks, and gets it
 pub record Loaded (set : LoadedSet) (g : Geometry) (before : List (List ℕ)) (tracks : ℕ) (now : List (List ℕ)) : Type 0 where

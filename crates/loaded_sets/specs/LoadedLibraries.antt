@@ -69,7 +69,7 @@ pub record GetsLibrary (v : Labelled) (library : LoadedLibrary) (b : MemberBlock
     (now : List (List ℕ)) : Type 0 where
   pub made : NewLibrary
   pub is : IsLibraryOf library b made
-  pub records : GetsRecords v library.name (label_of library.form b.layout) made before tracks now
+  pub records : GetsRecords v library.name (label_of library.form library.kept b.layout) made before tracks now
   pub extents : List Extent
   pub found : extents ≡ extents_behind (contents_of v.geometry now).blocks (block_in (contents_of v.geometry now).blocks records.gets.place)
   pub has : HasRecords v.geometry.model (own_areas v.geometry.model made) v.geometry extents now
@@ -105,7 +105,7 @@ abbrev pub Refuses : LoadRefusal → LoadedLibrary → Geometry → (slots : Lis
 Refuses r library g slots =
     (blocks_on g library (contents_of g slots) ≡ Err r)
     ⊎ ((v : Labelled) × (b : MemberBlocks) × (l : NewLibrary) × WouldFit library g slots v b l
-    × HasNone r v library.name (label_of library.form b.layout) l slots)
+    × HasNone r v library.name (label_of library.form library.kept b.layout) l slots)
 
 -- it is refused so, or something hinders it
 abbrev pub IsNotLoaded : LoadFault → LoadedLibrary → Geometry → (slots : List (List ℕ)) → Type 0

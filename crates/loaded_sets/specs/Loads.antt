@@ -9,6 +9,7 @@ use Rattle.volume_changes.specs.Names.{is_set_name}
 use Rattle.changed_volumes.specs.Changes.{Changing}
 use Rattle.changed_volumes.specs.Files.{Around, TellsChange}
 use Rattle.loaded_sets.specs.Loaded.{Loaded, Refuses}
+use Rattle.loaded_sets.specs.Contents.{new_label}
 use Rattle.loaded_sets.specs.Faults.{LoadFault}
 use Rattle.changed_volumes.specs.declared.fault.ChangeFault.TheVariants as fault
 use Rattle.loaded_sets.specs.declared.fault.LoadRefusal.{LoadRefusal}
@@ -41,6 +42,7 @@ pub record IsAsked (asked : NewSet) (set : LoadedSet) (before now : Around) : Ty
   pub named : is_set_name asked.name.now ≡ true
   pub name : Names asked.name.now set.name
   pub form : set.form ≡ asked.form
+  pub new : set.kept ≡ new_label
   pub source : set.source ≡ asked.source
   pub bytes : ReadsFront asked.path.now 9560245800 set.bytes.now before.opened now.opened
   pub kept : now.written ≡ before.written

@@ -63,7 +63,7 @@ pub record IsWrittenOn (v : Labelled) (set : PlacedSet) (first tracks : ℕ) (bl
 -- tracks stay; and that a reader of the volume finds the data set, with one extent, on whose tracks its records are.
 pub record GetsSet (v : Labelled) (set : PlacedSet) (before : List (List ℕ)) (tracks : ℕ) (now : List (List ℕ)) : Type 0 where
   pub first : ℕ
-  pub gets : GetsTracks v before (areas set) first tracks
+  pub gets : GetsTracks v before set first tracks
   pub block : NewDataSet
   pub new : IsNewSet v set first tracks block
   pub address : RecordAddress
@@ -75,10 +75,10 @@ pub record GetsSet (v : Labelled) (set : PlacedSet) (before : List (List ℕ)) (
   pub loaded : IsLoaded v.geometry (extents_behind (contents_of v.geometry now).blocks (block_in (contents_of v.geometry now).blocks place))
       now (areas set) tracks
 
--- the areas have room, and the blocks of format 5 have none for the runs of free tracks that are left then
-abbrev pub IsUnsaid : ChangeRefusal → Labelled → (slots : List (List ℕ)) → (areas : List Areas) → Type 0
-IsUnsaid r v slots areas =
-    (first : ℕ) × (tracks : ℕ) × GetsTracks v slots areas first tracks
+-- the data set has room, and the blocks of format 5 have none for the runs of free tracks that are left then
+abbrev pub IsUnsaid : ChangeRefusal → Labelled → (slots : List (List ℕ)) → PlacedSet → Type 0
+IsUnsaid r v slots set =
+    (first : ℕ) × (tracks : ℕ) × GetsTracks v slots set first tracks
     × (taken_of v.geometry v.label.contents v.blocks first tracks ≡ Err r)
 
 -- The data set was written so, and a reader of the volume does not find it so.
@@ -90,16 +90,16 @@ pub record IsLost (v : Labelled) (set : PlacedSet) (first tracks : ℕ) (before 
   pub written : IsWrittenOn v set first tracks block before address now
   pub lost : (i : ℕ) → HasSet v (contents_of v.geometry now) block address i → ⊥
 
--- Why a volume does not get a data set: there is no room for its areas; or there is, and the blocks of format 5 have none for the runs of free
+-- Why a volume does not get a data set: there is no room for it; or there is, and the blocks of format 5 have none for the runs of free
 -- tracks that are left, or there is no free control block; or a block that would change with it stands on no track of the table, or a reader
 -- would not find it.
 abbrev pub HasNoPlace : PlaceRefusal → Labelled → PlacedSet → (slots : List (List ℕ)) → Type 0
-HasNoPlace refusal.NoRoom v set slots = HasNoRoom v slots (areas set)
-HasNoPlace (refusal.Volume r) v set slots = IsUnsaid r v slots (areas set)
+HasNoPlace refusal.NoRoom v set slots = HasNoRoom v slots set
+HasNoPlace (refusal.Volume r) v set slots = IsUnsaid r v slots set
 HasNoPlace refusal.NoFreeBlock v set slots =
-    HasNoFree v.geometry v.table.extent slots × (first : ℕ) × (tracks : ℕ) × GetsTracks v slots (areas set) first tracks
+    HasNoFree v.geometry v.table.extent slots × (first : ℕ) × (tracks : ℕ) × GetsTracks v slots set first tracks
 HasNoPlace refusal.Unconfirmed v set slots =
-    (first : ℕ) × (tracks : ℕ) × GetsTracks v slots (areas set) first tracks
+    (first : ℕ) × (tracks : ℕ) × GetsTracks v slots set first tracks
     × (ChangesElsewhere v first tracks slots ⊎ IsLost v set first tracks slots)
 HasNoPlace r v set slots = ⊥
 

@@ -3,7 +3,6 @@ use Rattle.std.specs.Prelude.{◌≡◌, ℕ, ◌+◌, ◌-◌, ◌≤◌, List,
 use Rattle.std.specs.List.{position}
 use Rattle.ckd_track.specs.declared.geometries.Geometry.{Geometry}
 use Rattle.ckd_track.specs.Geometry.{tracks_of}
-use Rattle.record_tracks.specs.Records.{Areas}
 use Rattle.volume_labels.specs.declared.fields.Extent.{Extent}
 use Rattle.volume_labels.specs.declared.fields.RecordAddress.{RecordAddress}
 use Rattle.volume_labels.specs.Labels.{data_set_block_of}
@@ -22,7 +21,7 @@ use Rattle.loaded_sets.specs.declared.place_fault.PlaceRefusal.TheVariants as re
 use Rattle.loaded_sets.specs.declared.plans.PlacedSet.{PlacedSet}
 use Rattle.loaded_sets.specs.declared.plans.Placed.{Placed}
 use Rattle.loaded_sets.specs.Volumes.{Labelled}
-use Rattle.loaded_sets.specs.Sets.{areas, GetsTracks, HasNoRoom, IsNewSet}
+use Rattle.loaded_sets.specs.Sets.{GetsTracks, HasNoRoom, IsNewSet}
 use Rattle.loaded_sets.specs.Tables.{HasNoFree, IsFirstFree, ChangesWith, IsOutside, IsOneOutside, address_on, filled, last_of}
 use Rattle.loaded_sets.specs.Placed.{HasSet, IsWrittenOn, IsUnsaid}
 
@@ -31,11 +30,11 @@ abbrev pub IsHinderedBy : PlaceFault → Type 0
 IsHinderedBy (fault.Job f) = IsHindered f
 IsHinderedBy f = ⊥
 
--- it has no room for these areas, or none for the runs of free tracks that are left
-abbrev pub IsUnplaced : PlaceFault → Labelled → (slots : List (List ℕ)) → (areas : List Areas) → Type 0
-IsUnplaced (fault.Refused refusal.NoRoom) v slots areas = HasNoRoom v slots areas
-IsUnplaced (fault.Refused (refusal.Volume r)) v slots areas = IsUnsaid r v slots areas
-IsUnplaced f v slots areas = IsHinderedBy f
+-- it has no room for a data set, or none for the runs of free tracks that are left
+abbrev pub IsUnplaced : PlaceFault → Labelled → (slots : List (List ℕ)) → PlacedSet → Type 0
+IsUnplaced (fault.Refused refusal.NoRoom) v slots set = HasNoRoom v slots set
+IsUnplaced (fault.Refused (refusal.Volume r)) v slots set = IsUnsaid r v slots set
+IsUnplaced f v slots set = IsHinderedBy f
 
 -- the blocks of format 5 have no room for the runs that are left behind these tracks
 abbrev pub IsUntaken : PlaceFault → Labelled → (first tracks : ℕ) → Type 0
@@ -78,7 +77,7 @@ IsUnlisted f v changes slots = IsHinderedBy f
 
 -- the data set goes there on such a volume
 pub record IsPlaced (v : Labelled) (slots : List (List ℕ)) (set : PlacedSet) (p : Placed) : Type 0 where
-  pub gets : GetsTracks v slots (areas set) p.run.first p.run.tracks
+  pub gets : GetsTracks v slots set p.run.first p.run.tracks
   pub taken : taken_of v.geometry v.label.contents v.blocks p.run.first p.run.tracks ≡ Ok p.changes.items
   pub some : 1 ≤ p.run.tracks
   pub within : p.run.first + p.run.tracks ≤ tracks_of v.geometry

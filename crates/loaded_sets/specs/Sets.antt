@@ -1,10 +1,9 @@
 -- Where a data set goes on a volume, and what its control block says.
-use Rattle.std.specs.Prelude.{◌≡◌, ◌⊎◌, ℕ, ◌-◌, ◌≤◌, ◌<◌, List, length, take, All, Some, None}
+use Rattle.std.specs.Prelude.{◌≡◌, ◌⊎◌, ℕ, ◌-◌, ◌≤◌, ◌<◌, max, List, length, take, All, Some, None}
 use Rattle.ckd_track.specs.declared.model.DriveModel.{DriveModel}
 use Rattle.record_tracks.specs.Records.{Areas, all_areas, RecordGoesOn, balance_behind}
 use Rattle.record_tracks.specs.Tracks.{Takes, StandsAt, left_behind}
 use Rattle.new_labels.specs.declared.set_blocks.NewDataSet.{NewDataSet}
-use Rattle.new_labels.specs.SetBlocks.{new_fields}
 use Rattle.new_labels.specs.Extents.{extent_of_run}
 use Rattle.new_labels.specs.Runs.{IsFirstRun, IsApart}
 use Rattle.loaded_sets.specs.declared.plans.PlacedSet.{PlacedSet}
@@ -21,17 +20,24 @@ pub record CanBePlaced (model : DriveModel) (set : PlacedSet) : Type 0 where
   pub some : 1 ≤ length set.records.now
   pub last : set.last ≤ length set.records.now
 
--- The areas take so many tracks, and no fewer have room for them. These are the first ones of the volume that stand one behind another and
--- are free: that neither the label nor the table of contents nor a data set has, and that nothing else keeps back.
-pub record GetsTracks (v : Labelled) (slots : List (List ℕ)) (areas : List Areas) (first tracks : ℕ) : Type 0 where
-  pub takes : Takes v.geometry.model areas tracks
+-- A data set gets so many tracks: those that its records take, and no fewer have room for them; or as many as it gets at least, where these
+-- are more.
+pub record HasRoom (model : DriveModel) (set : PlacedSet) (tracks : ℕ) : Type 0 where
+  pub used : ℕ
+  pub takes : Takes model (areas set) used
+  pub all : tracks ≡ max set.label.tracks used
+
+-- These are the first tracks of the volume that stand one behind another and are free: that neither the label nor the table of contents nor
+-- a data set has, and that nothing else keeps back.
+pub record GetsTracks (v : Labelled) (slots : List (List ℕ)) (set : PlacedSet) (first tracks : ℕ) : Type 0 where
+  pub room : HasRoom v.geometry.model set tracks
   pub few : tracks ≤ 65536
   pub free : IsFirstRun v.geometry (space v slots) tracks (Some first)
   pub apart : IsApart v.geometry (taken_extents v) tracks first
 
--- they take more tracks than a data set can have, or the volume has not so many free ones one behind another
-abbrev pub HasNoRoom : Labelled → (slots : List (List ℕ)) → (areas : List Areas) → Type 0
-HasNoRoom v slots areas = (tracks : ℕ) × Takes v.geometry.model areas tracks
+-- it would get more tracks than a data set can have, or the volume has not so many free ones one behind another
+abbrev pub HasNoRoom : Labelled → (slots : List (List ℕ)) → PlacedSet → Type 0
+HasNoRoom v slots set = (tracks : ℕ) × HasRoom v.geometry.model set tracks
     × ((65536 < tracks) ⊎ IsFirstRun v.geometry (space v slots) tracks None)
 
 -- The last of the first so many records stands on this track, from 0 on, with this number, from 1 on; of none it is number 0 of the first
@@ -55,4 +61,4 @@ pub record IsNewSet (v : Labelled) (set : PlacedSet) (first tracks : ℕ) (s : N
   pub last : IsLast v.geometry.model (areas set) set.last s.last.track s.last.number
   pub balance : s.balance ≡ balance_behind v.geometry.model (take s.last.number (left_behind v.geometry.model (areas set) s.last.track))
   pub extent : s.extent ≡ extent_of_run v.geometry first tracks
-  pub kept : s.kept ≡ new_fields
+  pub kept : s.kept ≡ set.label.kept

@@ -2,10 +2,11 @@
 
 ghost use Rattle.std.specs.Prelude.{◌≡◌, IfOk, IfErr, Ok};
 ghost use Rattle.record_tracks.specs.BlockFaults.{IsCutFor};
-ghost use Rattle.loaded_sets.specs.Contents.{layout_of_set, length_said, label_of, text_size, text_bytes, IsNoText};
+ghost use Rattle.loaded_sets.specs.Contents.{layout_of_set, length_said, new_label, label_of, text_size, text_bytes, IsNoText};
 
 use crate::SetLabel;
 use crate::fault::{ContentFault, Unmade};
+use new_labels::{KeptFields, new_fields};
 use record_tracks::{TextRecordsFault, text_records};
 use std::alloc::Global;
 use volume_labels::{AttributeFault, Date, Layout, RecordAttributes, RecordForm, layout_given};
@@ -43,6 +44,25 @@ pub struct NewSetForm {
     pub expires: Date,
 }
 
+/// What a data set that was on a volume before keeps beside that: its room, and what else its label said.
+#[derive(Clone, Copy)]
+pub struct KeptLabel {
+    /// How many tracks it gets at least; it gets more where its records take more.
+    pub tracks: u64,
+    /// What its label says beside its name, its days, its form and its place.
+    pub fields: KeptFields,
+}
+
+/// What a data set has of these that was on none: the tracks that its records take, and the fields of a new label.
+pub fn new_label() -> KeptLabel
+    ensures { result ≡ new_label }
+{
+    KeptLabel {
+        tracks: 0,
+        fields: new_fields(),
+    }
+}
+
 /// A data set that is put onto a volume.
 #[derive(Clone, Copy)]
 pub struct LoadedSet<'a> {
@@ -50,6 +70,8 @@ pub struct LoadedSet<'a> {
     pub name: [u8; 44],
     /// What its label is to say.
     pub form: NewSetForm,
+    /// What it keeps.
+    pub kept: KeptLabel,
     /// What its bytes are.
     pub source: SourceForm,
     /// The bytes of its file.
@@ -79,8 +101,8 @@ fn length_said(layout: Layout, given: u16) -> u16
 }
 
 /// What the label of a data set of this layout says.
-pub fn label_of(form: &NewSetForm, layout: Layout) -> SetLabel
-    ensures { result ≡ label_of form.now layout }
+pub fn label_of(form: &NewSetForm, kept: KeptLabel, layout: Layout) -> SetLabel
+    ensures { result ≡ label_of form.now kept layout }
 {
     SetLabel {
         organisation: form.organisation,
@@ -90,6 +112,8 @@ pub fn label_of(form: &NewSetForm, layout: Layout) -> SetLabel
         key_length: form.key_length,
         created: form.created,
         expires: form.expires,
+        tracks: kept.tracks,
+        kept: kept.fields,
     }
 }
 

@@ -182,7 +182,7 @@ fn put_records(
     };
     let placed = PlacedSet {
         name: set.name,
-        label: label_of(&set.form, layout),
+        label: label_of(&set.form, set.kept, layout),
         records: records.as_slice(),
         last: records.len() - 1,
     };

@@ -21,7 +21,9 @@ mod space;
 mod tables;
 mod volumes;
 
-pub use crate::contents::{LoadedSet, NewSetForm, SourceForm, label_of, layout_of_set, text_bytes};
+pub use crate::contents::{
+    KeptLabel, LoadedSet, NewSetForm, SourceForm, label_of, layout_of_set, new_label, text_bytes,
+};
 pub use crate::fault::{
     ContentFault, LoadFault, LoadRefusal, NO_MEMORY, Unmade, of_file, of_placing, refused,
 };

@@ -4,7 +4,7 @@ ghost use Rattle.std.specs.Prelude.{◌≡◌};
 ghost use Rattle.record_tracks.specs.BlockFaults.{IsCutFor};
 ghost use Rattle.loaded_sets.specs.Members.{cut_in};
 
-use crate::{NewSetForm, SetLabel, SourceForm};
+use crate::{KeptLabel, NewSetForm, SetLabel, SourceForm};
 use record_tracks::{Cut, MemberEntry, NewLibrary, cut_of};
 use volume_labels::Layout;
 
@@ -15,6 +15,8 @@ pub struct LoadedLibrary<'a> {
     pub name: [u8; 44],
     /// What its label is to say.
     pub form: NewSetForm,
+    /// What it keeps.
+    pub kept: KeptLabel,
     /// What the bytes of its members' files are.
     pub source: SourceForm,
     /// How many blocks its directory has.

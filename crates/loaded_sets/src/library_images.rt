@@ -143,7 +143,7 @@ fn put_blocks(
     };
     let named = NamedLibrary {
         name: library.name,
-        label: label_of(&library.form, layout),
+        label: label_of(&library.form, library.kept, layout),
         library: NewLibrary {
             directory_blocks: library.directory_blocks,
             entries: library.entries,

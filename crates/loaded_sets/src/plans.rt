@@ -1,12 +1,10 @@
 //! Where a data set goes on a volume, and what its control block says.
 
-ghost use Rattle.std.specs.Prelude.{◌≡◌, ◌≤◌, ◌+◌, length, All, IfOk, IfErr};
+ghost use Rattle.std.specs.Prelude.{◌≡◌, ◌≤◌, ◌+◌, length, IfOk, IfErr};
 ghost use Rattle.ckd_track.specs.Geometry.{tracks_of};
-ghost use Rattle.record_tracks.specs.Records.{all_areas, RecordGoesOn};
-ghost use Rattle.record_tracks.specs.Tracks.{Takes};
 ghost use Rattle.changed_volumes.specs.Changes.{IsSameImage};
 ghost use Rattle.loaded_sets.specs.Volumes.{labelled};
-ghost use Rattle.loaded_sets.specs.Sets.{areas, CanBePlaced, GetsTracks, IsNewSet};
+ghost use Rattle.loaded_sets.specs.Sets.{CanBePlaced, HasRoom, GetsTracks, IsNewSet};
 ghost use Rattle.new_labels.specs.Extents.{HasRun};
 ghost use Rattle.loaded_sets.specs.PlacedParts.{IsPlaced, IsUnplaced};
 
@@ -14,15 +12,16 @@ use crate::place_fault::{PlaceFault, PlaceRefusal, refused};
 use crate::space::{take, track_marks};
 use crate::volumes::{SoundVolume, taken_extents};
 use ckd_image::Image;
+use ckd_track::DriveModel;
 use dasd_files::VolumeFile;
-use new_labels::{NewDataSet, extent_of_run, free_run, new_fields};
+use new_labels::{KeptFields, NewDataSet, extent_of_run, free_run};
 use record_tracks::{LastPlace, NewRecord, last_place, tracks_needed};
 use std::alloc::Global;
 use volume_changes::BlockChange;
 use volume_labels::{Date, RelativeAddress};
 
 /// The most tracks of a data set: their numbers have two bytes.
-const MOST_TRACKS: usize = 65_536;
+const MOST_TRACKS: u64 = 65_536;
 
 /// What the label of a new data set says of its records, and its days.
 #[derive(Clone, Copy)]
@@ -41,6 +40,10 @@ pub struct SetLabel {
     pub created: Date,
     /// When it may be scratched.
     pub expires: Date,
+    /// How many tracks it gets at least; it gets more where its records take more.
+    pub tracks: u64,
+    /// What else its label says.
+    pub kept: KeptFields,
 }
 
 /// A data set that is put onto a volume.
@@ -94,10 +97,10 @@ pub(crate) fn place_set(
     ensures same { IsSameImage image.old image.new }
     ensures kept { image.new.slots ≡ image.old.slots }
     ensures placed { IfOk result (IsPlaced (labelled volume.now) image.old.slots set.now) }
-    ensures fault { IfErr result (λ e. IsUnplaced e (labelled volume.now) image.old.slots (areas set.now)) }
+    ensures fault { IfErr result (λ e. IsUnplaced e (labelled volume.now) image.old.slots set.now) }
     ensures size { length slot.new ≡ length slot.old }
 {
-    let run = run_for(alloc, image, slot, volume, set.records)?;
+    let run = run_for(alloc, image, slot, volume, set)?;
     let changes = take(alloc, volume, run)?;
     let block = new_set(volume, set, run);
     Ok(Placed {
@@ -107,32 +110,40 @@ pub(crate) fn place_set(
     })
 }
 
-// The first free tracks that have room for records.
+// How many tracks a data set gets.
+fn tracks_for(model: DriveModel, set: &PlacedSet) -> u64
+    requires { CanBePlaced model set.now }
+    ensures { HasRoom model set.now result }
+{
+    let needed = tracks_needed(model, set.records);
+    set.label.tracks.max(needed as u64)
+}
+
+// The first free tracks that have room for the records of a data set, and are as many as it gets at least.
 fn run_for(
     alloc: Global,
     image: &mut Image<VolumeFile>,
     slot: &mut [u8],
     volume: &SoundVolume,
-    records: &[NewRecord],
+    set: &PlacedSet,
 ) -> Result<Run, PlaceFault>
     requires geometry { volume.now.geometry ≡ image.old.geometry }
     requires size { length slot.old ≡ image.old.geometry.track_size }
-    requires each { All (RecordGoesOn volume.now.geometry.model) records.now }
-    requires some { 1 ≤ length records.now }
+    requires set { CanBePlaced volume.now.geometry.model set.now }
     ensures same { IsSameImage image.old image.new }
     ensures kept { image.new.slots ≡ image.old.slots }
-    ensures tracks { IfOk result (λ run. GetsTracks (labelled volume.now) image.old.slots (all_areas records.now) run.first run.tracks) }
+    ensures tracks { IfOk result (λ run. GetsTracks (labelled volume.now) image.old.slots set.now run.first run.tracks) }
     ensures some { IfOk result (λ run. 1 ≤ run.tracks) }
     ensures within { IfOk result (λ run. run.first + run.tracks ≤ tracks_of volume.now.geometry) }
-    ensures fault { IfErr result (λ e. IsUnplaced e (labelled volume.now) image.old.slots (all_areas records.now)) }
+    ensures fault { IfErr result (λ e. IsUnplaced e (labelled volume.now) image.old.slots set.now) }
     ensures size { length slot.new ≡ length slot.old }
 {
     let geometry = volume.geometry;
-    let needed = tracks_needed(geometry.model, records);
-    if needed > MOST_TRACKS {
+    let asked = tracks_for(geometry.model, set);
+    if asked > MOST_TRACKS {
         return Err(refused(PlaceRefusal::NoRoom));
     }
-    let tracks = needed as u32;
+    let tracks = asked as u32;
     let extents = taken_extents(alloc, volume)?;
     let marks = track_marks(alloc, image, slot, volume)?;
     match free_run(geometry, extents.as_slice(), marks.as_slice(), tracks) {
@@ -144,7 +155,7 @@ fn run_for(
 // What the format 1 block of a data set says whose records are on these tracks.
 fn new_set(volume: &SoundVolume, set: &PlacedSet, run: Run) -> NewDataSet
     requires set { CanBePlaced volume.now.geometry.model set.now }
-    requires takes { Takes volume.now.geometry.model (areas set.now) run.tracks }
+    requires takes { HasRoom volume.now.geometry.model set.now run.tracks }
     requires few { run.tracks ≤ 65536 }
     requires some { 1 ≤ run.tracks }
     requires within { run.first + run.tracks ≤ tracks_of volume.now.geometry }
@@ -173,6 +184,6 @@ fn new_set(volume: &SoundVolume, set: &PlacedSet, run: Run) -> NewDataSet
         },
         balance,
         extent: extent_of_run(geometry, run.first, run.tracks),
-        kept: new_fields(),
+        kept: set.label.kept,
     }
 }

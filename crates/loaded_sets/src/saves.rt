@@ -5,7 +5,7 @@ ghost use Rattle.counted_io.specs.Streams.{seen_by, IsFlushed};
 ghost use Rattle.changed_volumes.specs.Files.{TellsChange};
 ghost use Rattle.loaded_sets.specs.Loads.{LoadsSet, loading, loaded_line};
 
-use crate::contents::{LoadedSet, NewSetForm, SourceForm};
+use crate::contents::{LoadedSet, NewSetForm, SourceForm, new_label};
 use crate::fault::{LoadFault, LoadRefusal, of_file, refused};
 use crate::images::load_image;
 use crate::lines::write_loaded;
@@ -72,6 +72,7 @@ pub fn load_set<F: ImageFiles, W: Write>(
     let set = LoadedSet {
         name,
         form: asked.form,
+        kept: new_label(),
         source: asked.source,
         bytes: bytes.as_slice(),
     };

@@ -5,7 +5,7 @@ use Rattle.std.proofs.Common.{Some, if◌then◌else◌}
 use Rattle.std.specs.List.{list_all}
 use Rattle.std.specs.Fmt.{digits}
 use Rattle.std.proofs.lemmas.Bool.{and_parts, eqb-true, ltb-true, agree_below, agree_below_at}
-use Rattle.set_forms.specs.Words.{bits_text, organisation_text, organisation_of, format_text, format_of}
+use Rattle.set_forms.specs.Words.{bits_text, byte_in, organisation_text, organisation_of, format_text, format_of}
 use Rattle.set_forms.proofs.Split.{is_inner, IsWord}
 use Rattle.set_forms.proofs.Digits.{same, is_same, pair_of_byte}
 
@@ -98,3 +98,15 @@ module _ (n : ℕ) (small : n < 65536) where
   pub organisation_word : IsWord (organisation_text n)
   unfolding organisation_text
   organisation_word = word_of (n == 0x4000) (n == 0x0200) (n == 0x2000) (n == 0x8000)
+
+-- a byte in digits
+
+pub byte_back : (b : ℕ) → b < 256 → byte_in (bits_text (b ∷ [])) ≡ Some b
+byte_back b small =
+    let pair = pair_of_byte b small in
+    rw (pair.are, pair.is) refl
+
+pub byte_word : (b : ℕ) → b < 256 → IsWord (bits_text (b ∷ []))
+byte_word b small =
+    let pair = pair_of_byte b small in
+    rw pair.are record { some = omega arith; inner = rw (pair.inner_high, pair.inner_low) refl }

@@ -6,13 +6,14 @@ use Rattle.std.specs.Fmt.{decimal}
 use Rattle.counted_io.specs.Text.{hexadecimal, bytes_text}
 use Rattle.volume_labels.specs.Names.{safe_name_of}
 use Rattle.set_forms.specs.declared.forms.SetForm.{SetForm}
+use Rattle.set_forms.specs.declared.forms.SetDetails.{SetDetails}
 use Rattle.set_forms.specs.declared.forms.EntryForm.{EntryForm}
 use Rattle.set_forms.specs.declared.forms.Note.{Note}
 use Rattle.set_forms.specs.declared.forms.Note.TheVariants.{Block, Address}
 use Rattle.set_forms.specs.declared.forms.FormLine.{FormLine}
 use Rattle.set_forms.specs.declared.forms.FormLine.TheVariants.{Set, Entry}
 use Rattle.set_forms.specs.Numbers.{day_text}
-use Rattle.set_forms.specs.Words.{organisation_text, format_text}
+use Rattle.set_forms.specs.Words.{bits_text, organisation_text, format_text}
 
 -- a data set of this organisation has a directory
 abbrev pub is_partitioned : ℕ → Bool
@@ -28,12 +29,16 @@ closed [] = 10 ∷ []
 closed (word ∷ words) = 32 ∷ (word ++ closed words)
 
 -- A line of a data set: its name, its organisation, its record format, the lengths of its records, blocks and keys, the days when it was
--- made
--- and when it may be scratched, and of a partitioned one how many blocks its directory has.
+-- made and when it may be scratched, of a partitioned one how many blocks its directory has, and its volume and its extents, if these are told.
 
 abbrev pub directory_words : Option ℕ → List (List ℕ)
 directory_words None = []
 directory_words (Some blocks) = codes "directory" ∷ decimal blocks ∷ []
+
+-- the number of its volume among those of the data set, and the types of its extents that are no plain ones
+abbrev pub details_words : Option SetDetails → List (List ℕ)
+details_words None = []
+details_words (Some d) = codes "volume" ∷ decimal d.volume ∷ codes "extents" ∷ bits_text (d.extents ∷ []) ∷ []
 
 abbrev pub start_text : (name : List ℕ) → SetForm → List ℕ
 start_text name s = concat (codes "data set" ∷ spaced (name ∷ organisation_text s.organisation ∷ format_text s.format ∷ []) ∷ [])
@@ -46,7 +51,8 @@ days_text s = spaced (day_text s.created ∷ day_text s.expires ∷ [])
 
 -- the line of one whose file has this name
 abbrev pub named_set_line : (name : List ℕ) → SetForm → List ℕ
-named_set_line name s = start_text name s ++ (lengths_text s ++ (days_text s ++ closed (directory_words s.directory)))
+named_set_line name s =
+    start_text name s ++ (lengths_text s ++ (days_text s ++ (spaced (directory_words s.directory) ++ closed (details_words s.details))))
 
 abbrev pub set_line : SetForm → List ℕ
 set_line s = named_set_line (safe_name_of s.name) s

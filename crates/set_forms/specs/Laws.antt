@@ -4,6 +4,7 @@ use Rattle.std.specs.Prelude.{Ok}
 use Rattle.std.specs.List.{All}
 use Rattle.volume_labels.specs.declared.fields.Date.{Date}
 use Rattle.set_forms.specs.declared.forms.SetForm.{SetForm}
+use Rattle.set_forms.specs.declared.forms.SetDetails.{SetDetails}
 use Rattle.set_forms.specs.declared.forms.EntryForm.{EntryForm}
 use Rattle.set_forms.specs.declared.forms.Note.{Note}
 use Rattle.set_forms.specs.declared.forms.Note.TheVariants.{Block, Address}
@@ -27,6 +28,10 @@ HasDirectory true (Some blocks) = blocks < 65536
 HasDirectory false None = Unit {0}
 HasDirectory is_partitioned directory = ⊥
 
+pub record AreDetails (d : SetDetails) : Type 0 where
+  pub volume : d.volume < 65536
+  pub extents : d.extents < 256
+
 -- what a label can say: numbers of one byte and of two
 pub record IsSetForm (s : SetForm) : Type 0 where
   pub name : AreBytes 44 s.name
@@ -38,6 +43,7 @@ pub record IsSetForm (s : SetForm) : Type 0 where
   pub created : IsDay s.created
   pub expires : IsDay s.expires
   pub directory : HasDirectory (is_partitioned s.organisation) s.directory
+  pub details : IfSome s.details AreDetails
 
 abbrev pub IsNote : Note → Type 0
 IsNote (Block number byte) = (0 < number) × (number < 4294967296) × (byte < 256)

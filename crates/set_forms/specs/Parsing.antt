@@ -7,6 +7,8 @@ use Rattle.std.specs.Prelude.{Result, Ok, Err}
 use Rattle.std.specs.List.{slice_split}
 use Rattle.std.specs.Global.{Vec}
 use Rattle.set_forms.specs.declared.forms.SetForm.{SetForm}
+use Rattle.set_forms.specs.declared.forms.SetDetails.{SetDetails}
+use Rattle.set_forms.specs.declared.sets.SetEnd.{SetEnd}
 use Rattle.set_forms.specs.declared.forms.EntryForm.{EntryForm}
 use Rattle.set_forms.specs.declared.forms.Note.{Note}
 use Rattle.set_forms.specs.declared.forms.Note.TheVariants.{Block, Address}
@@ -18,7 +20,7 @@ use Rattle.set_forms.specs.declared.fault.TextFault.{TextFault}
 use Rattle.set_forms.specs.declared.fault.TextFault.TheVariants.{OutOfMemory, Line}
 use Rattle.set_forms.specs.Numbers.{number_of, byte_of, bytes_of, three_of, day_of}
 use Rattle.set_forms.specs.Names.{name_of}
-use Rattle.set_forms.specs.Words.{organisation_of, format_of}
+use Rattle.set_forms.specs.Words.{byte_in, organisation_of, format_of}
 use Rattle.set_forms.specs.Forms.{is_partitioned}
 
 -- what is read on of a word that says something; one that says nothing is wrong in this way
@@ -28,20 +30,44 @@ read_on f (Some x) next = next x
 
 -- The words of a data set's line.
 
--- a partitioned one, and no other, says how long its directory is
-abbrev pub directory_read : (is_partitioned : Bool) → List (List ℕ) → Result (Option ℕ) FormLineFault
-directory_read false [] = Ok None
-directory_read true (word ∷ blocks ∷ []) =
-    if bytes_eq word (codes "directory") then read_on fault.Directory (number_of 65535 blocks) (λ n. Ok (Some n)) else Err fault.Directory
-directory_read is_partitioned words = Err fault.Directory
+-- its volume and its extents, by the values of their words
+abbrev pub details_of : (volume extents : List ℕ) → Option SetDetails
+details_of volume extents =
+    option_and_then (λ v. option_map (λ e. record { volume = v; extents = e }) (byte_in extents)) (number_of 65535 volume)
 
--- how long its directory is, if all else is read
-abbrev pub with_directory : SetForm → Result (Option ℕ) FormLineFault → Result SetForm FormLineFault
-with_directory s (Ok directory) = Ok (record s { directory = directory })
-with_directory s (Err f) = Err f
+-- both stand there, or none
+abbrev pub details_read : List (List ℕ) → Result (Option SetDetails) FormLineFault
+details_read [] = Ok None
+details_read (key ∷ volume ∷ other ∷ extents ∷ []) =
+    if bytes_eq key (codes "volume") && bytes_eq other (codes "extents") then read_on fault.Details (details_of volume extents) (λ d. Ok (Some d))
+    else Err fault.Details
+details_read words = Err fault.Details
+
+-- the words behind the days of a data set whose directory has so many blocks, behind which these details stand
+abbrev pub ended : (directory : Option ℕ) → Result (Option SetDetails) FormLineFault → Result SetEnd FormLineFault
+ended directory (Ok details) = Ok (record { directory = directory; details = details })
+ended directory (Err f) = Err f
+
+-- how long the directory is, and what stands behind that
+abbrev pub directory_read : List (List ℕ) → Result SetEnd FormLineFault
+directory_read [] = Err fault.Directory
+directory_read (blocks ∷ words) = read_on fault.Directory (number_of 65535 blocks) (λ n. ended (Some n) (details_read words))
+
+-- a partitioned one, and no other, says how long its directory is
+abbrev pub end_read : (is_partitioned : Bool) → List (List ℕ) → Result SetEnd FormLineFault
+end_read p [] = if p then Err fault.Directory else ended None (details_read [])
+end_read p (word ∷ words) =
+    if bytes_eq word (codes "directory") then (if p then directory_read words else Err fault.Directory)
+    else (if p then Err fault.Directory
+    else ended None (details_read (word ∷ words)))
+
+-- what stands at the end of its line, if all else is read
+abbrev pub with_end : SetForm → Result SetEnd FormLineFault → Result SetForm FormLineFault
+with_end s (Ok e) = Ok (record s { directory = e.directory; details = e.details })
+with_end s (Err f) = Err f
 
 abbrev pub set_read : List (List ℕ) → Result SetForm FormLineFault
-set_read (kind ∷ name ∷ organisation ∷ format ∷ record_length ∷ block_length ∷ key_length ∷ created ∷ expires ∷ directory) =
+set_read (kind ∷ name ∷ organisation ∷ format ∷ record_length ∷ block_length ∷ key_length ∷ created ∷ expires ∷ end) =
     if not (bytes_eq kind (codes "set")) then Err fault.Kind
     else read_on fault.Name (name_of 44 name)
     (λ n. read_on fault.Organisation (organisation_of organisation)
@@ -51,7 +77,7 @@ set_read (kind ∷ name ∷ organisation ∷ format ∷ record_length ∷ block_
     (λ b. read_on fault.KeyLength (number_of 255 key_length)
     (λ k. read_on fault.Day (day_of created)
     (λ c. read_on fault.Day (day_of expires)
-    (λ e. with_directory (record {
+    (λ e. with_end (record {
       name = n;
       organisation = o;
       format = f;
@@ -61,7 +87,8 @@ set_read (kind ∷ name ∷ organisation ∷ format ∷ record_length ∷ block_
       created = c;
       expires = e;
       directory = None;
-    }) (directory_read (is_partitioned o) directory)))))))))
+      details = None;
+    }) (end_read (is_partitioned o) end)))))))))
 set_read words = Err fault.Words
 
 -- The words of an entry's line.

@@ -87,6 +87,10 @@ abbrev pub format_bits : List ℕ → Option ℕ
 format_bits (high ∷ low ∷ []) = byte_of high low
 format_bits digits = None
 
+-- the byte of a word of bits
+abbrev pub byte_in : (word : List ℕ) → Option ℕ
+byte_in word = option_and_then format_bits (quoted word)
+
 -- the format of digits, or of letters
 abbrev pub format_in : Option (List ℕ) → (word : List ℕ) → Option ℕ
 format_in (Some digits) word = format_bits digits

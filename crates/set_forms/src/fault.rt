@@ -35,6 +35,9 @@ pub enum FormLineFault {
     /// A partitioned data set has no number of directory blocks, or another one has.
     #[error("a partitioned data set, and no other, has at its end `directory` and the number of its blocks, to 65535")]
     Directory,
+    /// The volume and the extents of a data set are not both there, or a value of them is none.
+    #[error("at its end a data set may have `volume`, its number to 65535, `extents`, and the types of these, as X'80'")]
+    Details,
     /// A note is none, or stands where none may.
     #[error("at most three notes stand before the user data: a number of a block and a byte, as 5/00, or an address and a byte, as @000102/00")]
     Note,

@@ -10,6 +10,15 @@ use volume_labels::Date;
 /// 'Data Set Control Block', format 1, DS1DSORG).
 const PARTITIONED: u16 = 0x0200;
 
+/// Of a data set that is a part of one on several volumes, or has extents that are no plain ones, what its label says of both.
+#[derive(Clone, Copy)]
+pub struct SetDetails {
+    /// The number of its volume among those of the data set, the first being 1.
+    pub volume: u16,
+    /// The types of its extents that are no plain ones, as bits: 0x80 where one shares its cylinders, 0x40 where one is for user labels.
+    pub extents: u8,
+}
+
 /// What a data set's label says of it, but where it lies, and how long its directory is.
 #[derive(Clone, Copy)]
 pub struct SetForm {
@@ -31,6 +40,8 @@ pub struct SetForm {
     pub expires: Date,
     /// How many blocks its directory has, if it is partitioned.
     pub directory: Option<u16>,
+    /// Its volume and its extents, if the text says them; else it is on one volume, in plain extents.
+    pub details: Option<SetDetails>,
 }
 
 /// Where an address at the front of an entry's user data leads to (IBM System/360 Operating System, System Control Blocks, 'Partitioned

@@ -2,6 +2,7 @@
 //! entry of its directory. Pure functions over text and values, which know no files.
 #![tactic(auto)]
 
+mod details;
 mod entries;
 mod fault;
 mod forms;
@@ -14,7 +15,7 @@ mod sets;
 mod words;
 
 pub use crate::fault::{FormLineFault, TextFault};
-pub use crate::forms::{EntryForm, FormLine, Note, SetForm, is_partitioned};
+pub use crate::forms::{EntryForm, FormLine, Note, SetDetails, SetForm, is_partitioned};
 pub use crate::lines::write_form;
 pub use crate::parsing::parse;
 

@@ -2,11 +2,12 @@
 
 ghost use Rattle.std.specs.Prelude.{◌≡◌, map, OnOk};
 ghost use Rattle.std.specs.Io.KnownBytes.{Appends};
-ghost use Rattle.set_forms.specs.Forms.{closed, directory_words, start_text, lengths_text, days_text, named_set_line};
-ghost use Rattle.set_forms.specs.Parsing.{directory_read, set_read};
+ghost use Rattle.set_forms.specs.Forms.{spaced, directory_words, start_text, lengths_text, days_text, named_set_line};
+ghost use Rattle.set_forms.specs.Parsing.{details_read, ended, directory_read, end_read, set_read};
 
+use crate::details::{read_details, write_details};
 use crate::fault::FormLineFault;
-use crate::forms::{SetForm, is_partitioned};
+use crate::forms::{SetDetails, SetForm, is_partitioned};
 use crate::names::data_set_name;
 use crate::numbers::{day_of, day_word, number};
 use crate::words::{format_of, format_word, organisation_of, organisation_word};
@@ -20,7 +21,8 @@ pub(crate) fn write_set<W: Write>(writer: &mut W, name: &str, form: &SetForm) ->
     write_start(writer, name, form)?;
     write_lengths(writer, form)?;
     write_days(writer, form)?;
-    write_directory(writer, form.directory)
+    write_directory(writer, form.directory)?;
+    write_details(writer, form.details)
 }
 
 // Writes its name, its organisation and its record format.
@@ -55,29 +57,58 @@ fn write_days<W: Write>(writer: &mut W, form: &SetForm) -> io::Result<()>
     write!(writer, " {created} {expires}")
 }
 
-// Writes how many blocks a directory has, if there is one, and ends the line.
+// Writes how many blocks a directory has, if there is one.
 fn write_directory<W: Write>(writer: &mut W, directory: Option<u16>) -> io::Result<()>
-    ensures { OnOk result (Appends (W.contents writer.old) (W.contents writer.new) (closed (directory_words directory))) }
+    ensures { OnOk result (Appends (W.contents writer.old) (W.contents writer.new) (spaced (directory_words directory))) }
 {
     match directory {
-        None => writeln!(writer),
-        Some(blocks) => writeln!(writer, " directory {blocks}"),
+        None => Ok(()),
+        Some(blocks) => write!(writer, " directory {blocks}"),
     }
 }
 
-// The length of a directory, which partitioned data sets have alone.
-fn read_directory(is_partitioned: bool, words: &[&[u8]]) -> Result<Option<u16>, FormLineFault>
-    ensures { result ≡ directory_read is_partitioned (map (λ w. w.now) words.now) }
+/// What stands behind its days of a data set.
+#[derive(Clone, Copy)]
+pub(crate) struct SetEnd {
+    /// How many blocks its directory has.
+    pub(crate) directory: Option<u16>,
+    /// Its volume and its extents.
+    pub(crate) details: Option<SetDetails>,
+}
+
+// The end of a line with a directory of this many blocks, by the words behind that.
+fn ended(directory: Option<u16>, words: &[&[u8]]) -> Result<SetEnd, FormLineFault>
+    ensures { result ≡ ended directory (details_read (map (λ w. w.now) words.now)) }
+{
+    let details = read_details(words)?;
+    Ok(SetEnd { directory, details })
+}
+
+// The words behind `directory`: the number of its blocks, and the details.
+fn read_directory(words: &[&[u8]]) -> Result<SetEnd, FormLineFault>
+    ensures { result ≡ directory_read (map (λ w. w.now) words.now) }
+{
+    let [blocks, behind @ ..] = words else {
+        return Err(FormLineFault::Directory);
+    };
+    let blocks = number(blocks, 65535).ok_or(FormLineFault::Directory)?;
+    ended(Some(blocks as u16), behind)
+}
+
+// The words behind the days of a data set: the length of its directory, which a partitioned one has and no other, and its details.
+fn read_end(is_partitioned: bool, words: &[&[u8]]) -> Result<SetEnd, FormLineFault>
+    ensures { result ≡ end_read is_partitioned (map (λ w. w.now) words.now) }
 {
     match words {
-        [] if !is_partitioned => Ok(None),
-        [word, blocks] if is_partitioned && word == &&b"directory"[..] => {
-            match number(blocks, 65535) {
-                Some(blocks) => Ok(Some(blocks as u16)),
-                None => Err(FormLineFault::Directory),
+        [word, behind @ ..] if word == &&b"directory"[..] => {
+            if is_partitioned {
+                read_directory(behind)
+            } else {
+                Err(FormLineFault::Directory)
             }
         }
-        _ => Err(FormLineFault::Directory),
+        _ if is_partitioned => Err(FormLineFault::Directory),
+        _ => ended(None, words),
     }
 }
 
@@ -95,7 +126,7 @@ pub(crate) fn read_set(words: &[&[u8]]) -> Result<SetForm, FormLineFault>
         keys,
         created,
         expires,
-        directory @ ..,
+        end @ ..,
     ] = words
     else {
         return Err(FormLineFault::Words);
@@ -111,7 +142,7 @@ pub(crate) fn read_set(words: &[&[u8]]) -> Result<SetForm, FormLineFault>
     let key_length = number(keys, 255).ok_or(FormLineFault::KeyLength)? as u8;
     let created = day_of(created).ok_or(FormLineFault::Day)?;
     let expires = day_of(expires).ok_or(FormLineFault::Day)?;
-    let directory = read_directory(is_partitioned(organisation), directory)?;
+    let SetEnd { directory, details } = read_end(is_partitioned(organisation), end)?;
     Ok(SetForm {
         name,
         organisation,
@@ -122,5 +153,6 @@ pub(crate) fn read_set(words: &[&[u8]]) -> Result<SetForm, FormLineFault>
         created,
         expires,
         directory,
+        details,
     })
 }

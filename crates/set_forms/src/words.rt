@@ -3,7 +3,7 @@
 ghost use Rattle.std.specs.Prelude.{◌≡◌, ◌≤◌, ◌+◌, ◌++◌, length};
 ghost use Rattle.std.specs.Option.{option_copied};
 ghost use Rattle.set_forms.specs.Words.{organisation_text, organisation_of, organisation_bits, quoted, bits_text, form_letter, form_of, flag_of};
-ghost use Rattle.set_forms.specs.Words.{letter_if, is_lettered, letters_behind, lettered, format_letters, format_text, format_bits, format_of};
+ghost use Rattle.set_forms.specs.Words.{letter_if, is_lettered, letters_behind, lettered, format_letters, format_text, format_bits, format_of, byte_in};
 
 use crate::numbers::byte_of;
 use arrayvec::ArrayString;
@@ -22,8 +22,8 @@ fn word_of(letters: &str) -> Word
     word
 }
 
-// The word of these bits, in hexadecimal digits: as X'91'.
-fn bits_word(bytes: &[u8]) -> Word
+/// The word of these bits, in hexadecimal digits: as X'91'.
+pub(crate) fn bits_word(bytes: &[u8]) -> Word
     requires { length bytes.now ≤ 2 }
     ensures { result.bytes ≡ bits_text bytes.now }
 {
@@ -194,6 +194,13 @@ fn format_bits(digits: &[u8]) -> Option<u8>
         return None;
     };
     byte_of(*high, *low)
+}
+
+/// The byte of a word of bits.
+pub(crate) fn byte_in(word: &[u8]) -> Option<u8>
+    ensures { result ≡ byte_in word.now }
+{
+    format_bits(quoted(word)?)
 }
 
 /// The record format that a word says.

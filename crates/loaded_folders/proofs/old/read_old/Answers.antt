@@ -41,15 +41,15 @@ returns-clause-old c =
     let slots = c.args.image.now.slots in
     let read = c.in-Ok.contents in
     let v = labelled c.in-Ok-judge.volume in
-    let set = c.in-Ok-library_set.set in
+    let library = c.in-Ok-library_set.set in
     let is = c.geometry-geometry.ensures.geometry in
     let same = same_said (contents_of g slots) read c.in-Ok.ensures.says in
     let says = subst (λ (s : Said). SaysOf g s v) same
     (subst (λ (h : Geometry). SaysOf h (said_in read) v) is c.in-Ok-judge.ensures.says) in
     let nothing = subst (λ (s : Said). all_findings g s ≡ []) same
     (subst (λ (h : Geometry). all_findings h (said_in read) ≡ []) is c.in-Ok-judge.ensures.nothing) in
-    if_ok c.read_copy.result (IsReadOf set.block set.extents.items g slots) (IsOld c.args.name.now g slots)
-    (old_read g slots v says nothing c.args.name.now set c.in-Ok-library_set.ensures.set) c.read_copy.ensures.old
+    if_ok c.read_copy.result (IsReadOf library.set.block library.kept library.set.extents.items g slots) (IsOld c.args.name.now g slots)
+    (old_read g slots v says nothing c.args.name.now library c.in-Ok-library_set.ensures.set) c.read_copy.ensures.old
 
 pub returns-clause-fault : goal.returns-clause-fault
 returns-clause-fault c =
@@ -57,12 +57,12 @@ returns-clause-fault c =
     let slots = c.args.image.now.slots in
     let read = c.in-Ok.contents in
     let v = labelled c.in-Ok-judge.volume in
-    let set = c.in-Ok-library_set.set in
+    let library = c.in-Ok-library_set.set in
     let is = c.geometry-geometry.ensures.geometry in
     let same = same_said (contents_of g slots) read c.in-Ok.ensures.says in
     let says = subst (λ (s : Said). SaysOf g s v) same
     (subst (λ (h : Geometry). SaysOf h (said_in read) v) is c.in-Ok-judge.ensures.says) in
     let nothing = subst (λ (s : Said). all_findings g s ≡ []) same
     (subst (λ (h : Geometry). all_findings h (said_in read) ≡ []) is c.in-Ok-judge.ensures.nothing) in
-    if_err c.read_copy.result (λ e. IsNotReadIn e set.extents.items g slots) (λ e. IsNotRead e c.args.name.now g slots)
-    (old_unread g slots v says nothing c.args.name.now set c.in-Ok-library_set.ensures.set) c.read_copy.ensures.fault
+    if_err c.read_copy.result (λ e. IsNotReadIn e library.set.extents.items g slots) (λ e. IsNotRead e c.args.name.now g slots)
+    (old_unread g slots v says nothing c.args.name.now library c.in-Ok-library_set.ensures.set) c.read_copy.ensures.fault

@@ -1,5 +1,4 @@
 use Rattle.std.proofs.Common.{rules}
-use Rattle.loaded_sets.specs.Sets.{areas}
 use Rattle.loaded_sets.specs.Volumes.{labelled}
 use Rattle.loaded_sets.proofs.RefusedPlaced.{untaken}
 use Rattle.loaded_sets.proofs.plans.place_set.Goals as goal
@@ -23,7 +22,7 @@ returns c = record {
 pub returns-in_err-changes : goal.returns-in_err-changes
 returns-in_err-changes c =
     let run = c.in_ok-run.run' in
-    let why = untaken (labelled c.args.volume.now) c.args.image.now.slots (areas c.args.set.now) run.first run.tracks
+    let why = untaken (labelled c.args.volume.now) c.args.image.now.slots c.args.set.now run.first run.tracks
     c.in_ok-run.ensures.tracks c.in_err-changes.field-0.0 c.in_err-changes.ensures.fault in
     let same = c.in_ok-run.ensures.same in
     let kept = c.in_ok-run.ensures.kept in
