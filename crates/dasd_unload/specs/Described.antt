@@ -1,5 +1,5 @@
 -- What the text of a folder says of the data sets of a volume, by their labels and their directories.
-use Rattle.std.specs.Prelude.{◌≡◌, ℕ, zero, suc, ◌+◌, ◌-◌, ◌*◌, ◌/◌, ◌==◌, Bool, ◌&&◌, ◌||◌, not, nat_lt, nat_le, false, bytes_eq, take}
+use Rattle.std.specs.Prelude.{◌≡◌, ℕ, zero, suc, ◌+◌, ◌-◌, ◌*◌, ◌/◌, ◌==◌, Bool, ◌&&◌, ◌||◌, not, nat_lt, nat_le, true, false, bytes_eq, take}
 use Rattle.std.specs.Prelude.{if◌then◌else◌, List, [], ◌∷◌}
 use Rattle.std.specs.Prelude.{◌++◌, length}
 use Rattle.std.specs.Prelude.{drop, find, slice_index, slice_range, Option, Some, None, option_map, Result, Ok, Err}
@@ -32,9 +32,19 @@ use Rattle.dasd_jobs.specs.Written.{Replaced, with_file}
 use Rattle.dasd_unload.specs.declared.fault.UnloadFault.{UnloadFault}
 use Rattle.dasd_unload.specs.Parts.{is_partitioned}
 
+-- an extent is for user labels (DS1EXT1)
+abbrev pub has_labels : Extent → Bool
+has_labels e = e.kind == 0x40
+
 -- the types of extents that are no plain ones: 80 where one shares its cylinders, 40 where one is for user labels
+abbrev pub types_of : (shared labelled : Bool) → ℕ
+types_of false false = 0
+types_of false true = 0x40
+types_of true false = 0x80
+types_of true true = 0xC0
+
 abbrev pub extent_types : List Extent → ℕ
-extent_types extents = (if list_any is_split extents then 0x80 else 0) + (if list_any (λ e. e.kind == 0x40) extents then 0x40 else 0)
+extent_types extents = types_of (list_any is_split extents) (list_any has_labels extents)
 
 -- what is told of the volume and the extents of a data set; nothing of one that is on one volume, in plain extents
 abbrev pub set_details : DataSetBlock → List Extent → Option SetDetails

@@ -1,9 +1,10 @@
 //! What the text of a folder says of a data set and of the entries of its directory, by its label and by blocks that were read.
 
+ghost use Rattle.std.specs.List.{list_any};
 ghost use Rattle.volume_labels.specs.Addresses.{is_split};
-ghost use Rattle.std.specs.Prelude.{◌≡◌, ◌≤◌, ◌==◌, ◌*◌, ◌++◌, ◌∷◌, [], None, Some, length, OnOk};
+ghost use Rattle.std.specs.Prelude.{◌≡◌, ◌≤◌, ◌*◌, ◌++◌, ◌∷◌, [], None, Some, length, OnOk};
 ghost use Rattle.set_forms.specs.Forms.{text_of};
-ghost use Rattle.dasd_unload.specs.Described.{extent_types, set_details, set_form, directory_blocks, is_same_place, member_named, note_count, entry_form, user_data, block_size};
+ghost use Rattle.dasd_unload.specs.Described.{has_labels, types_of, extent_types, set_details, set_form, directory_blocks, is_same_place, member_named, note_count, entry_form, user_data, block_size};
 ghost use Rattle.dasd_unload.specs.Described.{block_count, ends_with, block_led_to};
 
 use arrayvec::ArrayVec;
@@ -24,23 +25,45 @@ pub(crate) const NOTE: usize = 4;
 /// How many bytes stand before the key of a block that is written with its lengths.
 const LENGTHS: usize = 4;
 
-// The types of extents that are no plain ones: 0x80 where one shares its cylinders, 0x40 where one is for user labels.
-fn extent_types(extents: &[Extent]) -> u8
-    ensures { result ≡ extent_types extents.now }
+// Whether one of some extents shares its cylinders.
+fn is_one_shared(extents: &[Extent]) -> bool
+    ensures { result ≡ list_any is_split extents.now }
 {
-    let shared = extents.iter().any(
+    extents.iter().any(
         |extent: &Extent| -> bool
             ensures { result ≡ is_split extent.now }
         { is_split(*extent) },
-    );
-    let labelled = extents.iter().any(
+    )
+}
+
+// Whether one of them is for user labels.
+fn is_one_labelled(extents: &[Extent]) -> bool
+    ensures { result ≡ list_any has_labels extents.now }
+{
+    extents.iter().any(
         |extent: &Extent| -> bool
-            ensures { result ≡ (extent.now.kind == 0x40) }
+            ensures { result ≡ has_labels extent.now }
         { extent.kind == USER_LABELS },
-    );
-    let shared = if shared { SHARED } else { 0 };
-    let labelled = if labelled { USER_LABELS } else { 0 };
-    shared + labelled
+    )
+}
+
+// The types of extents of which one shares its cylinders, or is for user labels.
+fn types_of(shared: bool, labelled: bool) -> u8
+    ensures { result ≡ types_of shared labelled }
+{
+    match (shared, labelled) {
+        (false, false) => 0,
+        (false, true) => USER_LABELS,
+        (true, false) => SHARED,
+        (true, true) => SHARED + USER_LABELS,
+    }
+}
+
+// The types of extents that are no plain ones.
+fn extent_types(extents: &[Extent]) -> u8
+    ensures { result ≡ extent_types extents.now }
+{
+    types_of(is_one_shared(extents), is_one_labelled(extents))
 }
 
 // What is told of the volume and the extents of a data set; nothing of one that is on one volume, in plain extents.

@@ -71,7 +71,7 @@ module _ (v : Labelled) (set : LoadedSet) (b : FileBlocks) (p : PlacedSet) (is :
 
     module _ (tracks : ℕ) (now : List (List ℕ)) (read : IsReadBack v.geometry.model b.cut b.bytes)
         (gets : GetsSet v p slots tracks now) where
-      used : ℕ
+      abbrev used : ℕ
       used = gets.gets.room.used
 
       takes : Takes v.geometry.model (areas_of b.cut b.bytes) used
