@@ -27,8 +27,8 @@ TEXT = "data_sets.txt"
 TABLE, CYLINDERS = 8, 60
 # A note that leads to no block of its member: its address, and the byte behind it.
 NOTE = re.compile(r" @([0-9A-F]{6})/([0-9A-F]{2})( [0-9A-F]+)?$", re.M)
-# The line of a data set that does not go back: a direct one, one without a record format, and one with other extents than plain ones.
-LEFT_OUT = re.compile(r"data set \S+ (DA |\S+ X'00' |.* extents X'..'$)", re.M)
+# The line of a data set that does not go back: a direct one or an indexed one, one without a record format, and one with other extents than plain ones.
+LEFT_OUT = re.compile(r"data set \S+ ((DA|IS|X'[236-9A-F]...') |\S+ X'00' |.* extents X'..'$)", re.M)
 # The plans whose records are all cards in full blocks.
 CARDS_ALONE = ("SMALL1", "WIDE14")
 
