@@ -7,7 +7,7 @@ use Rattle.record_tracks.specs.ReadBack.{keyed_text}
 use Rattle.loaded_sets.specs.declared.contents.LoadedSet.{LoadedSet}
 use Rattle.loaded_sets.specs.declared.contents.NewSetForm.{NewSetForm}
 use Rattle.loaded_sets.specs.declared.fault.ContentFault.{ContentFault}
-use Rattle.loaded_sets.specs.Contents.{FileBlocks, blocks_in, layout_of_set}
+use Rattle.loaded_sets.specs.Contents.{FileBlocks, blocks_in, layout_of_set, new_label}
 use Rattle.loaded_folders.specs.declared.added.AddedMember.{AddedMember}
 
 -- records one behind another, each with its lengths and its key
@@ -25,7 +25,7 @@ keyed_or_fault (Err f) = Err f
 
 -- The file of a member, as that of a data set whose label says the same as the library's.
 abbrev pub as_set : NewSetForm → AddedMember → LoadedSet
-as_set form added = record { name = added.library; form = form; source = added.source; bytes = added.bytes }
+as_set form added = record { name = added.library; form = form; kept = new_label; source = added.source; bytes = added.bytes }
 
 -- the blocks of a member's file in a library of this form, or why it has none
 abbrev pub member_blocks : DriveModel → NewSetForm → AddedMember → Result (List ℕ) ContentFault
