@@ -284,7 +284,8 @@ def data_set_that_a_folder_does_not_carry_is_refused_by_name(s: Scratch) -> None
     indexed = "an indexed sequential data set, whose indexes the folder does not have"
     for organisation, why in [("DA", direct), ("X'2100'", direct), ("IS", indexed), ("X'8100'", indexed)]:
         stays(s, held, f"{CARDS_LINE}data set A {organisation} F 80 80 0 - -\n", files, f"A: {why}")
-    shared, labelled = "a data set that shares cylinders with others, which the folder does not say", "a data set with user labels, which the folder does not have"
+    shared = "a data set that shares cylinders with others, which the folder does not say"
+    labelled = "a data set with user labels, which the folder does not have"
     for words, why in [
         ("volume 2 extents X'00'", "part 2 of a data set on several volumes"),
         ("volume 65535 extents X'C0'", "part 65535 of a data set on several volumes"),
