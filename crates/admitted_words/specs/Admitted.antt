@@ -14,7 +14,6 @@ use Rattle.dasd_words.specs.declared.requests.NewImage.{NewImage}
 use Rattle.dasd_words.specs.declared.requests.PrintedVolume.{PrintedVolume}
 use Rattle.dasd_words.specs.declared.requests.Request.{Request}
 use Rattle.dasd_words.specs.declared.requests.Request.TheVariants as request
-use Rattle.dasd_words.specs.declared.requests.SetName.{SetName}
 use Rattle.dasd_words.specs.declared.requests.TraceTarget.{TraceTarget}
 use Rattle.dasd_words.specs.declared.requests.TraceTarget.TheVariants.{StandardError, File}
 use Rattle.admitted_words.specs.Volumes.{are_named}

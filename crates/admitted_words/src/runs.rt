@@ -50,7 +50,6 @@ fn trace_path<'a>(trace: Option<AskedTrace<'a>>) -> Option<&'a str>
     }
 }
 
-#[tactic(auto, using(crate::proofs::Volumes::none_stays))]
 // Whether words name these volumes, one after another, and no others.
 fn are_named(words: &[&str], volumes: &[Volume]) -> bool
     ensures { result ≡ are_named (map (λ word. word.now) words.now) volumes.now }
@@ -92,7 +91,10 @@ fn after_files(words: &[&str], at: usize, device: u8, paths: &[&str]) -> Option<
 {
     let mut next = at;
     for path in paths {
-        if next >= words.len() || !names_file(device, path, words[next]) {
+        if next >= words.len() {
+            return None;
+        }
+        if !names_file(device, path, words[next]) {
             return None;
         }
         next += 1;

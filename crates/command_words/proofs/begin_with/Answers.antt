@@ -1,4 +1,4 @@
-use Rattle.std.proofs.Common.{map, take, length, Bor, List, ℕ}
+use Rattle.std.proofs.Common.{length, Bor, List, ℕ}
 use Rattle.std.proofs.lemmas.List.{take-map}
 use Rattle.command_words.proofs.begin_with.Goals as goal
 
