@@ -30,8 +30,8 @@ first_counts word command words no_save h =
     let same : word ≡ command = (bytes_eq-Decides word command).0 h in
     subst (λ (w : List ℕ). reads_by (word ∷ words) no_save ≡ reads_by (w ∷ []) no_save) same refl
 
-by_words : (operands : List (List ℕ)) (command : List ℕ) (others : List (List ℕ)) (no_save : Bool) → pointwise bytes_eq operands (command ∷ others) ≡ true →
-    reads_by operands no_save ≡ reads_by (command ∷ []) no_save
+by_words : (operands : List (List ℕ)) (command : List ℕ) (others : List (List ℕ)) (no_save : Bool) →
+    pointwise bytes_eq operands (command ∷ others) ≡ true → reads_by operands no_save ≡ reads_by (command ∷ []) no_save
 by_words [] command others no_save h = cc
 by_words (word ∷ words) command others no_save h = first_counts word command words no_save (left _ _ h)
 
@@ -41,17 +41,19 @@ by_front [] command no_save h = cc
 by_front (word ∷ words) command no_save h = first_counts word command words no_save (left _ _ h)
 
 -- a command that writes is none that only reads
-writing : (line : Line) (command : List ℕ) (others : List (List ℕ)) → reads_by (command ∷ []) (has line (codes "--no-save")) ≡ false →
+writing : (line : Line) (command : List ℕ) (others : List (List ℕ)) →
+    reads_by (command ∷ []) (has line (codes "--no-save")) ≡ false →
     pointwise bytes_eq line.operands (command ∷ others) ≡ true → only_reads line ≡ true → true ≡ false
 writing line command others none h e =
     sym (sym none ∙ sym (by_words line.operands command others (has line (codes "--no-save")) h) ∙ e)
 
 -- a run that saves has no --no-save
-saving : (line : Line) (saves : Bool) → are_front line.operands (codes "run") [] ≡ true → is_set line (codes "--no-save") (not saves) ≡ true →
-    only_reads line ≡ true → saves ≡ false
+saving : (line : Line) (saves : Bool) → are_front line.operands (codes "run") [] ≡ true →
+    is_set line (codes "--no-save") (not saves) ≡ true → only_reads line ≡ true → saves ≡ false
 saving line false h s e = refl
 saving line true h s e =
-    let no_save : has line (codes "--no-save") ≡ true = sym (by_front line.operands (codes "run") (has line (codes "--no-save")) h) ∙ e in
+    let no_save : has line (codes "--no-save") ≡ true =
+    sym (by_front line.operands (codes "run") (has line (codes "--no-save")) h) ∙ e in
     subst (λ (v : Bool). not v ≡ true → true ≡ false) (sym no_save) (λ q. sym q) s
 
 pub writes_nothing : (line : Line) (r : Request) → admits line r ≡ true → only_reads line ≡ true → may_write r ≡ false

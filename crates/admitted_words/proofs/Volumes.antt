@@ -1,5 +1,6 @@
 -- What volumes leave of words.
-use Rattle.std.proofs.Common.{◌≡◌, ◌<◌, ◌∙◌, ℕ, zero, suc, false, List, [], ◌∷◌, map, drop, length, Option, Some, None, Bor, refl, sym, subst, leb, arith}
+use Rattle.std.proofs.Common.{◌≡◌, ◌<◌, ◌∙◌, ℕ, zero, suc, false, List, [], ◌∷◌, map, drop, length, Bor, refl, sym}
+use Rattle.std.proofs.Common.{Option, Some, None, subst, leb, arith}
 use Rattle.std.proofs.lemmas.Bool.Decides.{nat_tests}
 use Rattle.dasd_words.specs.declared.volumes.Volume.{Volume}
 use Rattle.admitted_words.specs.Volumes.{after_files, after_source, after_volumes, is_end, are_named}
@@ -33,11 +34,13 @@ at_end (w ∷ words) (suc at) = leb-suc (length words) at ∙ at_end words at
 
 -- all volumes were named
 pub all_named : (volumes : List Volume) (words : List (Bor (List ℕ))) (at i : ℕ) → drop i volumes ≡ [] →
-    after_volumes (drop i volumes) (Some (map (λ word. word.now) (drop at words))) ≡ after_volumes volumes (Some (map (λ word. word.now) words)) →
+    after_volumes (drop i volumes) (Some (map (λ word. word.now) (drop at words)))
+    ≡ after_volumes volumes (Some (map (λ word. word.now) words)) →
     leb (length words) at ≡ are_named (map (λ word. word.now) words) volumes
 all_named volumes words at i parts so_far =
     let left : Some (map (λ word. word.now) (drop at words)) ≡ after_volumes volumes (Some (map (λ word. word.now) words)) =
-    subst (λ (l : List Volume). after_volumes l (Some (map (λ word. word.now) (drop at words))) ≡ after_volumes volumes (Some (map (λ word. word.now) words)))
+    subst (λ (l : List Volume). after_volumes l (Some (map (λ word. word.now) (drop at words)))
+    ≡ after_volumes volumes (Some (map (λ word. word.now) words)))
     parts so_far in
     subst (λ (o : Option (List (List ℕ))). leb (length words) at ≡ is_end o) left (at_end words at)
 

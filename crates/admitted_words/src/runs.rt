@@ -66,7 +66,8 @@ fn are_named(words: &[&str], volumes: &[Volume]) -> bool
 
 // The place after the words that name a volume, of which the first is at this place.
 fn after_volume(words: &[&str], at: usize, volume: &Volume) -> Option<usize>
-    ensures { option_map (λ next. map (λ word. word.now) (drop next words.now)) result ≡ after_source volume.now.device volume.now.source (map (λ word. word.now) (drop at words.now)) }
+    ensures { option_map (λ n. map (λ w. w.now) (drop n words.now)) result
+        ≡ after_source volume.now.device volume.now.source (map (λ w. w.now) (drop at words.now)) }
 {
     match &volume.source {
         VolumeSource::Files(paths) => after_files(words, at, volume.device, paths.as_slice()),
@@ -76,7 +77,7 @@ fn after_volume(words: &[&str], at: usize, volume: &Volume) -> Option<usize>
 
 // The place after the word that names a new volume of a device.
 fn after_new(words: &[&str], at: usize, device: u8) -> Option<usize>
-    ensures { option_map (λ next. map (λ word. word.now) (drop next words.now)) result ≡ after_new device (map (λ word. word.now) (drop at words.now)) }
+    ensures { option_map (λ n. map (λ w. w.now) (drop n words.now)) result ≡ after_new device (map (λ w. w.now) (drop at words.now)) }
 {
     if at < words.len() && names_new(device, words[at]) {
         Some(at + 1)
@@ -87,7 +88,8 @@ fn after_new(words: &[&str], at: usize, device: u8) -> Option<usize>
 
 // The place after the words that name these files of a device, in their order.
 fn after_files(words: &[&str], at: usize, device: u8, paths: &[&str]) -> Option<usize>
-    ensures { option_map (λ next. map (λ word. word.now) (drop next words.now)) result ≡ after_files device (map (λ path. path.now) paths.now) (map (λ word. word.now) (drop at words.now)) }
+    ensures { option_map (λ n. map (λ w. w.now) (drop n words.now)) result
+        ≡ after_files device (map (λ p. p.now) paths.now) (map (λ w. w.now) (drop at words.now)) }
 {
     let mut next = at;
     for path in paths {

@@ -13,16 +13,30 @@ joined [] (w ∷ words) others = refl
 joined (t ∷ these) [] others = refl
 joined (t ∷ these) (w ∷ words) others =
     let more = joined these words others in
-    elim (bytes_eq t.now w.now) as (λ b. (b && pointwise bytes_eq (map (λ word. word.now) these) (map (λ word. word.now) words ++ map (λ word. word.now) others))
+    elim (bytes_eq t.now w.now) as (λ b. (b
+    && pointwise bytes_eq (map (λ word. word.now) these) (map (λ word. word.now) words ++ map (λ word. word.now) others))
     ≡ ((b && pointwise bytes_eq (map (λ word. word.now) (take (length words) these)) (map (λ word. word.now) words))
-    && pointwise bytes_eq (map (λ word. word.now) (drop (length words) these)) (map (λ word. word.now) others))) [ true ↦ more | false ↦ refl ]
+    && pointwise bytes_eq (map (λ word. word.now) (drop (length words) these)) (map (λ word. word.now) others)))
+    [ true ↦ more | false ↦ refl ]
 
 pub returns-then-are_same : goal.returns-then-are_same
 returns-then-are_same c =
-    rw (joined c.args.these.now c.args.words.now c.args.others.now, ← c.split_at.ensures.front, ← c.split_at.ensures.back, ← c.are_same.ensures, c.if-are_same.true)
+    rw (
+      joined c.args.these.now c.args.words.now c.args.others.now,
+      ← c.split_at.ensures.front,
+      ← c.split_at.ensures.back,
+      ← c.are_same.ensures,
+      c.if-are_same.true,
+    )
     c.are_same-then-are_same.ensures
 
 pub returns-else-are_same : goal.returns-else-are_same
 returns-else-are_same c =
-    rw (joined c.args.these.now c.args.words.now c.args.others.now, ← c.split_at.ensures.front, ← c.split_at.ensures.back, ← c.are_same.ensures, c.if-are_same.false)
+    rw (
+      joined c.args.these.now c.args.words.now c.args.others.now,
+      ← c.split_at.ensures.front,
+      ← c.split_at.ensures.back,
+      ← c.are_same.ensures,
+      c.if-are_same.false,
+    )
     refl

@@ -13,5 +13,5 @@ returns-then-next-words c =
     let whole = after_files device (map (λ path. path.now) paths) (map (λ word. word.now) (drop c.args.at words)) in
     let none_left : drop c.loop-path.next words ≡ [] = drop_all c.loop-path.next words c.if-next-words.true in
     no_word device paths i whole c.loop-path-test.true
-    (subst (λ (l : List (Bor (List ℕ))). after_files device (map (λ path. path.now) (drop i paths)) (map (λ word. word.now) l) ≡ whole) none_left
-    c.loop-path.invariant)
+    (subst (λ (l : List (Bor (List ℕ))). after_files device (map (λ path. path.now) (drop i paths)) (map (λ word. word.now) l) ≡ whole)
+    none_left c.loop-path.invariant)

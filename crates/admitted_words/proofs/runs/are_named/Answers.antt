@@ -9,7 +9,8 @@ returns-in-None c =
     let i = c.loop-volume.volume-index in
     let volumes = c.args.volumes.now in
     let parts : drop i volumes ≡ c.volume-item.result ∷ drop (suc i) volumes =
-    drop-cons volumes i c.volume-item.result c.loop-volume-test.true ∙ ap (λ (v : Volume). v ∷ drop (suc i) volumes) (sym c.volume-item.is) in
+    drop-cons volumes i c.volume-item.result c.loop-volume-test.true
+    ∙ ap (λ (v : Volume). v ∷ drop (suc i) volumes) (sym c.volume-item.is) in
     not_named volumes (drop (suc i) volumes) c.volume-item.result (map (λ word. word.now) c.args.words.now)
     (map (λ word. word.now) (drop c.loop-volume.at c.args.words.now)) i parts c.loop-volume.invariant c.in-None.ensures
 
