@@ -11,7 +11,7 @@ sys.path.insert(0, str(TOP / "rows"))
 
 from player.text import read_blocks  # noqa: E402
 
-ROWS = {"channel": 104, "traces": 63, "cut_programs": 32, "drives": 131, "programs": 97, "tracks": 51, "dasd": 82, "extracts": 35, "words": 25}
+ROWS = {"channel": 104, "traces": 63, "cut_programs": 32, "drives": 131, "programs": 97, "tracks": 51, "dasd": 83, "extracts": 35, "words": 25}
 
 
 class Counts(unittest.TestCase):

@@ -26,12 +26,13 @@ use crate::traces::{begin_trace, end_trace};
 use crate::unload::{extract_set, extract_tracks, extract_volume};
 use crate::vtoc::list_contents;
 use crate::words::{assemble_text, disassemble_deck};
+use admitted_words::read_admitted;
 use counted_io::{Counted, WriteFault, write_flushed};
 use dasd_jobs::{
     ImageFiles, JobFault, NewVolume, Progress, SavePlan, Traces, check_files, format_file,
     list_files,
 };
-use dasd_words::{DeckRun, NewImage, Request, WordFault, read_words};
+use dasd_words::{DeckRun, NewImage, Request, WordFault};
 use s360_deck::RunFault;
 use std::alloc::Global;
 use std::io::{Read, Write};
@@ -59,7 +60,7 @@ pub fn obey<F: Traces, R: Read, W: Write, P: Progress>(
 ) -> Result<Ending, ProgramFault>
     ensures { KeepsFiles result host.old host.new }
 {
-    let asked = match read_words(host.alloc, words) {
+    let asked = match read_admitted(host.alloc, words) {
         Ok(asked) => asked,
         Err(WordFault::Version(text)) => return tell(&mut host.writer, text.as_bytes()),
         Err(WordFault::Help(text)) => return Err(ProgramFault::Help(text)),
