@@ -11,10 +11,10 @@ programs. Wanted is:
   with the file and, of a read at a place, that place; what was printed is the beginning of what it prints, and each file is the old one or the new one,
   whole; no file stays behind.
 - Where only the call fails that takes a file's first, hidden name away, all is as it was meant to be, and that name stays beside the other.
-- A program that is killed leaves each file the old one or the new one, whole. What it had begun to write may stay, under a name that begins with `.dasd-`;
+- A program that is killed leaves each file the old one or the new one, whole, and files that keep their places all old or all new. What it had begun to write may stay, under a name that begins with `.dasd-`;
   the next command that writes a file into that folder removes it, and says so.
-- Where a file takes its place, it was synced before that. Its folder is synced right behind it where it replaces a file, before anything is
-  written or gets another name; and once behind all where files are new.
+- Where a file takes its place, it was synced before that. Its folder is synced right behind it, or behind the others of its save, where it replaces a file,
+  before anything is written; and once behind all where files are new.
 - No command succeeds where a sync failed.
 - A file that keeps its place (`run`) has its old bytes until a mark stands in the place of its header. From then on it counts as new: what a reader
   finds is whole, in its journal, `.dasd+` and its number, and the next run ends what was begun, says so and leaves no journal. A file without the mark is
@@ -76,10 +76,11 @@ CALL = re.compile(r"^(?P<name>\w+)\((?P<words>.*)\)\s+= (?P<answer>-?\d+)")
 PATH = re.compile(r'"((?:[^"\\]|\\.)*)"')
 DRAFT = ".dasd-"
 JOURNAL = ".dasd+"
-# What is remarked where several files were saved.
-SEVERAL = b"  several files were saved one after another, and not as one\n"
-# What a file begins with while others of its bytes are written over.
-MARK = b"dasd+cut"
+# The record of a save of several files, and what it holds once that counts.
+RECORD = ".dasd="
+COUNTS = b"dasd=all"
+# What a file begins with while others of its bytes are written over: of a file that is saved alone, and of several.
+MARKS = (b"dasd+cut", b"dasd+all")
 
 
 @dataclass
@@ -205,12 +206,11 @@ def files_in(folder: Path) -> dict[str, bytes]:
 
 def kept_drafts(dasd: Path, folder: Path) -> list[str]:
     """The drafts that stay, or go without a word, where the next command formats a file beside them."""
-    kept = []
-    for draft in sorted(folder.rglob(f"{DRAFT}*")):
+    kept, drafts = [], sorted(folder.rglob(f"{DRAFT}*"))
+    for room in {it.parent for it in drafts}:
         words = [str(dasd), "format", "--verbose", "--cylinders", "1", "after.ckd"]
-        done = subprocess.run(words, cwd=draft.parent, capture_output=True, timeout=60, check=False)
-        if done.returncode or draft.exists() or draft.name.encode() not in done.stderr:
-            kept.append(draft.name)
+        done = subprocess.run(words, cwd=room, capture_output=True, timeout=60, check=False)
+        kept += [it.name for it in drafts if it.parent == room and (done.returncode or it.exists() or it.name.encode() not in done.stderr)]
     return kept
 
 
@@ -226,7 +226,11 @@ def ended_saves(dasd: Path, folder: Path) -> list[str]:
     for journal in sorted(folder.glob(f"{JOURNAL}*")):
         file = owner_of(journal)
         held = file.read_bytes()
-        if not held.startswith(MARK):
+        record = journal.with_name(RECORD + journal.name.removeprefix(JOURNAL))
+        if held.startswith(MARKS[1]) and not record.read_bytes().startswith(COUNTS):
+            wrong += taken_back(dasd, folder, file, journal)
+            continue
+        if not held.startswith(MARKS):
             done = subprocess.run([str(dasd), "run", "--verbose", f"90={file.name}"], cwd=folder, input=b"", capture_output=True, timeout=60, check=False)
             if done.returncode or b"the file is whole" not in done.stderr or journal.exists() or file.read_bytes() != held:
                 wrong.append(f"{file.name} has no mark: status {done.returncode}, {done.stderr!r}")
@@ -243,6 +247,23 @@ def ended_saves(dasd: Path, folder: Path) -> list[str]:
         if journal.exists() or file.read_bytes() != (folder / "whole").read_bytes():
             wrong.append(f"{file.name} is not what its journal held, or that stays")
         (folder / "whole").unlink()
+    return wrong
+
+
+def taken_back(dasd: Path, folder: Path, file: Path, journal: Path) -> list[str]:
+    """Has the next commands read and write a file whose save with others does not count; what was wrong with that."""
+    held = journal.read_bytes()
+    size = file.stat().st_size
+    old = bytes(one ^ other for one, other in zip(held[:size], held[size : 2 * size]))
+    (folder / "whole").write_bytes(old)
+    wrong = []
+    for words, said in ((["compare", file.name, "whole"], ""), (["run", "--verbose", f"90={file.name}"], "is taken back")):
+        done = subprocess.run([str(dasd), *words], cwd=folder, input=b"", capture_output=True, timeout=60, check=False)
+        if done.returncode or said not in done.stderr.decode():
+            wrong.append(f"{words}: status {done.returncode}, {done.stdout!r}, {done.stderr!r}")
+    if journal.exists() or file.read_bytes() != old:
+        wrong.append(f"{file.name} is not what it was, or its journal stays")
+    (folder / "whole").unlink()
     return wrong
 
 
@@ -291,8 +312,8 @@ def without_first_names(files: dict[str, bytes], failure: Failure) -> dict[str, 
     return {name: held for name, held in files.items() if failure.call != "unlink" or not Path(name).name.startswith(DRAFT)}
 
 
-def is_old_or_new(came: Came, old: dict[str, bytes], new: dict[str, bytes], killed: bool) -> str | None:
-    """What is wrong with the files that were left, if anything is."""
+def is_old_or_new(came: Came, old: dict[str, bytes], new: dict[str, bytes], killed: bool, parts: bool) -> str | None:
+    """What is wrong with the files that were left, if anything is; where they are replaced, a kill may part them."""
     for name, held in came.files.items():
         if killed and Path(name).name.startswith(DRAFT):
             continue
@@ -301,7 +322,10 @@ def is_old_or_new(came: Came, old: dict[str, bytes], new: dict[str, bytes], kill
                 continue  # a trace is written as it comes
             return f"{name} is neither the old file nor the new one" if name in new else f"{name} is left behind"
     missing = [name for name in old if name not in came.files]
-    return f"{missing[0]} is gone" if missing else None
+    if missing:
+        return f"{missing[0]} is gone"
+    news = {came.files[name] == new.get(name) for name in old if old[name] != new.get(name)}
+    return "one file is old and another new" if len(news) > 1 and not parts else None
 
 
 def untold(failure: Failure, came: Came, read_faults: tuple[str, ...]) -> str | None:
@@ -335,7 +359,7 @@ def judge(command: Command, failure: Failure, came: Came, good: Came, old: dict[
         return f"{came.kept[0]} stays behind the next command, or goes without a word"
     if not good.printed.startswith(came.printed):
         return "it printed what it does not print"
-    return is_old_or_new(came, old, good.files, killed)
+    return is_old_or_new(came, old, good.files, killed, killed and "--replace" in command.words)
 
 
 @dataclass
@@ -344,7 +368,7 @@ class Syncs:
 
     synced: set[str] = field(default_factory=set)
     owed: dict[str, str] = field(default_factory=dict)  # the folder of each file that took its place, or of a journal that went
-    replaced: str = ""  # the file that replaced another one, or the journal that came or went, until its folder is synced
+    replaced: set[str] = field(default_factory=set)  # files that replaced others, or the journal that came or went, until their folder is synced
     written: set[str] = field(default_factory=set)  # files that were written since they were synced
     over: set[str] = field(default_factory=set)  # those that were written since the last journal came
     wrong: list[str] = field(default_factory=list)
@@ -354,8 +378,7 @@ class Syncs:
         self.synced.add(path)
         self.written.discard(path)
         self.owed = {file: folder for file, folder in self.owed.items() if folder != path}
-        if self.replaced not in self.owed:
-            self.replaced = ""
+        self.replaced &= self.owed.keys()
 
     def write(self, path: str) -> None:
         """Bytes are written into a file."""
@@ -367,13 +390,12 @@ class Syncs:
         """A journal is taken away, so its file has what it held."""
         self.wrong += [f"{journal} was taken away before {file} was synced" for file in sorted(self.written & self.over)]
         self.owed[journal] = os.path.normpath(os.path.dirname(journal) or ".")
-        self.replaced = journal
+        self.replaced.add(journal)
 
     def go_on(self) -> None:
         """Something is written or named behind what was done."""
-        if self.replaced:
-            self.wrong.append(f"the folder of {self.replaced} is not synced right behind it")
-            self.replaced = ""
+        self.wrong += [f"the folder of {file} is not synced right behind it" for file in sorted(self.replaced)]
+        self.replaced.clear()
 
     def place(self, hidden: str, path: str, replaces: bool) -> None:
         """A file that was written under a hidden name takes its place."""
@@ -383,7 +405,8 @@ class Syncs:
         if not replaces and folder in self.synced:
             self.wrong.append(f"{folder} was synced before {path} came to it")
         self.owed[path] = folder
-        self.replaced = path if replaces else ""
+        if replaces:
+            self.replaced.add(path)
         self.over.clear()
 
 
@@ -405,10 +428,11 @@ def unsynced(lines: list[str]) -> list[str]:
             seen.go_on()
             seen.write(file)
         elif name in ("rename", "link"):
-            seen.go_on()
-            if call["answer"] == "0":
-                seen.place(paths[0], paths[1], name == "rename")
-        elif name == "unlink" and os.path.basename(paths[0]).startswith(JOURNAL):
+            if name == "link" or os.path.basename(paths[1]).startswith(JOURNAL):  # several files replace others in a row
+                seen.go_on()
+            if call["answer"] == "0" and not (name == "link" and os.path.basename(paths[1]).startswith(DRAFT)):  # by which an old file is put back
+                seen.place(paths[0], paths[1], name == "rename" or os.path.basename(paths[1]).startswith(RECORD))
+        elif name == "unlink" and os.path.basename(paths[0]).startswith((JOURNAL, RECORD)):
             seen.end(paths[0])
     return seen.wrong + [f"the folder of {file} is not synced behind it" for file in seen.owed]
 
@@ -418,7 +442,7 @@ def try_command(dasd: Path, command: Command, pool: ThreadPoolExecutor) -> tuple
     old = old_files()
     good, lines = traced(dasd, command)
     wrong = [f"{command.name}: {it}" for it in unsynced(lines)]
-    if good.status or good.told not in (b"", SEVERAL):
+    if good.status or good.told:
         return 0, [f"{command.name}: status {good.status} where nothing fails: {good.told!r}"]
     failures = failures_of(lines, command.signals())
 

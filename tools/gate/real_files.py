@@ -5,7 +5,7 @@ odd names and files that are no images; kills, runs at once and traces in tools/
 lengths and keys in tools/gate/real_keyed_extracts.py, record formats that are given and tracks as they stand in tools/gate/real_formats.py, strict
 checks, dumps and comparisons in tools/gate/real_archives.py, findings in tools/gate/real_findings.py, hashes of data sets and members in
 tools/gate/real_hashes.py, links and files that are written in place in tools/gate/real_in_place.py, saves that are cut off in
-tools/gate/real_cut_offs.py, new volumes with a label in tools/gate/real_labels.py, volumes that are changed in tools/gate/real_changes.py and
+tools/gate/real_cut_offs.py, saves of several files in tools/gate/real_shared_saves.py, new volumes with a label in tools/gate/real_labels.py, volumes that are changed in tools/gate/real_changes.py and
 tools/gate/real_deletes.py, odd lengths in tools/gate/real_lengths.py, lists in tools/gate/real_lists.py, data sets that are put onto a volume in
 tools/gate/real_loads.py, which tracks they get in tools/gate/real_free_tracks.py, texts and blocks with
 lengths and keys among them in tools/gate/real_load_forms.py, members in tools/gate/real_members.py, folders in tools/gate/real_folders.py and
@@ -58,6 +58,7 @@ from tools.gate import (
     real_packs,
     real_reasons,
     real_runs,
+    real_shared_saves,
 )
 from tools.gate.scratch_files import ANSWERS, ONE_VOLUME, ROWS, WAYS, WRITE, How, Scratch, Skipped, fault, header, is_held, row, same, small_disk, volume, wrote
 
@@ -87,6 +88,7 @@ OTHERS = (
     real_packs,
     real_reasons,
     real_runs,
+    real_shared_saves,
 )
 
 
@@ -418,7 +420,8 @@ def more_is_told_where_it_is_asked(s: Scratch) -> None:
     ran = s.dasd("run", "--verbose", "90=vol.ckd", "91=late.ckd", deck=both)
     warned = "  late.ckd: what the deck changes can't be saved: it may not be written"
     same((ran[0], ran[2].splitlines()[:2]), (1, [warned, "dasd: write fault"]))
-    same(ran[2].splitlines()[2:], ["  late.ckd: it may not be written", "  late.ckd was not written; vol.ckd was"])
+    same(ran[2].splitlines()[2:], ["  late.ckd: it may not be written"])
+    is_held(s.path("vol.ckd"), volume())
 
 
 @row

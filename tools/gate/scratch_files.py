@@ -174,13 +174,13 @@ def waiting_run(scratch: Scratch, *volumes: str, name: str = "deck") -> Iterator
 
 
 @contextmanager
-def small_disk(scratch: Scratch) -> Iterator[Path]:
-    """A folder `small` with a file system of 80 kilobytes of its own; where none can be mounted the row is skipped."""
+def small_disk(scratch: Scratch, size: str = "80k") -> Iterator[Path]:
+    """A folder `small` with a file system of its own, of 80 kilobytes if no other size is asked for; where none can be mounted the row is skipped."""
     folder = scratch.path("small")
     folder.mkdir()
     if shutil.which("mount") is None:
         raise Skipped("there is no mount")
-    mounted = subprocess.run(["mount", "-t", "tmpfs", "-o", "size=80k", "none", folder], capture_output=True, check=False)
+    mounted = subprocess.run(["mount", "-t", "tmpfs", "-o", f"size={size}", "none", folder], capture_output=True, check=False)
     if mounted.returncode:
         raise Skipped("no file system can be mounted")
     try:

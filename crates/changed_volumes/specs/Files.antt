@@ -39,8 +39,8 @@ pub record ReadsImage (paths : List (List ℕ)) (i : ImageState) (before now : L
   pub holds : HoldsImage i.lasting.origins i
   pub whole : ReadsWhole paths i.lasting.origins before now
 
--- The volume in the files at these paths was read whole and changed, with this answer, and the files of it that changed were written; or those
--- before one of them, at which it stopped.
+-- The volume in the files at these paths was read whole and changed, with this answer, and the files of it that changed were written: all of
+-- them, or none.
 pub record SavesChanged {A R : Type 0} (result : Result (Unit {0}) JobFault) (change : Changing A R) (answer : A) (paths : List (List ℕ))
     (opened_before opened : List SourceFile) (before now : List Replaced) : Type 0 where
   pub image : ImageState
@@ -60,7 +60,7 @@ pub record Refuses {A R : Type 0} (refusal : R) (change : Changing A R) (paths :
 abbrev pub Hinders : JobFault → (paths : List (List ℕ)) → (before now : List SourceFile) → Type 0
 Hinders f paths before now = NotRead f paths before now ⊎ (IsHindered f × (i : ImageState) × ReadsImage paths i before now)
 
--- A volume in files is changed and saved; or it is saved in part; or it stays, and no file is written.
+-- A volume in files is changed and saved; or it stays, and no file is written.
 abbrev pub ChangesFiles : {A R : Type 0} → Result A (ChangeFault R) → Changing A R → (paths : List (List ℕ))
     → (opened_before opened : List SourceFile) → (before now : List Replaced) → Type 0
 ChangesFiles (Ok answer) change paths opened_before opened before now =

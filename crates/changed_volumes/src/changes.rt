@@ -67,8 +67,8 @@ impl ImageChange for VolumeChange {
 ///
 /// # Errors
 ///
-/// The files are not read, the volume is not changed so, or there is no memory: no file is written. Or a file can't be saved: it holds what it
-/// held, and so do those behind it.
+/// The files are not read, the volume is not changed so, or there is no memory: no file is written. Or a file can't be saved: none
+/// is written.
 pub fn change_files<F: ImageFiles, C: ImageChange>(
     alloc: Global,
     files: &mut F,

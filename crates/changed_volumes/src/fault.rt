@@ -20,7 +20,7 @@ pub enum ChangeFault<R = ChangeRefusal> {
     /// Files are not read, there is no memory, or the line can't be written.
     #[error(transparent)]
     Job(JobFault),
-    /// A file that was changed can't be saved: it holds what it held, and so do those behind it.
+    /// A file that was changed can't be saved: none is written.
     #[error(transparent)]
     Save(JobFault),
 }

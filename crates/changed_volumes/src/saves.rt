@@ -41,8 +41,8 @@ pub struct NewName<'a> {
 /// # Errors
 ///
 /// The new name is none, or no volume has the old one, before a file is opened. The files are not read; the volume has no label, no table of
-/// contents or no data set of the old name, or one of the new name; or there is no memory: no file is written. A file can't be saved: it
-/// holds what it held, and so do those behind it. Of all these nothing is printed. Or the line can't be written, and the files are saved.
+/// contents or no data set of the old name, or one of the new name; there is no memory; or a file can't be saved:
+/// no file is written, and nothing is printed. Or the line can't be written, and the files are saved.
 pub fn rename_data_set<F: ImageFiles, W: Write>(
     alloc: Global,
     files: &mut F,
@@ -80,8 +80,8 @@ pub fn rename_data_set<F: ImageFiles, W: Write>(
 ///
 /// # Errors
 ///
-/// The files are not read, the volume has no label, or there is no memory: no file is written. A file can't be saved: it holds what it held,
-/// and so do those behind it. Of all these nothing is printed. Or the line can't be written, and the files are saved.
+/// The files are not read, the volume has no label, there is no memory, or a file can't be saved: no file is written, and nothing is
+/// printed. Or the line can't be written, and the files are saved.
 pub fn relabel_volume<F: ImageFiles, W: Write>(
     alloc: Global,
     files: &mut F,
@@ -116,8 +116,8 @@ pub fn relabel_volume<F: ImageFiles, W: Write>(
 ///
 /// No volume has the name, before a file is opened. The files are not read; the volume has no label or no table of contents, something is
 /// wrong with it, it has no data set of the name, its control blocks have no room for the runs of its free tracks, or it would not say behind
-/// the deletion what it should; or there is no memory: no file is written. A file can't be saved: it holds what it held, and so do those
-/// behind it. Of all these nothing is printed. Or the line can't be written, and the files are saved.
+/// the deletion what it should; there is no memory; or a file can't be saved: no file is written, and nothing is printed. Or the line can't
+/// be written, and the files are saved.
 pub fn delete_data_set<F: ImageFiles, W: Write>(
     alloc: Global,
     files: &mut F,

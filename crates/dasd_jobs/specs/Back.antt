@@ -29,21 +29,22 @@ IsKept (Some f) = nat_lt 0 f.changes ≡ false → f.content ≡ f.origin
 abbrev pub AreKept : (stores : List (Option FileState)) → ℕ → Type 0
 AreKept stores n = (k : ℕ) → k < n → IsKept (file_at stores k)
 
--- it was written, or nothing was
-abbrev pub WritesChanged : {A : Type 0} → Result A JobFault → (path : List ℕ) → Option FileState → (before now : List Replaced) → Type 0
-WritesChanged (Ok _) path store before now = (now ≡ before ++ changed_file path store) × IsKept store
-WritesChanged (Err _) path store before now = now ≡ before
+-- what was written of one file
+abbrev pub IsWrittenOne : (path : List ℕ) → Option FileState → (before now : List Replaced) → Type 0
+IsWrittenOne path store before now = (now ≡ before ++ changed_file path store) × IsKept store
 
--- the changed files were written; or those before one of them, at which it stopped
-abbrev pub WritesStores : {A : Type 0} → Result A JobFault → (paths : List (List ℕ)) → (stores : List (Option FileState)) → (before now : List Replaced)
-    → Type 0
-WritesStores (Ok _) paths stores before now = (now ≡ before ++ changed_files paths stores (length paths)) × AreKept stores (length paths)
-WritesStores (Err _) paths stores before now =
-    (n : ℕ) × (n < length paths) × (now ≡ before ++ changed_files paths stores n) × AreKept stores n
+-- and of all
+abbrev pub AreWritten : (paths : List (List ℕ)) → (stores : List (Option FileState)) → (before now : List Replaced) → Type 0
+AreWritten paths stores before now = (now ≡ before ++ changed_files paths stores (length paths)) × AreKept stores (length paths)
 
--- the same of the files that hold an image, which are those that were read
-pub record WritesBack {A : Type 0} (r : Result A JobFault) (paths : List (List ℕ)) (i : ImageState) (before now : List Replaced) : Type 0 where
+-- each file of an image that was changed was written whole, in their order, and no other; they are those that were read
+pub record IsWritten (paths : List (List ℕ)) (i : ImageState) (before now : List Replaced) : Type 0 where
   pub stores : List (Option FileState)
   pub holds : HoldsImage (each (λ f. f.content) stores) i
   pub same : each (λ f. f.origin) stores ≡ i.lasting.origins
-  pub written : WritesStores r paths stores before now
+  pub written : AreWritten paths stores before now
+
+-- all of them were, or none
+abbrev pub WritesBack : {A : Type 0} → Result A JobFault → (paths : List (List ℕ)) → ImageState → (before now : List Replaced) → Type 0
+WritesBack (Ok _) paths i before now = IsWritten paths i before now
+WritesBack (Err _) paths i before now = now ≡ before

@@ -1,5 +1,5 @@
 -- Files that were written.
-use Rattle.std.specs.Prelude.{◌≡◌, ◌⊎◌, ℕ, List, [], ◌∷◌, ◌++◌, Result, Ok, Err}
+use Rattle.std.specs.Prelude.{◌≡◌, ◌⊎◌, ℕ, List, [], ◌∷◌, ◌++◌, map, Result, Ok, Err}
 use Rattle.counted_io.specs.Streams.{Stream, Takes, TakesFront, NoneFailed, OneFailed}
 use Rattle.ckd_track.specs.declared.model.DriveModel.{DriveModel}
 use Rattle.ckd_track.specs.Geometry.{new_geometry}
@@ -7,6 +7,7 @@ use Rattle.ckd_image.specs.Image.{new_file}
 use Rattle.dasd_jobs.specs.Lines.{formatted_line}
 use Rattle.dasd_jobs.specs.declared.faults.JobFault.{JobFault}
 use Rattle.dasd_jobs.specs.declared.faults.JobFault.TheVariants.{Write}
+use Rattle.dasd_jobs.specs.declared.files.NewFile.{NewFile}
 
 -- a file that was made, or replaced whole: its path and all its bytes
 pub record Replaced : Type 0 where
@@ -16,6 +17,10 @@ pub record Replaced : Type 0 where
 -- these files, and one more behind them
 abbrev pub with_file : List Replaced → (path bytes : List ℕ) → List Replaced
 with_file written path bytes = written ++ record { path = path; bytes = bytes } ∷ []
+
+-- what new files are at their paths, once they are put there
+abbrev pub files_of : {D : Type 0} → (content : D → List ℕ) → List (NewFile D) → List Replaced
+files_of content new = map (λ f. record { path = f.path.now; bytes = content f.draft }) new
 
 -- the files with that of a new volume behind them
 abbrev pub with_new : List Replaced → (path : List ℕ) → DriveModel → (cylinders : ℕ) → List Replaced

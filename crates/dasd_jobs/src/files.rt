@@ -1,8 +1,8 @@
 //! Files by their paths.
 
-ghost use Rattle.std.specs.Prelude.{◌≡◌, List, [], IfOk, OnOk, OnErr};
+ghost use Rattle.std.specs.Prelude.{◌≡◌, List, [], ◌++◌, IfOk, OnOk, OnErr};
 ghost use Rattle.dasd_jobs.specs.Sources.{Content, SourceFile, IsLength, StandsIn, OpensFile, ReadsFront};
-ghost use Rattle.dasd_jobs.specs.Written.{Replaced, with_file};
+ghost use Rattle.dasd_jobs.specs.Written.{Replaced, with_file, files_of};
 
 use ckd_image::{ImageStore, StoreFault};
 use std::alloc::Global;
@@ -53,6 +53,15 @@ pub trait OpenedFile: Drop {
     fn read_at(&mut self, at: u64, into: &mut [u8]) -> Result<(), StoreFault>
         ensures read { OnOk result (StandsIn (content self.old) at into.new) }
         ensures kept { content self.new ≡ content self.old };
+}
+
+/// A new file that was begun for a path, and is not there yet. One that is dropped leaves nothing.
+#[derive(Drop)]
+pub struct NewFile<'a, D> {
+    /// The path.
+    pub path: &'a str,
+    /// The file, before it takes its place.
+    pub draft: D,
 }
 
 /// Files that are read in place, and are made or replaced whole: what is new is written beside the old file and takes its place
@@ -127,6 +136,20 @@ pub trait ImageFiles {
     /// was written in part, that is remarked, and whoever opens it next finds the new bytes whole.
     fn put(&mut self, path: &str, draft: Self::Draft) -> Result<(), FileFault>
         ensures ok { OnOk result (written self.new ≡ with_file (written self.old) path.now (Self.Draft.content draft)) }
+        ensures err { OnErr result (written self.new ≡ written self.old) }
+        ensures same { opened self.new ≡ opened self.old };
+
+    /// Puts the new files of one save there, each at the path for which it was begun: all, or none. Files that keep their places are
+    /// old or new together wherever the save is cut off, and new on the disk after this. Where new files take the places of old ones,
+    /// one after another, only a cut-off may leave some of both.
+    ///
+    /// # Errors
+    ///
+    /// The host can't do it for one of them, or another file has come to its path since: what is at the paths stays. Where files keep their
+    /// places and one was written in part after it was decided that all are saved, that is remarked, and whoever opens them next finds the
+    /// new bytes of all.
+    fn put_all(&mut self, new: Vec<NewFile<'_, Self::Draft>>) -> Result<(), FileFault>
+        ensures ok { OnOk result (written self.new ≡ written self.old ++ files_of Self.Draft.content new.entry.items) }
         ensures err { OnErr result (written self.new ≡ written self.old) }
         ensures same { opened self.new ≡ opened self.old };
 

@@ -16,11 +16,11 @@ mod traces;
 mod written;
 
 pub use crate::faults::{JobFault, of_write};
-pub use crate::files::{FileFault, ImageFiles, OpenedFile, SavePlan};
+pub use crate::files::{FileFault, ImageFiles, NewFile, OpenedFile, SavePlan};
 pub use crate::headers::is_header;
 pub use crate::jobs::{NewVolume, check_files, format_file, list_files, write_formatted};
 pub use crate::lengths::Reach;
-pub use crate::mounting::{new_image, read_image, write_back, write_file};
+pub use crate::mounting::{begin_changed, new_image, read_image, write_back};
 pub use crate::new_files::{DraftWriter, begin_file, put_file};
 pub use crate::opened::{OpenedVolume, open_volume};
 pub use crate::sources::Sources;

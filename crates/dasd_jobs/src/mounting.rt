@@ -8,14 +8,14 @@ ghost use Rattle.ckd_image.specs.Files.{each};
 ghost use Rattle.dasd_jobs.specs.Sources.{StandsIn, IsWhole, OpensPaths, ReadsWhole};
 ghost use Rattle.dasd_jobs.specs.Opening.{IsHeadOf, AddsFile, NotLocked, IsNoImage};
 ghost use Rattle.dasd_jobs.specs.Unopened.{NotRead, NotFormatted};
-ghost use Rattle.dasd_jobs.specs.Written.{WritesFile};
+ghost use Rattle.dasd_jobs.specs.Written.{files_of};
 ghost use Rattle.ckd_track.specs.Geometry.{new_geometry};
 ghost use Rattle.ckd_image.specs.Layout.{image_length};
 ghost use Rattle.ckd_image.specs.Image.{HoldsImage, new_image};
-ghost use Rattle.dasd_jobs.specs.Back.{AreAsMade, WritesBack, WritesStores, WritesChanged};
+ghost use Rattle.dasd_jobs.specs.Back.{AreAsMade, IsWritten, IsWrittenOne, AreWritten, WritesBack};
 
 use crate::faults::{JobFault, of_mount, of_read, of_write};
-use crate::files::{FileFault, ImageFiles, OpenedFile};
+use crate::files::{FileFault, ImageFiles, NewFile, OpenedFile};
 use crate::opened::{add_head, mounted, read_from};
 use crate::reasons::{Head, remark_on};
 use arrayvec::ArrayVec;
@@ -189,30 +189,24 @@ pub fn new_image(
     }
 }
 
-/// Makes a file of these bytes, or replaces one by them.
-///
-/// # Errors
-///
-/// The file can't be written: what is at the path stays.
-pub fn write_file<F: ImageFiles>(
+// Begins a new file of these bytes, which is to take the place of the one at a path.
+fn begin_with<'a, F: ImageFiles>(
     alloc: Global,
     files: &mut F,
-    path: &str,
-    replaces: bool,
+    path: &'a str,
     bytes: &[u8],
-) -> Result<(), JobFault>
-    ensures writes { WritesFile result path.now bytes.now (F.written files.old) (F.written files.new) }
+) -> Result<NewFile<'a, F::Draft>, JobFault>
+    ensures path { IfOk result (λ new. new.path.now ≡ path.now) }
+    ensures bytes { IfOk result (λ new. F.Draft.content new.draft ≡ bytes.now) }
+    ensures kept { F.written files.new ≡ F.written files.old }
     ensures same { F.opened files.new ≡ F.opened files.old }
 {
-    let mut draft = match files.begin(alloc, path, replaces) {
+    let mut draft = match files.begin(alloc, path, true) {
         Ok(draft) => draft,
         Err(fault) => return Err(of_write(fault)),
     };
     match write_bytes(&mut draft, bytes) {
-        Ok(()) => match files.put(path, draft) {
-            Ok(()) => Ok(()),
-            Err(fault) => Err(of_write(fault)),
-        },
+        Ok(()) => Ok(NewFile { path, draft }),
         Err(_) => Err(JobFault::Write),
     }
 }
@@ -225,12 +219,12 @@ fn write_bytes<D: ImageStore>(draft: &mut D, bytes: &[u8]) -> Result<(), StoreFa
     draft.write_at(0, bytes)
 }
 
-/// Writes the files of an image that were changed, each whole and in their order, up to the first that can't be written.
-/// No other file is written, and each of those holds what was read of it.
+/// Saves an image as one: writes those of its files that were changed, each whole and in their order, and no other. Each of the others
+/// holds what was read of it.
 ///
 /// # Errors
 ///
-/// A file can't be written: it holds what it held, and so do those behind it.
+/// A file can't be written: none is.
 pub fn write_back<F: ImageFiles>(
     alloc: Global,
     files: &mut F,
@@ -240,40 +234,76 @@ pub fn write_back<F: ImageFiles>(
     ensures writes { WritesBack result (map (λ path. path.now) paths.now) image (F.written files.old) (F.written files.new) }
     ensures same { F.opened files.new ≡ F.opened files.old }
 {
-    let stores = image.into_stores();
-    write_stores(alloc, files, paths, stores.as_slice())
+    let mut new = Vec::new(alloc);
+    begin_changed(alloc, files, paths, image, &mut new)?;
+    match files.put_all(new) {
+        Ok(()) => Ok(()),
+        Err(fault) => Err(of_write(fault)),
+    }
 }
 
-// Writes the stores that were changed to their paths, up to the first that can't be written.
-fn write_stores<F: ImageFiles>(
+/// Begins a new file for each file of an image that was changed, with all that this holds now, behind those that were begun before. None
+/// of them is there yet.
+///
+/// # Errors
+///
+/// A file can't be written, or there is no memory.
+pub fn begin_changed<'a, F: ImageFiles>(
     alloc: Global,
     files: &mut F,
-    paths: &[&str],
-    stores: &[Option<VolumeFile>],
+    paths: &[&'a str],
+    image: Image<VolumeFile>,
+    new: &mut Vec<NewFile<'a, F::Draft>>,
 ) -> Result<(), JobFault>
-    ensures writes { WritesStores result (map (λ path. path.now) paths.now) stores.now (F.written files.old) (F.written files.new) }
+    ensures begins { OnOk result (IsWritten (map (λ path. path.now) paths.now) image
+        (files_of F.Draft.content new.old.items) (files_of F.Draft.content new.new.items)) }
+    ensures kept { F.written files.new ≡ F.written files.old }
+    ensures same { F.opened files.new ≡ F.opened files.old }
+{
+    let stores = image.into_stores();
+    begin_stores(alloc, files, paths, stores.as_slice(), new)
+}
+
+// Begins a new file for each store that was changed.
+fn begin_stores<'a, F: ImageFiles>(
+    alloc: Global,
+    files: &mut F,
+    paths: &[&'a str],
+    stores: &[Option<VolumeFile>],
+    new: &mut Vec<NewFile<'a, F::Draft>>,
+) -> Result<(), JobFault>
+    ensures begins { OnOk result (AreWritten (map (λ path. path.now) paths.now) stores.now
+        (files_of F.Draft.content new.old.items) (files_of F.Draft.content new.new.items)) }
+    ensures kept { F.written files.new ≡ F.written files.old }
     ensures same { F.opened files.new ≡ F.opened files.old }
 {
     for i in 0..paths.len() {
         if i < stores.len() {
-            write_changed(alloc, files, paths[i], &stores[i])?;
+            begin_one(alloc, files, paths[i], &stores[i], new)?;
         }
     }
     Ok(())
 }
 
-// Writes a file whole if it was changed.
-fn write_changed<F: ImageFiles>(
+// Begins a new file for one that was changed.
+fn begin_one<'a, F: ImageFiles>(
     alloc: Global,
     files: &mut F,
-    path: &str,
+    path: &'a str,
     store: &Option<VolumeFile>,
+    new: &mut Vec<NewFile<'a, F::Draft>>,
 ) -> Result<(), JobFault>
-    ensures writes { WritesChanged result path.now store.now (F.written files.old) (F.written files.new) }
+    ensures begins { OnOk result (IsWrittenOne path.now store.now (files_of F.Draft.content new.old.items) (files_of F.Draft.content new.new.items)) }
+    ensures kept { F.written files.new ≡ F.written files.old }
     ensures same { F.opened files.new ≡ F.opened files.old }
 {
-    match store {
-        Some(store) if store.is_changed() => write_file(alloc, files, path, true, store.bytes()),
-        _ => Ok(()),
+    let store = match store {
+        Some(store) if store.is_changed() => store,
+        _ => return Ok(()),
+    };
+    let begun = begin_with(alloc, files, path, store.bytes())?;
+    match new.push(begun) {
+        Ok(()) => Ok(()),
+        Err(_) => Err(JobFault::OutOfMemory),
     }
 }

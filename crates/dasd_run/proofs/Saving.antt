@@ -1,19 +1,18 @@
--- Volumes that are saved one after another.
-use Rattle.std.proofs.Common.{ℕ, ◌+◌, ◌<◌, ◌≤◌, ◌≡◌, ◌∙◌, ◌⊎◌, inl, inr, List, [], ◌∷◌, length, get_or, drop, ap, sym, subst, refl, Option}
-use Rattle.std.proofs.Common.{Some, None, Result, Ok, Err, add-one, suc, false, IfErr, arith, rules}
+-- Volumes that are saved as one.
+use Rattle.std.proofs.Common.{ℕ, ◌+◌, ◌<◌, ◌≤◌, ◌≡◌, ◌∙◌, ◌⊎◌, inl, inr, List, [], ◌∷◌, ◌++◌, length, get_or, drop, ap, sym, subst, refl}
+use Rattle.std.proofs.Common.{Option, Some, None, Result, Ok, Err, add-one, append_assoc, append-nil, suc, false, IfErr, arith, rules}
 use Rattle.std.specs.List.{zip}
 use Rattle.std.proofs.Math.Seq.{drop-cons}
-use Rattle.std.proofs.lemmas.Bool.{cases_lt, false≢true}
+use Rattle.std.proofs.lemmas.Bool.{cases_lt}
 use Rattle.std.proofs.lemmas.List.{drop_all, get_or_past}
 use Rattle.std.proofs.lemmas.Slice.Zip.{length-zip, get_or-zip}
 use Rattle.ckd_image.specs.Image.{ImageState}
+use Rattle.dasd_jobs.specs.Back.{IsWritten}
 use Rattle.dasd_jobs.specs.Written.{Replaced}
-use Rattle.dasd_jobs.specs.declared.faults.JobFault.{JobFault}
 use Rattle.dasd_words.specs.declared.volumes.Volume.{Volume}
 use Rattle.dasd_run.specs.declared.fault.ProgramFault.{ProgramFault}
-use Rattle.dasd_run.specs.declared.fault.ProgramFault.TheVariants.{Save}
 use Rattle.dasd_run.specs.Faults.{keeps_files}
-use Rattle.dasd_run.specs.Saves.{SavesAll, SavesVolume}
+use Rattle.dasd_run.specs.Saves.{paths_of, AreSaved, SavesAll}
 
 -- what stands beside a volume: the address of its drive and the image that was given back, if there is one
 abbrev pub Given : Type 0
@@ -39,21 +38,21 @@ is_within ys i y there = by (cases_lt i (length ys))
     by (inr past) = let none : get_or ys i None ≡ None = get_or_past ys i None past in cc
 
 -- a volume beside which no image stands
-pub none_there : (r : Result (Unit {0}) ProgramFault) (vs : List Volume) (ds : List Given) (i : ℕ) (before now : List Replaced)
-    → i < length vs → get_or ds i None ≡ None → SavesAll r (drop (i + 1) (zip vs ds)) before now
-    → SavesAll r (drop i (zip vs ds)) before now
-none_there r [] ds i before now inside none rest = absurd (omega arith)
-none_there r (v ∷ others) ds i before now inside none rest = by (cases_lt i (length ds))
+pub none_there : (vs : List Volume) (ds : List Given) (i : ℕ) (before now : List Replaced)
+    → i < length vs → get_or ds i None ≡ None → AreSaved (drop (i + 1) (zip vs ds)) before now
+    → AreSaved (drop i (zip vs ds)) before now
+none_there [] ds i before now inside none rest = absurd (omega arith)
+none_there (v ∷ others) ds i before now inside none rest = by (cases_lt i (length ds))
   where
     vs : List Volume
     vs = v ∷ others
 
-    by : (i < length ds) ⊎ (length ds ≤ i) → SavesAll r (drop i (zip vs ds)) before now
+    by : (i < length ds) ⊎ (length ds ≤ i) → AreSaved (drop i (zip vs ds)) before now
     by (inl less) =
-        subst (λ (l : List (Volume × Given)). SavesAll r l before now)
+        subst (λ (l : List (Volume × Given)). AreSaved l before now)
         (sym (from_pair vs ds i v None inside less ∙ ap (λ (d : Given). (get_or vs i v, d) ∷ drop (i + 1) (zip vs ds)) none)) rest
     by (inr past) =
-        subst (λ (l : List (Volume × Given)). SavesAll r l before now)
+        subst (λ (l : List (Volume × Given)). AreSaved l before now)
         (no_pair vs ds (i + 1) (omega arith) ∙ sym (no_pair vs ds i past)) rest
 
 -- This image stands beside the volume at a place.
@@ -68,38 +67,38 @@ pair_there vs ds i v d beside =
     from_pair vs ds i v None beside.inside (is_within ds i d beside.there)
     ∙ ap (λ (e : Given). (get_or vs i v, e) ∷ drop (i + 1) (zip vs ds)) beside.there
 
--- a volume that is saved before the others
-pub saved_there : (r : Result (Unit {0}) ProgramFault) (vs : List Volume) (ds : List Given) (i : ℕ) (v : Volume) (d : ℕ
-    × ImageState) (before between now : List Replaced) → StandsBeside vs ds i d
-    → SavesVolume (Ok tt) (get_or vs i v) d.1 before between → SavesAll r (drop (i + 1) (zip vs ds)) between now
-    → SavesAll r (drop i (zip vs ds)) before now
-saved_there r vs ds i v d before between now beside here rest =
-    subst (λ (l : List (Volume × Given)). SavesAll r l before now) (sym (pair_there vs ds i v d beside))
-    (inl (between, here, rest))
+-- what is written of an image, behind other files
+behind : (front before now : List Replaced) (paths : List (List ℕ)) (i : ImageState) → IsWritten paths i before now
+    → IsWritten paths i (front ++ before) (front ++ now)
+behind front before now paths i w = record {
+  stores = w.stores;
+  holds = w.holds;
+  same = w.same;
+  written = (ap (λ (l : List Replaced). front ++ l) w.written.0 ∙ sym (append_assoc front before _), w.written.1);
+}
 
--- a volume that can't be
-pub stops_there : (f : JobFault) (vs : List Volume) (ds : List Given) (i : ℕ) (v : Volume) (d : ℕ × ImageState) (before now : List Replaced)
-    → StandsBeside vs ds i d → SavesVolume (Err f) (get_or vs i v) d.1 before now
-    → SavesAll (Err (Save f)) (drop i (zip vs ds)) before now
-stops_there f vs ds i v d before now beside here =
-    subst (λ (l : List (Volume × Given)). SavesAll (Err (Save f)) l before now) (sym (pair_there vs ds i v d beside))
-    (inr (f, refl, here))
+-- a volume that is saved with the others, behind those before it
+pub saved_there : (vs : List Volume) (ds : List Given) (i : ℕ) (v : Volume) (d : ℕ × ImageState) (front before between now : List Replaced)
+    → StandsBeside vs ds i d → IsWritten (paths_of (get_or vs i v).source) d.1 before between
+    → AreSaved (drop (i + 1) (zip vs ds)) (front ++ between) now → AreSaved (drop i (zip vs ds)) (front ++ before) now
+saved_there vs ds i v d front before between now beside here rest =
+    subst (λ (l : List (Volume × Given)). AreSaved l (front ++ before) now) (sym (pair_there vs ds i v d beside))
+    (front ++ between, behind front before between _ _ here, rest)
 
 -- and behind the last one
-pub none_left : (vs : List Volume) (ds : List Given) (i : ℕ) (now : List Replaced) → length vs ≤ i
-    → SavesAll (Ok tt) (drop i (zip vs ds)) now now
-none_left vs ds i now past =
-    subst (λ (l : List (Volume × Given)). SavesAll (Ok tt) l now now)
-    (sym (drop_all i (zip vs ds) (omega (arith, length-zip vs ds)))) (refl, refl)
+pub none_left : (vs : List Volume) (ds : List Given) (i : ℕ) (before now : List Replaced) → length vs ≤ i → now ≡ before
+    → AreSaved (drop i (zip vs ds)) before now
+none_left vs ds i before now past same =
+    subst (λ (l : List (Volume × Given)). AreSaved l before now) (sym (drop_all i (zip vs ds) (omega (arith, length-zip vs ds)))) same
+
+-- before the first one
+pub none_yet : (vs : List Volume) (ds : List Given) (front new now : List Replaced) → new ≡ []
+    → AreSaved (drop 0 (zip vs ds)) (front ++ new) now → AreSaved (zip vs ds) front now
+none_yet vs ds front new now none =
+    subst (λ (l : List Replaced). AreSaved (zip vs ds) l now) (ap (λ (l : List Replaced). front ++ l) none ∙ append-nil front)
 
 -- the fault that is told is a file's
-fault_of_file : (e : ProgramFault) (f : JobFault) → ◌≡◌ {A = Result (Unit {0}) ProgramFault} (Err e) (Err (Save f)) → keeps_files e ≡ false
-fault_of_file e f told = let same : e ≡ Save f = cc in rw same refl
-
 pub fault_of_files : (r : Result (Unit {0}) ProgramFault) (ps : List (Volume × Given)) (before now : List Replaced)
     → SavesAll r ps before now → IfErr r (λ e. keeps_files e ≡ false)
 fault_of_files (Ok done) ps before now saved = search rules
-fault_of_files (Err e) [] before now saved = absurd (false≢true saved.0)
-fault_of_files (Err e) ((v, None) ∷ rest) before now saved = fault_of_files (Err e) rest before now saved
-fault_of_files (Err e) ((v, Some d) ∷ rest) before now (inl saved) = fault_of_files (Err e) rest saved.0 now saved.2
-fault_of_files (Err e) ((v, Some d) ∷ rest) before now (inr stopped) = fault_of_file e stopped.0 stopped.1
+fault_of_files (Err e) ps before now saved = rw saved.2 refl

@@ -1,5 +1,5 @@
 -- What a run writes back at its end.
-use Rattle.std.specs.Prelude.{◌≡◌, ◌⊎◌, ℕ, Bool, true, false, List, [], ◌∷◌, map, zip, Option, Some, None, Result, Ok, Err, IsOk}
+use Rattle.std.specs.Prelude.{◌≡◌, ℕ, Bool, true, false, List, [], ◌∷◌, map, zip, Option, Some, None, Result, Ok, Err}
 use Rattle.std.specs.Result.{result_and}
 use Rattle.ckd_image.specs.Image.{ImageState}
 use Rattle.s360_words.specs.Storage.{Storage}
@@ -11,7 +11,7 @@ use Rattle.s360_deck.specs.declared.runs.RunFault.TheVariants as run
 use Rattle.dasd_words.specs.declared.volumes.Volume.{Volume}
 use Rattle.dasd_words.specs.declared.volumes.VolumeSource.{VolumeSource}
 use Rattle.dasd_words.specs.declared.volumes.VolumeSource.TheVariants.{Files, New}
-use Rattle.dasd_jobs.specs.Back.{WritesBack}
+use Rattle.dasd_jobs.specs.Back.{IsWritten}
 use Rattle.dasd_jobs.specs.Written.{Replaced}
 use Rattle.dasd_jobs.specs.declared.faults.JobFault.{JobFault}
 use Rattle.dasd_jobs.specs.declared.files.SavePlan.{SavePlan}
@@ -24,20 +24,19 @@ abbrev pub paths_of : VolumeSource → List (List ℕ)
 paths_of (Files paths) = map (λ path. path.now) paths.items
 paths_of (New model cylinders) = []
 
--- what is written back of a volume from this image: every file of it that was changed, or those before one that can't be written
-abbrev pub SavesVolume : Result (Unit {0}) JobFault → Volume → ImageState → (before now : List Replaced) → Type 0
-SavesVolume result v image before now = WritesBack result (paths_of v.source) image before now
+-- the changed files of volumes were written, each volume's from the image that stands beside it, in their order; without an image there are none
+abbrev pub AreSaved : List (Volume × Option (ℕ × ImageState)) → (before now : List Replaced) → Type 0
+AreSaved [] before now = now ≡ before
+AreSaved ((v, None) ∷ rest) before now = AreSaved rest before now
+AreSaved ((v, Some given) ∷ rest) before now =
+    (between : List Replaced) × IsWritten (paths_of v.source) given.1 before between × AreSaved rest between now
 
--- Volumes are saved one after another, each from the image that stands beside it: the first of them is, and then the others; or it
--- can't be, this is the fault that is told, and nothing is written behind it. Where no image stands there is nothing to save.
+-- all of them were; or none was, and the fault that is told is a file's
 abbrev pub SavesAll : Result (Unit {0}) ProgramFault → List (Volume × Option (ℕ × ImageState)) → (before now : List Replaced) → Type 0
-SavesAll result [] before now = IsOk result × (now ≡ before)
-SavesAll result ((v, None) ∷ rest) before now = SavesAll result rest before now
-SavesAll result ((v, Some given) ∷ rest) before now =
-    ((between : List Replaced) × SavesVolume (Ok tt) v given.1 before between × SavesAll result rest between now)
-    ⊎ ((f : JobFault) × (result ≡ Err (fault.Save f)) × SavesVolume (Err f) v given.1 before now)
+SavesAll (Ok done) volumes before now = AreSaved volumes before now
+SavesAll (Err e) volumes before now = (now ≡ before) × (f : JobFault) × (e ≡ fault.Save f)
 
--- The channel is finished, and then the volumes are saved, in the order of the words, from the images of its drives in theirs.
+-- The channel is finished, and then the volumes are saved as one, in the order of the words, from the images of its drives in theirs.
 pub record SavesRun (result : Result (Unit {0}) ProgramFault) (volumes : List Volume) (channel : ChannelState) (before now : List Replaced) : Type 0 where
   pub storage : Storage
   pub images : List (Option (ℕ × ImageState))

@@ -120,12 +120,12 @@ fn open<F: ImageFiles>(
     }
 }
 
-/// Resets a channel, and writes the files of its volumes that were changed, each whole, in the order of the words, up to the
-/// first that can't be written. These are the volumes that it was built over.
+/// Resets a channel, and saves its volumes as one: writes the files of them that were changed, each whole, in the order of the words.
+/// These are the volumes that it was built over.
 ///
 /// # Errors
 ///
-/// A file can't be written: it holds what it held, and so do those behind it.
+/// A file can't be written: none is.
 pub fn finish<F: ImageFiles>(
     alloc: Global,
     files: &mut F,

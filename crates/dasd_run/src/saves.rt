@@ -1,24 +1,26 @@
 //! What a run writes back at its end.
 
-ghost use Rattle.std.specs.Prelude.{◌≡◌, slice_index_or, slice_set, zip};
-ghost use Rattle.dasd_run.specs.Saves.{SavesVolume, SavesAll};
+ghost use Rattle.std.specs.Prelude.{◌≡◌, slice_index_or, slice_set, zip, OnOk};
+ghost use Rattle.dasd_jobs.specs.Back.{IsWritten};
+ghost use Rattle.dasd_jobs.specs.Written.{files_of};
+ghost use Rattle.dasd_run.specs.Saves.{paths_of, SavesAll};
 
 use crate::fault::ProgramFault;
 use ckd_image::Image;
 use dasd_files::VolumeFile;
-use dasd_jobs::{ImageFiles, JobFault, write_back};
+use dasd_jobs::{ImageFiles, JobFault, NewFile, begin_changed, of_write};
 use dasd_words::{Volume, VolumeSource};
 use std::alloc::Global;
 
 /// The image of a drive, and the address that it had.
 pub(crate) type GivenImage = Option<(u8, Image<VolumeFile>)>;
 
-/// Writes the files of these volumes that were changed, each whole and in the order of the volumes, up to the first that can't be
-/// written. The image of a volume is the one that stands at its place; a volume without one has nothing to write.
+/// Saves these volumes as one: writes the files of them that were changed, each whole and in the order of the volumes. The image of a
+/// volume is the one that stands at its place; a volume without one has nothing to write.
 ///
 /// # Errors
 ///
-/// A file can't be written: it holds what it held, and so do those behind it.
+/// A file can't be written: none is.
 pub(crate) fn save_all<F: ImageFiles>(
     alloc: Global,
     files: &mut F,
@@ -28,15 +30,19 @@ pub(crate) fn save_all<F: ImageFiles>(
     ensures saves { SavesAll result (zip volumes.now images.old) (F.written files.old) (F.written files.new) }
     ensures same { F.opened files.new ≡ F.opened files.old }
 {
+    let mut new = Vec::new(alloc);
     for i in 0..volumes.len() {
         if let Some((_, image)) = take_image(images, i) {
-            match save(alloc, files, &volumes[i], image) {
+            match begin_volume(alloc, files, &volumes[i], image, &mut new) {
                 Ok(()) => {}
                 Err(fault) => return Err(ProgramFault::Save(fault)),
             }
         }
     }
-    Ok(())
+    match files.put_all(new) {
+        Ok(()) => Ok(()),
+        Err(fault) => Err(ProgramFault::Save(of_write(fault))),
+    }
 }
 
 // Takes out the image at a place, if there is one.
@@ -51,18 +57,21 @@ fn take_image(images: &mut [GivenImage], place: usize) -> GivenImage
     }
 }
 
-// Writes the files of one volume that were changed.
-fn save<F: ImageFiles>(
+// Begins new files for those of one volume that were changed.
+fn begin_volume<'a, F: ImageFiles>(
     alloc: Global,
     files: &mut F,
-    volume: &Volume,
+    volume: &Volume<'a>,
     image: Image<VolumeFile>,
+    new: &mut Vec<NewFile<'a, F::Draft>>,
 ) -> Result<(), JobFault>
-    ensures saves { SavesVolume result volume.now image (F.written files.old) (F.written files.new) }
+    ensures begins { OnOk result (IsWritten (paths_of volume.now.source) image
+        (files_of F.Draft.content new.old.items) (files_of F.Draft.content new.new.items)) }
+    ensures kept { F.written files.new ≡ F.written files.old }
     ensures same { F.opened files.new ≡ F.opened files.old }
 {
     match &volume.source {
-        VolumeSource::Files(paths) => write_back(alloc, files, paths.as_slice(), image),
-        VolumeSource::New { .. } => write_back(alloc, files, &[], image),
+        VolumeSource::Files(paths) => { begin_changed(alloc, files, paths.as_slice(), image, new) }
+        VolumeSource::New { .. } => begin_changed(alloc, files, &[], image, new),
     }
 }

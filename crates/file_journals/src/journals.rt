@@ -4,12 +4,13 @@
 //! mark of the save. So it is known of each byte of the file whether it is one that was, one that is to be, or another's. Journals of version
 //! 1.1.0 have no mark.
 
-ghost use Rattle.std.specs.Prelude.{◌≡◌, ◌≤◌, length};
+ghost use Rattle.std.specs.Prelude.{◌≡◌, ◌≤◌, ◌↔◌, length, IsTrue, IsSome, IfSome, IfErr};
+ghost use Rattle.file_journals.specs.Saves.{IsDecided};
 
 use crate::bytes::{are_either, take_differences};
 use crate::marks::{MARK_LENGTH, Mark};
 use crate::notes::{Notes, Told};
-use crate::places::{folder_of, free_place, sync_folder};
+use crate::places::{RECORD, folder_of, free_place, numbered, sync_folder};
 use std::fs::{File, Metadata};
 use std::io::{ErrorKind, Seek, SeekFrom, Write};
 use std::os::unix::fs::{FileExt, MetadataExt};
@@ -42,7 +43,9 @@ pub enum SaveFault {
 }
 
 impl From<io::Error> for SaveFault {
-    fn from(fault: io::Error) -> SaveFault {
+    fn from(fault: io::Error) -> SaveFault
+        ensures { result ≡ SaveFault.Kept fault }
+    {
         SaveFault::Kept(fault)
     }
 }
@@ -86,16 +89,24 @@ impl<'a, N: Notes> Journal<'a, N> {
         })
     }
 
-    /// Makes the journal of a file that holds what is saved, and has no other name than this hidden one; then writes over the bytes of
-    /// the target, and takes the journal away.
+    /// Has it say that its save is of several files.
+    pub(crate) fn share(&mut self)
+        ensures path { self.new.path ≡ self.old.path }
+        ensures count { self.new.len ≡ self.old.len }
+        ensures mark { IsSome self.new.mark ↔ IsSome self.old.mark }
+    {
+        self.mark = self.mark.map(|mark| mark.shared());
+    }
+
+    /// Makes the journal of a file that holds what is saved, and has no other name than this hidden one. The target stays.
     ///
     /// # Errors
     ///
-    /// The host refuses something of it, or the target has another length.
-    pub fn save(&self, hidden: Path<'_>, target: &File) -> Result<(), SaveFault> {
+    /// The host refuses something of it, or the target has another length: there is no journal.
+    pub(crate) fn make(&self, hidden: Path<'_>, target: &File) -> io::Result<()> {
         if target.metadata()?.len() != self.len {
-            let fault = io::Error::new(ErrorKind::InvalidInput, "its length has changed");
-            return Err(SaveFault::Kept(fault));
+            let why = "its length has changed";
+            return Err(io::Error::new(ErrorKind::InvalidInput, why));
         }
         self.pass(target, Step::Note)?;
         let end = self.len.saturating_mul(2);
@@ -105,19 +116,28 @@ impl<'a, N: Notes> Journal<'a, N> {
         }
         self.file.sync_all()?;
         fs::rename(self.notes.host(), hidden, self.path.as_path())?;
-        let ended = match self.sync_folder() {
-            Ok(()) => self.finish(target),
-            Err(fault) => Err(SaveFault::Kept(fault)),
-        };
-        if let Err(SaveFault::Kept(_)) = &ended {
+        let made = self.sync_folder();
+        if made.is_err() {
             let _ = fs::remove_file(self.notes.host(), self.path.as_path());
         }
-        ended
+        made
     }
 
     /// Writes what is saved over the bytes of the target, which is marked meanwhile, and takes the journal away once that is on the disk.
     pub(crate) fn finish(&self, target: &File) -> Result<(), SaveFault> {
-        self.put_mark(target)?;
+        match self.put_mark(target) {
+            Ok(()) => self.complete(target),
+            Err(fault) => Err(match Mark::read(target, 0) {
+                Ok(None) => SaveFault::Kept(fault),
+                _ => SaveFault::Begun(fault),
+            }),
+        }
+    }
+
+    /// The same of a target that is marked.
+    pub(crate) fn complete(&self, target: &File) -> Result<(), SaveFault>
+        ensures { IfErr result IsDecided }
+    {
         if let Err(fault) = self.write_over(target) {
             return Err(SaveFault::Begun(fault));
         }
@@ -131,22 +151,40 @@ impl<'a, N: Notes> Journal<'a, N> {
     pub(crate) fn settle(&self, target: &File) -> io::Result<()> {
         let mut first = [0u8; MARK_LENGTH];
         self.read_target(target, &mut first, 0)?;
-        write_at(target, &first, 0)?;
+        self.restore(target, &first)
+    }
+
+    /// The bytes that the mark replaced.
+    pub(crate) fn first_held(&self) -> io::Result<[u8; MARK_LENGTH]> {
+        let mut held = [0u8; MARK_LENGTH];
+        let mut differing = [0u8; MARK_LENGTH];
+        self.read(&mut held, 0)?;
+        self.read(&mut differing, self.len)?;
+        take_differences(&differing, &mut held);
+        Ok(held)
+    }
+
+    // Has the first bytes of the target on the disk, and takes the journal away.
+    fn restore(&self, target: &File, first: &[u8]) -> io::Result<()> {
+        write_at(target, first, 0)?;
         target.sync_all()?;
         self.remove(target)
     }
 
-    // Has the mark in the target on the disk.
-    fn put_mark(&self, target: &File) -> Result<(), SaveFault> {
-        let Some(mark) = &self.mark else {
-            return Ok(());
-        };
-        match write_at(target, mark.bytes(), 0).and_then(|()| target.sync_all()) {
-            Ok(()) => Ok(()),
-            Err(fault) => Err(match Mark::read(target, 0) {
-                Ok(None) => SaveFault::Kept(fault),
-                _ => SaveFault::Begun(fault),
-            }),
+    /// Has the mark in the target on the disk.
+    pub(crate) fn put_mark(&self, target: &File) -> io::Result<()> {
+        if let Some(mark) = &self.mark {
+            write_at(target, mark.bytes(), 0)?;
+            target.sync_all()?;
+        }
+        Ok(())
+    }
+
+    /// Has the target as it was, of whose bytes at most the mark was written, and takes the journal away.
+    pub(crate) fn take_back(&self, target: &File) -> io::Result<()> {
+        match Mark::read(target, 0)? {
+            Some(mark) if self.is_of(&mark) => self.restore(target, &self.first_held()?),
+            _ => self.remove(target),
         }
     }
 
@@ -163,17 +201,30 @@ impl<'a, N: Notes> Journal<'a, N> {
         Ok(())
     }
 
-    // Takes the journal away, unless the file is a copy of the one that it was made for.
-    fn remove(&self, target: &File) -> io::Result<()> {
+    /// Takes the journal away, unless the file is a copy of the one that it was made for; before it the name of the record beside it.
+    pub(crate) fn remove(&self, target: &File) -> io::Result<()> {
+        let host = self.notes.host();
         if let Some(mark) = &self.mark {
             if !mark.is_of(&target.metadata()?) {
                 let told = Told::Copied(self.given, self.path.as_str());
                 self.notes.tell(&told);
                 return Ok(());
             }
+            if mark.is_shared() {
+                match fs::remove_file(host, self.record_path()?.as_path()) {
+                    Err(fault) if fault.kind() != ErrorKind::NotFound => return Err(fault),
+                    _ => self.sync_folder()?,
+                }
+            }
         }
-        fs::remove_file(self.notes.host(), self.path.as_path())?;
+        fs::remove_file(host, self.path.as_path())?;
         self.sync_folder()
+    }
+
+    /// The path of the record of its save, where that is of several files.
+    pub(crate) fn record_path(&self) -> io::Result<PathBuf> {
+        let number = self.mark.map_or(0, |mark| mark.number());
+        numbered(self.notes.host(), self.path.as_path(), RECORD, number)
     }
 
     /// Whether each byte of the target behind its mark is one that is saved, or that was there before.
@@ -188,7 +239,9 @@ impl<'a, N: Notes> Journal<'a, N> {
     }
 
     /// Whether it is that of the save whose mark this is.
-    pub(crate) fn is_of(&self, mark: &Mark) -> bool {
+    pub(crate) fn is_of(&self, mark: &Mark) -> bool
+        ensures { IsTrue result ↔ (IsSome self.now.mark × IfSome self.now.mark (λ own. own.bytes ≡ mark.now.bytes)) }
+    {
         self.mark.is_some_and(|own| own.is_same(mark))
     }
 
@@ -197,8 +250,8 @@ impl<'a, N: Notes> Journal<'a, N> {
         fs::symlink_metadata(self.notes.host(), self.path.as_path()).is_ok()
     }
 
-    // Has the folder's names on the disk.
-    fn sync_folder(&self) -> io::Result<()> {
+    /// Has the folder's names on the disk.
+    pub(crate) fn sync_folder(&self) -> io::Result<()> {
         sync_folder(self.notes, folder_of(self.path.as_path()))
     }
 
@@ -312,8 +365,8 @@ fn put_first(block: &mut [u8], others: &[u8])
     }
 }
 
-// Writes bytes into a file, from a place on.
-fn write_at(mut file: &File, bytes: &[u8], at: u64) -> io::Result<()> {
+/// Writes bytes into a file, from a place on.
+pub(crate) fn write_at(mut file: &File, bytes: &[u8], at: u64) -> io::Result<()> {
     file.seek(SeekFrom::Start(at))?;
     file.write_all(bytes)
 }

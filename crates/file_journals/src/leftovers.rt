@@ -1,5 +1,8 @@
 //! New files that a program left behind which was killed as it wrote them.
 
+ghost use Rattle.std.specs.Prelude.{◌≡◌, IfErr};
+ghost use Rattle.std.specs.IoError.{error_kind};
+
 use crate::notes::Notes;
 use std::fs::{self, DirEntry, File};
 use std::io::{self, ErrorKind};
@@ -31,7 +34,9 @@ pub fn clear_folder<N: Notes>(notes: &N, folder: Path<'_>) -> io::Result<()> {
 }
 
 // A folder that can't be read is left as it is.
-fn unless_memory(fault: io::Error) -> io::Result<()> {
+fn unless_memory(fault: io::Error) -> io::Result<()>
+    ensures { IfErr result (λ e. error_kind e ≡ ErrorKind.OutOfMemory) }
+{
     match fault.kind() {
         ErrorKind::OutOfMemory => Err(fault),
         _ => Ok(()),

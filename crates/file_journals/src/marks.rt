@@ -1,6 +1,6 @@
 //! The mark of a file that is being written over.
 
-ghost use Rattle.std.specs.Prelude.{◌≡◌, length};
+ghost use Rattle.std.specs.Prelude.{◌≡◌, ◌↔◌, ◌++◌, length, take, drop, codes, IsTrue};
 
 use std::fs::{File, Metadata};
 use std::io::{self, ErrorKind};
@@ -10,8 +10,11 @@ use std::time::UNIX_EPOCH;
 /// How many bytes a mark has; an image's header has more.
 pub(crate) const MARK_LENGTH: usize = 56;
 
-/// What a mark begins with: no image does.
-const TAG: &[u8; 8] = b"dasd+cut";
+/// What the mark of a save of one file begins with: no image does.
+const ALONE: &[u8; 8] = b"dasd+cut";
+
+/// What that of a save of several files begins with, which their record decides.
+const SHARED: &[u8; 8] = b"dasd+all";
 
 /// What stands in the place of a file's first bytes while others of it are written over, and at the end of its journal: a tag, the number
 /// in the journal's name and the time when that was made, and the file's inode number and time of birth. So nobody takes a file whose save
@@ -25,7 +28,7 @@ impl Mark {
     /// The mark of a save: the number in the name of its journal, what is known of that, and of its file.
     pub(crate) fn new(number: u64, journal: &Metadata, file: &Metadata) -> Mark {
         let mut bytes = [0; MARK_LENGTH];
-        bytes[..8].copy_from_slice(TAG);
+        bytes[..8].copy_from_slice(ALONE);
         bytes[8..16].copy_from_slice(&number.to_le_bytes());
         bytes[16..24].copy_from_slice(&journal.ctime().to_le_bytes());
         bytes[24..32].copy_from_slice(&journal.ctime_nsec().to_le_bytes());
@@ -38,10 +41,28 @@ impl Mark {
     pub(crate) fn read(file: &File, at: u64) -> io::Result<Option<Mark>> {
         let mut bytes = [0; MARK_LENGTH];
         match file.read_exact_at(&mut bytes, at) {
-            Ok(()) if bytes.starts_with(TAG) => Ok(Some(Mark { bytes })),
+            Ok(()) if bytes.starts_with(ALONE) || bytes.starts_with(SHARED) => {
+                Ok(Some(Mark { bytes }))
+            }
             Err(fault) if fault.kind() != ErrorKind::UnexpectedEof => Err(fault),
             _ => Ok(None),
         }
+    }
+
+    /// The same of a save of several files.
+    pub(crate) fn shared(&self) -> Mark
+        ensures { result.bytes ≡ codes "dasd+all" ++ drop 8 self.now.bytes }
+    {
+        let mut bytes = self.bytes;
+        bytes[..8].copy_from_slice(SHARED);
+        Mark { bytes }
+    }
+
+    /// Whether the save is of several files.
+    pub(crate) fn is_shared(&self) -> bool
+        ensures { IsTrue result ↔ (take 8 self.now.bytes ≡ codes "dasd+all") }
+    {
+        self.bytes.starts_with(SHARED)
     }
 
     /// Its bytes.
@@ -65,7 +86,9 @@ impl Mark {
     }
 
     /// Whether both are of one save.
-    pub(crate) fn is_same(&self, other: &Mark) -> bool {
+    pub(crate) fn is_same(&self, other: &Mark) -> bool
+        ensures { IsTrue result ↔ (self.now.bytes ≡ other.now.bytes) }
+    {
         self.bytes[..] == other.bytes[..]
     }
 }

@@ -33,6 +33,8 @@ pub enum Told<'a> {
     Begun(&'a str),
     /// The file has all that is saved, but its journal could not be removed.
     Saved(&'a str),
+    /// It was one of several files, of which none is saved.
+    TakenBack(&'a str),
     /// The journal is read in the file's place.
     Instead(&'a str, &'a str),
     /// Another program wrote the file since; the journal is of version 1.1.0.
@@ -49,8 +51,12 @@ pub enum Told<'a> {
     Copied(&'a str, &'a str),
     /// It has its new bytes or its new name, but the folder was not synced.
     Unsynced(&'a str),
-    /// Several files were saved.
-    Several,
+    /// It was replaced, and could not be put back where another one of its save was not.
+    Parted(&'a str),
+    /// It was named before.
+    Used(&'a str),
+    /// Its owner, by number, was refused to the new file, which is this user's.
+    TakenOver(&'a str, u32, u32),
     /// Its journal can't be read by this user.
     Locked(&'a str),
 }
@@ -66,6 +72,10 @@ impl fmt::Display for Told<'_> {
             Told::Saved(path) => write!(
                 f,
                 "{path}: it is saved; only the removal of its journal failed"
+            ),
+            Told::TakenBack(path) => write!(
+                f,
+                "{path}: a save of it and others was cut off before it counted, and is taken back"
             ),
             Told::Instead(path, journal) => write!(
                 f,
@@ -99,9 +109,14 @@ impl fmt::Display for Told<'_> {
                 f,
                 "{path}: what is new is there; a loss of power may undo that"
             ),
-            Told::Several => write!(
+            Told::Parted(path) => write!(
                 f,
-                "several files were saved one after another, and not as one"
+                "{path}: it is new, and others that were to be saved with it are old"
+            ),
+            Told::Used(path) => write!(f, "{path}: this run uses it already"),
+            Told::TakenOver(path, before, now) => write!(
+                f,
+                "{path}: it was user {before}'s, and is user {now}'s now; its group is kept"
             ),
             Told::Locked(journal) => write!(
                 f,

@@ -1,5 +1,8 @@
 //! Where journals lie.
 
+ghost use Rattle.std.specs.Prelude.{◌≡◌, ◌↔◌, ◌⊎◌, IsTrue};
+ghost use Rattle.std.specs.IoError.{error_kind};
+
 use crate::notes::{Notes, Told};
 use std::fmt;
 use std::fs::{self, File};
@@ -7,7 +10,10 @@ use std::io::{self, ErrorKind};
 use std::path::{Path, PathBuf};
 
 /// What the name of a journal begins with, before the number of its file.
-const NAME_BEGIN: &str = ".dasd+";
+pub(crate) const JOURNAL: &str = ".dasd+";
+
+/// What a name of the record of a save of several files begins with, before the number of the journal beside it.
+pub(crate) const RECORD: &str = ".dasd=";
 
 /// The folder of a path.
 pub fn folder_of(path: Path<'_>) -> Path<'_> {
@@ -55,7 +61,9 @@ pub fn sync_folder<N: Notes>(notes: &N, folder: Path<'_>) -> io::Result<()> {
 }
 
 // Whether a file system has no sync of folders.
-fn has_no_sync(fault: &io::Error) -> bool {
+fn has_no_sync(fault: &io::Error) -> bool
+    ensures { IsTrue result ↔ ((error_kind fault.now ≡ ErrorKind.InvalidInput) ⊎ (error_kind fault.now ≡ ErrorKind.Unsupported)) }
+{
     matches!(
         fault.kind(),
         ErrorKind::InvalidInput | ErrorKind::Unsupported
@@ -72,7 +80,7 @@ impl fmt::Display for NoSync<'_> {
     }
 }
 
-/// A path for the journal of a file that lies here where nothing is: by one of these numbers.
+/// A path for the journal of a file that lies here, where nothing is, and no record beside it: by one of these numbers.
 ///
 /// # Errors
 ///
@@ -83,20 +91,34 @@ pub(crate) fn free_place(
     numbers: [u64; 2],
 ) -> io::Result<(u64, PathBuf)> {
     for number in numbers {
-        let place = journal_path(host, home, number)?;
-        match fs::symlink_metadata(host, place.as_path()) {
-            Err(fault) if fault.kind() == ErrorKind::NotFound => return Ok((number, place)),
-            Err(fault) => return Err(fault),
-            Ok(_) => {}
+        let place = numbered(host, home, JOURNAL, number)?;
+        if is_free(host, place.as_path())?
+            && is_free(host, numbered(host, home, RECORD, number)?.as_path())?
+        {
+            return Ok((number, place));
         }
     }
     let why = "what is at the names of its journal is not of this file";
     Err(io::Error::new(ErrorKind::InvalidInput, why))
 }
 
-/// The path of the journal of a file that lies here, by the number in its name.
-pub(crate) fn journal_path(host: &HostRuntime, home: Path<'_>, node: u64) -> io::Result<PathBuf> {
-    let name = format!(in host.alloc(); "{NAME_BEGIN}{node}")?;
+// Whether nothing is at a path.
+fn is_free(host: &HostRuntime, path: Path<'_>) -> io::Result<bool> {
+    match fs::symlink_metadata(host, path) {
+        Err(fault) if fault.kind() == ErrorKind::NotFound => Ok(true),
+        Err(fault) => Err(fault),
+        Ok(_) => Ok(false),
+    }
+}
+
+/// The path of the journal of a file that lies here, or of the record beside it, by what its name begins with and the number behind that.
+pub(crate) fn numbered(
+    host: &HostRuntime,
+    home: Path<'_>,
+    begin: &str,
+    number: u64,
+) -> io::Result<PathBuf> {
+    let name = format!(in host.alloc(); "{begin}{number}")?;
     Ok(folder_of(home).join(host.alloc(), name.as_str())?)
 }
 

@@ -1,14 +1,17 @@
 //! New files, which are written beside the old ones.
 
-ghost use Rattle.std.specs.Prelude.{◌≡◌, [], length, IfOk};
+ghost use Rattle.std.specs.Prelude.{◌≡◌, ◌↔◌, [], length, None, IsTrue, IfOk};
 
 use crate::locks::wrong;
 use crate::remarks::Remarks;
 use ckd_image::{ImageStore, StoreFault};
+use dasd_jobs::NewFile;
 use file_journals::{
-    Journal, NAME_BEGIN, Notes, SaveFault, Told, folder_of, is_same, is_written_since, sync_folder,
+    Journal, NAME_BEGIN, Notes, Part, SaveFault, Told, folder_of, is_same, is_written_since,
+    save_files, sync_folder,
 };
 use ghost_data::{Count, Trace};
+use std::cell::Cell;
 use std::fs::{self, File, Metadata, OpenOptions, Permissions, TryLockError};
 use std::io::{Error, ErrorKind, Write};
 use std::os::unix::fs::{MetadataExt, OpenOptionsExt, PermissionsExt, fchown};
@@ -55,13 +58,14 @@ pub struct HostDraft<'a> {
     written: Trace,
     refused: Count,
     len: u64,
-    is_put: bool,
+    /// Whether it has its name.
+    is_put: Cell<bool>,
     ghost is_len: { length written.bytes ≡ len },
 }
 
 impl Drop for HostDraft<'_> {
     fn drop(self) {
-        if !self.is_put {
+        if !self.is_put.get() {
             let _ = fs::remove_file(self.host, self.beside.as_str());
         }
         let HostDraft {
@@ -106,7 +110,7 @@ impl<'a> HostDraft<'a> {
             written: Trace::new(),
             refused: Count::new(),
             len: 0,
-            is_put: false,
+            is_put: Cell::new(false),
         };
         if let Some(old) = &draft.old {
             if old.target.is_some() {
@@ -125,38 +129,88 @@ impl<'a> HostDraft<'a> {
         &self.written
     }
 
-    /// Which file it replaces: its device and its number there.
-    pub(crate) fn old_node(&self) -> Option<(u64, u64)> {
-        let old = self.old.as_ref()?;
-        Some((old.known.dev(), old.known.ino()))
+    /// Whether it replaces no file.
+    pub(crate) fn is_new(&self) -> bool
+        ensures { IsTrue result ↔ (self.now.old ≡ None) }
+    {
+        self.old.is_none()
     }
 
-    /// Takes the place of the old file, if that is still there, which is then on the disk; or of none, which its folder's sync has there.
-    /// Where the old file keeps its place, it then has these bytes on the disk.
-    pub(crate) fn put(self, path: &str) -> Result<(), SaveFault> {
-        let mut draft = self;
-        if draft.given.as_str() != path {
-            return Err(SaveFault::Kept(wrong("it was begun for another path")));
-        }
-        let put = draft.move_to(path);
-        draft.is_put = !matches!(put, Err(SaveFault::Kept(_)));
-        draft.note_ending(&put);
-        if draft.is_put && draft.is_taken_over {
-            draft.note_owners();
-        }
-        put
+    // Whether the old file keeps its place.
+    fn keeps_place(&self) -> bool {
+        self.old.as_ref().is_some_and(|old| old.target.is_some())
     }
 
-    // Tells what is to be known of a save that did not end as it should.
-    fn note_ending(&self, put: &Result<(), SaveFault>) {
-        let path = self.given.as_str();
-        let keeps_place = self.old.as_ref().is_some_and(|old| old.target.is_some());
-        match put {
-            Err(SaveFault::Begun(_)) => self.remarks.tell(&Told::Begun(path)),
-            Err(SaveFault::Saved(_)) if keeps_place => self.remarks.tell(&Told::Saved(path)),
-            Err(SaveFault::Saved(_)) => self.remarks.tell(&Told::Unsynced(path)),
-            _ => {}
+    // Looks whether the old file is still there as it was read.
+    fn look(&self, path: &str) -> io::Result<()> {
+        if self.given.as_str() != path {
+            return Err(wrong("it was begun for another path"));
         }
+        if let Some(old) = &self.old {
+            let there = fs::metadata(self.host, old.path.as_str())?;
+            if !is_same(&there, &old.known) {
+                return Err(wrong("another program has replaced it"));
+            }
+            if is_written_since(&old.known, &there) {
+                return Err(wrong(WRITTEN_SINCE));
+            }
+        }
+        Ok(())
+    }
+
+    // What is saved of a file that keeps its place.
+    fn part(&self) -> io::Result<Part<'_, Remarks<'a>>> {
+        let Some(
+            Old {
+                path,
+                known,
+                target: Some(target),
+            },
+        ) = &self.old
+        else {
+            return Err(wrong("another program has removed it"));
+        };
+        let given = self.given.as_str();
+        Ok(Part {
+            journal: Journal::of_draft(self.remarks, given, &self.file, path.as_path(), known)?,
+            hidden: self.beside.as_path(),
+            target,
+        })
+    }
+
+    // Gives the old file a hidden name, from which it is put back where another one of the save can't be replaced. A file system that
+    // has no second names does without.
+    fn keep_old(&self) -> Option<String> {
+        let (old, beside) = (self.old.as_ref()?, self.beside.as_str());
+        let name = format!(in self.host.alloc(); "{beside}000").ok()?;
+        fs::hard_link(self.host, old.path.as_str(), name.as_str()).ok()?;
+        Some(name)
+    }
+
+    // Has the old file, which was kept by this name, or none in the place that this one took.
+    fn put_back(&self, kept: &Option<String>) -> io::Result<()> {
+        match (&self.old, kept) {
+            (Some(old), Some(kept)) => {
+                fs::rename(self.host, kept.as_str(), old.path.as_str())?;
+                sync_folder(self.remarks, folder_of(old.path.as_path()))
+            }
+            (None, _) => fs::remove_file(self.host, self.given.as_str()),
+            _ => Err(wrong("it was not kept")),
+        }
+    }
+
+    // Gives the file its name, which the old one has, if there is one; its folder is synced later.
+    fn take_place(&self) -> io::Result<()> {
+        let from = self.beside.as_str();
+        match &self.old {
+            Some(old) => fs::rename(self.host, from, old.path.as_str())?,
+            None => name_new(self.host, from, self.given.as_str())?,
+        }
+        self.is_put.set(true);
+        if self.is_taken_over {
+            self.note_owners();
+        }
+        Ok(())
     }
 
     // Notes whose the old file was, and whose the new one is.
@@ -165,41 +219,116 @@ impl<'a> HostDraft<'a> {
             return;
         };
         if let Ok(new) = self.file.metadata() {
-            self.remarks.note(&TakenOver {
-                path: self.given.as_str(),
-                before: old.known.uid(),
-                now: new.uid(),
-            });
+            let (before, now) = (old.known.uid(), new.uid());
+            self.remarks
+                .note(&Told::TakenOver(self.given.as_str(), before, now));
         }
     }
+}
 
-    // Gives the file its name, or that of a journal, by which the old file is written.
-    fn move_to(&self, path: &str) -> Result<(), SaveFault> {
-        let Some(old) = &self.old else {
-            self.file.sync_all()?;
-            return Ok(name_new(self.host, self.beside.as_str(), path)?);
+/// Puts new files there: they take the places of the old ones, which are then on the disk, or of none, which a sync of their folders has
+/// there; or the old ones keep their places, and then have these bytes on the disk.
+///
+/// # Errors
+///
+/// The path of the file for which the host refuses something, and what that leaves of all of them.
+pub(crate) fn put_drafts<'p>(
+    remarks: &Remarks,
+    new: &[NewFile<'p, HostDraft>],
+) -> Result<(), (&'p str, SaveFault)> {
+    for it in new {
+        if let Err(fault) = it.draft.look(it.path) {
+            return Err((it.path, SaveFault::Kept(fault)));
+        }
+    }
+    if new.iter().any(|it| it.draft.keeps_place()) {
+        save_in_place(remarks, new)
+    } else {
+        replace_all(remarks, new)
+    }
+}
+
+// Writes over the old files.
+fn save_in_place<'p>(
+    remarks: &Remarks,
+    new: &[NewFile<'p, HostDraft>],
+) -> Result<(), (&'p str, SaveFault)> {
+    let mut parts = Vec::new(remarks.host().alloc());
+    for it in new {
+        let pushed = match it.draft.part() {
+            Ok(part) => parts
+                .push(part)
+                .map_err(|_| Error::from(ErrorKind::OutOfMemory)),
+            Err(fault) => Err(fault),
         };
-        let there = fs::metadata(self.host, old.path.as_str())?;
-        if !is_same(&there, &old.known) {
-            return Err(SaveFault::Kept(wrong("another program has replaced it")));
+        if let Err(fault) = pushed {
+            return Err((it.path, SaveFault::Kept(fault)));
         }
-        if is_written_since(&old.known, &there) {
-            return Err(SaveFault::Kept(wrong(WRITTEN_SINCE)));
+    }
+    match save_files(parts.as_mut_slice()) {
+        Ok(()) => Ok(()),
+        Err((place, fault)) => Err((new.get(place).map_or("", |it| it.path), fault)),
+    }
+}
+
+// Has new files take their places one after another; where one can't, those before it give theirs back.
+fn take_places<'p>(
+    remarks: &Remarks,
+    new: &[NewFile<'p, HostDraft>],
+) -> Result<(), (&'p str, SaveFault)> {
+    let mut kept = Vec::new(remarks.host().alloc());
+    if kept.try_reserve(new.len()).is_err() {
+        let fault = Error::from(ErrorKind::OutOfMemory);
+        return Err((new.first().map_or("", |it| it.path), SaveFault::Kept(fault)));
+    }
+    let mut taken = Ok(());
+    for it in new {
+        let name = if new.len() > 1 {
+            it.draft.keep_old()
+        } else {
+            None
+        };
+        let put = match kept.push(name) {
+            Ok(()) => it.draft.take_place(),
+            Err(_) => Err(Error::from(ErrorKind::OutOfMemory)),
+        };
+        if let Err(fault) = put {
+            taken = Err((it.path, SaveFault::Kept(fault)));
+            break;
         }
-        match &old.target {
-            Some(target) => {
-                let (home, known) = (old.path.as_path(), &old.known);
-                Journal::of_draft(self.remarks, path, &self.file, home, known)?.save(
-                    self.beside.as_path(),
-                    target,
-                )
-            }
-            None => {
-                self.file.sync_all()?;
-                replace(self.remarks, self.beside.as_str(), old.path.as_str())
+    }
+    for (it, name) in new.iter().zip(kept.iter()) {
+        if taken.is_err() && it.draft.is_put.get() && it.draft.put_back(name).is_err() {
+            remarks.tell(&Told::Parted(it.path));
+        }
+        if let Some(name) = name {
+            let _ = fs::remove_file(remarks.host(), name.as_str());
+        }
+    }
+    taken
+}
+
+// Has all new files on the disk, and then has them take their places, or none.
+fn replace_all<'p>(
+    remarks: &Remarks,
+    new: &[NewFile<'p, HostDraft>],
+) -> Result<(), (&'p str, SaveFault)> {
+    for it in new {
+        if let Err(fault) = it.draft.file.sync_all() {
+            return Err((it.path, SaveFault::Kept(fault)));
+        }
+    }
+    take_places(remarks, new)?;
+    let mut synced = Ok(());
+    for it in new {
+        if let Some(old) = &it.draft.old {
+            if let Err(fault) = sync_folder(remarks, folder_of(old.path.as_path())) {
+                remarks.tell(&Told::Unsynced(it.path));
+                synced = Err((it.path, SaveFault::Saved(fault)));
             }
         }
     }
+    synced
 }
 
 impl ImageStore for HostDraft<'_> {
@@ -236,24 +365,6 @@ impl ImageStore for HostDraft<'_> {
                 Err(StoreFault)
             }
         }
-    }
-}
-
-/// A file whose owner was refused to the new one.
-#[derive(Clone, Copy)]
-struct TakenOver<'a> {
-    path: &'a str,
-    before: u32,
-    now: u32,
-}
-
-impl fmt::Display for TakenOver<'_> {
-    fn fmt<W: fmt::Write>(&self, f: &mut fmt::Formatter<W>) -> fmt::Result {
-        let TakenOver { path, before, now } = *self;
-        write!(
-            f,
-            "{path}: it was user {before}'s, and is user {now}'s now; its group is kept"
-        )
     }
 }
 
@@ -353,15 +464,6 @@ fn may_take_over(host: &HostRuntime, new: &Metadata, old: &Old, fault: &Error) -
     }
     let folder = fs::metadata(host, folder_of(old.path.as_path()).as_str())?;
     Ok(folder.mode() & STICKY == 0 || folder.uid() == new.uid())
-}
-
-// Gives a file the name of another, whose place it takes, and has that on the disk.
-fn replace(remarks: &Remarks, from: &str, to: &str) -> Result<(), SaveFault> {
-    fs::rename(remarks.host(), from, to)?;
-    match sync_folder(remarks, folder_of(Path::new(to))) {
-        Ok(()) => Ok(()),
-        Err(fault) => Err(SaveFault::Saved(fault)),
-    }
 }
 
 // Gives a file a name that no file has: one that has come there since stays. Where a file system has no second names, the file is

@@ -1,22 +1,22 @@
 //! Files of the host.
 
-ghost use Rattle.std.specs.Prelude.{◌≡◌, [], IfOk};
+ghost use Rattle.std.specs.Prelude.{◌≡◌, ◌≢◌, ◌↔◌, [], ◌++◌, IsTrue, IfOk, IfErr, OnOk, OnErr};
+ghost use Rattle.dasd_jobs.specs.Written.{files_of};
 
-use crate::drafts::{HostDraft, Old};
+use crate::drafts::{HostDraft, Old, put_drafts};
 use crate::locks::{
-    Locked, find_old, is_locked, keep, list_done, look_again, mark_done, open_locked,
-    open_trace_file, try_to_write,
+    Locked, find_old, is_locked, keep, look_again, open_locked, open_trace_file, try_to_write,
 };
 use crate::reading::{HostFile, read_some};
 use crate::remarks::Remarks;
 use crate::traces::{TraceFile, TraceSink};
-use dasd_jobs::{FileFault, ImageFiles, SavePlan, Sources, Traces, Written};
+use dasd_jobs::{FileFault, ImageFiles, NewFile, SavePlan, Sources, Traces, Written};
 use file_journals::{
     Notes, SaveFault, Told, clear_folder, folder_of, note_folder, sync_folders, whole_file,
 };
 use std::alloc::Global;
 use std::fs::File;
-use std::io::{BufWriter, Error, ErrorKind};
+use std::io::{BufWriter, ErrorKind};
 use std::path::Path;
 use std::{fmt, io};
 
@@ -80,31 +80,51 @@ impl<'a> HostFiles<'a> {
         self.is_unsettled
     }
 
-    // Notes why a file was not written, and which were.
-    fn not_written(&self, path: &str, fault: &Error) -> FileFault {
-        let told = self.remarks.refuse(path, fault);
-        let alloc = self.host.alloc();
-        if let Some(done) = list_done(self.locked.as_slice(), alloc) {
-            self.remarks.note(&NotWritten {
-                path,
-                done: done.as_str(),
-            });
+    // Puts new files there, all or none.
+    fn save(&mut self, new: &[NewFile<HostDraft<'a>>]) -> Result<(), FileFault>
+        ensures ok { OnOk result (self.new.written.files ≡ self.old.written.files ++ files_of (λ d. d.written.bytes) new.now) }
+        ensures err { OnErr result (self.new.written ≡ self.old.written) }
+        ensures same { self.new.opened ≡ self.old.opened }
+    {
+        match put_drafts(self.remarks, new) {
+            Err((path, SaveFault::Kept(fault) | SaveFault::Begun(fault))) => {
+                return Err(self.remarks.refuse(path, &fault));
+            }
+            Err((path, SaveFault::Saved(fault))) => {
+                // all are saved, and then the command fails
+                self.remarks.note_fault(path, &fault);
+                self.is_unsettled = true;
+            }
+            Ok(()) => {}
         }
-        told
+        for it in new {
+            self.written = self.written.with(it.path.as_bytes(), it.draft.trace());
+            let is_new = it.draft.is_new();
+            if is_new && !note_folder(self.remarks, &mut self.unsettled, it.path) {
+                self.is_unsettled = true;
+            }
+        }
+        Ok(())
     }
 
     // Whether files that are locked are written later.
-    fn saves(&self) -> bool {
+    fn saves(&self) -> bool
+        ensures { IsTrue result ↔ (self.now.plan ≢ SavePlan.Nothing) }
+    {
         !matches!(self.plan, SavePlan::Nothing)
     }
 
     // Whether they keep their places.
-    fn writes_over(&self) -> bool {
+    fn writes_over(&self) -> bool
+        ensures { IsTrue result ↔ (self.now.plan ≡ SavePlan.InPlace) }
+    {
         matches!(self.plan, SavePlan::InPlace)
     }
 
     // Says before a deck is run why what it changes of a file could not be saved, if somebody is to hear it.
-    fn forewarn(&self, path: &str) -> Result<(), FileFault> {
+    fn forewarn(&self, path: &str) -> Result<(), FileFault>
+        ensures { IfErr result (λ e. e ≡ FileFault.OutOfMemory) }
+    {
         if !self.saves() || !self.tells() {
             return Ok(());
         }
@@ -138,39 +158,12 @@ impl<'a> HostFiles<'a> {
             None => Path::new(path),
         };
         let folder = folder_of(beside).as_str().to_string(self.host.alloc())?;
-        if !is_among(self.cleared.as_slice(), folder.as_str()) {
+        let is_cleared = self.cleared.iter().any(|it| it.as_str() == folder.as_str());
+        if !is_cleared {
             clear_folder(self.remarks, Path::new(folder.as_str()))?;
             self.cleared.push(folder)?;
         }
         HostDraft::begin(self.host, self.remarks, path, old)
-    }
-}
-
-// Whether a path is one of these.
-fn is_among(paths: &[String], path: &str) -> bool {
-    paths.iter().any(|other| other.as_str() == path)
-}
-
-/// A file that was not written, and those that were before it.
-#[derive(Clone, Copy)]
-struct NotWritten<'a> {
-    path: &'a str,
-    done: &'a str,
-}
-
-impl fmt::Display for NotWritten<'_> {
-    fn fmt<W: fmt::Write>(&self, f: &mut fmt::Formatter<W>) -> fmt::Result {
-        write!(f, "{} was not written{}", self.path, self.done)
-    }
-}
-
-/// A file that was named before.
-#[derive(Clone, Copy)]
-struct Used<'a>(&'a str);
-
-impl fmt::Display for Used<'_> {
-    fn fmt<W: fmt::Write>(&self, f: &mut fmt::Formatter<W>) -> fmt::Result {
-        write!(f, "{}: this run uses it already", self.0)
     }
 }
 
@@ -209,7 +202,7 @@ impl<'a> ImageFiles for HostFiles<'a> {
             Err(fault) => return Err(self.remarks.refuse(path, &fault)),
         };
         if is_locked(self.locked.as_slice(), &known) {
-            self.remarks.note(&Used(path));
+            self.remarks.note(&Told::Used(path));
             return Err(FileFault::Twice);
         }
         if let Err(fault) = keep(&mut self.locked, alloc, path, &file, &known) {
@@ -259,33 +252,20 @@ impl<'a> ImageFiles for HostFiles<'a> {
         };
         match begun {
             Ok(draft) => Ok(draft),
-            Err(fault) => Err(self.not_written(path, &fault)),
+            Err(fault) => Err(self.remarks.refuse(path, &fault)),
         }
     }
 
     fn put(&mut self, path: &str, draft: HostDraft<'a>) -> Result<(), FileFault> {
-        let written = self.written.with(path.as_bytes(), draft.trace());
-        let node = draft.old_node();
-        match draft.put(path) {
-            Err(SaveFault::Kept(fault)) => Err(self.not_written(path, &fault)),
-            Err(SaveFault::Begun(fault)) => Err(self.remarks.refuse(path, &fault)),
-            put => {
-                // the other files are saved too, and then the command fails
-                if let Err(SaveFault::Saved(fault)) = &put {
-                    self.remarks.note_fault(path, fault);
-                    self.is_unsettled = true;
-                }
-                self.written = written;
-                mark_done(self.locked.as_mut_slice(), node);
-                if self.locked.iter().filter(|locked| locked.is_done).count() > 1 {
-                    self.remarks.note_once(&Told::Several);
-                }
-                if node.is_none() && !note_folder(self.remarks, &mut self.unsettled, path) {
-                    self.is_unsettled = true;
-                }
-                Ok(())
-            }
-        }
+        self.save(&[NewFile { path, draft }])
+    }
+
+    fn put_all(&mut self, new: Vec<NewFile<'_, HostDraft<'a>>>) -> Result<(), FileFault>
+        ensures ok { OnOk result (self.new.written.files ≡ self.old.written.files ++ files_of (λ d. d.written.bytes) new.entry.items) }
+        ensures err { OnErr result (self.new.written.files ≡ self.old.written.files) }
+        ensures same { self.new.opened.files ≡ self.old.opened.files }
+    {
+        self.save(new.as_slice())
     }
 
     fn settle(&mut self) {

@@ -1,5 +1,8 @@
 //! Files of the host that are locked, and that may be replaced.
 
+ghost use Rattle.std.specs.Prelude.{◌≡◌};
+ghost use Rattle.std.specs.IoError.{error_kind};
+
 use crate::drafts::{HostDraft, Old};
 use crate::remarks::Remarks;
 use file_journals::{Notes, home_of, is_same, open_target, whole_file};
@@ -14,7 +17,7 @@ use std::{fs, io};
 const TRIES: usize = 16;
 
 /// A file of the host: its device, and its number there.
-pub(crate) type Node = (u64, u64);
+type Node = (u64, u64);
 
 /// A file that is locked.
 #[derive(Drop)]
@@ -23,39 +26,19 @@ pub(crate) struct Locked {
     /// What was known of it before it was read.
     known: Metadata,
     path: String,
-    /// Whether a new file has taken its place.
-    pub(crate) is_done: bool,
-}
-
-/// The files that were replaced, if there is one and there is memory to say so.
-pub(crate) fn list_done(held: &[Locked], alloc: Global) -> Option<String> {
-    let mut done = String::new(alloc);
-    for locked in held {
-        if locked.is_done {
-            let path = locked.path.as_str();
-            let text = format!(in alloc; "; {path} was").ok()?;
-            done.push_str(text.as_str()).ok()?;
-        }
-    }
-    (!done.is_empty()).then_some(done)
-}
-
-/// Notes that a new file has taken the place of one that is locked.
-pub(crate) fn mark_done(held: &mut [Locked], node: Option<Node>) {
-    for locked in held.iter_mut() {
-        if node == Some((locked.known.dev(), locked.known.ino())) {
-            locked.is_done = true;
-        }
-    }
 }
 
 // A file that is not as it must be.
-pub(crate) fn wrong(why: &str) -> Error {
+pub(crate) fn wrong(why: &str) -> Error
+    ensures { error_kind result ≡ ErrorKind.InvalidInput }
+{
     Error::new(ErrorKind::InvalidInput, why)
 }
 
 // A file that is in use.
-fn busy(why: &str) -> Error {
+fn busy(why: &str) -> Error
+    ensures { error_kind result ≡ ErrorKind.ResourceBusy }
+{
     Error::new(ErrorKind::ResourceBusy, why)
 }
 
@@ -80,11 +63,6 @@ fn known_before(held: &[Locked], known: Metadata) -> io::Result<Metadata> {
         Some(locked) => Ok(locked.known.clone()?),
         None => Ok(known),
     }
-}
-
-// Whether a file was locked by this path, which then was another one than the path leads to now.
-fn was_locked_by(locked: &[Locked], path: &str) -> bool {
-    locked.iter().any(|held| held.path.as_str() == path)
 }
 
 // The file that a path leads to, if there is one.
@@ -156,7 +134,6 @@ pub(crate) fn keep(
         file: file.try_clone()?,
         known: known.clone()?,
         path: path.to_string(alloc)?,
-        is_done: false,
     };
     match held.push(locked) {
         Ok(()) => Ok(()),
@@ -189,7 +166,8 @@ pub(crate) fn find_old(
     let target = target_of(host, path, in_place)?;
     let (file, known) = open_locked(host, held, target.as_str(), true)?;
     let is_new = !is_locked(held.as_slice(), &known);
-    if is_new && was_locked_by(held.as_slice(), path) {
+    // another one than the path leads to now
+    if is_new && held.iter().any(|locked| locked.path.as_str() == path) {
         return Err(wrong("another program has replaced it"));
     }
     let Old {

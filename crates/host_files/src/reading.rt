@@ -1,16 +1,15 @@
 //! Files of the host that are read.
 
-ghost use Rattle.std.specs.Prelude.{◌≡◌, ◌≤◌, length, None, IfOk, OnOk, OnErr};
+ghost use Rattle.std.specs.Prelude.{◌≡◌, ◌≤◌, ◌+◌, length, slice_range, None, IfOk, OnOk, OnErr};
 
 use crate::remarks::Remarks;
 use ckd_image::{HEADER_LENGTH, StoreFault};
 use dasd_jobs::{OpenedFile, is_header};
-use file_journals::{Notes, whole_file};
+use file_journals::{Notes, WholeFile, whole_file};
 use std::alloc::Global;
 use std::fs::File;
 use std::io;
 use std::io::{Error, ErrorKind, Read};
-use std::os::unix::fs::FileExt;
 
 /// How many bytes are read at once.
 const PIECE: usize = 4_096;
@@ -21,7 +20,7 @@ const WINDOW: usize = 65_536;
 /// A regular file, with the bytes that were read ahead.
 #[derive(Drop)]
 struct RegularFile {
-    file: File,
+    file: WholeFile,
     len: u64,
     /// Where the bytes stand that were read ahead.
     begin: u64,
@@ -33,7 +32,7 @@ struct RegularFile {
 
 impl RegularFile {
     // A file of this length, of which nothing is read yet.
-    fn new(alloc: Global, file: File, len: u64) -> io::Result<RegularFile> {
+    fn new(alloc: Global, file: WholeFile, len: u64) -> io::Result<RegularFile> {
         let window = vec![in alloc; 0; WINDOW]?;
         Ok(RegularFile {
             file,
@@ -133,7 +132,7 @@ impl<'a> HostFile<'a> {
         alloc: Global,
         remarks: &'a Remarks<'a>,
         path: &str,
-        file: File,
+        file: WholeFile,
         len: u64,
     ) -> io::Result<HostFile<'a>> {
         let path = path.to_string(alloc)?;
@@ -175,7 +174,9 @@ impl OpenedFile for HostFile<'_> {
 }
 
 // Copies the bytes from `at` on that fill `into`.
-fn copy_at(bytes: &[u8], at: u64, into: &mut [u8]) -> io::Result<()> {
+fn copy_at(bytes: &[u8], at: u64, into: &mut [u8]) -> io::Result<()>
+    ensures { OnOk result (into.new ≡ slice_range bytes.now at (at + length into.old)) }
+{
     let at = usize::try_from(at).unwrap_or(usize::MAX);
     let behind = bytes.get(at..).unwrap_or(&[]);
     match behind.get(..into.len()) {

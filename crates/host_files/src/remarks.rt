@@ -1,5 +1,9 @@
 //! What is told on standard error beside the line of a fault.
 
+ghost use Rattle.std.specs.Prelude.{◌≡◌};
+ghost use Rattle.std.specs.IoError.{error_kind};
+ghost use Rattle.host_files.specs.Faults.{fault_of_kind};
+
 use dasd_jobs::FileFault;
 use file_journals::Notes;
 use std::alloc::Global;
@@ -90,7 +94,9 @@ impl<'a> Remarks<'a> {
     }
 
     /// Notes why a path was refused, and says what that is to the program.
-    pub(crate) fn refuse(&self, path: &str, fault: &Error) -> FileFault {
+    pub(crate) fn refuse(&self, path: &str, fault: &Error) -> FileFault
+        ensures { result ≡ fault_of_kind (error_kind fault.now) }
+    {
         let kind = fault.kind();
         if kind == ErrorKind::OutOfMemory {
             return FileFault::OutOfMemory;

@@ -42,8 +42,8 @@ pub struct NewMemberFile<'a> {
 /// # Errors
 ///
 /// The name of the library is none, or that of the member, before a file is opened. The file with the blocks or those of the volume are not
-/// read; the library does not get the member; or there is no memory: no file is written. A file can't be saved: it holds what it held, and so
-/// do those behind it. Of all these nothing is printed. Or the line can't be written, and the files are saved.
+/// read; the library does not get the member; there is no memory; or a file can't be saved: no file is written, and nothing is printed. Or
+/// the line can't be written, and the files are saved.
 pub fn load_member<F: ImageFiles, W: Write>(
     alloc: Global,
     files: &mut F,

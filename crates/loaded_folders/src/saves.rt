@@ -41,9 +41,8 @@ pub struct NewFolder<'a> {
 ///
 /// The text can't be read, is longer than 16 MiB, or a line of it is wrong: no other file is opened. The first file of the folder that can't
 /// be read is told, before one of the volume is opened. The files of the volume are not read; an entry of a directory leads to no member
-/// or to no block, or the volume does not get a data set, of which the first is told; or there is no memory: no file is written. A file
-/// can't be saved: it holds what it held, and so do those behind it. Of all these nothing is printed. Or the lines can't be written, and
-/// the files are saved.
+/// or to no block, or the volume does not get a data set, of which the first is told; there is no memory; or a file can't be saved: no
+/// file is written, and nothing is printed. Or the lines can't be written, and the files are saved.
 pub fn load_folder<F: ImageFiles, W: Write>(
     alloc: Global,
     files: &mut F,

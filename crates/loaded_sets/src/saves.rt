@@ -40,8 +40,8 @@ pub struct NewSet<'a> {
 /// # Errors
 ///
 /// The name is none, before a file is opened. The file with the blocks or those of the volume are not read; the volume does not get the
-/// data set; or there is no memory: no file is written. A file can't be saved: it holds what it held, and so do those behind it. Of all
-/// these nothing is printed. Or the line can't be written, and the files are saved.
+/// data set; there is no memory; or a file can't be saved: no file is written, and nothing is printed. Or the line can't be written, and
+/// the files are saved.
 pub fn load_set<F: ImageFiles, W: Write>(
     alloc: Global,
     files: &mut F,

@@ -3,39 +3,42 @@ use Rattle.std.proofs.Math.ListN.{get_or-map}
 use Rattle.std.proofs.lemmas.List.{get_or_default, get_or_past}
 use Rattle.ckd_image.specs.Files.{file_at}
 use Rattle.dasd_jobs.specs.Back.{changed_file, IsKept}
+use Rattle.dasd_jobs.specs.Written.{files_of}
 use Rattle.dasd_jobs.proofs.Kept.{none_yet, and_one, one_more_kept}
-use Rattle.dasd_jobs.proofs.mounting.write_stores.Goals.{then-i-stores+in_ok-write_changed, else-i-stores}
-use Rattle.dasd_jobs.proofs.mounting.write_stores.Goals as goal
+use Rattle.dasd_jobs.proofs.mounting.begin_stores.Goals.{then-i-stores+in_ok-begin_one, else-i-stores}
+use Rattle.dasd_jobs.proofs.mounting.begin_stores.Goals as goal
 
 pub loop-i-init : goal.loop-i-init
-loop-i-init g c = record { written = none_yet _ _; kept = λ k below. absurd (omega arith); same = refl }
+loop-i-init g c = record { begun = none_yet _ _; kept = λ k below. absurd (omega arith); written = refl; same = refl }
 
 pub loop-i-preserved : goal.loop-i-preserved
 loop-i-preserved g c =
     let no_path : Bor (List ℕ) = record { ref_ptr = (0, 0); now = [] } in
     let stores = c.args.stores.now in
     let i = c.loop-i.i in
+    let begun = files_of g.F.Draft.ImageStore.content c.loop-i.new.items in
     let path = λ (n : ℕ). slice_index_or (map (λ (p : Bor (List ℕ)). p.now) c.args.paths.now) n [] in
     let of = λ (n : ℕ). changed_file (path n) (file_at stores n) in
-    let next = and_one _ _ _ of i c.loop-i.invariant.written in
+    let next = and_one _ _ _ of i c.loop-i.invariant.begun in
     let and_kept = one_more_kept stores i c.loop-i.invariant.kept in
     elim c.if-i-stores.branch [
-      | then-i-stores+in_ok-write_changed w ↦
+      | then-i-stores+in_ok-begin_one w ↦
           let at = w.index-stores-i.is ∙ get_or_default stores i _ None w.if-i-stores.true in
           record {
-            written = next (rw (w.files-is) (w.in_ok-write_changed.ensures.writes.0
-                ∙ ap (λ s. g.F.ImageFiles.written c.loop-i.files ++ changed_file (slice_index_or c.args.paths.now i no_path).now s) at
-                ∙ ap (λ p. g.F.ImageFiles.written c.loop-i.files ++ changed_file p (file_at stores i))
+            begun = next (rw (w.new-is) (w.in_ok-begin_one.ensures.begins.0
+                ∙ ap (λ s. begun ++ changed_file (slice_index_or c.args.paths.now i no_path).now s) at
+                ∙ ap (λ p. begun ++ changed_file p (file_at stores i))
                 (sym (get_or-map (λ (p : Bor (List ℕ)). p.now) c.args.paths.now i no_path))));
-            kept = and_kept (subst IsKept at w.in_ok-write_changed.ensures.writes.1);
-            same = rw w.files-is (w.write_changed.ensures.same ∙ c.loop-i.invariant.same);
+            kept = and_kept (subst IsKept at w.in_ok-begin_one.ensures.begins.1);
+            written = rw w.files-is (w.begin_one.ensures.kept ∙ c.loop-i.invariant.written);
+            same = rw w.files-is (w.begin_one.ensures.same ∙ c.loop-i.invariant.same);
           }
       | else-i-stores w ↦
           let past : file_at stores i ≡ None = get_or_past stores i None (omega arith) in
           record {
-            written = next (rw (w.files-is) (sym (append-nil _) ∙ ap (λ s. g.F.ImageFiles.written c.loop-i.files ++ changed_file (path i) s)
-                (sym past)));
+            begun = next (rw (w.new-is) (sym (append-nil _) ∙ ap (λ s. begun ++ changed_file (path i) s) (sym past)));
             kept = and_kept (rw past tt);
+            written = rw w.files-is c.loop-i.invariant.written;
             same = rw w.files-is c.loop-i.invariant.same;
           }
     ]
