@@ -8,10 +8,9 @@ from tools.common.images import Image
 from tools.common.record_forms import with_lengths
 from tools.common.said_sets import Block, blocks_hash
 from tools.common.volume_layouts import directory_blocks
-from tools.gate.real_extracts import END_OF_FILE, card
+from tools.gate.made_packs import END_OF_FILE, UNUSED, card, entry
 from tools.gate.real_folder_loads import fresh, hashes, put_folder
 from tools.gate.real_folder_loads import load as load_all
-from tools.gate.real_folders import UNUSED, entry
 from tools.gate.real_loads import spelled_with_keys, tracks
 from tools.gate.scratch_files import WAYS, Ended, Scratch, fault, is_held, row, same
 
