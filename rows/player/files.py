@@ -208,6 +208,10 @@ class FileRow(DasdRow):
         elif word == "changed":
             ours, theirs = (Image(self.path(it)).volume.slots for it in words[:2])
             same(line, [int(it) for it in words[2:]], [at for at, it in enumerate(ours) if it != theirs[at]])
+        elif word in ("shows", "keyed"):
+            key, data = Image(self.path(words[0])).block((int(words[1]), int(words[2])))
+            wanted = bytes_of(words[4])
+            same(line, wanted.hex(), (key if word == "keyed" else data)[int(words[3]):][:len(wanted)].hex())
         elif word == "differ":
             same(line, len(words), len({self.values[it] for it in words}))
         elif word == "drained":

@@ -21,21 +21,11 @@ from rows.player import files
 from rows.player.text import Skipped as RowSkipped
 from rows.player.text import Wrong
 from tools import TOP
-from tools.gate import (
-    real_cut_offs,
-    real_folder_loads,
-    real_free_tracks,
-    real_in_place,
-    real_load_forms,
-    real_loads,
-    real_members,
-    real_races,
-    real_sweeps,
-)
+from tools.gate import real_cut_offs, real_folder_loads, real_in_place, real_loads, real_members, real_races, real_sweeps
 from tools.gate.scratch_files import ROWS, Play, Scratch, Skipped
 
 # The modules whose rows stand in ROWS.
-OTHERS = (real_cut_offs, real_folder_loads, real_free_tracks, real_in_place, real_load_forms, real_loads, real_members, real_races, real_sweeps)
+OTHERS = (real_cut_offs, real_folder_loads, real_in_place, real_loads, real_members, real_races, real_sweeps)
 
 
 def play_code(program: Path, play: Play) -> None:

@@ -1,5 +1,5 @@
-"""Rows of tools/gate/real_files.py that are sweeps or look at more than what is printed: each length of a file, what a terminal sees, which files are
-opened, and processor time."""
+"""Rows of tools/gate/real_files.py that are sweeps or look at more than what is printed: each length of a file, each character, what a terminal sees,
+which files are opened, processor time, and what Hercules reads."""
 # pylint: disable=missing-function-docstring  # the name of a row says what it is
 
 import hashlib
@@ -7,10 +7,15 @@ import os
 import pty
 import shutil
 import subprocess
+import unicodedata
 
 from conformance.suite.volumes import HEADER, MODELS, Record, Track, Volume, address, new_track
+from tools.common.hercules_readings import list_by_dasdls, records_by_dasdseq
+from tools.common.record_forms import with_lengths
+from tools.common.said_sets import Block
+from tools.common.volume_layouts import ebcdic
 from tools.gate.made_packs import MODEL
-from tools.gate.scratch_files import How, Scratch, Skipped, header, row, same, volume
+from tools.gate.scratch_files import How, Scratch, Skipped, header, is_held, row, same, volume
 
 HEADS, SLOT = MODELS[MODEL].heads, MODELS[MODEL].slot
 FAR = "--as-far-as-it-goes"
@@ -69,6 +74,45 @@ def hash_has_no_bytes_of_a_track_that_lacks(s: Scratch) -> None:
     message += b"\0" + bytes(4)
     digest = hashlib.sha256(message).hexdigest()
     same(s.dasd("hash", FAR, "vol.ckd"), (1, f"{digest}  volume with 1 unreadable track vol.ckd\n", told(19, 1, 40)))
+
+
+# Texts and blocks that are loaded.
+
+
+def load(s: Scratch, name: str, *words: str) -> None:
+    """Loads a data set that takes one track onto a new pack, or onto the one that is there."""
+    if not s.path("pack.ckd").exists():
+        same(s.dasd("format", "pack.ckd", "--cylinders", "2", "--label", "ABC123", "--vtoc", "1")[0], 0)
+    same(s.dasd("load", "pack.ckd", name, *words), (0, f"loaded {name} 1 track\n", ""))
+
+
+@row
+def each_character_of_the_code_page_is_written_and_printed(s: Scratch) -> None:
+    codes = bytes(code for code in range(256) if unicodedata.category(bytes([code]).decode("cp037")) != "Cc")
+    same(len(codes), 191)
+    s.put("text", codes.decode("cp037").encode())
+    load(s, "TEST.SET", "--from", "text", "--text", "--record-format", "F", "--record-length", "191", "--block-length", "191")
+    same(s.dasd("extract", "pack.ckd", "TEST.SET", "--to", "codes"), (0, "", ""))
+    is_held(s.path("codes"), codes)
+    same(s.dasd("extract", "pack.ckd", "TEST.SET", "--text", "--to", "lines"), (0, "", ""))
+    is_held(s.path("lines"), s.path("text").read_bytes() + b"\n")
+
+
+@row
+def hercules_reads_texts_and_keys_that_were_loaded(s: Scratch) -> None:
+    if not shutil.which("dasdls"):
+        raise Skipped("there is no dasdls")
+    s.put("text", b"FIRST CARD\nSECOND CARD\n")
+    keyed: list[Block] = [(ebcdic(f"KEY{i}", 8), ebcdic(f"BLOCK {i}", 80)) for i in range(3)]
+    s.put("blocks", with_lengths(keyed))
+    load(s, "TEST.SET", "--from", "text", "--text", "--record-format", "FB", "--record-length", "80", "--block-length", "160")
+    load(s, "TEST.KEYS", "--from", "blocks", "--with-lengths", "--key-length", "8", "--record-format", "F", "--block-length", "80")
+    serial, found = list_by_dasdls(s.path("pack.ckd"))
+    sets = [(it.name, it.organisation, it.form, it.record_length, it.block_length, it.key_length, it.tracks) for it in found]
+    same((serial, sets), ("ABC123", [("TEST.SET", "PS", "FB", 80, 160, 0, 1), ("TEST.KEYS", "PS", "F", 80, 80, 8, 1)]))
+    same(records_by_dasdseq(s.path("pack.ckd"), "TEST.SET"), ebcdic("FIRST CARD", 80) + ebcdic("SECOND CARD", 80))
+    same(records_by_dasdseq(s.path("pack.ckd"), "TEST.SET", "-ascii"), b"FIRST CARD\nSECOND CARD\n")
+    same(records_by_dasdseq(s.path("pack.ckd"), "TEST.KEYS"), b"".join(data for _, data in keyed))
 
 
 # What a terminal sees.
