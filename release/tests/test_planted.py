@@ -3,6 +3,8 @@ system, in compiled/, and between it and the headers.
 
 The compiled code is stood in for by short texts (stand_in.py). What the check does over real code is release/check's to try."""
 
+import contextlib
+import io
 import subprocess
 import sys
 import tempfile
@@ -79,7 +81,21 @@ class Planted(unittest.TestCase):
                 text = self.tree / f"compiled/{name}-x86_64.s"
                 text.write_text(text.read_text(encoding="utf-8").replace("\tret", "\tnop", 1), encoding="utf-8")
                 built = f"{name}.a" if name.startswith("lib") else name
-                self.assertIn(f"compiled/{name}-x86_64.s is not that of this commit", self.told("make", built))
+                said = f"compiled/{name}-x86_64.s is not that of this commit"
+                self.assertIn(said, self.told("make", built))
+                self.assertIn(said, self.told("sh", "tools/build/origin.sh"))
+
+    def test_a_byte_for_another_machine(self) -> None:
+        with (self.tree / "compiled/libdasd-aarch64.s").open("a", encoding="utf-8") as text:
+            text.write("\tnop\n")
+        said = self.told("sh", "tools/build/origin.sh")
+        self.assertEqual(said.count("is not that of this commit"), 1)
+        self.assertIn("compiled/libdasd-aarch64.s is not that of this commit", said)
+
+    def test_a_module_of_another_commit(self) -> None:
+        with (self.tree / "release/compiled.sha256").open("a", encoding="utf-8") as sums:
+            sums.write("aa  dasd_c.bc\n")
+        self.assertIn("compiled/ORIGIN has other modules than release/compiled.sha256", self.told("sh", "tools/build/origin.sh"))
 
     def test_a_digit_of_a_sum(self) -> None:
         sums = self.tree / "release/compiled.sha256"
@@ -160,10 +176,16 @@ class Compared(unittest.TestCase):
             folder.mkdir()
             for name in ("dasd-x86_64.s", "libdasd.wasm"):
                 (folder / name).write_text(name, encoding="utf-8")
-        self.sums = "aa  dasd_c.bc\nbb  dasd-x86_64.s\n"
-        compiled_text.origin, self.origin = lambda sums: f"of {sums}", compiled_text.origin
-        self.addCleanup(setattr, compiled_text, "origin", self.origin)
+        self.sums, self.kit, self.crates = "aa  dasd_c.bc\nbb  dasd-x86_64.s\n", "kit-one logic cc", "dd"
+        origin = compiled_text.origin
+        self.addCleanup(setattr, compiled_text, "origin", origin)
+        compiled_text.origin = self.origin
         compiled_text.write(self.made, self.sums, self.kept)
+
+    def origin(self, sums: str) -> str:
+        """What ORIGIN has to be."""
+        modules = "".join(f"{it}\n" for it in sums.splitlines() if it.endswith(".bc"))
+        return compiled_text.ORIGIN.format(kit=self.kit, crates=self.crates, modules=modules)
 
     def differing(self) -> list[str]:
         """What is reported."""
@@ -185,9 +207,31 @@ class Compared(unittest.TestCase):
         (self.made / "libdasd.wasm").unlink()
         self.assertEqual(self.differing(), [])
 
-    def test_of_something_else(self) -> None:
+    def test_another_module(self) -> None:
         self.sums = self.sums.replace("aa", "ab")
-        self.assertEqual(self.differing(), ["compiled/ORIGIN is not that of these crates, modules and kit"])
+        self.assertEqual(self.differing(), ["compiled/ORIGIN has aa for dasd_c.bc, and it is ab"])
+
+    def test_a_module_of_one_side(self) -> None:
+        self.sums = self.sums.replace("dasd_c.bc", "dasd_d.bc")
+        wanted = ["compiled/ORIGIN has aa for dasd_c.bc, and it is none", "compiled/ORIGIN has none for dasd_d.bc, and it is aa"]
+        self.assertEqual(self.differing(), wanted)
+
+    def test_other_crates(self) -> None:
+        self.crates = "de"
+        self.assertEqual(self.differing(), ["compiled/ORIGIN has dd for the tree of crates/, and it is de"])
+
+    def test_no_origin(self) -> None:
+        (self.kept / "ORIGIN").unlink()
+        self.assertEqual(self.differing(), ["compiled/ORIGIN is not here"])
+
+    def test_another_toolchain_with_the_same_bytes(self) -> None:
+        self.kit = "kit-two logic cc"
+        with contextlib.redirect_stdout(io.StringIO()) as said:
+            self.assertEqual(self.differing(), [])
+            # and nothing is written for its sake
+            compiled_text.write(self.made, self.sums, self.kept)
+        self.assertIn("names the toolchain kit-one logic cc, and this one is kit-two logic cc\n", said.getvalue())
+        self.assertIn("Toolchain kit-one logic cc\n", (self.kept / "ORIGIN").read_text(encoding="utf-8"))
 
 
 if __name__ == "__main__":

@@ -76,6 +76,8 @@ def kit_crate(folder: Path, top: Path = TOP) -> tuple[Kit, KitCrate]:
         loader.exec_module(rtlib)
     finally:
         sys.argv = words
+    # the kit's own asks each library below once for each way that leads to it
+    rtlib.Crate.stamp = functools.cache(rtlib.Crate.stamp)
     crate: KitCrate = rtlib.Crate(str(folder), str(top), {}, name=None)
     return cast(Kit, rtlib), crate
 

@@ -1,10 +1,11 @@
 """Keeps the LLVM module of a proved crate: the proved code as the kit lowers it for plain x86-64, which is all that a compiler is given.
 
-    tools/run make/capture CRATE MODULE.bc
+    tools/run make/capture [--just-proved] CRATE MODULE.bc
 
 CRATE is `dasd_c`, the library, `dasd_cmd`, the program, or `lone_drive_c`, a drive alone. Rattle checks the crate over the libraries that
-stand in this checkout, as `rt ci` checks each crate over those below it, and compiles what it proved. It does not see whether those libraries are made of
-today's files: so this is for a checkout where `rt ci`, or `rt lib` and `rt run` in these two crates, has just passed.
+stand in this checkout, as `rt ci` checks each crate over those below it, and compiles what it proved. These have to be made of today's files:
+each with the stamp that `rt lib` leaves of them, or none with one, as `rt ci` leaves them in a checkout without any, and then it has to have passed
+just now. With `--just-proved`, as beside a running `rt ci`, no stamp is looked at.
 
 The kit's folder of tools is stood in for by one whose `clang` keeps its module and then is the kit's; nothing of the kit is
 changed. What was captured is kept on this machine (tools/common/kept.py) by the kit, the crate's files and the bytes of the libraries
@@ -36,7 +37,7 @@ class NotCaptured(Exception):
 
 
 class NotBuilt(NotCaptured):
-    """Libraries below the crate do not stand in this checkout."""
+    """Libraries below the crate do not stand in this checkout, or are made of other files."""
 
 
 def name_of(known: KitCrate) -> str:
@@ -66,22 +67,41 @@ def build(rtlib: Kit, known: KitCrate) -> dict[str, Path | bytes]:
         return {"module": modules[0].read_bytes(), "words": words_file.read_bytes(), "made": built.read_bytes()}
 
 
+def not_built(known: KitCrate) -> list[str]:
+    """The libraries below the crate that are not here."""
+    return [it.name for it in known.below() if not (Path(it.rlib) / "format").is_file()]
+
+
+def stale(known: KitCrate) -> list[str]:
+    """The libraries below the crate that were built of other files. Libraries without a stamp fit only their own kind."""
+    stamps = {it: Path(it.rlib).parent / "stamp" for it in known.below()}
+    if not any(it.is_file() for it in stamps.values()):
+        return []
+    return [it.name for it, stamp in stamps.items() if not stamp.is_file() or stamp.read_text(encoding="utf-8") != it.stamp()]
+
+
 def captured(rtlib: Kit, known: KitCrate) -> Path:
     """The folder of what was captured of a crate, now or before."""
-    missing = [it.name for it in known.below() if not (Path(it.rlib) / "format").is_file()]
-    if missing:
-        raise NotBuilt(f"not built here: {', '.join(missing)}")
     kept.folder().mkdir(parents=True, exist_ok=True)
     with (kept.folder() / f"lock-{known.name}").open("w") as lock:
         fcntl.flock(lock, fcntl.LOCK_EX)
         name = name_of(known)
         found = kept.find("captured", name)
-        return found or kept.keep("captured", name, build(rtlib, known))
+        if found:
+            return found
+        built = build(rtlib, known)
+        if not_built(known) or name_of(known) != name:
+            raise NotCaptured(f"crates/{known.name}: it, or a library below it, changed meanwhile")
+        return kept.keep("captured", name, built)
 
 
-def capture(crate: str, module: Path, made: Path | None = None) -> None:
+def capture(crate: str, module: Path, made: Path | None = None, is_just_proved: bool = False) -> None:
     """Writes the crate's module, the compiler's words beside it, and to `made` what the kit makes: an archive, or a program's object."""
-    entry = captured(*kit_crate(TOP / "crates" / crate))
+    rtlib, known = kit_crate(TOP / "crates" / crate)
+    unfit = not_built(known) or ([] if is_just_proved else stale(known))
+    if unfit:
+        raise NotBuilt(f"not built here of today's files: {', '.join(unfit)}")
+    entry = captured(rtlib, known)
     shutil.copyfile(entry / "module", module)
     shutil.copyfile(entry / "words", module.with_suffix(".words"))
     if made is not None:
@@ -89,14 +109,15 @@ def capture(crate: str, module: Path, made: Path | None = None) -> None:
 
 
 def main() -> None:
-    if len(sys.argv) != 3 or sys.argv[1].startswith("-"):
+    words = [it for it in sys.argv[1:] if it != "--just-proved"]
+    if len(words) != 2 or words[0].startswith("-"):
         sys.exit(__doc__)
-    crate, module = sys.argv[1], Path(sys.argv[2]).resolve()
+    crate, module = words[0], Path(words[1]).resolve()
     try:
-        capture(crate, module)
+        capture(crate, module, is_just_proved="--just-proved" in sys.argv)
     except NotCaptured as why:
         sys.exit(f"capture.py: {why}")
-    print(f"{module}: {module.stat().st_size} bytes, of the libraries that stand in this checkout, which rt ci has to have proved just now")
+    print(f"{module}: {module.stat().st_size} bytes, of the libraries that stand in this checkout")
 
 
 if __name__ == "__main__":

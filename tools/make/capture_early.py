@@ -1,10 +1,10 @@
 """Captures the modules of a release while `rt ci` still runs: each as soon as all libraries below its crate stand.
 
-    tools/run make/capture_early REPORT
+    tools/run make/capture_early REPORT FOLDER
 
-REPORT is what `rt ci` has printed so far; it grows. What is captured is kept on this machine (tools/make/capture.py), and the steps
-behind `rt ci` take it from there. So one that can't be captured fails nothing here: such a step tries again, and tells why. It ends with
-the last module, or where REPORT ends before the libraries stand, and tells what it took."""
+REPORT is what `rt ci` has printed so far; it grows. FOLDER gets the modules with their words, from where release/check takes them: once `rt ci` has
+ended, a checkout may have its own libraries again, of other files. What can't be captured fails nothing here: release/check tries again, and tells
+why. It ends with the last module, or where REPORT ends before the libraries stand, and tells what it took."""
 
 import re
 import resource
@@ -31,12 +31,12 @@ def libraries_below(crate: str) -> set[str]:
     return {it.name for it in known.below()}
 
 
-def start(crate: str, report: Path) -> subprocess.Popen[bytes]:
-    """Captures a crate in a process of its own, beside the report: what is kept of it is what counts."""
-    return subprocess.Popen(["tools/run", "make/capture", crate, str(report.with_suffix(f".{crate}.bc"))], cwd=TOP)
+def start(crate: str, folder: Path) -> subprocess.Popen[bytes]:
+    """Captures a crate in a process of its own."""
+    return subprocess.Popen(["tools/run", "make/capture", "--just-proved", crate, str(folder / f"{crate}.bc")], cwd=TOP)
 
 
-def watch(report: Path) -> None:
+def watch(report: Path, folder: Path) -> None:
     """Starts a capture once its libraries stand, and waits for each."""
     waiting, running = {it: libraries_below(it) for it in MADE}, []
     while waiting:
@@ -44,7 +44,7 @@ def watch(report: Path) -> None:
         told = set(STANDS.findall(text))
         for crate in [it for it, below in waiting.items() if below <= told]:
             del waiting[crate]
-            running.append(start(crate, report))
+            running.append(start(crate, folder))
         if ENDS.search(text):
             break
         time.sleep(PAUSE)
@@ -53,10 +53,11 @@ def watch(report: Path) -> None:
 
 
 def main() -> None:
-    if len(sys.argv) != 2 or sys.argv[1].startswith("-"):
+    if len(sys.argv) != 3 or sys.argv[1].startswith("-"):
         sys.exit(__doc__)
-    began = time.monotonic()
-    watch(Path(sys.argv[1]).resolve())
+    began, folder = time.monotonic(), Path(sys.argv[2]).resolve()
+    folder.mkdir(parents=True, exist_ok=True)
+    watch(Path(sys.argv[1]).resolve(), folder)
     used = resource.getrusage(resource.RUSAGE_CHILDREN)
     print(f"modules captured beside rt ci: {time.monotonic() - began:.0f} seconds, {used.ru_utime + used.ru_stime:.0f} of processor time")
 

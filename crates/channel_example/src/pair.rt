@@ -1,4 +1,6 @@
-//! Two channels over one storage.
+//! Two channels over one storage, which a machine keeps beside them and lends to each call.
+
+ghost use Rattle.std.specs.Prelude.{◌≡◌, length};
 
 use crate::console::{Hex, code_of, show_interruption};
 use crate::programs::{
@@ -6,19 +8,25 @@ use crate::programs::{
     WRITE_COUNT_KEY_AND_DATA, Word, bytes_of,
 };
 use crate::volumes::new_volume;
-use anyhow::Result;
+use anyhow::{Result, bail};
 use ckd_image::MemoryStore;
-use s360_channel::OutsideStorage;
-use s360_channels::Channels;
+use s360_channels::Selectors;
+use s360_storage::MainStorage;
 use s360_words::{CAW_ADDRESS, Storage};
 use std::alloc::Global;
 
-type Machine = Channels<MemoryStore>;
+/// The main storage of a machine, and its channels, which are for storage of that size.
+#[derive(Drop)]
+struct Machine {
+    storage: Storage,
+    channels: Selectors<MemoryStore>,
+    ghost fits: { length storage.bytes ≡ channels.size },
+}
 
 /// The system mask that is open for channels 1 and 2.
 const BOTH: u8 = 0x60;
 
-/// Where two identifiers, a count area and the data of a record stand.
+/// Where two identifiers, a count area and the data of a record are.
 const OPERANDS: [(u32, &[u8]); 4] = [
     (0x500, &[0, 0, 0, 0, 0]),
     (0x508, &[0, 0, 0, 0, 1]),
@@ -29,8 +37,9 @@ const OPERANDS: [(u32, &[u8]); 4] = [
 /// A record is written at channel 1. Then it is read there, while channel 2 writes it to its own drive, from where the first
 /// channel has just put it.
 pub(crate) fn read_and_write_at_once(rt: &HostRuntime) -> Result<()> {
-    let mut machine = Channels::new(Storage::new(rt.alloc(), 65_536)?);
-    work(rt, &mut machine)
+    let storage = Storage::new(rt.alloc(), 65_536)?;
+    let channels = Selectors::new(storage.size());
+    work(rt, &mut Machine { storage, channels })
 }
 
 fn work(rt: &HostRuntime, machine: &mut Machine) -> Result<()> {
@@ -40,7 +49,12 @@ fn work(rt: &HostRuntime, machine: &mut Machine) -> Result<()> {
     at_once(rt, machine)?;
     put_program(machine, 0x400, &read(0x400, 0x710))?;
     run(rt, machine, "it is read at channel 2", 0x290)?;
-    let read = machine.peek(0x710, 8).unwrap_or(&[]);
+    show(rt, machine)
+}
+
+// Shows the eight bytes that were read.
+fn show(rt: &HostRuntime, machine: &Machine) -> Result<()> {
+    let read = machine.storage.slice(0x710, 8).unwrap_or(&[]);
     println!(rt; "  000710: {}", Hex(read))?;
     Ok(())
 }
@@ -48,14 +62,14 @@ fn work(rt: &HostRuntime, machine: &mut Machine) -> Result<()> {
 // Both channels work, a few units each in turns. The interruption of the lower channel is taken first.
 fn at_once(rt: &HostRuntime, machine: &mut Machine) -> Result<()> {
     put_program(machine, 0x400, &read(0x400, 0x700))?;
-    let first = code_of(&machine.sio(0x190));
+    let first = start(machine, 0x190);
     put_program(machine, 0x440, &write(0x440, 0x700))?;
-    let second = code_of(&machine.sio(0x290));
+    let second = start(machine, 0x290);
     println!(rt;
         "and read there while channel 2 writes it too: condition codes {first} and {second}"
     )?;
     for most in [10, 1_000] {
-        let units = machine.step_all(most);
+        let units = machine.channels.step_all(&mut machine.storage, most);
         let (first, second) = (units[1].unwrap_or(0), units[2].unwrap_or(0));
         println!(rt; "  {first} units at channel 1, {second} at channel 2")?;
     }
@@ -66,34 +80,46 @@ fn at_once(rt: &HostRuntime, machine: &mut Machine) -> Result<()> {
 // Channels 1 and 2 with a drive each, and storage with the operands of their programs.
 fn set_up(alloc: Global, machine: &mut Machine) -> Result<()> {
     for (number, address) in [(1, 0x190), (2, 0x290)] {
-        machine.add(number)?;
+        machine.channels.add(number)?;
         attach_new(alloc, machine, address)?;
     }
     for (at, bytes) in &OPERANDS {
-        machine.poke(*at, *bytes)?;
+        store(machine, *at, *bytes)?;
     }
     Ok(())
 }
 
 // Attaches a drive that holds a new volume.
 fn attach_new(alloc: Global, machine: &mut Machine, address: u16) -> Result<()> {
-    match machine.attach(alloc, address, new_volume(alloc, 2)?) {
+    match machine
+        .channels
+        .attach(alloc, address, new_volume(alloc, 2)?)
+    {
         Ok(()) => Ok(()),
         Err((fault, _image)) => Err(fault.into()),
     }
 }
 
-/// The processor stores a channel program, one word behind the other, and a channel address word that leads to it, with key 0.
-fn put_program(machine: &mut Machine, at: u32, words: &[Word]) -> Result<(), OutsideStorage> {
+/// The processor stores a channel program, one word after the other, and a channel address word that leads to it, with key 0.
+fn put_program(machine: &mut Machine, at: u32, words: &[Word]) -> Result<()> {
     let mut place = at;
     for word in words {
-        machine.poke(place, &bytes_of(*word))?;
+        store(machine, place, &bytes_of(*word))?;
         place = place.saturating_add(8);
     }
-    machine.poke(CAW_ADDRESS, &at.to_be_bytes())
+    store(machine, CAW_ADDRESS, &at.to_be_bytes())
 }
 
-/// A program at an address that searches the record whose identifier stands at another one, and there does what two words say.
+// The processor stores bytes from an address on.
+fn store(machine: &mut Machine, at: u32, bytes: &[u8]) -> Result<()> {
+    if MainStorage::put(&mut machine.storage, at, bytes) {
+        Ok(())
+    } else {
+        bail!("outside storage")
+    }
+}
+
+/// A program at an address that searches the record whose identifier is at another one, and there does what two words say.
 fn search(at: u32, identifier: u32, first: Word, second: Word) -> [Word; 4] {
     [
         (SEARCH_ID_EQUAL, identifier, CHAIN_COMMAND, 5),
@@ -103,34 +129,40 @@ fn search(at: u32, identifier: u32, first: Word, second: Word) -> [Word; 4] {
     ]
 }
 
-/// A program that writes record 1 behind R0, with the eight bytes that stand at an address.
+/// A program that writes record 1 after R0, with the eight bytes at an address.
 fn write(at: u32, from: u32) -> [Word; 4] {
     let count = (WRITE_COUNT_KEY_AND_DATA, 0x510, CHAIN_DATA, 8);
     search(at, 0x500, count, (0, from, 0, 8))
 }
 
-/// A program that reads the eight bytes of record 1 to an address. The word behind the read is not reached.
+/// A program that reads the eight bytes of record 1 to an address. The word after the read is not reached.
 fn read(at: u32, to: u32) -> [Word; 4] {
     search(at, 0x508, (READ_DATA, to, 0, 8), (0, 0, 0, 0))
 }
 
+// Starts the program that the channel address word leads to, at an address; the condition code.
+fn start(machine: &mut Machine, address: u16) -> u8 {
+    code_of(&machine.channels.sio(&mut machine.storage, address))
+}
+
 // Starts a program, lets it come to its end, and takes its interruption.
 fn run(rt: &HostRuntime, machine: &mut Machine, name: &str, address: u16) -> Result<()> {
-    let code = code_of(&machine.sio(address));
-    let units = match machine.run_on((address / 256) as u8, 1_000) {
-        Some(ran) => ran.units,
-        None => 0,
-    };
+    let code = start(machine, address);
+    let units = run_on(machine, (address / 256) as u8);
     println!(rt; "{name}: condition code {code}, {units} units")?;
     take(rt, machine)
 }
 
+// Lets the program of a channel come to its end; how many units it did.
+fn run_on(machine: &mut Machine, number: u8) -> u32 {
+    match machine.channels.run_on(&mut machine.storage, number, 1_000) {
+        Some(ran) => ran.units,
+        None => 0,
+    }
+}
+
 // Takes the first interruption of both channels, if one pends.
 fn take(rt: &HostRuntime, machine: &mut Machine) -> Result<()> {
-    let taken = if machine.is_pending(BOTH) {
-        machine.interrupt(BOTH)
-    } else {
-        None
-    };
+    let taken = machine.channels.interrupt(&mut machine.storage, BOTH);
     show_interruption(rt, taken)
 }

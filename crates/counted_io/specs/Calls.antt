@@ -1,5 +1,12 @@
--- What one call counts, and which bytes pass by it.
+-- What is counted of a reader or writer; what one call counts, and which bytes pass by it.
 use Rattle.std.specs.Prelude.{◌≡◌, ℕ, ◌+◌, ◌==◌, ◌&&◌, not, Bool, if◌then◌else◌, List, ◌++◌, length, take, Result, Ok, Err}
+
+-- a reader or writer, the bytes that passed, those that had when it was flushed last, and how many of its calls failed
+pub record CountedState (T : Type 0) : Type 0 where
+  pub inner : T
+  pub passed : List ℕ
+  pub flushed : List ℕ
+  pub failures : ℕ
 
 -- the count rises by one where the call answers an error, and else stays
 abbrev pub CountsCall : {T E : Type 0} → (before now : ℕ) → Result T E → Type 0

@@ -13,7 +13,7 @@ pub record Stream : Type 0 where
 
 -- a counted reader or writer, by what is known of the bytes of the one within it
 abbrev pub seen_by : {T : Type 0} → (T → Option (List ℕ)) → Counted T → Stream
-seen_by known c = record { known = known c.inner; passed = c.passed.bytes; flushed = c.flushed.bytes; failures = c.failures }
+seen_by known c = record { known = known c.inner; passed = c.passed; flushed = c.flushed; failures = c.failures }
 
 -- these bytes were given, and are left no more
 pub record Gives (before after : Stream) (bytes : List ℕ) : Type 0 where

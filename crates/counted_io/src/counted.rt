@@ -7,30 +7,42 @@ ghost use Rattle.counted_io.specs.Calls.{CountsCall, CountsWrite, PassesTaken, F
 
 use ghost_data::{Count, Trace};
 use std::io::{Read, Result, Write};
+use std::marker::Model;
 
 /// A reader or a writer, the bytes that passed since it was made, those of them that were flushed, and how many of its calls failed.
 /// Only contracts read these three; they take no memory and no code. With them a contract can say that a fault comes exactly where a
 /// call failed, that nothing of a text is held back, and what was read of a reader of whose bytes nothing is known.
 ///
+/// Only its own calls change them: no other code can claim that a call failed, or that bytes were flushed.
+///
 /// A read or a flush fails where it answers an error; a write fails where it answers an error, or takes no byte of some.
 #[derive(Drop)]
 pub struct Counted<T> {
-    /// The reader or writer itself.
-    pub inner: T,
-    /// The bytes that it gave, or that it took.
-    pub passed: Trace,
-    /// The bytes that had passed when it was flushed last.
-    pub flushed: Trace,
-    /// How many of its calls failed.
-    pub failures: Count,
+    inner: T,
+    passed: Trace,
+    flushed: Trace,
+    failures: Count,
+}
+
+impl<T> Model for Counted<T> {
+    ghost use Rattle.counted_io.specs.Calls.{CountedState};
+
+    ghost Value = { CountedState T };
+
+    ghost view = { λ c. record {
+      inner = c.inner;
+      passed = c.passed.bytes;
+      flushed = c.flushed.bytes;
+      failures = c.failures;
+    } };
 }
 
 impl<T> Counted<T> {
     /// This reader or writer: nothing has passed, and no call has failed.
     pub fn new(inner: T) -> Counted<T>
         ensures inner { result.inner ≡ inner }
-        ensures passed { result.passed.bytes ≡ [] }
-        ensures flushed { result.flushed.bytes ≡ [] }
+        ensures passed { result.passed ≡ [] }
+        ensures flushed { result.flushed ≡ [] }
         ensures failures { result.failures ≡ 0 }
     {
         Counted {
@@ -39,6 +51,13 @@ impl<T> Counted<T> {
             flushed: Trace::new(),
             failures: Count::new(),
         }
+    }
+
+    /// The reader or writer itself, lent to be looked at.
+    pub fn get_ref(&self) -> &T
+        ensures { result.now ≡ self.now.inner }
+    {
+        &self.inner
     }
 
     /// The reader or writer itself.
@@ -61,8 +80,8 @@ impl<R: Read> Read for Counted<R> {
     fn read(&mut self, into: &mut [u8]) -> Result<usize>
         ensures bound { ReadsAtMost result into.new }
         ensures bytes { ReadConsumes (R.remaining self.old.inner) (R.remaining self.new.inner) result into.new }
-        ensures passed { PassesTaken self.old.passed.bytes self.new.passed.bytes result into.new }
-        ensures flushed { self.new.flushed.bytes ≡ self.old.flushed.bytes }
+        ensures passed { PassesTaken self.old.passed self.new.passed result into.new }
+        ensures flushed { self.new.flushed ≡ self.old.flushed }
         ensures counted { CountsCall self.old.failures self.new.failures result }
     {
         let read = self.inner.read(into);
@@ -80,8 +99,8 @@ impl<W: Write> Write for Counted<W> {
     fn write(&mut self, bytes: &[u8]) -> Result<usize>
         ensures bound { WritesAtMost result bytes.now }
         ensures bytes { WriteAppends (W.contents self.old.inner) (W.contents self.new.inner) result bytes.now }
-        ensures passed { PassesTaken self.old.passed.bytes self.new.passed.bytes result bytes.now }
-        ensures flushed { self.new.flushed.bytes ≡ self.old.flushed.bytes }
+        ensures passed { PassesTaken self.old.passed self.new.passed result bytes.now }
+        ensures flushed { self.new.flushed ≡ self.old.flushed }
         ensures counted { CountsWrite self.old.failures self.new.failures result bytes.now }
     {
         let written = self.inner.write(bytes);
@@ -101,8 +120,8 @@ impl<W: Write> Write for Counted<W> {
     #[tactic(auto, using(crate::proofs::Written::none_more))]
     fn flush(&mut self) -> Result<()>
         ensures bytes { Keeps (W.contents self.old.inner) (W.contents self.new.inner) }
-        ensures passed { self.new.passed.bytes ≡ self.old.passed.bytes }
-        ensures flushed { FlushesTaken self.old.flushed.bytes self.new.flushed.bytes result self.old.passed.bytes }
+        ensures passed { self.new.passed ≡ self.old.passed }
+        ensures flushed { FlushesTaken self.old.flushed self.new.flushed result self.old.passed }
         ensures counted { CountsCall self.old.failures self.new.failures result }
     {
         let flushed = self.inner.flush();

@@ -108,7 +108,7 @@ fn end(
     ended: Result<Ending, ProgramFault>,
 ) -> ExitCode {
     match ended {
-        Err(ProgramFault::Job(JobFault::Write)) if writer.inner.get_ref().is_broken() => {
+        Err(ProgramFault::Job(JobFault::Write)) if writer.get_ref().get_ref().is_broken() => {
             ExitCode::from(if compares { NOT_COMPARED } else { 1 })
         }
         ended => conclude(rt, files, compares, ended),
@@ -185,7 +185,7 @@ fn say_more(
     if let Err(fault) = &ended {
         note_rule(alloc, words, remarks, fault);
     }
-    if writer.inner.get_ref().has_failed() {
+    if writer.get_ref().get_ref().has_failed() {
         return ended;
     }
     match &ended {

@@ -5,6 +5,5 @@ pub mod Quiet
 pub mod Changes
 pub mod Missing
 pub mod Several
-pub mod Faces
 pub mod Available
 pub mod Copies

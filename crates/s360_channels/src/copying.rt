@@ -2,7 +2,6 @@
 
 ghost use Rattle.std.specs.Prelude.{◌≡◌, IfOk};
 
-use crate::channels::Channels;
 use crate::selectors::Selectors;
 use ckd_image::CopyStore;
 use s360_channel::Selector;
@@ -22,23 +21,6 @@ impl<S: CopyStore> Selectors<S> {
             size: self.size,
             list: copy_list(alloc, &self.list)?,
             quiet: self.quiet,
-        })
-    }
-}
-
-impl<S: CopyStore> Channels<S> {
-    /// Second channels that are as these are, with their storage, and with copies of their drives and the volumes. Each stands for the
-    /// same machines as the one of its number here.
-    ///
-    /// # Errors
-    ///
-    /// There is no memory for them. These channels stay in any case, and what was copied is let go.
-    pub fn copy(&self, alloc: Global) -> Result<Channels<S>, AllocError>
-        ensures { IfOk result (λ copy. copy ≡ self.now) }
-    {
-        Ok(Channels {
-            selectors: self.selectors.copy(alloc)?,
-            storage: self.storage.copy(alloc)?,
         })
     }
 }

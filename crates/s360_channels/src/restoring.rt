@@ -6,7 +6,6 @@ ghost use Rattle.s360_channels.specs.Channels.{OnChannel, channel_at};
 ghost use Rattle.s360_channels.specs.Restores.{HasPend, PutsBack, RefusedPending, RefusedRestore};
 ghost use Rattle.s360_channels.specs.Selectors.{across};
 
-use crate::channels::Channels;
 use crate::faults::{PendingFault, RestoreFault};
 use crate::selectors::Selectors;
 use ckd_image::ImageStore;
@@ -68,37 +67,5 @@ impl<S: ImageStore> Selectors<S> {
         }
         self.quiet = false;
         Ok(())
-    }
-}
-
-impl<S: ImageStore> Channels<S> {
-    /// Puts the drive at an address, at the channel of its high byte, where it was as it was saved, as `Channel::restore_drive` does. It
-    /// makes no call of a store and takes no memory.
-    ///
-    /// # Errors
-    ///
-    /// `NoChannel`, and what the channel refuses; nothing has changed.
-    pub fn restore_drive(&mut self, address: u16, saved: SavedDrive) -> Result<(), RestoreFault>
-        ensures restored { OnOk result (OnChannel (address / 256) (PutsBack (address % 256) saved) ⊥ self.old self.new) }
-        ensures refused { IfErr result (λ e. RefusedRestore (channel_at (address / 256) self.old) self.old.storage
-            (address % 256) saved e) }
-        ensures stays { OnErr result (self.new ≡ self.old) }
-    {
-        self.selectors.restore_drive(address, saved)
-    }
-
-    /// Has this channel status word pend for the device at an address, at the channel of its high byte, as `Channel::restore_pending`
-    /// does.
-    ///
-    /// # Errors
-    ///
-    /// `NoChannel`, and what the channel refuses; nothing has changed.
-    pub fn restore_pending(&mut self, address: u16, csw: Csw) -> Result<(), PendingFault>
-        ensures pends { OnOk result (OnChannel (address / 256) (HasPend (address % 256) csw) ⊥ self.old self.new) }
-        ensures refused { IfErr result (λ e. RefusedPending (channel_at (address / 256) self.old) self.old.storage
-            (address % 256) csw e) }
-        ensures stays { OnErr result (self.new ≡ self.old) }
-    {
-        self.selectors.restore_pending(address, csw)
     }
 }

@@ -1,18 +1,26 @@
-//! Several channels over one storage.
+//! Several channels, and the storage that each of their calls is lent.
+
+ghost use Rattle.std.specs.Prelude.{◌≡◌, ◌<◌, length};
 
 use crate::channel::{Instruction, answered, keep_all, say_reset};
 use crate::channels_shown::show;
 use crate::stage::Stage;
 use crate::verbs::OfChannels;
-use s360_channels::{Channels, Removed};
+use s360_channels::{Removed, Selectors};
 use s360_laws::Answer;
+use s360_storage::MainStorage;
 use s360_words::Storage;
 use stage_drives::put;
 use stage_files::{FileStore, Line, Said};
 use std::alloc::Global;
 
-/// Channels over files.
-pub(crate) type Several = Channels<FileStore>;
+/// Channels over files, and main storage of their size.
+#[derive(Drop)]
+pub(crate) struct Several {
+    pub selectors: Selectors<FileStore>,
+    pub storage: Storage,
+    ghost fits: { length storage.bytes ≡ selectors.size },
+}
 
 const NO_CHANNELS: &str = "no channels: CHANNELS BEGIN 65536 makes them";
 
@@ -79,7 +87,8 @@ impl Stage {
     fn begin_several(&mut self, alloc: Global, line: &mut Line) {
         match Storage::new(alloc, line.wide(0)) {
             Ok(storage) => {
-                put(&mut self.channels, Some(Channels::new(storage)));
+                let selectors = Selectors::new(storage.size());
+                put(&mut self.channels, Some(Several { selectors, storage }));
                 line.said.ok();
             }
             Err(fault) => line.said.refused(&fault),
@@ -105,7 +114,7 @@ impl Stage {
         let Some(image) = self.files.mount(rt, line.words(1), &mut line.said) else {
             return;
         };
-        match channels.attach(rt.alloc(), line.half(0), image) {
+        match channels.selectors.attach(rt.alloc(), line.half(0), image) {
             Ok(()) => line.said.ok(),
             Err((fault, image)) => self.files.refuse(rt, image, &fault, &mut line.said),
         }
@@ -115,7 +124,7 @@ impl Stage {
         let Some(channels) = &mut self.channels else {
             return line.said.no(NO_CHANNELS);
         };
-        match channels.detach(line.half(0)) {
+        match channels.selectors.detach(line.half(0)) {
             Ok(image) => self.files.release(rt, image, &mut line.said),
             Err(fault) => line.said.refused(&fault),
         }
@@ -129,7 +138,7 @@ impl Stage {
         let Some(image) = self.files.mount(rt, line.words(1), &mut line.said) else {
             return;
         };
-        match channels.exchange(line.half(0), image) {
+        match channels.selectors.exchange(line.half(0), image) {
             Ok(image) => self.files.release(rt, image, &mut line.said),
             Err((fault, image)) => self.files.refuse(rt, image, &fault, &mut line.said),
         }
@@ -140,7 +149,7 @@ impl Stage {
         let Some(channels) = &mut self.channels else {
             return said.no(NO_CHANNELS);
         };
-        match channels.remove(number) {
+        match channels.selectors.remove(number) {
             Some(removed) => {
                 let Removed { images, reset } = removed;
                 if tells_reset {
@@ -166,11 +175,11 @@ impl Stage {
 fn instruct(channels: &mut Several, does: Instruction, line: &mut Line) {
     let at = line.half(0);
     let answer = match does {
-        Instruction::Sio => Answer::Sio(at, channels.sio(at)),
-        Instruction::Tio => Answer::Tio(at, channels.tio(at)),
-        Instruction::Hio => Answer::Hio(at, channels.hio(at)),
-        Instruction::Tch => Answer::Tch(channels.tch(at)),
-        Instruction::Arrive => Answer::Arrive(at, channels.arrive(at)),
+        Instruction::Sio => Answer::Sio(at, channels.selectors.sio(&mut channels.storage, at)),
+        Instruction::Tio => Answer::Tio(at, channels.selectors.tio(&mut channels.storage, at)),
+        Instruction::Hio => Answer::Hio(at, channels.selectors.hio(&mut channels.storage, at)),
+        Instruction::Tch => Answer::Tch(channels.selectors.tch(at)),
+        Instruction::Arrive => Answer::Arrive(at, channels.selectors.arrive(at)),
     };
     answered(&answer, &mut line.said);
 }
@@ -179,10 +188,10 @@ fn instruct(channels: &mut Several, does: Instruction, line: &mut Line) {
 fn advance(channels: &mut Several, units: Units, line: &mut Line) {
     let number = line.byte(0);
     let answer = match units {
-        Units::Step => stepped(channels.step(number, line.half(1))),
+        Units::Step => stepped(channels, number, line.half(1)),
         Units::Run => ran(channels, number, line.wide(1)),
         Units::Reset => reset(channels, number),
-        Units::InterruptAt => Some(Answer::Interrupt(channels.interrupt_at(number))),
+        Units::InterruptAt => interrupted(channels, number),
     };
     match answer {
         Some(answer) => answered(&answer, &mut line.said),
@@ -190,16 +199,29 @@ fn advance(channels: &mut Several, units: Units, line: &mut Line) {
     }
 }
 
-fn stepped(done: Option<u16>) -> Option<Answer> {
-    Some(Answer::Step(done?))
+fn stepped(channels: &mut Several, number: u8, units: u16) -> Option<Answer> {
+    let done = channels
+        .selectors
+        .step(&mut channels.storage, number, units)?;
+    Some(Answer::Step(done))
 }
 
 fn ran(channels: &mut Several, number: u8, units: u32) -> Option<Answer> {
-    Some(Answer::Run(channels.run_on(number, units)?.units))
+    let ran = channels
+        .selectors
+        .run_on(&mut channels.storage, number, units)?;
+    Some(Answer::Run(ran.units))
 }
 
 fn reset(channels: &mut Several, number: u8) -> Option<Answer> {
-    Some(Answer::Reset(channels.reset(number)?.unsaved))
+    Some(Answer::Reset(channels.selectors.reset(number)?.unsaved))
+}
+
+fn interrupted(channels: &mut Several, number: u8) -> Option<Answer> {
+    let taken = channels
+        .selectors
+        .interrupt_at(&mut channels.storage, number);
+    Some(Answer::Interrupt(taken))
 }
 
 // A call of all channels, or one of storage.
@@ -207,20 +229,22 @@ fn change(channels: &mut Several, changes: Changes, line: &mut Line) {
     match changes {
         Changes::Add => add(channels, line),
         Changes::StepAll => {
-            let done = channels.step_all(line.half(0));
+            let done = channels
+                .selectors
+                .step_all(&mut channels.storage, line.half(0));
             line.said.put("STEPALL");
             line.said.debug(&done);
         }
         Changes::ResetAll => {
             line.said.put("RESETALL");
-            line.said.debug(&channels.reset_all());
+            line.said.debug(&channels.selectors.reset_all());
         }
         changes => store(channels, changes, line),
     }
 }
 
 fn add(channels: &mut Several, line: &mut Line) {
-    match channels.add(line.byte(0)) {
+    match channels.selectors.add(line.byte(0)) {
         Ok(()) => line.said.ok(),
         Err(fault) => line.said.refused(&fault),
     }
@@ -229,9 +253,21 @@ fn add(channels: &mut Several, line: &mut Line) {
 fn store(channels: &mut Several, changes: Changes, line: &mut Line) {
     let at = line.wide(0);
     let answer = match changes {
-        Changes::Poke => Answer::Store(channels.poke(at, line.bytes.as_slice()).is_ok()),
-        Changes::Key => Answer::Key(channels.set_key(at, line.byte(1) % 16).is_ok()),
-        _ => Answer::Interrupt(channels.interrupt(line.byte(0))),
+        Changes::Poke => {
+            let bytes = line.bytes.as_slice();
+            Answer::Store(MainStorage::put(&mut channels.storage, at, bytes))
+        }
+        Changes::Key => Answer::Key(set_key(channels, at, line.byte(1) % 16)),
+        _ => {
+            let mask = line.byte(0);
+            Answer::Interrupt(channels.selectors.interrupt(&mut channels.storage, mask))
+        }
     };
     answered(&answer, &mut line.said);
+}
+
+fn set_key(channels: &mut Several, at: u32, key: u8) -> bool
+    requires { key < 16 }
+{
+    channels.storage.set_key(at, key)
 }

@@ -1,8 +1,0 @@
-use Rattle.std.proofs.Common.{◌∙◌, sym}
-use Rattle.s360_channels.proofs.channels.Channels.arrive.Goals as goal
-
-pub invariant_of-self : goal.invariant_of-self
-invariant_of-self g c = c.self.invariant ∙ sym c.arrive.ensures.same
-
-pub returns : goal.returns
-returns g c = rw (← c.self.view_is) (c.arrive.ensures.does c.self.inside.storage)
