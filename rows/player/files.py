@@ -1,7 +1,8 @@
 """Rows of the program `dasd` over real files: volumes with data sets, links, pipes, modes, owners, locks, full disks.
 
 They have the lines of dasd.py that make files and look at them, those of spelled_packs.py, host_lines.py and started.py, and some of their own. No
-call is made to fail, and standard error is a pipe. Each line that is printed or told is looked at, in order, and so is a status other than 0. rows/data/files/README.md has each line."""
+call is made to fail, and standard error is a pipe. Each line that is printed or told is looked at, in order, and so is a status other than 0.
+rows/data/files/README.md has each line."""
 from __future__ import annotations
 
 import json
