@@ -20,13 +20,13 @@ from pathlib import Path
 
 sys.dont_write_bytecode = True
 TOP = Path(__file__).resolve().parent.parent
-sys.path.insert(0, str(TOP / "conformance"))
+sys.path.insert(0, str(TOP))
 sys.path.insert(0, str(TOP / "rows"))
 
 from player.preload import compiled  # noqa: E402
 from player.stage import Broke, Stage  # noqa: E402
 from player.suites import SUITES, Programs, cases_of  # noqa: E402
-from player.text import Wrong  # noqa: E402
+from player.text import Skipped, Wrong  # noqa: E402
 
 # a suite is played in so many parts
 PARTS = 8
@@ -69,7 +69,9 @@ def play_part(part: Part) -> Result:
             case.play(stage)
         except Wrong as why:
             wrong.append(told(part, case.name, "at:     %s\n    wanted: %s\n    got:    %s" % (why.line, why.wanted, why.came)))
-        except (Broke, ValueError, LookupError) as why:
+        except Skipped as why:
+            print("%s: skipped: %s" % (case.name, why))
+        except (Broke, ValueError, LookupError, OSError) as why:
             wrong.append(told(part, case.name, "%s: %s" % (type(why).__name__, why)))
         if wrong and part.first:
             break
@@ -119,7 +121,7 @@ def parse_words() -> argparse.Namespace:
 
 def played_by(programs: Programs, dasd_alone: bool) -> list[str]:
     """The suites that these programs can play, or of them those of `dasd`."""
-    return [name for name, it in SUITES.items() if (programs.dasd if it.wants_dasd else not dasd_alone)]
+    return [name for name, it in SUITES.items() if not it.is_asked_for and (programs.dasd if it.wants_dasd else not dasd_alone)]
 
 
 def main() -> int:

@@ -13,7 +13,7 @@ from dataclasses import replace
 
 from archive import HERE, Case, program, scanned, way
 from make_packs import TOP, pack, without_label
-from tools.gate.real_packs import LEFT, RIGHT, share
+from tools.gate.made_packs import LEFT, RIGHT, put_made
 
 from dasd_catalogue.database import open_to_read
 from dasd_catalogue.engines import Alone
@@ -64,7 +64,7 @@ class Shared(Drawn):
     def setUp(self) -> None:
         """Makes it."""
         super().setUp()
-        share(self.folder / "pack.ckd")
+        put_made(self.folder / "pack.ckd", "shared")
 
     def test_each_has_its_own_heads(self) -> None:
         """As `dasd` reads them."""

@@ -7,12 +7,12 @@ from dataclasses import dataclass, replace
 from itertools import islice
 from typing import Iterator
 
-from suite.chance import DATA, WORDS, Chance, Operands, Words
-from suite.decks import Event, parse
-from suite.machine import Machine
-from suite.program import CD, SKIP
-from suite.vectors import Vector
-from suite.volumes import Volume
+from conformance.suite.chance import DATA, WORDS, Chance, Operands, Words
+from conformance.suite.decks import Event, parse
+from conformance.suite.machine import Machine
+from conformance.suite.program import CD, SKIP
+from conformance.suite.vectors import Vector
+from conformance.suite.volumes import Volume
 
 from .channels import ChannelRow
 from .rules import SIZE

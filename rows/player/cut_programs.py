@@ -8,9 +8,9 @@ from copy import deepcopy
 from functools import partial
 from typing import Iterator
 
-from suite.decks import Event, parse
-from suite.machine import Machine
-from suite.volumes import Volume
+from conformance.suite.decks import Event, parse
+from conformance.suite.machine import Machine
+from conformance.suite.volumes import Volume
 
 from .disks import DISKS, FIRST, SIZE, channel_over
 from .model import compare_answers, compare_left

@@ -40,11 +40,11 @@ from functools import partial
 from pathlib import Path
 from typing import Iterator
 
-from suite.volumes import Volume
+from conformance.suite.volumes import Volume
 
 from .preload import library
 from .stage import Stage
-from .text import BadRow, Block, Case, Wrong, bytes_of, is_next, read_blocks, same
+from .text import BadRow, Block, Case, Wrong, bytes_of, is_next, read_blocks, same, words_of
 
 SHOWN = re.compile(rb"\r([^\r\x1b]*)\x1b\[K")
 TRACE = "trace.of.the.row"
@@ -88,7 +88,7 @@ class DasdRow:
     def play(self, line: str) -> None:
         """Does what a line says, and looks at what it must come to."""
         word, _, rest = line.partition(" ")
-        if self.asks(word, rest) or self.files(word, rest.split()):
+        if self.asks(word, rest) or self.files(word, words_of(rest)):
             return
         if word == "dasd":
             self.is_said(line)
@@ -169,7 +169,7 @@ class DasdRow:
         elif word == "replaced":
             same(line, rest.split(), self.replaced)
         else:
-            return self.holds(line, word, rest.split())
+            return self.holds(line, word, words_of(rest))
         return True
 
     def holds(self, line: str, word: str, words: list[str]) -> bool:

@@ -2,7 +2,7 @@
 records without data, a track nearly full and one that can't be read; a new 2311; and a 2314 as the second."""
 from __future__ import annotations
 
-from suite.volumes import MODELS, Record, Track, address, new_track
+from conformance.suite.volumes import MODELS, Record, Track, address, new_track
 
 from .channels import ChannelRow
 from .stage import Stage

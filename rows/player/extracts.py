@@ -28,7 +28,7 @@ from functools import partial
 from pathlib import Path
 from typing import Iterable, Iterator
 
-from suite.volumes import HEADER, Record, Track, address
+from conformance.suite.volumes import HEADER, Record, Track, address
 
 from .stage import Stage
 from .text import BadRow, Block, Case, Disk, Wrong, bytes_of, read_blocks, same

@@ -4,8 +4,8 @@ from __future__ import annotations
 
 from dataclasses import replace
 
-from suite.decks import parse
-from suite.volumes import HEADER
+from conformance.suite.decks import parse
+from conformance.suite.volumes import HEADER
 
 from .chance import Trial
 from .channels import Left

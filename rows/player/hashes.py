@@ -12,7 +12,7 @@ from functools import partial
 from pathlib import Path
 from typing import Iterator, Sequence
 
-from suite.volumes import HEADER, Record, Track, Volume, new_track, read_slot
+from conformance.suite.volumes import HEADER, Record, Track, Volume, new_track, read_slot
 
 from .hostile_slots import MODEL, odd, replaced
 from .stage import Stage

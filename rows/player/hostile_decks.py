@@ -6,7 +6,7 @@ from dataclasses import dataclass, replace
 from functools import partial
 from typing import Iterator
 
-from suite.decks import LONGEST_DECK, LONGEST_LINE, DeckFault, parse
+from conformance.suite.decks import LONGEST_DECK, LONGEST_LINE, DeckFault, parse
 
 from .channels import ChannelRow
 from .stage import Stage

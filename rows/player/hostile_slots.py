@@ -11,7 +11,7 @@ from functools import partial
 from pathlib import Path
 from typing import Iterable, Iterator, Sequence
 
-from suite.volumes import END, HEADER, MODELS, Record, Track, Volume, header_of, new_track, read_slot
+from conformance.suite.volumes import END, HEADER, MODELS, Record, Track, Volume, header_of, new_track, read_slot
 
 from .answers import Csw
 from .stage import Stage

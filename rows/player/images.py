@@ -7,7 +7,7 @@ from __future__ import annotations
 from functools import partial
 from typing import Iterator, Sequence
 
-from suite.volumes import HEADER, Volume, new_track
+from conformance.suite.volumes import HEADER, Volume, new_track
 
 from .stage import Stage
 from .text import RUN, Case, Wrong, answered, calls_of, content, first_difference, is_next, same, spelled

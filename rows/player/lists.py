@@ -6,10 +6,10 @@ from dataclasses import replace
 from functools import partial
 from typing import Callable, Iterator
 
-from suite.decks import parse
-from suite.machine import Machine
-from suite.shrink import shrink
-from suite.vectors import Vector
+from conformance.suite.decks import parse
+from conformance.suite.machine import Machine
+from conformance.suite.shrink import shrink
+from conformance.suite.vectors import Vector
 
 from .chance import Trial, failing_trial, long_trial, trial
 from .channels import Left

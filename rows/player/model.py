@@ -3,10 +3,10 @@ from __future__ import annotations
 
 from typing import Mapping, Sequence
 
-from suite.decks import Event
-from suite.machine import Machine
-from suite.vectors import changed_tracks
-from suite.volumes import Volume
+from conformance.suite.decks import Event
+from conformance.suite.machine import Machine
+from conformance.suite.vectors import changed_tracks
+from conformance.suite.volumes import Volume
 
 from .channels import Left
 from .text import Wrong, same

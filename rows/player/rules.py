@@ -4,7 +4,7 @@ from __future__ import annotations
 
 from dataclasses import dataclass
 
-from suite.decks import Event
+from conformance.suite.decks import Event
 
 from .answers import Arm, Csw, Program, View, condition, status_told, units_of, word_told
 

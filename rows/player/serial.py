@@ -8,7 +8,7 @@ from __future__ import annotations
 from dataclasses import dataclass
 from typing import Callable, Mapping, Sequence
 
-from suite.decks import parse_line
+from conformance.suite.decks import parse_line
 
 from .answers import changes_nothing, units_of
 from .channels import ChannelRow, Left, lines_of

@@ -5,7 +5,7 @@ from dataclasses import dataclass
 from functools import partial
 from typing import Callable, Iterator, NamedTuple
 
-from . import (channels, cut_programs, dasd, drives, extracts, hashes, hostile_decks, hostile_slots, images, lines, lists, memory, programs, serial,
+from . import (channels, cut_programs, dasd, drives, extracts, files, hashes, hostile_decks, hostile_slots, images, lines, lists, memory, programs, serial,
                sweeps, traces, words)
 from .stage import Stage
 from .text import Block, Case, Disk, disk_of, read_blocks
@@ -73,6 +73,8 @@ class Suite:
     dasd_cases: Callable[[str], Iterator[Case]] | None = None
     # whether it wants the libraries of preload.py
     wants_libraries: bool = False
+    # whether it is played where it is named alone: `gate/real_files` plays it
+    is_asked_for: bool = False
 
     @property
     def wants_dasd(self) -> bool:
@@ -96,6 +98,7 @@ SUITES = {
     "hostile_slots": Suite(hostile_slots.cases),
     "hostile_checks": Suite(dasd_cases=hostile_slots.dasd_cases),
     "dasd": Suite(dasd_cases=dasd.cases, wants_libraries=True),
+    "files": Suite(dasd_cases=files.cases, is_asked_for=True),
     "extracts": Suite(dasd_cases=extracts.cases),
     "hashes": Suite(dasd_cases=hashes.cases),
     "words": Suite(dasd_cases=words.cases, wants_libraries=True),

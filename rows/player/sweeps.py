@@ -5,7 +5,7 @@ from __future__ import annotations
 from dataclasses import dataclass
 from typing import Mapping
 
-from suite.decks import parse_line
+from conformance.suite.decks import parse_line
 
 from .answers import units_of, word_told
 from .channels import ChannelRow, Left, start_sense

@@ -1,18 +1,21 @@
 """The text of rows: blocks of lines with an empty line between, bytes, and the volumes that blocks spell."""
 from __future__ import annotations
 
+import json
 import re
 from dataclasses import dataclass, field
 from functools import lru_cache
 from pathlib import Path
 from typing import Callable, Iterable, NamedTuple, Sequence
 
-from suite.volumes import HEADER, MODELS, Volume, parse_bytes
+from conformance.suite.volumes import HEADER, MODELS, Volume, parse_bytes
 
 from .stage import Stage
 
 DATA = Path(__file__).resolve().parent.parent / "data"
 RUN = re.compile(rb"(.)\1*", re.S)
+TOKEN = re.compile(r"""(?:[^ "']|"(?:[^"\\]|\\.)*"|'[^']*')+""")
+PART = re.compile(r"""(?P<text>"(?:[^"\\]|\\.)*"|'[^']*'|(?:[0-9A-Fa-f]{2})+)(?::(?P<length>\d+))?(?:\*(?P<times>\d+))?(?:\+|$)""")
 WORD = re.compile(r"(?<![^ ])(?:[0-9A-F]{2})+(?:\*\d+)?(?:\+(?:[0-9A-F]{2})+(?:\*\d+)?)*(?![^ ;])")
 
 
@@ -22,6 +25,10 @@ class Wrong(Exception):
     def __init__(self, line: str, wanted: str, came: str) -> None:
         super().__init__(line)
         self.line, self.wanted, self.came = line, wanted, came
+
+
+class Skipped(Exception):
+    """A row that can't be played here, and why."""
 
 
 class BadRow(ValueError):
@@ -68,9 +75,36 @@ def same(line: str, wanted: object, came: object) -> None:
         raise Wrong(line, str(wanted), str(came))
 
 
+def words_of(text: str) -> list[str]:
+    """The words of a line; a blank within quotes parts none."""
+    return TOKEN.findall(text)
+
+
 def bytes_of(word: str) -> bytes:
-    """The bytes of a word as `0000+C1*80`; `-` is none."""
-    return b"" if word == "-" else parse_bytes(word)
+    """The bytes of a word as `0000+C1*80`; `-` is none. `'CARD'` is EBCDIC and `"text\\n"` UTF-8, with the escapes of JSON; `'CARD':80` has
+    blanks after it up to a length, and other parts have zeros."""
+    if word == "-":
+        return b""
+    if not any(it in word for it in "'\":"):
+        return parse_bytes(word)
+    made, at = b"", 0
+    while at < len(word):
+        part = PART.match(word, at)
+        if part is None:
+            raise BadRow(word)
+        made += part_of(part)
+        at = part.end()
+    return made
+
+
+def part_of(part: re.Match[str]) -> bytes:
+    """The bytes of a part of a word."""
+    text, fill = part["text"], b"\x40" if part["text"][0] == "'" else b"\0"
+    if text[0] == "'":
+        one = text[1:-1].encode("cp037")
+    else:
+        one = json.loads(text).encode("utf-8") if text[0] == '"' else bytes.fromhex(text)
+    return one.ljust(int(part["length"] or 0), fill) * int(part["times"] or 1)
 
 
 @lru_cache(maxsize=256)
@@ -87,7 +121,7 @@ def plain(text: str) -> str:
 
 def is_next(line: str, wanted: str, came: str) -> None:
     """That this came, however its bytes are spelled; where `...` ends what is wanted, anything may stand in its place."""
-    if wanted.endswith(" ...") and came.startswith(wanted[:-3]):
+    if wanted.endswith("...") and came.startswith(wanted[:-3]):
         return
     same(line, plain(wanted), plain(came))
 

@@ -6,8 +6,8 @@ from __future__ import annotations
 import re
 from dataclasses import dataclass, field
 
-from suite.decks import Event, parse_line
-from suite.volumes import HEADER, Volume
+from conformance.suite.decks import Event, parse_line
+from conformance.suite.volumes import HEADER, Volume
 
 from .answers import Arm, Program, View, status_told, word_told
 from .chance import Trial

@@ -9,8 +9,8 @@ import subprocess
 from functools import partial
 from typing import Iterator
 
-from suite.decks import DeckFault, Event, parse
-from suite.vectors import all_vectors
+from conformance.suite.decks import DeckFault, Event, parse
+from conformance.suite.vectors import all_vectors
 
 from .dasd import play_row
 from .stage import Stage

@@ -6,12 +6,15 @@ import unittest
 from pathlib import Path
 
 TOP = Path(__file__).resolve().parent.parent.parent
-sys.path.insert(0, str(TOP / "conformance"))
+sys.path.insert(0, str(TOP))
 sys.path.insert(0, str(TOP / "rows"))
 
-from player.text import read_blocks  # noqa: E402
+from player.text import DATA, read_blocks  # noqa: E402
 
 ROWS = {"channel": 104, "traces": 63, "cut_programs": 32, "drives": 131, "programs": 97, "tracks": 51, "dasd": 83, "extracts": 35, "words": 25}
+# those over real files
+FILES = {"archives": 8, "changes": 9, "deletes": 13, "extracts": 8, "findings": 15, "folders": 6, "formats": 10, "free_tracks": 6, "hashes": 12, "host": 26,
+         "keyed_extracts": 8, "labels": 5, "lengths": 15, "lists": 8, "load_forms": 9, "options": 12, "packs": 19, "reasons": 12, "runs": 10, "setups": 0}
 
 
 class Counts(unittest.TestCase):
@@ -23,6 +26,13 @@ class Counts(unittest.TestCase):
             names = [it.name for it in read_blocks("%s.rows" % name) if not it.name.startswith("volume ")]
             self.assertEqual(number, len(names), name)
             self.assertEqual(len(names), len(set(names)), "names of %s" % name)
+
+    def test_files(self) -> None:
+        """So has each file of rows over real files, and no two rows there have one name; a block that begins with `setup` is none."""
+        found = {path.stem: [it.name for it in read_blocks("files/%s" % path.name) if not it.name.startswith("setup ")] for path in DATA.glob("files/*.rows")}
+        self.assertEqual(FILES, {name: len(names) for name, names in found.items()})
+        names = [it for names in found.values() for it in names]
+        self.assertEqual(len(names), len(set(names)))
 
 
 if __name__ == "__main__":

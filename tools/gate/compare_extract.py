@@ -27,7 +27,7 @@ What Hercules' tools can't tell, or tell otherwise, is left out:
   no code with `dasd` (tools/common/record_forms.py);
 - `dasdcat` shows names of members in small letters, which are made large again;
 - data sets that share cylinders are runs of tracks to `dasdls` and `dasdseq`, and `dasdseq` ends at a defective track. That is so over the two
-  volumes of tools/gate/real_packs.py, or else it is a difference; what `dasd` takes out is compared with what was put there.
+  volumes of tools/gate/made_packs.py, or else it is a difference; what `dasd` takes out is compared with what was put there.
 
 Of a spanned record `dasd` drops the blanks at the end of its last segment alone (docs/DECISIONS.md), and so does that reading."""
 
@@ -43,8 +43,8 @@ from tools.common.folder_texts import TEXT, folder_text
 from tools.common.images import Image
 from tools.common.record_forms import cut, records_of, text_of
 from tools.common.written_labels import LAST_VOLUME
-from tools.gate import real_packs as packs
-from tools.gate.real_extracts import raw as cards
+from tools.gate import made_packs as packs
+from tools.gate.made_packs import raw as cards
 from tools.make import hercules_volumes as volumes
 
 CARD, COLUMNS = 80, 72
@@ -252,7 +252,7 @@ class Extraction:
 
 def compare_shared(comparison: readings.Comparison, dasd: str, image: pathlib.Path) -> None:
     """Two data sets that share cylinders, of which each has some heads."""
-    packs.share(image)
+    packs.put_made(image, "shared")
     listed = {it.name: it.tracks for it in readings.list_by_dasdls(image)[1]}
     owners = {track: name for name, tracks in (("LEFT", packs.LEFT), ("RIGHT", packs.RIGHT)) for track in tracks}
     for name, (first, last) in (("LEFT", packs.LEFT_RUN), ("RIGHT", packs.RIGHT_RUN)):
@@ -267,7 +267,7 @@ def compare_shared(comparison: readings.Comparison, dasd: str, image: pathlib.Pa
 
 def compare_defective(comparison: readings.Comparison, dasd: str, image: pathlib.Path) -> None:
     """A data set of three tracks, of which the second is defective."""
-    packs.wear(image)
+    packs.put_made(image, "worn")
     ended = readings.run(dasd, "extract", image, "CARDS")
     comparison.same("defective CARDS", (ended.returncode, ended.stdout), (1, cards(*packs.CARDS)), "what was put there")
     taken = readings.records_by_dasdseq(image, "CARDS")

@@ -2,7 +2,7 @@
 
     tools/run gate/compare_hashes [DASD]
 
-The volumes are the sample pack, those of tools/make/hercules_volumes.py, and the two of tools/gate/real_packs.py, with shared cylinders and with
+The volumes are the sample pack, those of tools/make/hercules_volumes.py, and the two of tools/gate/made_packs.py, with shared cylinders and with
 an alternate. What they say is read by tools/common/said_sets.py, which shares no code with `dasd`; of Hercules' volumes the blocks that were put
 there are hashed too. The program is the word, or else the built one
 of crates/dasd_cmd. It needs Debian's package hercules. Each difference is a line; the last line is 'N compared, M differ', and the status 1
@@ -20,7 +20,7 @@ from tools import TOP
 from tools.common import hercules_readings as readings
 from tools.common.images import Image
 from tools.common.said_sets import Said, blocks_hash, said_by
-from tools.gate import real_packs as packs
+from tools.gate.made_packs import put_made
 from tools.gate.compare_extract import pieces_of
 from tools.make import hercules_volumes as volumes
 
@@ -108,8 +108,8 @@ def main() -> int:
         folder = pathlib.Path(name)
         hashes = Hashes(comparison, dasd)
         readings.run(sys.executable, TOP / "sample/make_sample.py", folder / "sample.ckd")
-        packs.share(folder / "shared.ckd")
-        packs.wear(folder / "defective.ckd")
+        put_made(folder / "shared.ckd", "shared")
+        put_made(folder / "defective.ckd", "worn")
         for plan in volumes.plans():
             plan.make(folder)
             hashes.compare_put(plan, folder)

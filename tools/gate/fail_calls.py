@@ -39,7 +39,7 @@ from pathlib import Path
 from typing import NamedTuple
 
 from tools import TOP
-from tools.gate.real_extracts import SETS, spell
+from tools.gate.made_packs import put_made
 from tools.gate.scratch_files import WRITE, volume
 
 # How a call may fail, beside being killed there; with `on` behind it all calls of that name fail from there on, as those of a disk that has gone do: what
@@ -187,7 +187,7 @@ def fill(folder: Path) -> None:
     (folder / "one.ckd").write_bytes(volume(data="C1C2C3C4"))
     (folder / "same.ckd").write_bytes(volume(data="C1C2C3C4"))
     (folder / "two.ckd").write_bytes(volume(cylinders=2))
-    spell(folder / "pack.ckd", SETS[:3])  # those of which there is no finding
+    put_made(folder / "pack.ckd", "three data sets")  # those of which there is no finding
     with open(folder / "pack.ckd", "r+b") as pack:  # a reserved byte of the header, which a strict check tells
         pack.seek(20)
         pack.write(b"\1")

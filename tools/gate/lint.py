@@ -52,7 +52,7 @@ LEFT_OPEN = (
 TREES = [
     Tree(("tools/", "sample/"), (".",)),
     Tree(("conformance/",), ("conformance",), LEFT_OPEN),
-    Tree(("rows/",), ("rows", "conformance")),
+    Tree(("rows/",), ("rows", ".")),
     Tree(("catalogue/",), ("catalogue", "catalogue/tests", "."), ("wrong-import-order", "redefined-outer-name", "invalid-name", "protected-access")),
     Tree(("release/",), ("release", "release/tests", ".")),
     Tree(("fuzz/",), ("fuzz", "catalogue"), ("wrong-import-order",)),

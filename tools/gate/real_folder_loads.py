@@ -11,9 +11,7 @@ from tools.common.images import Image
 from tools.common.record_forms import with_lengths
 from tools.common.said_sets import Block
 from tools.common.volume_layouts import directory_blocks, ebcdic
-from tools.gate.real_extracts import END_OF_FILE, card
-from tools.gate.real_folders import BETA, TEXT, UNUSED, entry, library_tracks
-from tools.gate.real_hashes import library, pack, sequential
+from tools.gate.made_packs import BETA, END_OF_FILE, TEXT, UNUSED, card, entry, library, library_tracks, pack, sequential
 from tools.gate.real_loads import spelled_with_keys, tracks
 from tools.gate.scratch_files import WAYS, Ended, Scratch, fault, is_held, row, same
 

@@ -22,7 +22,7 @@ from pathlib import Path
 from typing import NamedTuple
 
 from tools import TOP
-from tools.gate.real_extracts import SETS, spell
+from tools.gate.made_packs import put_made
 
 DECK = """STORE 48 00000400
 STORE 400 3100050040000005 0800040000000000 1D0006000000000C
@@ -198,7 +198,7 @@ def main() -> int:
     with tempfile.TemporaryDirectory() as folder:
         dasd = Program(path, library(folder))
         total, wrong = 0, 0
-        spell(Path(folder, "old.ckd"), SETS[:-1])
+        put_made(Path(folder, "old.ckd"), "five data sets")
         old = Path(folder, "old.ckd").read_bytes()
         for name in JOBS:
             tried, failed = check_dasd(dasd, name, old)

@@ -12,22 +12,13 @@ from pathlib import Path
 from typing import IO
 
 from conformance.suite.volumes import MODELS, Record, Volume, address, header_of, new_track
+from rows.player import started
 
-NOBODY = 65534
-# Searches record 0 of cylinder 0, head 0, and formats record 1 of four bytes behind it.
-WRITE = """STORE 48 00000400
-STORE 400 3100050040000005 0800040000000000 1D0006000000000C
-STORE 500 0000000000
-STORE 600 0000000001000004 {data}
-SIO {unit}
-STEP 100
-INT
-"""
-ANSWERS = "STORE OK\n" * 4 + "SIO {unit} CC 0\nSTEP 20\nINT {unit} 00000418 0C000000\n"
+# The deck of a line `writes` of a row, and what a run of it prints.
+WRITE = started.WRITE + started.ENDS["writes"]
+ANSWERS = "".join(f"{line}\n" for line in started.WROTE)
 # How a run saves its files: each in its place, and by new files.
 WAYS: tuple[tuple[str, ...], ...] = ((), ("--replace",))
-# What is remarked of each image in several files.
-ONE_VOLUME = "  a command takes one volume: several paths are the files of one image, in order\n"
 # What a command did: its status, what it printed, and what it said on standard error.
 Ended = tuple[int, str, str]
 Run = subprocess.Popen[bytes]
@@ -80,7 +71,7 @@ class How:
     def start(self, words: list[str], folder: Path) -> Run:
         """Begins a command."""
         limited = ["sh", "-c", f'ulimit -v {self.memory}; exec "$0" "$@"'] if self.memory else []
-        user = NOBODY if self.is_nobodys else None
+        user = started.NOBODY if self.is_nobodys else None
         groups: list[str] | None = [] if self.is_nobodys else None
         return subprocess.Popen(
             [*limited, *words], cwd=folder, umask=self.umask, user=user, group=user, extra_groups=groups,

@@ -1,6 +1,6 @@
 // @ts-check
 // Which tracks data sets have: by the program's answers, in the picture's list of owners, in the order of a data set, and where its name
-// stands. The volume is that of tools/gate/real_packs.py: a 2311 on which two data sets share cylinders 1 and 2.
+// stands. The volume is that of the setup `shared` of rows/data/files/setups.rows: a 2311 on which two data sets share cylinders 1 and 2.
 
 import assert from 'node:assert/strict';
 import test from 'node:test';
