@@ -1,5 +1,5 @@
 -- The entries of a library with one more.
-use Rattle.std.specs.Prelude.{ℕ, ◌+◌, ◌==◌, not, Bool, option_map, true, false, List, [], ◌∷◌, ◌++◌, map, take, drop, length, bytes_eq, Option, Some, None}
+use Rattle.std.specs.Prelude.{ℕ, ◌+◌, ◌==◌, not, Bool, true, false, List, [], ◌∷◌, ◌++◌, map, take, drop, length, bytes_eq, Option, Some, None}
 use Rattle.std.specs.List.{position, list_any}
 use Rattle.std.specs.Ordering.{nat_cmp}
 use Rattle.std.specs.Cmp.Lexicographic.{slice_cmp}
@@ -53,8 +53,12 @@ abbrev pub has_note_list : ReadEntry → Bool
 has_note_list e = list_any (λ n. not (n.count == 0)) e.notes.items
 
 -- the number of the first entry of which one does, from 1 on
+abbrev pub from_one : Option ℕ → Option ℕ
+from_one (Some i) = Some (i + 1)
+from_one None = None
+
 abbrev pub note_list : List ReadEntry → Option ℕ
-note_list entries = option_map (λ i. i + 1) (position has_note_list entries)
+note_list entries = from_one (position has_note_list entries)
 
 -- of two names the first is less in the collating sequence of EBCDIC
 abbrev pub is_less : Ordering → Bool

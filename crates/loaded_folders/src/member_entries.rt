@@ -49,16 +49,26 @@ fn has_note_list(entry: &ReadEntry) -> bool
     )
 }
 
-/// The number of the first entry of which one does, from 1 on.
-pub(crate) fn note_list(entries: &[ReadEntry]) -> Option<usize>
-    ensures { result ≡ note_list entries.now }
+// The first entry of which one does.
+fn first_list(entries: &[ReadEntry]) -> Option<usize>
+    ensures place { result ≡ position has_note_list entries.now }
+    ensures within { IfSome result (λ place. place < length entries.now) }
 {
-    let place = entries.iter().position(
+    entries.iter().position(
         |entry: &ReadEntry| -> bool
             ensures { result ≡ has_note_list entry.now }
         { has_note_list(entry) },
-    )?;
-    Some(place + 1)
+    )
+}
+
+/// The number of that entry, from 1 on.
+pub(crate) fn note_list(entries: &[ReadEntry]) -> Option<usize>
+    ensures { result ≡ note_list entries.now }
+{
+    match first_list(entries) {
+        Some(place) => Some(place + 1),
+        None => None,
+    }
 }
 
 // Whether an entry comes behind a name in the order of names.
