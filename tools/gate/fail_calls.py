@@ -11,7 +11,8 @@ programs. Wanted is:
   with the file and, of a read at a place, that place; what was printed is the beginning of what it prints, and each file is the old one or the new one,
   whole; no file stays behind.
 - Where only the call fails that takes a file's first, hidden name away, all is as it was meant to be, and that name stays beside the other.
-- A program that is killed leaves each file the old one or the new one, whole, and files that keep their places all old or all new. What it had begun to write may stay, under a name that begins with `.dasd-`;
+- A program that is killed leaves each file the old one or the new one, whole, and files that keep their places all old or all new. What it had begun to write
+  may stay, under a name that begins with `.dasd-`;
   the next command that writes a file into that folder removes it, and says so.
 - Where a file takes its place, it was synced before that. Its folder is synced right behind it, or behind the others of its save, where it replaces a file,
   before anything is written; and once behind all where files are new.

@@ -107,7 +107,8 @@ def files_of_one_save_on_two_file_systems_are_refused_before_one_is_written(s: S
     with small_disk(s, "400k") as small:
         (small / "two.ckd").write_bytes(OLD)
         status, _, told = s.dasd("run", "--verbose", "90=one.ckd", "91=small/two.ckd", deck=DECK)
-        same((status, told.splitlines()[:2]), (1, ["dasd: write fault", "  small/two.ckd: it is on another file system than the first file that is saved with it"]))
+        why = "  small/two.ckd: it is on another file system than the first file that is saved with it"
+        same((status, told.splitlines()[:2]), (1, ["dasd: write fault", why]))
         is_held(s.path("one.ckd"), OLD)
         is_held(small / "two.ckd", OLD)
         same(([it.name for it in small.iterdir()], s.names()), (["two.ckd"], ["one.ckd", "small"]))
