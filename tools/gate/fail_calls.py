@@ -428,10 +428,12 @@ def unsynced(lines: list[str]) -> list[str]:
         elif name in ("write", "ftruncate"):
             seen.go_on()
             seen.write(file)
+        elif name == "link" and os.path.basename(paths[1]).startswith(DRAFT):
+            continue  # a second name of an old file, from which that is put back
         elif name in ("rename", "link"):
             if name == "link" or os.path.basename(paths[1]).startswith(JOURNAL):  # several files replace others in a row
                 seen.go_on()
-            if call["answer"] == "0" and not (name == "link" and os.path.basename(paths[1]).startswith(DRAFT)):  # by which an old file is put back
+            if call["answer"] == "0":
                 seen.place(paths[0], paths[1], name == "rename" or os.path.basename(paths[1]).startswith(RECORD))
         elif name == "unlink" and os.path.basename(paths[0]).startswith((JOURNAL, RECORD)):
             seen.end(paths[0])
