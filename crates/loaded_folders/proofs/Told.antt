@@ -1,5 +1,6 @@
 -- Faults, by what they tell.
-use Rattle.std.proofs.Common.{◌≡◌, ◌∙◌, ap, sym, refl, subst, List, [], ◌∷◌, ◌++◌, ℕ, Option, None, Some, Result, Ok, Err, IfOk, IfErr, inl, inr, append_assoc}
+use Rattle.std.proofs.Common.{◌≡◌, ◌∙◌, ap, sym, refl, subst, List, [], ◌∷◌, ◌++◌, append_assoc, ℕ, inl, inr}
+use Rattle.std.proofs.Common.{Option, None, Some, Result, Ok, Err, IfOk, IfErr}
 use Rattle.ckd_track.specs.declared.geometries.Geometry.{Geometry}
 use Rattle.dasd_jobs.specs.Sources.{SourceFile, ReadsFront}
 use Rattle.dasd_unload.specs.Volumes.{path_in}

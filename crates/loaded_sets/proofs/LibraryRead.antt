@@ -103,7 +103,8 @@ module _ (v : Labelled) (library : LoadedLibrary) (b : MemberBlocks) (l : NewLib
 
 -- the library that the code has gets its records, or does not
 module _ (v : Labelled) (library : LoadedLibrary) (b : MemberBlocks) (n : NamedLibrary) (name : n.name ≡ library.name) where
-  module _ (label : n.label ≡ label_of library.form library.kept b.layout) (is : IsLibraryOf library b n.library) (slots : List (List ℕ)) where
+  module _ (label : n.label ≡ label_of library.form library.kept b.layout) (is : IsLibraryOf library b n.library)
+      (slots : List (List ℕ)) where
     module _ (fit : fitting_members v.geometry.model library.form.key_length b ≡ Ok b.members) where
       renamed : (tracks : ℕ) (now : List (List ℕ)) → IsNamed v n slots tracks now
           → GetsRecords v library.name (label_of library.form library.kept b.layout) n.library slots tracks now
