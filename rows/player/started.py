@@ -66,7 +66,7 @@ class How:
         user, groups = (NOBODY, no_groups()) if self.is_nobodys else (None, None)
         with ExitStack() as kept:
             def stream(name: str | None, mode: str) -> IO[bytes] | int:
-                return kept.enter_context(open(folder / name, mode)) if name else subprocess.PIPE
+                return kept.enter_context((folder / name).open(mode)) if name else subprocess.PIPE
             out = kept.enter_context(unread()) if self.is_broken else stream(self.out, "wb")
             running = subprocess.Popen([*limited, *words], cwd=folder, umask=self.umask, user=user, group=user, extra_groups=groups,
                                        stdin=stream(self.given, "rb"), stdout=out, stderr=stream(self.told, "wb"))

@@ -1,8 +1,9 @@
 """Runs the built program `dasd` over real files in scratch folders, and compares what stands there afterwards byte for byte.
 
 Rows are data: rows/data/files has them, and rows/player/files.py says how they are spelled. What is a loop, a race or a sweep is Python, in the modules
-real_*.py of this folder: saves that are cut off, written in place or of several files, loads, members and folders, kills, several programs at once, and each length of a
-file. A row that needs root, a small file system of its own, a device or a program of Hercules, where these can't be had, is skipped, with a word.
+real_*.py of this folder: saves that are cut off, written in place or of several files, loads, members and folders, kills, several programs at once,
+and each length of a file. A row that needs root, a small file system of its own, a device or a program of Hercules, where these can't be had, is skipped,
+with a word.
 
 It runs crates/dasd_cmd/out/dasd_cmd, as `rt ci` or `rt run` leaves it; with --built FILE that program; with words behind, the
 rows whose names have one of them. The last line is 'N rows over real files, M came out wrong, K skipped', and the status 1 where M

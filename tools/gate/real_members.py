@@ -8,7 +8,8 @@ from tools.common.images import Image
 from tools.common.record_forms import with_lengths
 from tools.common.said_sets import Block, blocks_hash
 from tools.common.volume_layouts import directory_blocks, ebcdic
-from tools.gate.made_packs import ALPHA, END_OF_FILE, UNUSED, card, entry, library, pack, say, sequential
+from tools.gate.made_packs import ALPHA, END_OF_FILE, UNUSED, card, entry, pack, say, sequential
+from tools.gate.made_packs import library as library_on
 from tools.gate.real_folder_loads import fresh, hashes, put_folder
 from tools.gate.real_folder_loads import load as load_all
 from tools.gate.real_loads import spelled_with_keys, tracks
@@ -66,7 +67,7 @@ def label_of_a_library_that_gets_a_member_keeps_what_it_said(s: Scratch) -> None
     kept = {18: ebcdic("IBMOSVS2", 13) + bytes(range(7)), 41: b"\x20", 47: bytes.fromhex("0003" + "94" + "C0000002")}
     directory = directory_blocks([entry("ALPHA", (0, 3))], 1)
     for words in WAYS:
-        image = pack(s, "new.ckd", [library("LIB", (2, 3), (7, 8)), sequential("CARDS", (5, 5))], {2: [*directory, END_OF_FILE, *ALPHA, END_OF_FILE]})
+        image = pack(s, "new.ckd", [library_on("LIB", (2, 3), (7, 8)), sequential("CARDS", (5, 5))], {2: [*directory, END_OF_FILE, *ALPHA, END_OF_FILE]})
         for at, field in kept.items():
             say(image, 3, at, field)
         image.save()
