@@ -23,7 +23,7 @@ HERE = Path(__file__).resolve().parent
 sys.path.insert(0, str(HERE))
 
 from make_packs import make  # noqa: E402
-from rows import differences, rows_of  # noqa: E402
+from scanned_rows import differences, rows_of  # noqa: E402
 from test_dask import HAS_DASK, WORKERS, Cluster  # noqa: E402
 
 COMMAND = [sys.executable, str(HERE.parent / "dasd-catalogue")]

@@ -18,7 +18,7 @@ from unittest import mock
 
 from archive import COUNT, HERE, Case, catalogue, packs, scanned, typed
 from make_packs import plain
-from rows import differences, rows_of
+from scanned_rows import differences, rows_of
 
 from dasd_catalogue.engines import BadEngine, Dask
 from dasd_catalogue.store import Store

@@ -16,7 +16,7 @@ from unittest import mock
 
 from archive import COUNT, Case, catalogue, packs, program, reading, scanned, typed, way
 from make_packs import kind_of, make, new_image, pack, plain, put_library, put_sequential, with_leftovers
-from rows import differences, rows_of
+from scanned_rows import differences, rows_of
 from conformance.suite.volumes import Volume
 from tools.common.volume_layouts import count_free
 from tools.common.written_labels import put_label
