@@ -42,6 +42,6 @@ part "each system call that fails" strace strace tools/run gate/fail_calls --bui
 part "the catalogue of an archive" "python3 sqlite3" "python3 sqlite3" catalogue/check dasd
 part "what is planted in a clone and in packages" "python3 aarch64-linux-gnu-gcc" "gcc-aarch64-linux-gnu" release/tests/run
 part "the build by CMake" cmake cmake sh tools/build/check_cmake.sh
-part "the manual pages" man man-db sh tools/build/check_manual.sh
+part "the manual pages" "man mandoc" "man-db mandoc" sh tools/build/check_manual.sh
 echo "$passed passed, $failed failed, beside what make check says above"
 [ "$failed" -eq 0 ] && [ "$status" -eq 0 ]

@@ -15,16 +15,21 @@ Further words behind the fence, which no reader of the page sees:
 
 A line of three periods alone stands for any lines. An indented block is none of these, and is told as a mistake.
 
-In a manual page the examples are the displays of its section EXAMPLES: scripts, whose output is not shown. In the help of a command
-the example is what stands behind `Example: `."""
+In a manual page the examples are the displays of its section EXAMPLES: scripts, whose output is not shown. Where `mandoc` is installed they are
+taken as it shows them to a reader, since a wrong escape is seen only there. In the help of a command the example is what comes after `Example: `."""
 
 import re
-from dataclasses import dataclass
+import shutil
+import subprocess
+from dataclasses import dataclass, replace
 from pathlib import Path
 
 FENCE = re.compile(r"^```(.*)$")
 MARKS = {"status", "needs", "file", "from"}
 HERE_DOCUMENT = re.compile(r"<<-? *'?(\w+)'?")
+# A display of a manual page as mandoc shows it: lines further in than text. Its marks for bold and underlined characters are left out.
+DISPLAYED = re.compile(r" {11}(.*)")
+STRUCK_OVER = re.compile(".\b")
 
 
 class BadPage(Exception):
@@ -148,6 +153,30 @@ def plain(line: str) -> str:
     return line
 
 
+def shown_displays(text: str) -> list[str]:
+    """The displays of the section EXAMPLES of a manual page, as mandoc shows them."""
+    shown = subprocess.run(["mandoc", "-T", "utf8"], input=text, encoding="utf-8", stdout=subprocess.PIPE, check=True).stdout
+    _, _, section = STRUCK_OVER.sub("", shown).partition("\nEXAMPLES\n")
+    displays: list[list[str]] = []
+    was_display = False
+    for line in re.split(r"\n(?=\S)", section)[0].splitlines():
+        displayed = DISPLAYED.fullmatch(line)
+        if displayed:
+            if not was_display:
+                displays.append([])
+            displays[-1].append(displayed[1])
+        was_display = displayed is not None
+    return ["\n".join(it) for it in displays]
+
+
+def as_shown(page: str, text: str, examples: list[Example]) -> list[Example]:
+    """The examples of a manual page with the scripts that a reader sees."""
+    shown = shown_displays(text)
+    if len(shown) != len(examples):
+        raise BadPage(f"{page}: {len(examples)} displays in EXAMPLES, and mandoc shows {len(shown)}")
+    return [replace(example, script=script) for example, script in zip(examples, shown)]
+
+
 def of_manual(page: str, text: str) -> list[Example]:
     """The examples of a manual page: each display of its section EXAMPLES."""
     examples: list[Example] = []
@@ -165,7 +194,7 @@ def of_manual(page: str, text: str) -> list[Example]:
             lines, needs = None, ""
         elif lines is not None:
             lines.append(plain(line))
-    return examples
+    return as_shown(page, text, examples) if shutil.which("mandoc") else examples
 
 
 def of_help(page: str, text: str) -> list[Example]:

@@ -4,6 +4,7 @@ A page that is right passes; each fault that is planted in it is seen: a digit, 
 
 import contextlib
 import io
+import shutil
 import sys
 import tempfile
 import unittest
@@ -73,7 +74,15 @@ dasd nowhere
 a drawing
 ```
 """
-MANUAL = """.Sh EXAMPLES
+MANUAL = """.Dd January 1, 2026
+.Dt PAGE 1
+.Os
+.Sh NAME
+.Nm page
+.Nd a page
+.Sh EXAMPLES
+A volume:
+.Pp
 .Bd -literal -offset indent
 dasd list \\(aqpack.ckd\\(aq
 test -s pack.ckd
@@ -163,6 +172,12 @@ class Pages(unittest.TestCase):
         self.passes(MANUAL, 1, name="docs/page.1")
         self.fails(MANUAL.replace("-s pack", "-s packs"), "it ends with 1, and must with 0", "docs/page.1")
         self.assertEqual(page_examples.of_manual("page", MANUAL)[0].script.splitlines()[0], "dasd list 'pack.ckd'")
+
+    @unittest.skipUnless(shutil.which("mandoc"), "no mandoc here")
+    def test_manual_page_as_it_is_shown(self) -> None:
+        wrong = MANUAL.replace("test -s pack.ckd", "printf 'x\\n' | grep -qx x")
+        self.fails(wrong, "unexpected EOF while looking for matching", "docs/page.1")
+        self.passes(wrong.replace("\\n", "\\en"), 1, name="docs/page.1")
 
     def test_help(self) -> None:
         self.passes("", 2, name=run_pages.HELP)
