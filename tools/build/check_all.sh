@@ -39,6 +39,7 @@ part "examples of all pages" "python3 pkg-config" "python3 pkg-config" tools/run
 part "the sample pack" python3 python3 sample/test_sample.py "$dasd"
 part "dasd over real files" python3 python3 tools/run gate/real_files --built dasd
 part "each system call that fails" strace strace tools/run gate/fail_calls --built dasd --jobs 2
+part "power that is lost at each call" strace strace tools/run gate/lose_power --built dasd --jobs 2
 part "the catalogue of an archive" "python3 sqlite3" "python3 sqlite3" catalogue/check dasd
 part "what is planted in a clone and in packages" "python3 aarch64-linux-gnu-gcc" "gcc-aarch64-linux-gnu" release/tests/run
 part "the build by CMake" cmake cmake sh tools/build/check_cmake.sh

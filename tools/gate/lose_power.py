@@ -1,0 +1,214 @@
+"""Takes the power away at each moment of each command of the built `dasd` that writes volumes, and looks at what is left.
+
+    tools/run gate/lose_power [--built FILE] [--jobs N] [COMMAND..]
+
+A command is run once under Debian's `strace`. From its calls follow the disks that a loss of power may leave (tools/gate/lost_power.py). On each of them
+a reader, and then the next run, must find the volumes of the command as they were, or as the command leaves them: all of them the same. With `--replace`
+files take their places one by one, so each must be its old or its new one. The run that takes up what was cut off is cut off itself, from some of these
+disks on. Files keep their numbers and their times of birth, by which a save knows them.
+
+It runs crates/dasd_cmd/out/dasd_cmd, as `rt ci` leaves it; with --built FILE that program; with words after these, the commands whose names have one
+of them. The last line is 'N disks of N commands, M wrong', and the status 1 where M is not 0."""
+
+import argparse
+import os
+import shutil
+import subprocess
+import sys
+import tempfile
+from collections.abc import Iterator
+from concurrent.futures import ThreadPoolExecutor
+from dataclasses import dataclass
+from pathlib import Path
+
+from tools import TOP
+from tools.gate.fail_calls import CARDS, deck_for, fill
+from tools.gate.lost_power import TRACED, Call, Node, State, Traced, states
+
+# From how many of the disks of a command the next run is cut off too.
+AGAIN = 4
+MANY = ["--from", "many", *CARDS[2:], "--text"]
+# A folder beside that of the command, where files wait that no name leads to.
+ASIDE = "aside"
+
+
+@dataclass(frozen=True)
+class Writer:
+    """A command by its words, the volumes that it writes, each by its files, and what it reads."""
+
+    name: str
+    words: list[str]
+    volumes: list[list[str]]
+    given: bytes = b""
+
+    def parts(self) -> bool:
+        """Whether it saves its files one by one."""
+        return "--replace" in self.words and len(sum(self.volumes, [])) > 1
+
+
+ONE, TWO, PACK, BIG = ["one.ckd"], ["two.ckd"], ["pack.ckd"], ["big_1.ckd", "big_2.ckd"]
+BOTH = deck_for("190") + deck_for("191")
+WRITERS = [
+    Writer("run", ["run", "90=one.ckd"], [ONE], deck_for("190")),
+    Writer("run over two volumes", ["run", "90=one.ckd", "91=two.ckd"], [ONE, TWO], BOTH),
+    Writer("run --replace", ["run", "--replace", "90=one.ckd"], [ONE], deck_for("190")),
+    Writer("run --replace over two volumes", ["run", "--replace", "90=one.ckd", "91=two.ckd"], [ONE, TWO], BOTH),
+    Writer("format over a file", ["format", "one.ckd", "--cylinders", "2"], [ONE]),
+    Writer("rename", ["rename", "pack.ckd", "PAY.CARDS", "PAY.OLD"], [PACK]),
+    Writer("delete", ["delete", "pack.ckd", "PAY.CARDS"], [PACK]),
+    Writer("relabel", ["relabel", "pack.ckd", "--label", "ABC124", "--owner", "SIXAMBRA"], [PACK]),
+    Writer("load", ["load", "pack.ckd", "NEW.CARDS", *CARDS], [PACK]),
+    Writer("load --replace", ["load", "--replace", "pack.ckd", "NEW.CARDS", *CARDS], [PACK]),
+    Writer("load --member", ["load", "pack.ckd", "SYS1.MACLIB", "--member", "NEW", "--from", "cards"], [PACK]),
+    Writer("load --all", ["load", "--all", "in", "--text", "pack.ckd"], [PACK]),
+    Writer("load onto two files", ["load", *BIG, "NEW.CARDS", *MANY], [BIG]),
+    Writer("load --replace onto two files", ["load", "--replace", *BIG, "NEW.CARDS", *MANY], [BIG]),
+    Writer("delete in two files", ["delete", *BIG, "SAMPLE.STOCK"], [BIG]),
+]
+
+Held = dict[str, bytes]
+
+
+class Room:
+    """A folder in which a disk is laid out, with files that keep their numbers."""
+
+    def __init__(self, dasd: Path, folder: Path) -> None:
+        self.dasd, self.folder = dasd, folder / "work"
+        self.aside = folder / ASIDE
+        self.folder.mkdir()
+        self.aside.mkdir()
+        fill(self.folder)
+        subprocess.run([sys.executable, TOP / "sample/make_sample.py", *BIG], cwd=self.folder, capture_output=True, check=True)
+        (self.folder / "many").write_text("".join(f"NEW CARD {it}\n" for it in range(700)), encoding="ascii")
+        paths = [it for it in sorted(self.folder.rglob("*")) if it.is_file()]
+        self.begun = State({str(it.relative_to(self.folder)): at for at, it in enumerate(paths)}, {at: it.read_bytes() for at, it in enumerate(paths)})
+        self.numbers = {it.stat().st_ino: at for at, it in enumerate(paths)}
+
+    def lay_out(self, disk: State) -> None:
+        """Lays out a disk. A file that was there at first is that same file."""
+        for path in [it for it in self.folder.rglob("*") if it.is_file()]:
+            node = self.numbers.get(path.stat().st_ino)
+            if node is None or (self.aside / str(node)).exists():
+                path.unlink()
+            else:
+                path.rename(self.aside / str(node))
+        made: dict[Node, Path] = {}
+        for name, node in disk.names.items():
+            path = self.folder / name
+            if node in made:
+                os.link(made[node], path)
+                continue
+            if (self.aside / str(node)).exists():
+                (self.aside / str(node)).rename(path)
+            if not path.exists() or path.read_bytes() != disk.held.get(node, b""):
+                path.write_bytes(disk.held.get(node, b""))
+            made[node] = path
+
+    def dasd_says(self, *words: str) -> subprocess.CompletedProcess[bytes]:
+        """Runs a command that is given nothing to read."""
+        return subprocess.run([str(self.dasd), *words], cwd=self.folder, input=b"", capture_output=True, timeout=60, check=False)
+
+    def trace(self, words: list[str], given: bytes, disk: State) -> list[Call]:
+        """Runs a command from a disk on; its calls."""
+        self.lay_out(disk)
+        with tempfile.NamedTemporaryFile(prefix="lose_power-") as trace:
+            tracing = ["strace", "-qq", "-xx", "-s", "99999999", "-e", f"trace={TRACED}", "-o", trace.name, str(self.dasd), *words]
+            ran = subprocess.run(tracing, cwd=self.folder, input=given, capture_output=True, timeout=60, check=False)
+            if ran.returncode:
+                raise AssertionError(f"{words} ends with {ran.returncode}: {ran.stderr!r}")
+            lines = Path(trace.name).read_text(encoding="ascii").splitlines()
+        return Traced(self.folder, dict(disk.names)).read(lines)
+
+    def held(self, writer: Writer) -> Held:
+        """What the files of a command's volumes hold."""
+        return {name: (self.folder / name).read_bytes() for volume in writer.volumes for name in volume}
+
+    def hashes(self, writer: Writer) -> list[bytes]:
+        """What a reader says of each volume."""
+        return [self.dasd_says("hash", *volume).stdout for volume in writer.volumes]
+
+
+@dataclass
+class Ends:
+    """The volumes of a command before it and after it: what their files hold, and their hashes."""
+
+    held: tuple[Held, Held]
+    hashes: tuple[list[bytes], list[bytes]]
+
+
+def next_run(writer: Writer) -> list[str]:
+    """The words of a run that changes nothing, over the same volumes."""
+    return ["run", "--verbose", *(f"9{at}={name}" for at, volume in enumerate(writer.volumes) for name in volume)]
+
+
+def has_parted(found: Held, ends: tuple[Held, Held]) -> bool:
+    """Whether each file is its old or its new one, and not all are the same."""
+    return found not in ends and all(found[name] in (ends[0][name], ends[1][name]) for name in found)
+
+
+def wrong_with(room: Room, writer: Writer, ends: Ends) -> str | None:
+    """What is wrong with the disk that is laid out, if anything is."""
+    if writer.parts() and has_parted(room.held(writer), ends.held):
+        return None
+    hashes = room.hashes(writer)
+    if hashes not in ends.hashes:
+        return f"a reader finds neither the old nor the new volumes: {hashes}"
+    ran = room.dasd_says(*next_run(writer))
+    if ran.returncode:
+        return f"the next run ends with {ran.returncode}: {ran.stderr!r}"
+    if room.held(writer) not in ends.held:
+        return "the next run leaves neither the old nor the new volumes"
+    return None if room.hashes(writer) == hashes else "the next run leaves other volumes than a reader found before it"
+
+
+def disks(room: Room, writer: Writer, calls: list[Call]) -> Iterator[State]:
+    """The disks that a loss of power leaves: in the command, and then in the next run after some of these."""
+    left = list(states(room.begun, calls))
+    yield from left
+    saves = [it for it in left if any(Path(name).name.startswith(".dasd") for name in it.names)]
+    for disk in saves[:: max(1, len(saves) // AGAIN)]:
+        yield from states(disk, room.trace(next_run(writer), b"", disk))
+
+
+def try_writer(dasd: Path, writer: Writer) -> tuple[int, list[str]]:
+    """How many disks of a command were looked at, and what was wrong with them."""
+    with tempfile.TemporaryDirectory(prefix="lose_power-") as folder:
+        room = Room(dasd, Path(folder))
+        before, found = room.held(writer), room.hashes(writer)
+        calls = room.trace(writer.words, writer.given, room.begun)
+        ends = Ends((before, room.held(writer)), (found, room.hashes(writer)))
+        assert ends.held[0] != ends.held[1], f"{writer.name} changes nothing"
+        count, wrong = 0, dict[str, int]()
+        for disk in disks(room, writer, calls):
+            count += 1
+            room.lay_out(disk)
+            said = wrong_with(room, writer, ends)
+            if said:
+                wrong[said] = wrong.get(said, 0) + 1
+        return count, [f"{writer.name}: {number} times: {said}" for said, number in wrong.items()]
+
+
+def main() -> None:
+    """Reads the words, and tries each command."""
+    words = argparse.ArgumentParser(description=__doc__, formatter_class=argparse.RawDescriptionHelpFormatter)
+    words.add_argument("--built", type=Path, default=TOP / "crates" / "dasd_cmd" / "out" / "dasd_cmd")
+    words.add_argument("--jobs", type=int, default=os.cpu_count() or 1)
+    words.add_argument("names", nargs="*", metavar="COMMAND")
+    given = words.parse_args()
+    if not shutil.which("strace") or not given.built.exists():
+        sys.exit("lose_power.py: it wants strace, and the built program")
+    chosen = [it for it in WRITERS if not given.names or any(name in it.name for name in given.names)]
+    count, wrong = 0, list[str]()
+    with ThreadPoolExecutor(given.jobs) as pool:
+        for writer, (tried, found) in zip(chosen, pool.map(lambda it: try_writer(given.built.resolve(), it), chosen)):
+            print(f"{writer.name}: {tried} disks, {len(found)} kinds of faults", flush=True)
+            count += tried
+            wrong += found
+    for line in wrong:
+        print(line)
+    print(f"{count} disks of {len(chosen)} commands, {len(wrong)} wrong")
+    sys.exit(1 if wrong else 0)
+
+
+if __name__ == "__main__":
+    main()
