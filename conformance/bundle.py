@@ -16,7 +16,7 @@ NAME = "ckd-conformance"
 
 
 def keep(member: tarfile.TarInfo) -> Optional[tarfile.TarInfo]:
-    """Leaves out what Python leaves behind, and who made the files."""
+    """Leaves out what Python leaves after, and who made the files."""
     if "__pycache__" in member.name:
         return None
     member.uid = member.gid = 0

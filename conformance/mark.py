@@ -1,5 +1,5 @@
 #!/usr/bin/env python3
-"""Writes the lines `manual`, `profile` and `needs` of vectors anew, from their lines `rule` and from what the suite's model does.
+"""Writes the lines `manual`, `profile` and `needs` of vectors again, from their lines `rule` and from what the suite's model does.
 
   mark.py [--check] FILE.vectors ..
 

@@ -9,8 +9,8 @@ EMULATOR is one of
   protocol=COMMAND    a program that speaks the plain protocol
   python=FILE:CLASS   an adapter of one's own: a class in a file of Python
   library=FILE        the C library, by ctypes; lent=FILE, over main storage that is lent, and is moved between any two calls;
-                      copied=FILE and lent-copied=FILE, with a copy behind each event, which goes on; restored=FILE and
-                      lent-restored=FILE, whose state is saved behind each event behind which no program runs, and new channels,
+                      copied=FILE and lent-copied=FILE, with a copy after each event, which goes on; restored=FILE and
+                      lent-restored=FILE, whose state is saved after each event after which no program runs, and new channels,
                       to which it is restored, go on
   hercules[=PROGRAM]  Hercules 3.13; hercules-seek-first puts a Seek before each program that begins with none
 

@@ -44,7 +44,7 @@ Values = strategies.recursive(
 
 
 def put(path: Path, kept: bytes, changes: list[tuple[int, bytes]]) -> None:
-    """A file with these bytes, but for changes at places of it."""
+    """A file with these bytes, except for changes at places of it."""
     held = bytearray(kept)
     for at, new in changes:
         held[at % len(held) : at % len(held) + len(new)] = new

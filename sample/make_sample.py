@@ -4,7 +4,7 @@
     sample/make_sample.py FILE                  the pack
     sample/make_sample.py FILE_1 FILE_2 ..      the same, in two to four files of one image
 
-The pack is called SAMPLE. Its data sets are those of the table below, and what stands in them is text that stands in the folder
+The pack is called SAMPLE. Its data sets are those of the table below, and what is in them is text that is in the folder
 `text`, line by line. The same texts give the same bytes. Nothing but Python is needed: `dasd` takes no part.
 
 Layouts: System Control Blocks (GC28-6628), 'Volume Label', 'Data Set Control Block' and 'Partitioned Data Set Directory', by

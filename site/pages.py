@@ -67,7 +67,7 @@ class Site:
         self.tried: list[str] = []
 
     def place_of(self, path: str) -> str:
-        """Where a page or a file stands in the folder."""
+        """Where a page or a file is in the folder."""
         if path == FIRST:
             return INDEX
         return path if path in self.pages or Path(path).suffix in SHOWN else f"{path}.txt"
@@ -129,7 +129,7 @@ class Site:
         return f"{title}\n{LEADS.format(steps=steps, heading=heading[1])}{rest}"
 
     def contents(self) -> str:
-        """The contents at the end of the first page: a list of pages for each heading of contents.txt, in which each page stands once."""
+        """The contents at the end of the first page: a list of pages for each heading of contents.txt, in which each page is once."""
         left = [it for it in self.pages if it != FIRST]
         lists: list[str] = []
         for block in (TOP / "site/contents.txt").read_text(encoding="utf-8").strip().split("\n\n")[1:]:

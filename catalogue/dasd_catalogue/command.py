@@ -179,7 +179,7 @@ def run_find(words: Words) -> int:
 
 
 def line_of_place(it: Object) -> str:
-    """What stands at a place, for people."""
+    """What is at a place, for people."""
     if "data_set" not in it:
         more = f"{it['model']}, {quantity(it['cylinders'], 'cylinder')}, {quantity(it['errors'], 'error')}"
     else:

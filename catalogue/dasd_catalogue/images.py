@@ -90,7 +90,7 @@ def unpack(path: bytes, target: bytes, most: int) -> int:
 
 def parts_of(folder: bytes, names: Iterable[bytes]) -> dict[bytes, tuple[bytes, int]]:
     """Which of these names of a folder are the second and further files of an image: each with the name of the first, and its number. Files are one
-    image where they are called alike but for a number, `pack_1.ckd` and `pack_2.ckd`, and each has its number in its header."""
+    image where they are called alike except for a number, `pack_1.ckd` and `pack_2.ckd`, and each has its number in its header."""
     numbered: dict[tuple[bytes, bytes], dict[int, bytes]] = {}
     for name in names:
         found = NUMBERED.fullmatch(name)

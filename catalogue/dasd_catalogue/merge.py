@@ -34,7 +34,7 @@ def forget(connection: sqlite3.Connection, file: int) -> None:
 
 
 def digest_at(path: bytes) -> bytes:
-    """SHA-256 of the file of a path; nothing where it can't be read, which is told when it is asked."""
+    """SHA-256 of the file of a path; nothing where it can't be read, which is reported when it is asked."""
     try:
         return file_hash(path)
     except OSError:

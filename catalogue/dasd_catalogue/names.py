@@ -1,4 +1,4 @@
-"""Names of files and of what stands on volumes, as texts that can be shown, and as bytes.
+"""Names of files and of what is on volumes, as texts that can be shown, and as bytes.
 
 A path is bytes. It is shown with each byte that is no part of a printable character, and each backslash, as a backslash, an x and two hexadecimal
 digits: so no name moves a terminal's cursor, two names are never spelled alike, and what is shown can be turned back.

@@ -13,7 +13,7 @@ from .picture import picture, swatch
 from .program import Object
 from .queries import Place, described, name_of
 
-#: So many rows stand on a page.
+#: So many rows are on a page.
 ROWS = 200
 #: So many copies, and others of a name, are shown of one thing.
 BESIDE = 20
@@ -94,7 +94,7 @@ class View:
         return self.page("Packs", self.summary() if page == 0 else None, body, self.turns(self.links.packs, page, len(rows) > ROWS))
 
     def turns(self, target: object, page: int, has_next: bool) -> Html:
-        """Links to the pages before and behind this one."""
+        """Links to the pages before and after this one."""
         assert callable(target)
         before = link(target(page - 1), "Previous") if page else None
         behind = link(target(page + 1), "Next") if has_next else None
@@ -138,7 +138,7 @@ class View:
 
     @staticmethod
     def facts(facts: list[tuple[str, str]]) -> Html:
-        """Names and values, but for those that are empty."""
+        """Names and values, except for those that are empty."""
         return tag("dl", *(joined([tag("dt", name), tag("dd", value)]) for name, value in facts if value))
 
     def data_sets(self, volume: sqlite3.Row) -> Html:
@@ -195,7 +195,7 @@ class View:
         return tag("ul", *(tag("li", self.named(it, beside)) for it in places[:BESIDE]), more)
 
     def named(self, place: Place, beside: Place | None = None) -> Html:
-        """The name of what stands at a place, with links to it, and to both side by side."""
+        """The name of what is at a place, with links to it, and to both side by side."""
         compare = self.links.compare(beside, place) if beside and beside != place else ""
         shown = link(self.links.place(place), queries.label_of(self.connection, place))
         return joined([shown, " ", link(compare, "side by side")]) if compare else shown

@@ -22,7 +22,7 @@ MOST_FAULT = 2000
 #: How faults begin that may be gone another time: the first five are said here, the others by the program.
 PASSING = ("it took", "it wrote", "it was ended", "it ended", "it printed", "read fault", "write fault", "no memory")
 NO_MEMORY = "no memory"
-#: What the file of a volume is called where it is asked; those of one in several files have a number behind it.
+#: What the file of a volume is called where it is asked; those of one in several files have a number after it.
 NAME = "volume"
 
 
@@ -148,7 +148,7 @@ class Fault(Exception):
 
 
 def text_of_fault(path: bytes) -> str:
-    """What a command said on standard error, in one line: its one line for scripts, and behind it what `--verbose` adds. A volume of one file is not
+    """What a command said on standard error, in one line: its one line for scripts, and after it what `--verbose` adds. A volume of one file is not
     named, since its name here is none of its own."""
     with open(path, "rb") as held:
         text = held.read(MOST_FAULT).decode("utf-8", "replace")

@@ -1,4 +1,4 @@
-"""How far a scan is, for whoever waits: on one line of a terminal that is written anew, or, where there is none, on a line now and then."""
+"""How far a scan is, for whoever waits: on one line of a terminal that is written again, or, where there is none, on a line now and then."""
 
 from __future__ import annotations
 

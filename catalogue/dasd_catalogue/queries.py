@@ -13,10 +13,10 @@ from dataclasses import dataclass
 
 from .program import Object
 
-#: So many lines of a text are told in which a word stands.
+#: So many lines of a text are reported in which a word stands.
 LINES = 3
 NO_LABEL = "(no label)"
-#: What copies are looked for among: tables, by the kind that is told.
+#: What copies are looked for among: tables, by the kind that is reported.
 KINDS = ("volume", "data set", "member")
 SAME = {
     "volume": "SELECT said, file AS volume, NULL AS data_set, NULL AS member, slot_size * cylinders * heads AS size, serial AS name FROM volumes",
@@ -42,11 +42,11 @@ class Place:
 
 
 class NothingThere(LookupError):
-    """Nothing stands at a place."""
+    """Nothing is at a place."""
 
 
 def row_at(connection: sqlite3.Connection, place: Place) -> sqlite3.Row:
-    """The row of what stands at a place."""
+    """The row of what is at a place."""
     if place.data_set is None:
         query, key = "SELECT * FROM volumes JOIN files ON id = file WHERE file = ?", [place.volume]
     elif place.member is None:
@@ -60,7 +60,7 @@ def row_at(connection: sqlite3.Connection, place: Place) -> sqlite3.Row:
 
 
 def described(connection: sqlite3.Connection, place: Place) -> Object:
-    """What stands at a place."""
+    """What is at a place."""
     volume = row_at(connection, Place(place.volume))
     found: Object = {**path_of(volume), "volume": place.volume, "serial": volume["serial"]}
     if place.data_set is None:
@@ -75,7 +75,7 @@ def described(connection: sqlite3.Connection, place: Place) -> Object:
 
 
 def label_of(connection: sqlite3.Connection, place: Place) -> str:
-    """The path of a place's file, and the name of what stands there, for people."""
+    """The path of a place's file, and the name of what is there, for people."""
     row = connection.execute(
         """SELECT shown, serial, data_sets.name, members.name FROM files JOIN volumes ON file = id
         LEFT JOIN data_sets ON data_sets.volume = file AND data_sets.number = ?
@@ -89,7 +89,7 @@ def label_of(connection: sqlite3.Connection, place: Place) -> str:
 
 
 def name_of(found: Object) -> str:
-    """What is called so for people: a serial number, a data set, or a member in parentheses behind its data set."""
+    """What is called so for people: a serial number, a data set, or a member in parentheses after its data set."""
     if "member" in found:
         return f"{found['data_set']}({found['member']})"
     return str(found.get("data_set", found["serial"] or NO_LABEL))

@@ -28,7 +28,7 @@ BESIDE = ("", "-journal", "-wal", "-shm")
 @dataclass(frozen=True)
 class Wanted:
     """What is to be scanned: the database, the paths (none: those of earlier scans), by what, how, whether everything is asked again, and whether
-    nothing is told of how far it is."""
+    nothing is reported of how far it is."""
 
     database: str
     paths: list[bytes]

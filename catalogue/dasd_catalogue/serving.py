@@ -85,7 +85,7 @@ class ServedLinks:
 
 
 def spelled(place: Place) -> str:
-    """A place as it stands in an address: its numbers, with hyphens between them."""
+    """A place as it is in an address: its numbers, with hyphens between them."""
     return "-".join(str(it) for it in (place.volume, place.data_set, place.member) if it is not None)
 
 
@@ -98,7 +98,7 @@ def place_of(text: str) -> Place | None:
 
 
 class Site:
-    """What is answered to a path and what is asked behind it: a page, or None where there is none."""
+    """What is answered to a path and what is asked after it: a page, or None where there is none."""
 
     def __init__(self, connection: sqlite3.Connection, has_page: bool = False) -> None:
         self.view = View(connection, ServedLinks(has_page))
@@ -269,7 +269,7 @@ class Server(ThreadingHTTPServer):
     daemon_threads = True
 
     def handle_error(self, request: object, client_address: object) -> None:
-        """A visitor who is gone is no fault; others are told as they are."""
+        """A visitor who is gone is no fault; others are reported as they are."""
         if not isinstance(sys.exc_info()[1], ConnectionError):
             super().handle_error(request, client_address)  # type: ignore[arg-type]
 

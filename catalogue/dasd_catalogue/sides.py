@@ -76,7 +76,7 @@ def line_row(number: int, left: str, right: str) -> tuple[Child, ...]:
 
 
 def lines_at(connection: sqlite3.Connection, place: Place) -> list[str]:
-    """The lines of what stands at a place; none where it is no text."""
+    """The lines of what is at a place; none where it is no text."""
     number = queries.row_at(connection, place)["text"]
     return [] if number is None else queries.text_of(connection, number).splitlines()
 

@@ -30,7 +30,7 @@ class Taking:
 
 
 def take(connection: sqlite3.Connection, found: Iterable[Place], taking: Taking) -> Iterator[Object]:
-    """Takes out what stands at these places, volume by volume; of each what it is, and `file`, where it was put, or `fault`, why it was not. A data
+    """Takes out what is at these places, volume by volume; of each what it is, and `file`, where it was put, or `fault`, why it was not. A data
     set with members is all of its members. A file that is there stays."""
     wanted = sorted({it for place in found for it in taken_at(connection, place)}, key=lambda it: (it.volume, it.data_set or 0, it.member or 0))
     for volume, places in groupby(wanted, key=lambda it: it.volume):

@@ -9,7 +9,7 @@ from .names import fits, split_name
 from .program import Fault, Object, Volume
 from .says import Hashes
 
-#: A text of more bytes is not kept, and that is told as a fault.
+#: A text of more bytes is not kept, and that is reported as a fault.
 MOST_TEXT = 16 << 20
 #: Of so many characters one may be a control character; what has more is no text.
 CHARACTERS_A_CONTROL = 50
@@ -51,7 +51,7 @@ def library(found: Set, hashes: dict[str, bytes]) -> Unloaded | None:
 
 class Unload:
     """What was unloaded as blocks so far. Files come in the order of the table of contents, so each belongs to the data set of the last one, if that
-    was called the same, or to one behind it."""
+    was called the same, or to one after it."""
 
     def __init__(self, answer: Answer, volume: Volume, hashes: dict[str, bytes]) -> None:
         self.answer, self.volume, self.hashes, self.at, self.last = answer, volume, hashes, -1, ""
@@ -123,7 +123,7 @@ def unload_texts(answer: Answer, volume: Volume) -> dict[str, bytes]:
 
 
 def read_text(answer: Answer, file_name: str, path: bytes) -> Text | None:
-    """What stands in a file, if it is a text: no more than one of fifty characters a control character, and not too long."""
+    """What is in a file, if it is a text: no more than one of fifty characters a control character, and not too long."""
     size = os.stat(path).st_size
     if size > MOST_TEXT:
         answer.faults.append(("text", f"{file_name} has {size} bytes of text, more than {MOST_TEXT}: it is not kept"))

@@ -1,6 +1,6 @@
 """Folders are walked: each name that is met is one value, and nothing that can't be read is left out.
 
-Links to files lead to them; links to folders are told and not followed, since they may lead in circles. What is no file and no folder is told too,
+Links to files lead to them; links to folders are reported and not followed, since they may lead in circles. What is no file and no folder is reported too,
 and not opened.
 """
 
@@ -33,7 +33,7 @@ class Met:
 
 
 def walk(roots: list[bytes], left_out: frozenset[bytes]) -> Iterator[Met]:
-    """Everything at and below these paths, but for paths that are left out."""
+    """Everything at and below these paths, except for paths that are left out."""
     for root in roots:
         if os.path.isdir(root):
             yield from walk_folder(root, left_out)

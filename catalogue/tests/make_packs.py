@@ -2,7 +2,7 @@
 """Makes an archive of small packs, by which the catalogue is tried: make_packs.py FOLDER COUNT
 
 There are so many packs of the 2311, of one or two cylinders each, by their numbers: the same numbers give the same bytes. Among them are packs that
-say the same and differ behind end marks, broken ones, packed ones, images in two files, links, and names of odd bytes; beside them what is no pack.
+say the same and differ after end marks, broken ones, packed ones, images in two files, links, and names of odd bytes; beside them what is no pack.
 `dasd` takes no part. What each pack is, says the table KINDS.
 
 Layouts: System Control Blocks (GC28-6628), by tools/common/written_labels.py and volume_layouts.py; record formats by record_forms.py there."""
@@ -97,7 +97,7 @@ def plain(number: int) -> bytes:
 
 
 def with_leftovers(number: int) -> bytes:
-    """The ordinary pack of the number before, with bytes left behind an end mark, and a reserved byte of the header."""
+    """The ordinary pack of the number before, with bytes left after an end mark, and a reserved byte of the header."""
     held = bytearray(plain(number - 1))
     at = HEADER + 9 * SLOT
     held[at + SLOT - 100 : at + SLOT] = bytes([number % 255 + 1]) * 100
@@ -124,7 +124,7 @@ def cut(number: int) -> bytes:
 
 
 def longer(number: int) -> bytes:
-    """A pack with two bytes behind it."""
+    """A pack with two bytes after it."""
     return plain(number) + b"\r\n"
 
 

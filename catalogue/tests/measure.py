@@ -3,7 +3,7 @@
 
 Prints a row for each run: seconds on the wall and of the processor, the children's counted, packs a second by either, and the most memory that a
 process took. The last run is over Dask, where it is here: three workers, of which one is killed when a third is asked; the times of scheduler and
-workers are counted, which begin before. FOLDER is kept, and not made anew where it is there. The program `dasd` is that of DASD_PROGRAM or of the
+workers are counted, which begin before. FOLDER is kept, and not made again where it is there. The program `dasd` is that of DASD_PROGRAM or of the
 path."""
 
 from __future__ import annotations

@@ -171,7 +171,7 @@ class InBrowser(unittest.TestCase):
         self.assertEqual(self.told(), [])
 
     def test_a_pack_is_opened_in_the_page(self) -> None:
-        """By the link of a volume, at its broken track by that of a finding, and inside a page of a report; a changed file is told there."""
+        """By the link of a volume, at its broken track by that of a finding, and inside a page of a report; a changed file is reported there."""
         page = made_page()
         if page is None:
             self.skipTest("the page can't be made: compiled/ has no modules of this commit")
@@ -202,7 +202,7 @@ class InBrowser(unittest.TestCase):
         browser.until("document.getElementById('notice').textContent.includes('packs/large.ckd has changed since it was scanned')")
 
     def compare(self, browser: Browser, name: str, tracks: int, hidden: int) -> None:
-        """The picture of the catalogue beside that of the page, in the same width: each track has the same colour, but for those that names and marks hide,
+        """The picture of the catalogue beside that of the page, in the same width: each track has the same colour, except for those that names and marks hide,
         and little else differs."""
         browser.open("/")
         browser.press(name)

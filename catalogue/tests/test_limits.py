@@ -22,7 +22,7 @@ class Limits(Case):
     """Single files that want more than they may have."""
 
     def test_a_packed_file_that_holds_too_much(self) -> None:
-        """It is told, and leaves nothing."""
+        """It is reported, and leaves nothing."""
         (self.folder / "big.ckd.gz").write_bytes(gzip.compress(bytes(2_000_000)))
         small = replace(way(), most=1_000_000, scratch=str(self.folder))
         scan(Wanted(str(self.database), [os.fsencode(self.folder)], Alone(), small, is_silent=True))

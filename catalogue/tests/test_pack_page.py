@@ -34,7 +34,7 @@ from dasd_catalogue.queries import NothingThere
 from dasd_catalogue.report import write_report
 from dasd_catalogue.serving import ServedLinks, server_for
 
-#: What stands in for the page: a pack goes where the comment is.
+#: What is in for the page: a pack goes where the comment is.
 STAND_IN = b"<!doctype html><title>stand-in</title><p>before</p><!--GIVEN-->\n<p>after</p>"
 NAME = b"<b>&'\"%41?#@,\xe9 x.ckd.gz"
 BLOCK = re.compile(rb'<script type="application/octet-stream" id="given-pack" data-name="([^"]*)">([A-Za-z0-9+/=]*)</script>')
@@ -197,7 +197,7 @@ class Served(Packs):
         self.assertEqual(answer.headers["Content-Security-Policy"], "frame-ancestors 'none'")
 
     def test_what_is_not_given(self) -> None:
-        """Other numbers and paths; other hosts; HEAD has no body; a changed file is told by its name, in the status too."""
+        """Other numbers and paths; other hosts; HEAD has no body; a changed file is reported by its name, in the status too."""
         for path in ("0", "x", "-1", "1-0", "99999999999999999999", "", "%2e%2e", "../etc/passwd", "1/a/b", "1.ckd", "packs%2f1.ckd"):
             self.assertEqual(self.get(f"/packs/{path}")[0].status, 404, path)
         number = self.number(b"1.ckd")

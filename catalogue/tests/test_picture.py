@@ -104,7 +104,7 @@ class Marked(Drawn):
         named = re.findall(r'<li><i class="swatch set-(\d)"></i>([^<]*)</li>', svg)
         self.assertEqual(named, [("0", "SYS1.MACLIB"), ("1", "ORDERS.SOURCE"), ("2", "ORDERS.JOBS")])
         self.assertIn('<i class="swatch error"></i>error', svg)
-        # the jobs' block of 400 bytes takes 61 + 400 * 537 / 512 of the track's 3,625 (the 2841's description), the end of file behind it none
+        # the jobs' block of 400 bytes takes 61 + 400 * 537 / 512 of the track's 3,625 (the 2841's description), the end of file after it none
         self.assertEqual(re.findall(r'class="set-2" opacity="([\d.]+)"', svg), ["0.5"])
 
     def test_a_new_volume_has_no_mark(self) -> None:
@@ -119,7 +119,7 @@ class Tracks(unittest.TestCase):
     """The tracks of an extent."""
 
     def test_by_types(self) -> None:
-        """One that shares its cylinders, others, one of which nothing is told; heads that run backwards or that the drive has not."""
+        """One that shares its cylinders, others, one of which nothing is reported; heads that run backwards or that the drive has not."""
         wanted = {
             (SHARED, (1, 2, 3, 4)): [12, 13, 14, 22, 23, 24, 32, 33, 34],
             **{(kind, (1, 8, 2, 1)): [18, 19, 20, 21] for kind in (None, 0x01, 0x40, 0x81)},

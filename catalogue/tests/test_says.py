@@ -15,7 +15,7 @@ class Told(Volume):
     """A volume of which the program prints these objects, and then has a fault."""
 
     def ask(self, *words: str) -> Iterator[Object]:
-        """What is told of it."""
+        """What is reported of it."""
         assert words == ("hash", "--members")
         yield {"path": "volume", "hash": "11" * 32, "unreadable": 0}
         yield {"path": "volume", "name": "volume table of contents", "text": "has findings, which dasd vtoc prints"}

@@ -42,12 +42,12 @@ exec {program} "$@"
 
 
 def damaged(packed: bytes) -> bytes:
-    """A packed file with other bytes behind its header, which no packing has there."""
+    """A packed file with other bytes after its header, which no packing has there."""
     return packed[:24] + b"\xff" * 16 + packed[40:]
 
 
 class Ended(Alone):
-    """This process, which is interrupted behind so many answers."""
+    """This process, which is interrupted after so many answers."""
 
     def __init__(self, count: int) -> None:
         self.count = count
@@ -108,7 +108,7 @@ class Whole(unittest.TestCase):
                     self.assertEqual(os.stat(path).st_mtime_ns, os.stat(other).st_mtime_ns, path)
 
     def test_leftovers_make_no_difference(self) -> None:
-        """Each copy that differs behind an end mark says what its pack says, where that is a plain one."""
+        """Each copy that differs after an end mark says what its pack says, where that is a plain one."""
         connection = reading()
         query = "SELECT said FROM volumes JOIN files ON id = file WHERE shown LIKE ?"
         tried = 0
@@ -124,7 +124,7 @@ class Ways(Case):
     """Scans that are ended, and workers that die."""
 
     def test_it_goes_on_where_it_was_ended(self) -> None:
-        """Behind some answers, and again behind some: each is asked once, and the rows are those of one scan."""
+        """After some answers, and again after some: each is asked once, and the rows are those of one scan."""
         make(os.fsencode(self.folder / "packs"), 40)
         asked = 0
         for count in (7, 0, 20):
@@ -194,7 +194,7 @@ class Again(Case):
         self.assertEqual(scanned(self.database, [self.packs]).asked, 4)
 
     def asked_again(self) -> int:
-        """How many files a scan asks now; a fresh catalogue must have the same rows, but for numbers of files."""
+        """How many files a scan asks now; a fresh catalogue must have the same rows, except for numbers of files."""
         return scanned(self.database, [self.packs]).asked
 
     def same_as_fresh(self) -> None:
@@ -379,7 +379,7 @@ class Files(Case):
         self.assertEqual(self.rows("SELECT state, COUNT(*) FROM files GROUP BY state"), [("volume", 1)])
 
     def test_folders_that_a_killed_process_left(self) -> None:
-        """They go, but for those that one holds that lives, and others' folders."""
+        """They go, except for those that one holds that lives, and others' folders."""
         names = ["dasd-catalogue-left", "dasd-catalogue-held", "another"]
         for name in names:
             (self.folder / name).mkdir()
@@ -407,7 +407,7 @@ class Files(Case):
         self.assertEqual(scanned(self.database, []).asked, 0)
 
     def test_a_file_that_is_named_is_asked(self) -> None:
-        """Whatever it is called and holds; in a folder it is told as another thing."""
+        """Whatever it is called and holds; in a folder it is reported as another thing."""
         (self.folder / "letter").write_text("Dear archive,\n", encoding="utf-8")
         scanned(self.database, [self.folder])
         self.assertEqual(self.states(), {"letter": "other"})

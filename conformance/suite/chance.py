@@ -71,7 +71,7 @@ class Chance:
     # --- programs ---
 
     def program(self, unit: int, made: Dict[int, Volume], units: List[int]) -> List[Event]:
-        """A program's words and operands, its start, and what comes behind it."""
+        """A program's words and operands, its start, and what comes after it."""
         self.at = DATA
         volume = made[unit & 0xFF]
         where = [self.dice.randrange(volume.cylinders), self.dice.randrange(volume.model.heads)]
@@ -143,13 +143,13 @@ class Chance:
         self.command(words, operands, volume, where, self.dice.choice((0x05, 0x05, 0x0D)))
 
     def format(self, words: Words, operands: Operands, volume: Volume, where: List[int]) -> None:
-        """A record is found, and one or more are written behind it."""
+        """A record is found, and one or more are written after it."""
         self.search(words, operands, volume, where, (0x31, 0x31, 0xB1, 0x29))
         for _ in range(self.dice.choice((1, 1, 2, 3))):
             self.command(words, operands, volume, where, 0x1D)
 
     def new_track(self, words: Words, operands: Operands, volume: Volume, where: List[int]) -> None:
-        """The home address is written or found, and record 0 behind it, and others."""
+        """The home address is written or found, and record 0 after it, and others."""
         self.command(words, operands, volume, where, self.dice.choice((0x19, 0x39)))
         for code in (0x15, 0x1D, 0x1D)[:self.dice.randint(0, 3)]:
             self.command(words, operands, volume, where, code)

@@ -45,7 +45,7 @@ NO_SEEK = {0x00: (), 0x08: ("seek", "recalibrate", "read-ipl"), 0x10: ("seek", "
 # a position or an area is a record and a part of it: 0 its count, 1 its key, 2 its data
 INDEX = (-1, 0)
 HOME = (-1, 1)
-# sense bytes 0 and 1 behind each cause
+# sense bytes 0 and 1 after each cause
 SENSE = {
     "invalid command": 0x8000, "write not allowed": 0x8004, "seek not allowed": 0x0004, "out of sequence": 0x8010,
     "head change not allowed": 0x0004, "no record found": 0x0008, "end of cylinder": 0x0020, "unreadable track": 0x0802,
@@ -219,7 +219,7 @@ class Drive:
         return self.pass_index()
 
     def area(self, kind: str, track: Optional[Track]) -> Optional[Place]:
-        """The next area of a kind behind the position; None where there is none on this turn."""
+        """The next area of a kind after the position; None where there is none on this turn."""
         if kind == "home":
             return HOME if self.position == INDEX else None
         records, (at, part) = track.records if track else [], self.position

@@ -62,7 +62,7 @@ def needs_of(vector: Vector) -> List[str]:
 
 
 def profile_of(vector: Vector, lacks: Collection[str] = ()) -> List[str]:
-    """The choices of the profile on which a vector rests, as an emulator plays it that lacks these: its numbers behind STEP count where
+    """The choices of the profile on which a vector rests, as an emulator plays it that lacks these: its numbers after STEP count where
     it has steps."""
     if vector.fault:
         return ["decks"]

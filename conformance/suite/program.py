@@ -181,7 +181,7 @@ class Program:
         self.end(ending.status, INCORRECT_LENGTH if wrong else 0, ending.motion)
 
     def end(self, status: int, channel: int, motion: bool = False) -> None:
-        """Ends the program: its channel status word stands in `ending`, and whether the arm moves in `motion`."""
+        """Ends the program: its channel status word is in `ending`, and whether the arm moves in `motion`."""
         channel |= PCI_STATUS if self.marked else 0
         if motion and status & (UNIT_CHECK | DEVICE_END):
             motion = False

@@ -29,7 +29,7 @@ def row(name: str, results: Sequence[Result]) -> str:
 
 
 def table(results: Sequence[Result], rules: Iterable[str]) -> str:
-    """The table by rule, in the order of the file of rules; a vector stands in the row of each of its rules. Rules that no vector
+    """The table by rule, in the order of the file of rules; a vector is in the row of each of its rules. Rules that no vector
     of the run names are left away."""
     lines = ["%-24s %7s %7s %7s %9s %9s" % ("Rule", "vectors", "right", "wrong", "left out", "declined")]
     for name in rules:

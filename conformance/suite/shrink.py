@@ -44,7 +44,7 @@ def shrink(vector: Vector, fails: Callable[[Vector], bool]) -> Vector:
 
 
 def shrink_volume(vector: Vector, unit: int, fails: Callable[[Vector], bool]) -> Vector:
-    """Makes tracks fresh again, and takes records away, of a volume that stands in no file."""
+    """Makes tracks fresh again, and takes records away, of a volume that is in no file."""
     volume = vector.made.get(unit)
     if volume is None:
         return vector

@@ -34,7 +34,7 @@ class Vector:
     fault: Optional[str] = None
     images: List[Tuple[int, str]] = field(default_factory=list)
     slots: List[Tuple[int, int, int, bytes]] = field(default_factory=list)
-    # volumes that stand in no file, by unit
+    # volumes that are in no file, by unit
     made: Dict[int, Volume] = field(default_factory=dict)
 
     def before(self) -> Dict[int, Volume]:

@@ -1,7 +1,7 @@
 """CKD_P370 images: slots, tracks, files, and volumes that are described in words.
 
 A track is a home address of five bytes and a list of records. A slot spells it: the home address, each record as identifier
-(CC, HH, R), key length, data length, key and data, then eight bytes FF; what stands behind them is no part of the track.
+(CC, HH, R), key length, data length, key and data, then eight bytes FF; what is after them is no part of the track.
 """
 from __future__ import annotations
 
@@ -93,7 +93,7 @@ def read_slot(slot: bytes) -> Optional[Track]:
 
 
 def tidy_slot(slot: bytes) -> bytes:
-    """The slot with zeros behind its end mark; one that spells no track stays."""
+    """The slot with zeros after its end mark; one that spells no track stays."""
     track = read_slot(slot)
     return bytes(slot) if track is None else track.spelled().ljust(len(slot), b"\0")
 
@@ -178,7 +178,7 @@ class Volume:
         return read_slot(self.slots[self.place(cylinder, head)])
 
     def write(self, cylinder: int, head: int, track: Track) -> None:
-        """Puts a track, with zeros behind its end mark."""
+        """Puts a track, with zeros after its end mark."""
         spelled = track.spelled()
         if len(spelled) > self.slot_size:
             raise BadImage("a track of %d bytes in a slot of %d" % (len(spelled), self.slot_size))
@@ -212,7 +212,7 @@ class Volume:
 
 
 def tidied(volume: Volume, before: Volume) -> Volume:
-    """A copy in which the slots that differ from before have zeros behind their end marks."""
+    """A copy in which the slots that differ from before have zeros after their end marks."""
     out = volume.copy()
     if len(before.slots) == len(out.slots):
         out.slots = [it if it == old else tidy_slot(it) for it, old in zip(out.slots, before.slots)]
@@ -276,7 +276,7 @@ def parse_description(text: str) -> Volume:
 
 
 def described(text: str) -> Iterator[Tuple[int, List[str]]]:
-    """The words of each line of a description that has some, without its remark, behind the line's number."""
+    """The words of each line of a description that has some, without its remark, after the line's number."""
     for number, line in enumerate(text.split("\n"), 1):
         words = line.split("#")[0].split()
         if words:
@@ -284,7 +284,7 @@ def described(text: str) -> Iterator[Tuple[int, List[str]]]:
 
 
 def put_record(track: Track, at: Address, words: List[str], fresh: Record) -> None:
-    """Adds the record of a description's line; a first record 0 stands in place of the fresh one."""
+    """Adds the record of a description's line; a first record 0 is in place of the fresh one."""
     name, parts = words[1], dict(zip(words[2::2], words[3::2]))
     identifier = bytes.fromhex(name) if len(name) == 10 else address(*at) + bytes([int(name)])
     record = Record(identifier, parse_bytes(parts["key"]) if "key" in parts else b"", parse_bytes(parts["data"]) if "data" in parts else b"")

@@ -1,4 +1,4 @@
-"""The results of whole runs that stand in results/, beside the vectors, and the pages that name them."""
+"""The results of whole runs that are in results/, beside the vectors, and the pages that name them."""
 from __future__ import annotations
 
 import os

@@ -11,13 +11,13 @@
         assert disks.interrupt() == 0x190
         print(bytes(disks.storage[0x200:0x210]).hex())
 
-The library is the file that DASD_LIBRARY names, or the one that stands beside this module, as in a wheel, or what the system's loader
+The library is the file that DASD_LIBRARY names, or the one that is beside this module, as in a wheel, or what the system's loader
 finds under its name. Each call is that of `dasd.h`, which says what it asks and leaves; where the library refuses, a Fault is raised, and
 nothing has changed. An address is that of the System/360: 0x190 is drive 90 of channel 1. Several channels share main storage,
 dasd.Subsystem(65536, 1, 2), and are reached by their addresses and numbers. A program that keeps main storage itself lends it to a
 dasd.LentSubsystem.
 
-No program in plain Python reaches memory that was freed, but for a finalizer, `__del__`, of a cycle that has a view of `storage`: Python
+No program in plain Python reaches memory that was freed, except for a finalizer, `__del__`, of a cycle that has a view of `storage`: Python
 calls all finalizers of a cycle before it takes it apart. Any thread may call, and so may a forked process. A number out of range is
 refused, never cut.
 """

@@ -129,7 +129,7 @@ class Handle(Locked):
         return did.value
 
     def run_on(self, channel: int, units: int, ran: _library.Ran) -> int:
-        """The same, with what the channel does behind them."""
+        """The same, with what the channel does after them."""
         self.call("run_on", channel, units, ctypes.byref(ran))
         return int(ran.units)
 

@@ -115,7 +115,7 @@ class Channels:
 
     It is freed by `close`, or by the end of a `with`, or when nothing refers to it. It is copied by `copy` alone, and not pickled.
 
-    Any thread may call, and may store into `storage`: calls are made one after another, and a store comes before or behind a call. What
+    Any thread may call, and may store into `storage`: calls are made one after another, and a store comes before or after a call. What
     stores without the interpreter's lock, as `readinto` of a file does, is kept out by the program while it calls.
 
     An address is 0 to 65,535, the channel's number in its high byte and the drive's in the low one; `at` is the place of a byte in main
@@ -185,7 +185,7 @@ class Channels:
 
     def attach_files(self, address: int, files: HeldFiles) -> None:
         """Attaches a drive under an address, with the volume that these files hold. They are taken over as they are, and none is copied; their
-        changes are counted anew. Where it is refused they stay. The Faults of `attach`, and NOTHING_HELD.
+        changes are counted again. Where it is refused they stay. The Faults of `attach`, and NOTHING_HELD.
         """
         number = _number("address", address, _U16)
         files.lend(lambda at: self._call("attach_files", number, at))
@@ -230,7 +230,7 @@ class Channels:
     def changed(self, address: int, since: int, place: int = 0) -> Changed:
         """The tracks of such a file that were written since its number of changes was this one, with copies of their slots.
 
-        A copy of the file that was made then is the file once each slot stands at its place in it. `since` is a number that `file`,
+        A copy of the file that was made then is the file once each slot is at its place in it. `since` is a number that `file`,
         `changes` or this call has answered for the file; a number above the file's own answers all tracks. A new volume's file is copied
         whole first. The same Faults as those of `file`.
         """
@@ -277,13 +277,13 @@ class Channels:
         return handle.in_pieces(_number("units", units, _U32), lambda most: handle.step(number, most))
 
     def run_on(self, channel: int, units: int) -> Run:
-        """The same, with what the channel does behind them. NO_CHANNEL."""
+        """The same, with what the channel does after them. NO_CHANNEL."""
         handle, number, ran = self._handle, _refusable(channel, _U8, _U8), _library.Ran()
         did = handle.in_pieces(_number("units", units, _U32), lambda most: handle.run_on(number, most, ran))
         return Run(did, Subchannel(ran.subchannel), ran.device, ran.asked == 1)
 
     def run_until(self, channel: int, units: int, until: int = Until.NOTHING) -> Progress:
-        """The same, and it ends also behind the first unit that brings what is waited for; with counts of what the units came to.
+        """The same, and it ends also after the first unit that brings what is waited for; with counts of what the units came to.
         BAD_UNTIL, NO_CHANNEL."""
         handle, number, bits, ran = self._handle, _refusable(channel, _U8, _U8), _refusable(until, _U8, _U8), Sum()
 
@@ -338,7 +338,7 @@ class Channels:
         return Registers(r.cylinder, r.head, *seen, Credit(r.credit), r.credited, bytes(r.sense))
 
     def look(self, trace: _library.Trace, when: int, channel: int, call: Tuple[int, int], track: Optional[Track]) -> None:
-        """Looks at a channel for a Trace, at a moment: behind a call of this address, which answered this, or lost a track. Nothing changes.
+        """Looks at a channel for a Trace, at a moment: after a call of this address, which answered this, or lost a track. Nothing changes.
         NO_CHANNEL, BAD_MOMENT."""
         told = (_number("when", when, _U8), _refusable(channel, _U8, _U8), _number("address", call[0], _U16), _number("answer", call[1], _U32))
         moment = _library.Moment(*told, track.cylinder if track else 0, track.head if track else 0)
@@ -415,7 +415,7 @@ class LentSubsystem(Channels):
     The bytes and the keys are objects with a buffer, as a bytearray, an mmap or an array. They are lent until `close`, or until others are
     lent, or until nothing refers to this value; so long Python refuses whatever would free them or change their number, as `close` of an
     mmap and `append` of a bytearray. The bytes are written where they are, without a copy, and what the program stores there between two
-    calls the processor stores. The keys are read anew for each call; `set_key` writes them, where they can be written.
+    calls the processor stores. The keys are read again for each call; `set_key` writes them, where they can be written.
 
     A key is 0 to 15. A block with a key above 15 admits the key 0 alone, and no channel program with another key stores there: so give a
     list of the keys alone, without reference and change bits beside them.

@@ -12,7 +12,7 @@ from ._words import Run, Track
 
 
 class When(enum.IntEnum):
-    """When a trace looks: before a start, behind a unit, behind a call, at its end."""
+    """When a trace looks: before a start, after a unit, after a call, at its end."""
 
     BEFORE_SIO = 0
     BEHIND_UNIT = 1
@@ -37,8 +37,8 @@ class Trace:
         trace.interrupt()
 
     Each call here makes the call of that name, for this channel, and has the lines written that tell of it, as the text that `write` takes. A run
-    is made a unit at a time, and is not told itself. Who makes the calls another way looks by `look`: before each start, behind each unit, and
-    behind each call whose line is wanted. What was seen is here, and nowhere else; a new trace has seen nothing.
+    is made a unit at a time, and is not told itself. Who makes the calls another way looks by `look`: before each start, after each unit, and
+    after each call whose line is wanted. What was seen is here, and nowhere else; a new trace has seen nothing.
     """
 
     def __init__(self, disks: Channels, channel: int, write: Callable[[str], object]) -> None:
@@ -47,7 +47,7 @@ class Trace:
         self._seen = _library.Trace(ctypes.addressof(self._room), _library.TRACE_ROOM)
 
     def look(self, when: When, address: int = 0, answer: int = 0, track: Optional[Track] = None) -> None:
-        """Looks at the channel, and has the lines written that tell of the moment, if there are some. Behind a call the address and the answer
+        """Looks at the channel, and has the lines written that tell of the moment, if there are some. After a call the address and the answer
         are the call's: a condition code, a number of units, or 1 and the address for an interruption that was taken. NO_CHANNEL;
         BAD_MOMENT."""
         self.disks.look(self._seen, when, self.channel, (address, answer), track)
@@ -97,7 +97,7 @@ class Trace:
         return track
 
     def end(self) -> None:
-        """Ends the trace: a word that is still at work is told."""
+        """Ends the trace: a word that is still at work is reported."""
         self.look(When.AT_END)
 
     def _told(self, when: When, address: int, answer: int) -> int:

@@ -27,7 +27,7 @@ class Progress(NamedTuple):
 
     #: how many units were done, 0 to as many as were asked for
     units: int
-    #: what the channel does behind them
+    #: what the channel does after them
     subchannel: Subchannel
     #: the low byte of the address whose program runs or has ended; 0 where the channel is available
     device: int

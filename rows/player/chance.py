@@ -24,14 +24,14 @@ LONG = 10000
 # a Recalibrate by itself, and where it stands
 MOVE, MOVES_AT = bytes.fromhex("1300000020000001"), 0x3F8
 KEY_BLOCK = 2048
-# a write is looked for within so many units of a step, and cut behind one of the first of its units
+# a write is looked for within so many units of a step, and cut after one of the first of its units
 MOST_UNITS, FIRST_UNITS = 1000, 300
 
 
 class Busy(Chance):
     """What a seed makes at a busy channel: two to four drives, whose arms are sent on their way before a program; areas in pieces, whose
-    words the processor stores while the bytes before them pass; transfers in channel, at times one behind another; programs with a key,
-    and blocks whose key comes to be another; and programs that are cut behind any unit."""
+    words the processor stores while the bytes before them pass; transfers in channel, at times one after another; programs with a key,
+    and blocks whose key comes to be another; and programs that are cut after any unit."""
 
     def addresses(self) -> list[int]:
         return self.dice.sample(range(0x80, 0xA0), self.dice.randint(2, 4))
@@ -79,7 +79,7 @@ class Busy(Chance):
             words.append(word[:1] + place.to_bytes(3, "big") + bytes([flags ^ skip, 0]) + length.to_bytes(2, "big"))
 
     def transfer(self, words: Words, _operands: Operands, _volume: Volume, _where: list[int]) -> None:
-        """A transfer to the word behind it, which may be another."""
+        """A transfer to the word after it, which may be another."""
         for _ in range(self.dice.choice((1, 1, 2))):
             words.append(b"\x08" + (WORDS + 8 * len(words) + 8).to_bytes(3, "big") + bytes(4))
 
@@ -147,7 +147,7 @@ def trial(seed: int) -> Trial:
 
 
 def units_of_writes(made: Trial) -> Iterator[tuple[int, int, int]]:
-    """Behind which units a program of a list is in the middle of a write, by the conformance suite's model: the number of the event, how
+    """After which units a program of a list is in the middle of a write, by the conformance suite's model: the number of the event, how
     many of its units, and the drive."""
     machine = Machine(1, SIZE, list(made.volumes().items()))
     for number, event in enumerate(parse(made.vector.deck)):

@@ -9,11 +9,11 @@ A row is its name, and lines that are played in their order:
 | `attach 90 X failing 3 on` | the same, where call 3 of its store fails, and each later one (or `once`) |
 | `at 400 C1*80+00` | the processor stores bytes |
 | `> SIO 190`, `>bytes 0A` | a line, or bytes, of a deck. Lines without others between are one deck |
-| `reader fails`, `writer 12`, `flush fails` | the read behind the deck fails; the write behind so many bytes; the flush |
+| `reader fails`, `writer 12`, `flush fails` | the read after the deck fails; the write after so many bytes; the flush |
 | `counted` | the deck is run with counts |
 | `: STATE` | a line for the stage |
 | `< INT NONE` | a line that is printed, or what the stage answers; `...` at its end passes what may stand there |
-| `! read fault` | what is told of a refusal |
+| `! read fault` | what is reported of a refusal |
 | `sense 190 100000000000` | a Sense starts, runs to its end, and gives these bytes |
 | `holds 600 C1*80` | what storage holds in the end |
 | `left 90 0 29 E7*30` | what a track of the volume has from a place of its slot on; all else is as it was |
@@ -248,7 +248,7 @@ def lines_of(text: str) -> list[str]:
 
 
 def start_sense(stage: Stage, address: int) -> str:
-    """The six bytes that a Sense gives, whose word stands at 700; or what came instead. It leaves the channel address word there."""
+    """The six bytes that a Sense gives, whose word is at 700; or what came instead. It leaves the channel address word there."""
     lines = ["POKE 700 0400071000000006", "POKE 48 00000700", "CALL SIO %X" % address, "STEP 65535", "INT"]
     wanted = ["STORE OK", "STORE OK", "SIO %03X CC 0" % address, "STEP 7", "INT %03X 00000708 0C000000" % address]
     for line, want in zip(lines, wanted):

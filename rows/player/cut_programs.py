@@ -1,7 +1,7 @@
-"""Programs that are cut behind each of their units, by a halt and by a reset, with other events between the last units before the cut, and
+"""Programs that are cut after each of their units, by a halt and by a reset, with other events between the last units before the cut, and
 once between all of them; each list of events is compared with its serial list at a fresh channel, and with the conformance suite's model.
 
-A row is a deck that stores a program, behind a remark that says what it is. The arm of another drive is on its way meanwhile."""
+A row is a deck that stores a program, after a remark that says what it is. The arm of another drive is on its way meanwhile."""
 from __future__ import annotations
 
 from copy import deepcopy
@@ -18,7 +18,7 @@ from .serial import compare_with_serial
 from .stage import Stage
 from .text import Block, Case, Wrong, files_of, read_blocks, same
 
-# a program that does not end is cut behind so many units at most
+# a program that does not end is cut after so many units at most
 MOST_UNITS = 250
 BEFORE = ["STORE 48 000003F8", "STORE 3F8 1300000000000001", "SIO 191", "STORE 48 00000400"]
 BETWEEN = ["STEP 1", "TCH", "TIO 191", "ARRIVE 191"]
@@ -38,7 +38,7 @@ def events_of(lines: list[str]) -> list[Event]:
 
 
 def cut_at_each_unit(block: Block, cut: str, stage: Stage) -> None:
-    """Cuts a program behind each of its units, that of the start among them; before the last of these it is stepped or run."""
+    """Cuts a program after each of its units, that of the start among them; before the last of these it is stepped or run."""
     set_up = partial(channel_over, drives=2)
     set_up(stage)
     done = stage.ask_all(begun(block) + ["STEP %d" % MOST_UNITS])[-1]

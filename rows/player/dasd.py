@@ -5,12 +5,12 @@
 | `file a 2311 1` | a file with a new volume |
 | `file a`, `text a 4D49` | a file without bytes, with these bytes |
 | `patch a 5 43`, `cut a 511` | bytes over those of a file; its end is taken away |
-| `copy b a 0 41472` | bytes of a file behind those of another |
+| `copy b a 0 41472` | bytes of a file after those of another |
 | `> SIO 190`, `>bytes 0A` | a line, or bytes, of the deck on standard input of the next command |
 | `reader` | standard input can't be read |
-| `writer 12`, `flush` | a write to standard output fails, behind so many bytes, or as it is flushed |
+| `writer 12`, `flush` | a write to standard output fails, after so many bytes, or as it is flushed |
 | `short 7` | a read gives at most so many bytes |
-| `tracer 40`, `once 40` | a write to the trace fails behind so many bytes, and each behind it; that write alone |
+| `tracer 40`, `once 40` | a write to the trace fails after so many bytes, and each after it; that write alone |
 | `put a` | the file can't be put in its place |
 | `dasd list a` | a command |
 | `< line`, `< ...` | a line that it prints; all that are left |
@@ -21,7 +21,7 @@
 | `remark text` | what it says of it where it is asked for more |
 | `status 1`, `replaced x y` | its status; the files that it has put in place, in order |
 | `same a b`, `length a 512`, `holds a 5 43` | what files hold |
-| `reads list b` | each read of the file fails in turn, and all behind it: a front of what it prints, a store fault, and which file it was and where |
+| `reads list b` | each read of the file fails in turn, and all after it: a front of what it prints, a store fault, and which file it was and where |
 | `memory list a` | each taking of memory is refused in turn: no memory |
 
 A file whose name begins with `locked` may not be written, and one whose name begins with `busy` is another program's."""
@@ -50,7 +50,7 @@ SHOWN = re.compile(rb"\r([^\r\x1b]*)\x1b\[K")
 TRACE = "trace.of.the.row"
 # lines that let calls of the next command fail, and what failing_calls.c knows them by
 FAILING = {"writer": "FAIL_OUTPUT", "flush": "FAIL_FLUSH", "short": "SHORT_READS", "tracer": "FAIL_FILE", "put": "FAIL_PUT"}
-# what is told where a file can't be read on: the fault, and the file with the place and the host's words
+# what is reported where a file can't be read on: the fault, and the file with the place and the host's words
 UNREAD = re.compile(r"dasd: (?:store|read) fault\n  (?P<path>\S+): at byte \d+: Input/output error\n")
 MOST_REFUSED = 400
 # how long the program may be silent before it is ended
@@ -269,7 +269,7 @@ class DasdRow:
     # --- sweeps ---
 
     def each_read_fails(self, words: list[str]) -> None:
-        """Lets each read of a file fail in turn, and all behind it: what is printed is a front of what is printed otherwise."""
+        """Lets each read of a file fail in turn, and all after it: what is printed is a front of what is printed otherwise."""
         log = self.path("reads.of.the.row")
         whole, _ = self.run(words, {"FAIL_READS": str(log)})
         number = log.stat().st_size
@@ -286,7 +286,7 @@ class DasdRow:
         return {it.name: it.read_bytes() for it in self.folder.iterdir() if it.name != traces}
 
     def each_taking_is_refused(self, words: list[str]) -> None:
-        """Refuses each taking of memory in turn; whatever was printed, it is told, and no file is another."""
+        """Refuses each taking of memory in turn; whatever was printed, it is reported, and no file is another."""
         traces = words[words.index("--trace-to") + 1] if "--trace-to" in words else ""
         before = self.all_held(traces)
         for at in range(1, MOST_REFUSED):

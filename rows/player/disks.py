@@ -13,7 +13,7 @@ FIRST = 0x90
 
 
 def spelled_track(head: int, records: list[Record]) -> bytes:
-    """The bytes of a track of cylinder 0 with these records behind the usual record 0."""
+    """The bytes of a track of cylinder 0 with these records after the usual record 0."""
     track = new_track(0, head)
     return Track(track.home, track.records + records).spelled()
 

@@ -162,7 +162,7 @@ class DriveRow:
         return int(answer[1]) if answer[0] == "TAKEN" else 0
 
     def takes(self, data: bytes) -> int:
-        """The same in pieces, with a look behind each: a formatting write wants key and data once the count area came."""
+        """The same in pieces, with a look after each: a formatting write wants key and data once the count area came."""
         taken = 0
         for at in range(0, len(data), self.piece):
             part = data[at:at + self.piece]
@@ -272,7 +272,7 @@ def sweep(stage: Stage, disk: Disk, block: Block, file: int) -> None:
 
 def silent(stage: Stage, disk: Disk, block: Block, failing: Failing) -> str | None:
     """Why a call that fails is not told: the command in which it fails must be over or not begun, and the sense bytes have equipment
-    check. None where it is told."""
+    check. None where it is reported."""
     drive = DriveRow(stage, disk, failing, PIECES[-1])
     comes_out = True
     try:

@@ -3,7 +3,7 @@
 A row is its name, a volume, and what is asked of it. `track 3 21 C1*80` puts bytes into the slot of a track of a new 2311 of two
 cylinders, or of as many as a line `volume 60` says. The first rows are the volume SMALL1 of tools/make/hercules_volumes.py, whose label, volume
 table of contents and sequential data set Hercules' `dasdload` wrote: what is wanted is what was put into them. Where a row has a line
-`set`, a label and a volume table of contents stand beside (System Control Blocks, GC28-6628, 'Volume Label' and 'Data Set Control Block'):
+`set`, a label and a volume table of contents are there too (System Control Blocks, GC28-6628, 'Volume Label' and 'Data Set Control Block'):
 
 | Line | Means |
 |---|---|
@@ -11,7 +11,7 @@ table of contents and sequential data set Hercules' `dasdload` wrote: what is wa
 | `member 0 4`, `member 0 3 EIGHTLET` | its member M, or one of another name, begins there; its directory is the first block |
 | `take X`, `take X(M) --text`, `take --all out` | `dasd extract`; `out` is an empty folder |
 | `bytes C1C1`, `< line` | what is printed, as bytes and as text |
-| `! track 0 of the data set: no block 9`, `status 1` | the fault that is told, with status 1; a status without one |
+| `! track 0 of the data set: no block 9`, `status 1` | the fault that is reported, with status 1; a status without one |
 | `listed 0 213 92` | each of so many bytes of a slot replaced in turn by three others: `dasd vtoc` reads the volume |
 | `taken 1 29 26 X --text`, `taken 1 37 256 --all out` | the same with `dasd extract`, of a block of variable length, or of a directory |
 | `ends 36 -` | how often that ended in which way |
@@ -52,7 +52,7 @@ def extent(number: int, word: str) -> bytes:
 
 
 def track_of(number: int, blocks: Iterable[tuple[bytes, bytes]]) -> bytes:
-    """The bytes of a track with these keys and data behind the usual record 0."""
+    """The bytes of a track with these keys and data after the usual record 0."""
     place = address(*divmod(number, HEADS))
     records = [Record(place + bytes([at]), key, data) for at, (key, data) in enumerate(blocks, 1)]
     return Track(b"\0" + place, [Record(place + b"\0", b"", bytes(8)), *records]).spelled()

@@ -1,5 +1,5 @@
 """Lists of events over stores of which a call fails: up to the first fault all is as without it, and at most the slot differs that could
-not be saved; the fault is told by its event, and the sense bytes tell it; and the list goes on past it with answers that may come."""
+not be saved; the fault is reported by its event, and the sense bytes tell it; and the list goes on past it with answers that may come."""
 from __future__ import annotations
 
 from dataclasses import replace
@@ -53,7 +53,7 @@ def fail_list(stage: Stage, trial: Trial) -> None:
 
 
 def up_to_fault(stage: Stage, lines: list[str], name: str) -> tuple[int, list[str], list[str], StoreCalls]:
-    """Does events up to the first whose call of a store fails: how many, their answers, what the channel shows behind each, and how the
+    """Does events up to the first whose call of a store fails: how many, their answers, what the channel shows after each, and how the
     store was called."""
     answers: list[str] = []
     states: list[str] = []
@@ -85,7 +85,7 @@ def judge(trial: Trial, plain: Left, faulty: Left, calls: StoreCalls) -> None:
 
 
 def others(one: bytes, other: bytes, size: int, lost: list[int]) -> list[int]:
-    """Where slots begin in which two files differ, but for those at these places."""
+    """Where slots begin in which two files differ, except for those at these places."""
     places = [0, *range(HEADER, max(len(one), len(other)), size)]
     ends = [HEADER, *(it + size for it in places[1:])]
     return [at for at, end in zip(places, ends) if one[at:end] != other[at:end] and at not in lost]
@@ -93,7 +93,7 @@ def others(one: bytes, other: bytes, size: int, lost: list[int]) -> list[int]:
 
 def past_faults(stage: Stage, trial: Trial) -> None:
     """Does a list past each call that fails: by the rules of the manual, and with sense bytes that tell each fault. Where a store fails
-    for good, it holds at the end what it held behind the first fault, but for the slots that could not be saved."""
+    for good, it holds at the end what it held after the first fault, except for the slots that could not be saved."""
     came = watch(stage, trial)
     first: Left | None = None
     for fault in came.faults:

@@ -181,7 +181,7 @@ class FileRow(DasdRow):
         return self.printed.pop(0) if self.printed else "nothing"
 
     def is_told(self, line: str, wanted: str) -> None:
-        """That this line is told next, by a run while it waits or by the last command, with the status of such a line."""
+        """That this line is reported next, by a run while it waits or by the last command, with the status of such a line."""
         if wanted.strip() in ("", "..."):
             self.errors = [] if wanted == "..." else self.errors
         elif not self.errors and self.waiting:

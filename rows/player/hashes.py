@@ -24,7 +24,7 @@ ODD_NAME = "a\\b\nc\rd e.ckd"
 
 @dataclass(frozen=True)
 class Said:
-    """What came of a run: the hash, how many tracks can't be read, what stands behind the hash, and the status."""
+    """What came of a run: the hash, how many tracks can't be read, what is after the hash, and the status."""
     digest: str
     unreadable: int
     name: str
@@ -125,7 +125,7 @@ def changed(volume: Volume, slot: int, at: int, held: bytes) -> Volume:
 
 
 def leftovers() -> list[Volume]:
-    """Volumes that differ behind end marks and in reserved bytes of the header alone."""
+    """Volumes that differ after end marks and in reserved bytes of the header alone."""
     volume = pack(last_track(ONE, TWO))
     end = len(last_track(ONE, TWO).spelled())
     behind = changed(changed(volume, 9, end, b"\xe7" * 40), 9, MODEL.slot - 1, b"\1")

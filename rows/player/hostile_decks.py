@@ -1,5 +1,5 @@
 """Hostile decks: a good deck with lines cut at every byte; readers that give little, fail or never end; writers that take little, or
-fail behind every byte, and whose flush fails; texts at the limits; lists of thousands of events; and runs of thousands of units."""
+fail after every byte, and whose flush fails; texts at the limits; lists of thousands of events; and runs of thousands of units."""
 from __future__ import annotations
 
 from dataclasses import dataclass, replace
@@ -94,7 +94,7 @@ def in_pieces(end: str, most: int, stage: Stage) -> None:
 
 
 def failing_reads(stage: Stage) -> None:
-    """Reads a deck in pieces, of which each fails in turn; behind the last one stands a read that gives none."""
+    """Reads a deck in pieces, of which each fails in turn; after the last one stands a read that gives none."""
     for number in range(1, len(deck()) // PIECE + 3):
         came = play_text(stage, deck(), "DECK READS %d %d" % (PIECE, number))
         same("read %d fails" % number, ("read fault", True), (came.fault, came.is_untouched()))
@@ -117,7 +117,7 @@ def failing_flushes(run: str, stage: Stage) -> None:
 
 
 def endless(most: int, stage: Stage) -> None:
-    """Reads line feeds behind the most that a deck may have, few and many at a time."""
+    """Reads line feeds after the most that a deck may have, few and many at a time."""
     lines = ["DECK BYTES 0A*65536"] * (LONGEST_DECK // 65536 + 1)
     came = play(stage, lines, "DECK READS %d 0" % most)
     same("reads of %d" % most, ("read fault", True), (came.fault, came.is_untouched()))
@@ -143,7 +143,7 @@ def stores(stage: Stage) -> None:
 
 
 def blanks(stage: Stage) -> None:
-    """Lines of blanks: no event, and too long behind 512."""
+    """Lines of blanks: no event, and too long after 512."""
     for number in range(600):
         came = play_text(stage, b" " * number + b"\r\n")
         same("%d blanks" % number, "line 1: line too long" if number > LONGEST_LINE else "", came.fault)
@@ -172,7 +172,7 @@ def is_answered(text: bytes, answers: tuple[str, ...], stage: Stage) -> None:
         same(run, ("", "".join(it + "|" for it in answers)), (came.fault, came.written))
 
 
-# the answers to the good deck: behind the first step the search takes seven units, and the write 14
+# the answers to the good deck: after the first step the search takes seven units, and the write 14
 GOOD_ANSWERS = (
     *["STORE OK"] * 4, "SIO 190 CC 0", "TCH CC 2", "STEP 7", "ARRIVE 190 NO", "STEP 21", "INT 190 00000420 0C000000", "TIO 190 CC 0",
     "HIO 190 CC 1 0000", "KEY OK", "SHOW 000040 00000420000000000000040000000000", "SHOW 000601 00000001000004D5D6D7D8" + "00" * 21,

@@ -1,7 +1,7 @@
 """Slots with each of their bytes replaced, and slots that no volume has: each is looked at, read, written and checked. What must come of
 it is worked out by the image's layout, the capacity formulas of a 2311 and the commands' own rules.
 
-Behind the end mark every seventh byte is replaced: what stands there is no part of the track."""
+After the end mark every seventh byte is replaced: what is there is no part of the track."""
 from __future__ import annotations
 
 import subprocess
@@ -25,13 +25,13 @@ UNREADABLE, NO_RECORD_FOUND, OVERRUN, NO_SENSE = "0802", "0008", "0040", "0000"
 SEARCH = "3100050040000005" + "0800040000000000"
 PROGRAMS = {"read": SEARCH + "0600060000000050", "write": SEARCH + "1D0006000000001C"}
 NEW_RECORD = Record(bytes([0, 0, 0, 0, 9]), b"", b"\xd5" * NEW_DATA)
-# cases are played in groups of so many slots; behind each slot so many bytes of the file are looked at, and behind a group all
+# cases are played in groups of so many slots; after each slot so many bytes of the file are looked at, and after a group all
 GROUP, LOOKED_AT = 500, HEADER + MODEL.slot + 512
 
 
 @dataclass(frozen=True)
 class Hostile:
-    """A slot, and the identifiers of the records that are read, and behind which one is written."""
+    """A slot, and the identifiers of the records that are read, and after which one is written."""
     slot: bytes
     read: bytes
     written: bytes
@@ -65,7 +65,7 @@ def odd() -> Iterator[Hostile]:
     slots = [bytes([byte]) * MODEL.slot for byte in (0x00, 0x7F, 0xFE, 0xFF)] + [usual.ljust(MODEL.slot, b"\0")]
     for length in (65535, 4068, 4067, 4066, 4060, 4059, 4058, 3625, 3380, 3379):
         slots.append(slot_of([Record(identifier(1), b"", b"\xc4" * length)]))
-    # behind a key of 4 bytes and 3,356 of data the new record just fits: 81 and 537/512 of 3,360, and 20, are 3,625
+    # after a key of 4 bytes and 3,356 of data the new record just fits: 81 and 537/512 of 3,360, and 20, are 3,625
     slots += [slot_of([Record(identifier(1), b"KEY4", b"\xc4" * length)]) for length in (3355, 3356, 3357)]
     slots += [slot_of(empty_records(number)) for number in (1, 100, 500, 507, 508, 509)]
     for slot in slots:
@@ -104,7 +104,7 @@ def found(track: Track | None, sought: bytes) -> int | None:
 
 
 def has_room(track: Track, after: int) -> bool:
-    """Whether the new record has room as the last one behind this one."""
+    """Whether the new record has room as the last one after this one."""
     kept = track.records[:after + 1]
     taken = sum((MODEL.charge if number else MODEL.r0_charge)(len(it.key), len(it.data)) for number, it in enumerate(kept))
     return taken + MODEL.last_charge(0, NEW_DATA) <= MODEL.capacity
@@ -143,7 +143,7 @@ def write_of(it: Hostile) -> tuple[Csw, str, bytes]:
 
 
 def lines_of(it: Hostile, what: str) -> list[str]:
-    """The lines for the stage that play a program over the volume `v` with a slot, and a Sense behind it."""
+    """The lines for the stage that play a program over the volume `v` with a slot, and a Sense after it."""
     area = "00*80" if what == "read" else spelled(NEW_RECORD.spelled())
     sought = it.read if what == "read" else it.written
     begin = ["PUT v %d %s" % (HEADER, spelled(it.slot)), "BEGIN 1 8192", "VOLUME 90 2311 v", "POKE 400 %s" % PROGRAMS[what],
@@ -153,7 +153,7 @@ def lines_of(it: Hostile, what: str) -> list[str]:
 
 
 def ended(answers: Sequence[str]) -> tuple[str, str]:
-    """How a program ended, and the sense bytes behind it."""
+    """How a program ended, and the sense bytes after it."""
     return answers[9], answered(answers[15], "PEEK").hex()
 
 
@@ -211,7 +211,7 @@ def cases() -> Iterator[Case]:
 
 
 def check_all(program: str, name: str, _: Stage) -> None:
-    """Checks a volume that has all these slots, one a track: the faults are told, each at its place."""
+    """Checks a volume that has all these slots, one a track: the faults are reported, each at its place."""
     slots = [it.slot for it in (replaced() if name == "bytes of a slot" else odd())]
     slots += [slot_of([])] * (-len(slots) % MODEL.heads)
     wanted = ["%04X %04X %s" % (*divmod(at, MODEL.heads), fault_of(slot)) for at, slot in enumerate(slots) if fault_of(slot)]

@@ -129,7 +129,7 @@ def prefix_words(data: bytes) -> Iterator[str]:
 
 
 def no_prefix_is_mounted(stage: Stage) -> None:
-    """That no prefix of a new image is mounted, and each is as long behind it as before."""
+    """That no prefix of a new image is mounted, and each is as long after it as before."""
     words = list(prefix_words(new_file()))
     same("prefixes", ONE_CYLINDER, len(words))
     answers = stage.ask_all(line for word in words for line in ("FILE prefix %s" % word, "MOUNT prefix"))

@@ -1,5 +1,5 @@
-"""Rows of single calls: a line for the stage behind `: `, and its answer behind `< `. Bytes are compared as bytes, however they are
-spelled; `...` at an answer's end passes what may stand there. A line `slot BYTES` keeps the slot of which the lines behind it ask.
+"""Rows of single calls: a line for the stage after `: `, and its answer after `< `. Bytes are compared as bytes, however they are
+spelled; `...` at an answer's end passes what may stand there. A line `slot BYTES` keeps the slot of which the lines after it ask.
 
 Of a track: `from 21: no end at 21` says from which length on a beginning of the slot is read otherwise, by a walk and by a table;
 `alike 12288` of how many slots that differ by one byte a walk and a table read the same; `empty no` whether it has no records.

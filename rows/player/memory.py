@@ -1,9 +1,9 @@
 """Refuses the stage each taking of memory in turn, alone, while it does calls of all kinds. A call that is refused for want of memory says
-so, and has left all as it was: made again, with the lines of its group, it comes out right, and so do all lines behind it. Where the
-stage itself finds no memory for a line or its answer, it says that or ends, and the lines behind it are not looked at. Where a collection
+so, and has left all as it was: made again, with the lines of its group, it comes out right, and so do all lines after it. Where the
+stage itself finds no memory for a line or its answer, it says that or ends, and the lines after it are not looked at. Where a collection
 of items asks once more, for less, a refusal changes nothing.
 
-Each call that takes memory is also made by itself: some of its takings are refused in the call's own words, and behind each of these all
+Each call that takes memory is also made by itself: some of its takings are refused in the call's own words, and after each of these all
 is as it was, and the call comes out right when it is made again."""
 from __future__ import annotations
 
@@ -119,7 +119,7 @@ def refuse(first: int, stage: Stage) -> None:
 
 
 class Course(NamedTuple):
-    """What came of a call: the answers to the lines before it, what is seen before it, its own answers, and what is seen behind it."""
+    """What came of a call: the answers to the lines before it, what is seen before it, its own answers, and what is seen after it."""
     before: list[str]
     seen: list[str]
     answers: list[str]

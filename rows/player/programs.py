@@ -4,7 +4,7 @@
 |---|---|
 | `at 400 C1*80`, `key 600 3` | the processor stores bytes, or sets a key |
 | `start 400` | a start with this channel address word, which is accepted |
-| `start 404 bad`, `.. rejected`, `.. immediate 0C` | or what it answers; with `interruption` behind it where one is asked for |
+| `start 404 bad`, `.. rejected`, `.. immediate 0C` | or what it answers; with `interruption` after it where one is asked for |
 | `goes 10` | so many units, and the program goes on |
 | `ends 81 00000408 0C000000` | units until it ends, and its channel status word |
 | `cut 00000408 0C000014`, `cut .. unsaved 0 3` | a cut; the track that can not be saved |
@@ -197,7 +197,7 @@ def sweep(stage: Stage, disk: Disk, block: Block) -> None:
 
 def silent(stage: Stage, disk: Disk, block: Block, failing: Failing) -> str | None:
     """Why a call that fails is not told: the program must be over with unit check and without incorrect length, and the sense bytes
-    have equipment check. None where it is told."""
+    have equipment check. None where it is reported."""
     row = ProgramRow(stage, disk, failing, SIZE - 1)
     comes_out = True
     try:

@@ -1,5 +1,5 @@
 """What an event must come to by what the channel shows before it, as far as no unit decides it: its answer, and what the channel shows
-behind it (Principles of Operation, 'Start I/O', 'Test I/O', 'Halt I/O', 'Test Channel', 'Input/Output Interruptions')."""
+after it (Principles of Operation, 'Start I/O', 'Test I/O', 'Halt I/O', 'Test Channel', 'Input/Output Interruptions')."""
 from __future__ import annotations
 
 from dataclasses import dataclass
@@ -62,12 +62,12 @@ class Shown:
         return behind.view == self.view and behind.program == self.program
 
     def idles(self, arms: tuple[tuple[int, Arm], ...], behind: Shown) -> bool:
-        """Whether nothing runs behind and nothing pends, and the arms do this."""
+        """Whether nothing runs any more and nothing pends, and the arms do this."""
         return behind.view == View("idle", 0, False, None, arms) and behind.program is None
 
 
 def breach(before: Shown, event: Event, answer: str, behind: Shown) -> str | None:
-    """Why channel 1 may not answer an event so, or show this behind it; None where it may."""
+    """Why channel 1 may not answer an event so, or show this after it; None where it may."""
     rule = {"SIO": starts, "TIO": tests, "HIO": halts, "TCH": channel_tested, "STEP": goes_on, "RUN": goes_on, "ARRIVE": arrives,
             "INT": interrupts, "RESET": resets, "STORE": stores, "KEY": stores, "SHOW": stores}[event.name]
     return None if rule(before, event, answer, behind) else "an answer that may not come, or another view behind it"
@@ -152,7 +152,7 @@ def halts(before: Shown, event: Event, answer: str, behind: Shown) -> bool:
 
 
 def is_cut(before: Shown, behind: Shown) -> bool:
-    """Whether the word that pends behind a cut has the place and the count of the program that was seen before it, and tells of the channel
+    """Whether the word that pends after a cut has the place and the count of the program that was seen before it, and tells of the channel
     no more than that an interruption was asked for."""
     csw = behind.view.csw
     if csw is None or before.program is None:
@@ -247,7 +247,7 @@ class Ledger:
         self.programs = 0
 
     def takes(self, answer: str, behind: View) -> bool:
-        """Takes an answer in; whether it may come now, and behind it what was stored and what is owed are together what is due."""
+        """Takes an answer in; whether it may come now, and after it what was stored and what is owed are together what is due."""
         if answer.startswith("RESET"):
             self.entries = {}
         words, told = answer.split(), status_told(answer)

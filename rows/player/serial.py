@@ -1,7 +1,7 @@
 """Lists of events, and their serial lists at a fresh channel: they must come to the same.
 
-A row whose last line is `cuts` has its program cut behind each of its units, by a halt and by a reset, with calls between the units
-that change nothing. Behind a line `serial` stands a deck; behind `=` are the events of its serial list, and behind `~` the answers
+A row whose last line is `cuts` has its program cut after each of its units, by a halt and by a reset, with calls between the units
+that change nothing. After a line `serial` stands a deck; after `=` are the events of its serial list, and after `~` the answers
 to that."""
 from __future__ import annotations
 
@@ -22,7 +22,7 @@ SetUp = Callable[[Stage], ChannelRow]
 
 @dataclass
 class Played:
-    """What a list of events came to: its answers, what the channel showed behind it, its serial list, and what it left."""
+    """What a list of events came to: its answers, what the channel showed after it, its serial list, and what it left."""
     events: list[str]
     answers: list[str]
     state: str
@@ -84,8 +84,8 @@ def compare_with_serial(stage: Stage, set_up: SetUp, events: Sequence[str]) -> P
 
 
 def not_serial(events: Sequence[str], answers: Sequence[str]) -> str | None:
-    """Why a list is not serial: each event changes something and each step does its units, no arrival stands between the steps of
-    a program, only a step of 65,535 units stands before another, and there is no run. None where it is."""
+    """Why a list is not serial: each event changes something and each step does its units, no arrival is between the steps of
+    a program, only a step of 65,535 units is before another, and there is no run. None where it is."""
     place, units = "before steps", 65535
     for event, answer in zip(events, answers):
         word = event.split()[0]
@@ -134,7 +134,7 @@ def play_serial(stage: Stage, disks: Mapping[str, Disk], block: Block) -> None:
 
 
 def cut_events(units: int, cut: str) -> list[str]:
-    """A program, cut behind so many units; what stands between its steps changes nothing."""
+    """A program, cut after so many units; what is between its steps changes nothing."""
     between = ["STEP 1", "TCH", "TIO 191", "ARRIVE 191"]
     return ["SIO 190", *between * units, cut, "INT"]
 

@@ -20,7 +20,7 @@ BLOCK = 512
 
 @dataclass
 class Course:
-    """What was answered in a row, and what it left; and the first sense byte of the drive, where a Sense can start behind the row."""
+    """What was answered in a row, and what it left; and the first sense byte of the drive, where a Sense can start after the row."""
     answers: list[str]
     sense: int | None
     left: Left

@@ -52,7 +52,7 @@ class Block:
         return self.lines[0]
 
     def behind(self, prefix: str) -> list[str]:
-        """What stands behind a prefix in the lines that begin with it."""
+        """What is after a prefix in the lines that begin with it."""
         return [it[len(prefix):] for it in self.lines if it.startswith(prefix)]
 
 

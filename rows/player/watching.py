@@ -1,6 +1,6 @@
-"""Lists of events, one by one: each answer, and what the channel shows behind it, must be those of the rules (rules.py); the channel
-status word stands in storage as it was told; no program changes a block that its key protects; an event calls stores so often at
-most; and each call that fails is told by its event, whether it fails once or for good."""
+"""Lists of events, one by one: each answer, and what the channel shows after it, must be those of the rules (rules.py); the channel
+status word is in storage as it was told; no program changes a block that its key protects; an event calls stores so often at
+most; and each call that fails is reported by its event, whether it fails once or for good."""
 from __future__ import annotations
 
 import re
@@ -91,7 +91,7 @@ class Watcher:
         self.stores(number, calls, answer)
 
     def rules(self, before: Shown, event: Event, answer: str) -> None:
-        """That an answer may come, and the word that it tells stands in storage."""
+        """That an answer may come, and the word that it tells is in storage."""
         where = "event %d: %s" % (len(self.came.answers), event.line())
         why = breach(before, event, answer, self.shown)
         if why:

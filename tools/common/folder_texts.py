@@ -40,7 +40,7 @@ def record_format(bits: int) -> str:
 
 
 def details(data: bytes, types: set[int]) -> str:
-    """What is told of the volume and of the extents of a data set: nothing of one that is on one volume, in plain extents."""
+    """What is reported of the volume and of the extents of a data set: nothing of one that is on one volume, in plain extents."""
     volume, apart = int.from_bytes(data[7:9], "big"), sum(types & {USER_LABELS, SHARED})
     return f" volume {volume} extents X'{apart:02X}'" if volume > 1 or apart else ""
 
@@ -72,7 +72,7 @@ def entries_of(blocks: list[Block]) -> Iterator[Entry]:
 
 
 def note(tracks: Tracks, member: list[Block], spelled: bytes) -> str:
-    """Where an address leads, and the byte behind it."""
+    """Where an address leads, and the byte after it."""
     found, is_ended = tracks.blocks(int.from_bytes(spelled[:2], "big"), spelled[2])
     if found and is_ended and member[-len(found) :] == found:
         return f"{len(member) - len(found) + 1}/{spelled[3]:02X}"

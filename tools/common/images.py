@@ -42,7 +42,7 @@ class Image:
         self.volume.write(*divmod(number, self.heads), Track(self.track(number).home, records))
 
     def put_blocks(self, number: int, blocks: list[tuple[bytes, bytes]]) -> None:
-        """Puts records 1, 2, .. of these keys and data behind record 0, in the place of those that stood there."""
+        """Puts records 1, 2, .. of these keys and data after record 0, in the place of those that stood there."""
         behind = [Record(self.address(number) + bytes([it]), *block) for it, block in enumerate(blocks, 1)]
         self.put_records(number, [self.records(number)[0], *behind])
 

@@ -1,7 +1,7 @@
 """What earlier runs on this machine have made, or have seen pass, for later ones in any checkout: as `rt ci` keeps its proofs.
 
 An entry is named by the sum of all that it was made from, so it is never stale; it is written apart and then renamed, so that nobody meets
-half of it. It stands in $DASD_KEPT, else in the user's folder for what can be made again. An entry is removed where its kind has too many
+half of it. It is in $DASD_KEPT, else in the user's folder for what can be made again. An entry is removed where its kind has too many
 that were used since. With $ANEW set to anything nothing is taken of what was kept."""
 
 import functools
@@ -44,7 +44,7 @@ def kit_name() -> str:
 
 
 def is_anew() -> bool:
-    """Whether all is to be made anew."""
+    """Whether all is to be made again."""
     return bool(os.environ.get("ANEW"))
 
 

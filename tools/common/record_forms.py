@@ -14,12 +14,12 @@ def cut(data: bytes, length: int) -> list[bytes]:
 
 
 def described(body: bytes, code: int = 0) -> bytes:
-    """Bytes behind a descriptor word with their length, its own four bytes with it."""
+    """Bytes after a descriptor word with their length, its own four bytes with it."""
     return (len(body) + DESCRIPTOR).to_bytes(2, "big") + bytes([code, 0]) + body
 
 
 def with_lengths(blocks: list[tuple[bytes, bytes]]) -> bytes:
-    """Blocks as a file keeps them behind their lengths: a byte 1, the length of the key in a byte, that of the data in two, key and data."""
+    """Blocks as a file keeps them after their lengths: a byte 1, the length of the key in a byte, that of the data in two, key and data."""
     return b"".join(bytes([1, len(key)]) + len(data).to_bytes(2, "big") + key + data for key, data in blocks)
 
 
@@ -30,7 +30,7 @@ def fixed_blocks(records: list[bytes], block_length: int) -> list[bytes]:
 
 
 def variable_blocks(records: list[bytes], block_length: int) -> list[bytes]:
-    """Records behind descriptor words, as many in each block as it has room for."""
+    """Records after descriptor words, as many in each block as it has room for."""
     blocks, room = [], b""
     for record in records:
         spelled = described(record)

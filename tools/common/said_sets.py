@@ -31,7 +31,7 @@ def library_hash(members: list[tuple[bytes, str]], is_whole: bool = True) -> str
 
 
 def ending(is_whole: bool) -> bytes:
-    """What stands behind a message."""
+    """What is after a message."""
     return b"" if is_whole else b"\0"
 
 
@@ -68,7 +68,7 @@ def tracks_of(image: Image, extents: list[bytes]) -> list[int]:
 
 
 def extents_said(image: Image, data: bytes, blocks: dict[Place, Block]) -> list[bytes]:
-    """The extents that a format 1 block says, and those of format 3 behind it, with those for user labels."""
+    """The extents that a format 1 block says, and those of format 3 after it, with those for user labels."""
     spelled, behind = data[EXTENTS : EXTENTS + 3 * EXTENT], data[91:96]
     while behind != NO_BLOCK:
         cylinder, head = int.from_bytes(behind[:2], "big"), int.from_bytes(behind[2:4], "big")
@@ -144,7 +144,7 @@ class Tracks:
 
 
 def said_by(image: Image) -> Iterator[Said]:
-    """All data sets of a volume in the order of its table of contents, each with its members behind it in the order of their directory."""
+    """All data sets of a volume in the order of its table of contents, each with its members after it in the order of their directory."""
     blocks = {place: (key, data) for place, key, data in control_blocks(image)}
     for key, data in blocks.values():
         if data[0] != 0xF1:

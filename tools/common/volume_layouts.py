@@ -32,7 +32,7 @@ class Extents:
         return MOST_GAPS + (len(key) + len(data)) * by // of
 
     def append(self, key: bytes, data: bytes) -> tuple[int, int]:
-        """Writes a block behind the last one, and answers its track and its number."""
+        """Writes a block after the last one, and answers its track and its number."""
         used = sum(self.charge(*block) for block in self.filled[-1])
         if self.filled[-1] and used + self.charge(key, data) > self.capacity:
             self.filled.append([])
@@ -50,7 +50,7 @@ class Extents:
         return relative, len(self.filled[relative])
 
     def save(self) -> None:
-        """Puts the blocks on the tracks; those behind them have record 0 alone."""
+        """Puts the blocks on the tracks; those after them have record 0 alone."""
         assert len(self.filled) <= len(self.tracks), (len(self.filled), len(self.tracks))
         for relative, track in enumerate(self.tracks):
             self.image.put_blocks(track, self.filled[relative] if relative < len(self.filled) else [])
@@ -61,7 +61,7 @@ def ebcdic(text: str, length: int) -> bytes:
 
 
 def directory_blocks(entries: list[tuple[bytes, bytes]], count: int) -> list[tuple[bytes, bytes]]:
-    """The blocks of a directory: keys and data. Each entry is a name and what stands behind it."""
+    """The blocks of a directory: keys and data. Each entry is a name and what is after it."""
     blocks, room, last = [], bytearray(), b""
     for name, rest in sorted(entries) + [(END, b"")]:
         entry = name + rest
@@ -93,7 +93,7 @@ class Member:
 
 
 def partition(extents: Extents, members: dict[str, Member], count: int) -> None:
-    """Writes a partitioned data set: the directory, and each member with an end of file behind it."""
+    """Writes a partitioned data set: the directory, and each member with an end of file after it."""
     for _ in range(count):
         extents.append(bytes(8), bytes(256))
     extents.append(b"", b"")
@@ -131,7 +131,7 @@ def run_of(image: Image, extent: bytes) -> Run:
 
 
 def runs_of(image: Image, block: Place) -> list[Run]:
-    """The extents of a format 1 block, and of the one of format 3 behind it, as the numbers of their first and last tracks."""
+    """The extents of a format 1 block, and of the one of format 3 after it, as the numbers of their first and last tracks."""
     data = image.block(block)[1]
     spelled = data[EXTENTS : EXTENTS + 3 * EXTENT]
     if any(data[91:96]):
@@ -156,7 +156,7 @@ def date(image: Image) -> None:
 
 def join(image: Image, name: str, parts: list[str]) -> None:
     """Gives a data set the extents of others, whose format 1 blocks are free from then on; the first of them is the format 3 block of
-    the fourth extent and those behind it."""
+    the fourth extent and those after it."""
     blocks = find_blocks(image)
     extents = [image.block(blocks[it])[1][EXTENTS : EXTENTS + EXTENT] for it in (name, *parts)]
     extents = [it[:1] + bytes([number]) + it[2:] for number, it in enumerate(extents)]
@@ -176,7 +176,7 @@ def join(image: Image, name: str, parts: list[str]) -> None:
 
 @dataclass
 class Details:
-    """What a format 1 block says beside what `dasdload` writes, where it is given: dates, as years behind 1900 and days; the organisation; bits
+    """What a format 1 block says beside what `dasdload` writes, where it is given: dates, as years after 1900 and days; the organisation; bits
     of the record format that are on too; the type of the first extent."""
 
     created: tuple[int, int] = (75, 1)

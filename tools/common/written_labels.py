@@ -43,7 +43,7 @@ class DataSet:
     is_last: bool = False
 
     def blocks(self, image: Image, serial: str, number: int) -> list[tuple[bytes, bytes]]:
-        """Its control blocks: that of format 1, which stands as the record of this number, and one of format 3 behind it if need be."""
+        """Its control blocks: that of format 1, which stands as the record of this number, and one of format 3 after it if need be."""
         extents = [extent(image, *it, self.kind) for it in enumerate(self.runs)]
         block = b"\xf1" + ebcdic(serial, 6) + self.volume.to_bytes(2, "big") + DAYS + bytes([len(extents), 0, 0]) + ebcdic("SCRIPT", 13) + bytes(7)
         block += ORGANISATION[self.organisation] + bytes([FORMAT[self.form], 0])

@@ -3,7 +3,7 @@
     tools/run make/capture [--just-proved] CRATE MODULE.bc
 
 CRATE is `dasd_c`, the library, `dasd_cmd`, the program, or `lone_drive_c`, a drive alone. Rattle checks the crate over the libraries that
-stand in this checkout, as `rt ci` checks each crate over those below it, and compiles what it proved. These have to be made of today's files:
+are in this checkout, as `rt ci` checks each crate over those below it, and compiles what it proved. These have to be made of today's files:
 each with the stamp that `rt lib` leaves of them, or none with one, as `rt ci` leaves them in a checkout without any, and then it has to have passed
 just now. With `--just-proved`, as beside a running `rt ci`, no stamp is looked at.
 

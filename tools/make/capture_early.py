@@ -20,7 +20,7 @@ from tools.common.kit import kit_crate
 MADE = ("dasd_c", "dasd_cmd", "lone_drive_c")
 # The seconds between two looks at the report.
 PAUSE = 3
-# How `rt ci` tells that a crate's library stands in this checkout, and how it ends.
+# How `rt ci` tells that a crate's library is in this checkout, and how it ends.
 STANDS = re.compile(r"^rt: (\w+) (?:proved$|is kept: )", re.MULTILINE)
 ENDS = re.compile(r"^\d+ passed, \d+ failed", re.MULTILINE)
 

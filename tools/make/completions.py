@@ -48,7 +48,7 @@ def options_section(program: Command, commands: list[Command]) -> str:
 
 
 def with_options(manual: str, section: str) -> str:
-    """The manual page with this section OPTIONS, which stands before its section FILES."""
+    """The manual page with this section OPTIONS, which is before its section FILES."""
     without = re.sub(r"^\.Sh OPTIONS\n.*?(?=^\.Sh )", "", manual, flags=re.MULTILINE | re.DOTALL)
     before, files, behind = without.partition(".Sh FILES\n")
     return before + section + files + behind

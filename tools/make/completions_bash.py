@@ -51,7 +51,7 @@ def action(it: Word) -> str:
 
 
 def option_case(command: Command) -> str:
-    """What stands behind the options of a command that take a word."""
+    """What is after the options of a command that take a word."""
     lines = ""
     for option in command.options:
         if option.takes:

@@ -14,7 +14,7 @@ def quoted(text: str) -> str:
 
 
 def taken(it: Word) -> str:
-    """How what stands behind an option is completed."""
+    """How what is after an option is completed."""
     if it.values:
         return f" -x -a {quoted(' '.join(it.values))}"
     return {FILES: " -r -F", FOLDERS: " -x -a '(__fish_complete_directories)'"}.get(kind(it), " -x")

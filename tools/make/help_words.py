@@ -48,7 +48,7 @@ class Word:
 
 @dataclass
 class Option:
-    """An option, with what stands behind it, if anything does."""
+    """An option, with what is after it, if anything does."""
 
     long: str
     short: str
@@ -78,7 +78,7 @@ def word(name: str, words: str) -> Word:
 
 
 def sections(text: str) -> dict[str, list[str]]:
-    """The lines of the sections of a help, by their headings; what stands above them is under the empty one."""
+    """The lines of the sections of a help, by their headings; what is above them is under the empty one."""
     parts: dict[str, list[str]] = {"": []}
     heading = ""
     for line in text.splitlines():
@@ -94,7 +94,7 @@ def sections(text: str) -> dict[str, list[str]]:
 
 
 def argument(line: str) -> Word:
-    """A line of the arguments; one that may be left out stands in brackets. One that names several words, as PATH.. NAME, comes as often as it
+    """A line of the arguments; one that may be left out is in brackets. One that names several words, as PATH.. NAME, comes as often as it
     is wanted at least."""
     found = ARGUMENT.fullmatch(line)
     if not found:

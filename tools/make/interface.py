@@ -5,7 +5,7 @@
 
 A part of a file is between a line with 'c/interface.toml: begin' and one with 'c/interface.toml: end'; around it the file is written by hand. What a
 file looks like is a template in tools/make/templates. `--check` looks also whether the crates export just the calls of the table, with its parameters,
-and answer just its faults. What is wrong is told; the last line is 'N files looked at, M are not as c/interface.toml has it', and the status 1
+and answer just its faults. What is wrong is reported; the last line is 'N files looked at, M are not as c/interface.toml has it', and the status 1
 where M is not 0 or the crates differ. It wants Debian's python3-jinja2, and says so where that is not there."""
 
 import argparse

@@ -1,4 +1,4 @@
-"""Whether the crates behind the libraries are as c/interface.toml has it: the calls that they export, with their parameters, the fields of their
+"""Whether the crates of which the libraries are made are as c/interface.toml has it: the calls that they export, with their parameters, the fields of their
 structs, the numbers by which they refuse, and the drives."""
 
 import re
@@ -62,7 +62,7 @@ def lowered(parameters: tuple[Named, ...], structs: dict[str, Struct]) -> list[t
 
 
 def exported(text: str) -> dict[str, tuple[list[tuple[str, str]], str]]:
-    """What a crate exports: of each call its parameters, but for the allocator, which C does not see, and what it answers."""
+    """What a crate exports: of each call its parameters, except for the allocator, which C does not see, and what it answers."""
     found = {}
     for name, inside, result in EXPORT.findall(text):
         pairs = [it.strip().split(": ") for it in inside.split(",") if it.strip()]
@@ -85,7 +85,7 @@ def wrong_calls(side: Side) -> Iterator[str]:
 
 
 def without_lengths(fields: list[tuple[str, str]]) -> list[tuple[str, str]]:
-    """Fields of which a pointer, or a slice, is bytes, and the length behind it is no field of its own."""
+    """Fields of which a pointer, or a slice, is bytes, and the length after it is no field of its own."""
     made: list[tuple[str, str]] = []
     for name, kind in fields:
         if kind in ("usize", "size_t") and made and made[-1][1] == "bytes":

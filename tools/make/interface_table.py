@@ -27,7 +27,7 @@ def sentence_of(text: str) -> str:
 
 @dataclass(frozen=True)
 class Item:
-    """What stands in a header: its comment, and whether an empty line is before it."""
+    """What is in a header: its comment, and whether an empty line is before it."""
 
     text: str
     apart: bool
@@ -162,7 +162,7 @@ class Call(Item):
 
     @property
     def numbers(self) -> tuple[Named, ...]:
-        """What it is given behind its handle."""
+        """What it is given after its handle."""
         return self.parameters[1:]
 
 

@@ -48,13 +48,13 @@ class Section:
     paragraphs: list[Paragraph]
 
     def title(self) -> str:
-        """Its heading without the modules behind it."""
+        """Its heading without the modules after it."""
         return self.heading.split(" (")[0]
 
 
 @dataclass
 class Row:
-    """A rule: of the suite, with its name; a law, with the names that stand before it; or a sentence of the definitions."""
+    """A rule: of the suite, with its name; a law, with the names that are before it; or a sentence of the definitions."""
 
     section: str
     name: str = ""
@@ -124,7 +124,7 @@ class Tree:
 
 
 def law_words(names: str, rest: str) -> str:
-    """What a paragraph says of the names before it, with what stands between them on the page."""
+    """What a paragraph says of the names before it, with what is between them on the page."""
     words = re.split(r" ?\*(?:For you|Not):\*", rest)[0]
     module = MODULE.match(words)
     if module or names.endswith("."):

@@ -4,8 +4,8 @@ vectors that pin it.
     tools/run make/rules           writes the page
     tools/run make/rules --check   looks whether the page is what would be written
 
-The suite's rules stand in conformance/rules.txt, those of the definitions in docs/DEFINITIONS.md, and where each is in tools/make/rule_places.txt.
-What is wrong is told, with status 1: a definition, a function or a file that is not there, a rule without a place, a rule of the suite that no vector
+The suite's rules are in conformance/rules.txt, those of the definitions in docs/DEFINITIONS.md, and where each is in tools/make/rule_places.txt.
+What is wrong is reported, with status 1: a definition, a function or a file that is not there, a rule without a place, a rule of the suite that no vector
 pins, a paragraph, a name, a module or a file of worked vectors of docs/DEFINITIONS.md that no row has, and a law without a paragraph there.
 """
 

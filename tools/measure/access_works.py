@@ -1,7 +1,7 @@
 """The channel programs by which operating systems look for records, read and write them: what they do, and what they must end with.
 
 Each is a program at a drive of a 2314 over a volume of four cylinders, which stays in the processor's caches: identifiers that are
-searched for behind a Transfer In Channel, a table of contents, a directory of members, Read Count over a cylinder, cards, records that are
+searched for after a Transfer In Channel, a table of contents, a directory of members, Read Count over a cylinder, cards, records that are
 updated and formatted. How a volume of OS/360 is searched: IBM GC28-6550, 'Direct Access Device Space Management'."""
 
 from collections.abc import Callable
@@ -16,7 +16,7 @@ SEARCH_KEY_HIGH_EQUAL = 0x69
 READ_DATA, READ_COUNT, READ_KEY_AND_DATA, READ_COUNT_KEY_AND_DATA = 0x06, 0x12, 0x0E, 0x1E
 WRITE_DATA, WRITE_COUNT_KEY_AND_DATA = 0x05, 0x1D
 DATA_CHAINING, COMMAND_CHAINING, NO_LENGTH, SKIP, INTERRUPTS = 0x80, 0x40, 0x20, 0x10, 0x08
-# Where things stand in storage: data, the program, its operands.
+# Where things are in storage: data, the program, its operands.
 BUFFER, WORDS, OPERANDS = 0x2000, 0x10000, 0x100000
 CYLINDER, CYLINDERS = 1, 4
 HEADS = MODELS["2314"].heads
@@ -63,7 +63,7 @@ class Access:
     asks: bool = False
 
     def operand(self, held: bytes) -> int:
-        """Puts an operand behind the others, and answers where it stands."""
+        """Puts an operand after the others, and answers where it stands."""
         at = OPERANDS + len(self.operands)
         self.operands += held
         return at
@@ -94,7 +94,7 @@ class Access:
         return (self.key << 28 | WORDS).to_bytes(4, "big")
 
     def status_word(self) -> bytes:
-        """What the channel stores at the end: the key, the address behind the last word, channel end and device end."""
+        """What the channel stores at the end: the key, the address after the last word, channel end and device end."""
         return (self.key << 28 | WORDS + len(self.words)).to_bytes(4, "big") + bytes([0x0C, 0x80 * self.asks]) + self.left.to_bytes(2, "big")
 
     def image(self) -> bytes:

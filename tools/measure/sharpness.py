@@ -1,4 +1,4 @@
-"""Measures how sharp the suites are: which wrong bodies a suite catches, of those that stand in must-fail edits and in tools/edits.
+"""Measures how sharp the suites are: which wrong bodies a suite catches, of those that are in must-fail edits and in tools/edits.
 
     tools/run measure/sharpness [--crates CRATE,..] SUITE..
 
@@ -12,7 +12,7 @@ suite one line tells how many were caught, and then which were not.
 A suite may have wrong bodies of its own in tools/wrong_bodies/SUITE: files of the form of a must-fail edit, whose `file:` begins at
 `crates`. They stand for what no must-fail edit shows, or none shows any more, and the gate does not look at them.
 
-What stands outside a function (an edit of a definition, of a table, or of a function of a trait) is not tried, and is counted; so is
+What is outside a function (an edit of a definition, of a table, or of a function of a trait) is not tried, and is counted; so is
 what NO_RUN_SHOWS names.
 NOTHING THAT IS BUILT HERE IS PROVED, and the gate does not run this.
 """
@@ -134,7 +134,7 @@ def unproved() -> ModuleType:
 
 
 def crates_below(program: str) -> list[str]:
-    """The crates of this repository that a program stands on."""
+    """The crates of this repository that a program depends on."""
     lines = [it.split(":", 1) for it in (TOP / "crates.txt").read_text().splitlines() if re.match(r"\w", it)]
     needs = {name.split()[0]: words.split() for name, words in lines}
     found: list[str] = []
@@ -148,7 +148,7 @@ def crates_below(program: str) -> list[str]:
 
 
 def closing(text: str, at: int) -> int:
-    """The place behind the bracket that closes the one at `at`."""
+    """The place after the bracket that closes the one at `at`."""
     depth = 0
     for place in range(at, len(text)):
         depth += {"(": 1, "[": 1, "{": 1, ")": -1, "]": -1, "}": -1}.get(text[place], 0)
@@ -222,7 +222,7 @@ def right_one(text: str, old: str) -> tuple[re.Match[str], int, int] | None:
 
 
 def beside(text: str, pairs: list[list[str]], number: int) -> str | None:
-    """The file with a wrong copy of the function behind the right one, which calls it where its number is asked for; or none."""
+    """The file with a wrong copy of the function after the right one, which calls it where its number is asked for; or none."""
     found = right_one(text, pairs[0][0])
     if not found:
         return None
@@ -276,7 +276,7 @@ def make_number(folder: Path) -> None:
 
 
 class Planted:
-    """A copy in which wrong bodies stand beside the right ones: their numbers by name, and the names of those that can't be tried."""
+    """A copy in which wrong bodies are beside the right ones: their numbers by name, and the names of those that can't be tried."""
 
     def __init__(self, top: Path) -> None:
         self.top = top

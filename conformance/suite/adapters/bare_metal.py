@@ -1,6 +1,6 @@
 """A small supervisor for System/370 in machine code: it does a list of operations, one after another, and keeps what came of each.
 
-It stands above the storage that decks use, and leaves locations below 4,096 as a deck finds and leaves them, but the new PSW at 78
+It is above the storage that decks use, and leaves locations below 4,096 as a deck finds and leaves them, but the new PSW at 78
 while it takes an interruption. Each operation is an entry of 160 bytes.
 """
 from __future__ import annotations
@@ -30,7 +30,7 @@ class Assembler:
         self.code += bytes.fromhex(digits)
 
     def to(self, digits: str, label: str, more: str = "") -> None:
-        """An instruction with the address of a label behind its first half word or later."""
+        """An instruction with the address of a label after its first half word or later."""
         self.raw(digits)
         self.fixes.append((len(self.code), label))
         self.raw("0000" + more)
@@ -130,7 +130,7 @@ def put_wait(a: Assembler) -> None:
 
 
 def put_interruption(a: Assembler) -> None:
-    """An interruption is let come, by a new PSW that stands at 120 for that moment."""
+    """An interruption is let come, by a new PSW that is at 120 for that moment."""
     a.label("int")
     a.to("D207", "saved", "0078")                   # MVC saved(8),120
     a.to("D2070078", "taken psw")                   # MVC 120(8),taken psw
@@ -166,6 +166,6 @@ def entry(operation: int, unit: int = 0, address: int = 0, length: int = 0, data
 
 
 def read_entry(data: bytes) -> Tuple[int, int, bytes, bytes, bytes]:
-    """The condition code, the number that stands there, eight bytes of status, eight of an old PSW, and the data of an entry."""
+    """The condition code, the number that is there, eight bytes of status, eight of an old PSW, and the data of an entry."""
     number = int.from_bytes(data[12:16], "big")
     return data[12] >> 4 & 3, number, data[16:24], data[24:32], data[32:]

@@ -1,6 +1,6 @@
-"""The C library over main storage that is lent to each call, and that stands at another place at each of them.
+"""The C library over main storage that is lent to each call, and that is at another place at each of them.
 
-It is the adapter of the library but for main storage, which is Python's: two bytearrays, the bytes and the keys. Before each call that
+It is the adapter of the library except for main storage, which is Python's: two bytearrays, the bytes and the keys. Before each call that
 needs them they are copied to new ones, and what stood at the old places is spoilt.
 """
 from __future__ import annotations
@@ -48,7 +48,7 @@ class LentEmulator(LibraryEmulator):
 
 
 class LentCopiedEmulator(LibraryEmulator):
-    """The same, whose channels are copied behind each event and closed. The copy goes on, over memory of its own."""
+    """The same, whose channels are copied after each event and closed. The copy goes on, over memory of its own."""
 
     def __init__(self, file: Optional[str] = None) -> None:
         super().__init__(file)

@@ -69,12 +69,12 @@ class LibraryEmulator(Emulator):
         return Outcome(answers, None, after)
 
     def behind_event(self, channels: Any, vector: Vector) -> Any:
-        """What goes on behind an event: the same channels."""
+        """What goes on after an event: the same channels."""
         return channels
 
 
 class CopiedEmulator(LibraryEmulator):
-    """The library, whose channels are copied behind each event and closed, and the copy goes on."""
+    """The library, whose channels are copied after each event and closed, and the copy goes on."""
 
     def __init__(self, file: Optional[str] = None) -> None:
         super().__init__(file)
@@ -86,7 +86,7 @@ class CopiedEmulator(LibraryEmulator):
 
 
 class RestoredEmulator(LibraryEmulator):
-    """The library, whose channels are saved behind each event behind which no program runs, and closed. New channels go on, over main
+    """The library, whose channels are saved after each event after which no program runs, and closed. New channels go on, over main
     storage and volumes with the same bytes, to which the saved state is restored."""
 
     def __init__(self, file: Optional[str] = None) -> None:

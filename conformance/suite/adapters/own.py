@@ -12,7 +12,7 @@ MODULE = "adapter_of_ones_own"
 
 
 def own_adapter(spec: str) -> Emulator:
-    """The adapter that `FILE:CLASS` names, made without operands. What stands beside the file can be imported by it."""
+    """The adapter that `FILE:CLASS` names, made without operands. What is beside the file can be imported by it."""
     file, _, name = spec.rpartition(":")
     found = importlib.util.spec_from_file_location(MODULE, file) if file and name else None
     if found is None or found.loader is None:

@@ -5,7 +5,7 @@
     VOLUME 90 2311 PATH ..       OK        a drive with this low byte of its address, and the files of its volume
     SIO 190                      SIO 190 CC 0        any event of a deck, and its answer
     DECK 5443480A                DECK 5443482043432030..   a whole deck's bytes, and its answers'; or FAULT and why it is refused
-    END                          OK        the channel is reset, and each volume stands in its files
+    END                          OK        the channel is reset, and each volume is in its files
 
 An answer `NO REASON` says that the emulator can't do that. DECK is asked of those alone whose HELLO says `has decks`.
 """
@@ -36,7 +36,7 @@ class Declined(Exception):
 
 
 def what_it_lacks(words: Sequence[str]) -> FrozenSet[str]:
-    """What an emulator lacks by the words behind its name: those behind `lacks`, and what it does not announce behind `has`."""
+    """What an emulator lacks by the words after its name: those after `lacks`, and what it does not announce after `has`."""
     said: Dict[str, List[str]] = {"has": [], "lacks": []}
     behind = "lacks"
     for word in words:
