@@ -6,6 +6,7 @@
 #include "channel.h"
 
 #include "processors.h"
+#include "recording.h"
 #include "timer.h"
 
 /* Locations of the channel status word, its status bytes, and the channel address word. */
@@ -22,6 +23,7 @@ enum { ARM_BEGINS = 25000, ARM_CYLINDER = 550, ARM_WAITS = 1000 };
 struct channel {
     int drives;
     bool works, has_thread;
+    bool records_again; /* what the program refers to is to be recorded in each slice: its words may change */
     uint8_t key, unit;
     uint32_t sense_at; /* where the first byte of a Sense goes that begins the program; else 0 */
     COND go;
@@ -219,8 +221,16 @@ static bool slice(uint8_t channel, uint32_t units) {
     struct channel *c = &channels[channel];
     dasd_memory m = lent(sysblk.mainstor, c->key);
     dasd_run ran = {units, 0, 0, 0, 0};
-    bool asked;
-    int32_t fault = dasd_lent_run_on(&disks, &m, channel, &ran);
+    dasd_program at;
+    bool asked, records = c->records_again && dasd_show_program(&disks, channel, &at) == DASD_DONE;
+    int32_t fault;
+    struct point from = {0};
+    if (records) {
+        from = (struct point){at.next, at.address, at.count, at.code, at.flags, at.key};
+        record_program(&from, size);
+    }
+    fault = dasd_lent_run_on(&disks, &m, channel, &ran);
+    if (records) record_program(&from, size);
     if (fault < 0) logmsg("HHCSX008E channel %d: %s\n", channel, dasd_fault_text(fault));
     c->works = fault >= 0 && ran.subchannel == DASD_WORKING;
     asked = offer(channel);
@@ -247,6 +257,7 @@ static void *run(void *of_channel) {
 static void hand_over(uint8_t channel) {
     struct channel *c = &channels[channel];
     TID thread;
+    c->records_again = true;
     if (!c->has_thread) {
         initialize_condition(&c->go);
         c->has_thread = !create_thread(&thread, DETACHED, run, c, "selector channel");
@@ -259,9 +270,11 @@ static void hand_over(uint8_t channel) {
 static void note_start(const struct target *t, const uint8_t *caw) {
     struct channel *c = &channels[t->channel];
     struct unit *u = unit_of(t->dev);
-    const uint8_t *word = sysblk.mainstor + (fetch_fw(caw) & 0xFFFFFF);
+    const struct point from = {.next = fetch_fw(caw) & 0xFFFFFF, .key = caw[0] >> 4};
+    const uint8_t *word = sysblk.mainstor + from.next;
     bool senses = word[0] == SENSE && !(word[4] & CCW_FLAGS_SKIP);
     c->works = true;
+    c->records_again = !record_program(&from, size);
     c->key = caw[0] >> 4;
     c->unit = (uint8_t)t->address;
     if (word[0] != SENSE) u->checked = false;
