@@ -6,7 +6,7 @@
 
 #include "herc.h"
 
-enum { WORD = 8, RUNS = 256, TRANSFER = 8, SENSE = 4, INVALID = 7 };
+enum { WORD = 8, RUNS = 256, TRANSFER = 8, SENSE = 4, INVALID = 7, FIRST_SEARCH = 0x20 };
 
 /* Words that follow each other: from `from`, up to `to`, which is none of them. */
 struct run {
@@ -20,9 +20,10 @@ struct walk {
     size_t size;
     uint32_t low, high; /* what is stored into lies between them */
     uint8_t key;
-    bool cut; /* there are more words */
+    struct recorded found;
 };
 
+/* Sets bits in the keys of the blocks that some bytes are in: change bits where the program may store. */
 static void record(const struct walk *w, uint32_t at, uint32_t len, uint8_t bits) {
     if (at >= w->size || !len) return;
     if (len > w->size - at) len = (uint32_t)w->size - at;
@@ -54,7 +55,7 @@ static bool is_known(const struct walk *w, uint32_t at) {
 static void begin(struct walk *w, uint32_t at, uint8_t code) {
     if (at % WORD || at >= w->size || is_known(w, at)) return;
     if (w->known < RUNS) w->runs[w->known++] = (struct run){at, at, code};
-    else w->cut = true;
+    else w->found.again = true;
 }
 
 /* Visits the words of a run, until its chain ends, they are known, or one is invalid. */
@@ -74,25 +75,26 @@ static void visit(struct walk *w, struct run *run) {
         if (!code) code = word[0];
         if (word[4] & INVALID || !count || !(code & 15)) return;
         record_area(w, code, word[4], address, count);
+        w->found.asks = w->found.asks || word[4] & CCW_FLAGS_PCI;
         if (word[4] & CCW_FLAGS_CD) continue;
         if (!(word[4] & CCW_FLAGS_CC)) return;
-        if ((code & 3) == 1) begin(w, at + WORD, 0);
+        if ((code & 3) == 1 && code >= FIRST_SEARCH) begin(w, at + WORD, 0);
         code = 0;
     }
 }
 
-bool record_program(const struct point *from, size_t size) {
+struct recorded record_program(const struct point *from, size_t size) {
     struct walk w;
     w.known = 0;
     w.size = size;
     w.low = UINT32_MAX;
     w.high = 0;
     w.key = from->key;
-    w.cut = false;
+    w.found = (struct recorded){from->flags & CCW_FLAGS_PCI, false};
     record_area(&w, from->code, from->flags, from->address, from->count);
     begin(&w, from->next, from->flags & CCW_FLAGS_CD ? from->code : 0);
     for (unsigned i = 0; i < w.known; i++) visit(&w, &w.runs[i]);
     for (unsigned i = 0; i < w.known; i++)
-        if (w.runs[i].from < w.high && w.runs[i].to + WORD > w.low) return false;
-    return !w.cut;
+        if (w.runs[i].from < w.high && w.runs[i].to + WORD > w.low) w.found.again = true;
+    return w.found;
 }

@@ -14,10 +14,15 @@ struct point {
     uint8_t code, flags, key;
 };
 
+/* What a program may do, by its words. */
+struct recorded {
+    bool asks;  /* one asks for an interruption */
+    bool again; /* look again after it has gone on: it reads over its own words, or has more than are looked at in one go */
+};
+
 /* Sets the bits for all that a program may fetch and store from a point on, by its words as they are now: the reference bits of the words and
  * of the areas that they name, and the change bits of those areas into which a command reads, but for blocks that the program's key may not
- * store into. `size` is that of main storage. False: look again after the program has gone on, since it reads over its own words, or has more
- * than are looked at in one go. */
-bool record_program(const struct point *from, size_t size);
+ * store into. `size` is that of main storage. */
+struct recorded record_program(const struct point *from, size_t size);
 
 #endif

@@ -37,6 +37,8 @@ GUEST = "58200300" "9C000190" "47700226" "9D000190" "4720020C" "950C0044" "47700
 #: What the threads begin in that execute a program: none calls another of them.
 BEGIN = ("s370_start_io", "start_io", "device_thread", "run")
 COUNTS = {"key": (20, 120)}
+#: Clears and copies are counted as instructions for vectors, and not by byte.
+TUNABLES = "glibc.cpu.x86_rep_stosb_threshold=1000000:glibc.cpu.x86_rep_movsb_threshold=1000000"
 Words = List[Tuple[int, int, int]]
 
 
@@ -123,9 +125,9 @@ def run(module: str, name: str, times: int, under: Tuple[str, ...]) -> Tuple[flo
         (room / "end").write_text("psw\nquit\n", encoding="ascii")
         before = resource.getrusage(resource.RUSAGE_CHILDREN)
         ran = subprocess.run([*under, "hercules", "-d", "-f", "conf"], stdin=subprocess.DEVNULL, capture_output=True, cwd=room, timeout=900,
-                             env=dict(os.environ, HERCULES_RC=str(room / "rc")), check=False)
+                             env=dict(os.environ, HERCULES_RC=str(room / "rc"), GLIBC_TUNABLES=TUNABLES), check=False)
         after = resource.getrusage(resource.RUSAGE_CHILDREN)
-        if b"00000ACE" not in ran.stdout:
+        if b"0000ACE" not in ran.stdout:
             raise SystemExit("%s did not end well over %s:\n%s" % (name, module or "Hercules", ran.stdout.decode("latin1")[-1500:]))
         annotated = ""
         if under:
