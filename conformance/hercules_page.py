@@ -1,9 +1,10 @@
 #!/usr/bin/env python3
-"""Writes docs/HERCULES.md: each deck of hercules/ is played, and what Hercules answers stands beside what it must. The counts of whole
-runs are taken from results/.
+"""Writes docs/HERCULES.md: each deck of hercules/ is played, with Hercules' own drives and with each module of adapters/hercules, and what
+Hercules answers stands beside what it must. The counts of whole runs are taken from results/.
 
-  hercules_page.py > ../docs/HERCULES.md
-"""
+  hercules_page.py MODULES > ../docs/HERCULES.md
+
+MODULES is the folder with hdtdasd.so and hdtchan.so."""
 from __future__ import annotations
 
 import os
@@ -17,6 +18,8 @@ from suite.adapters.hercules import HerculesEmulator
 from suite.vectors import HERE
 
 RESULTS = os.path.join(HERE, "results")
+WITH_MODULE = os.path.join(os.path.dirname(HERE), "adapters", "hercules", "tests", "with_module")
+MODULES = ("hdtdasd", "hdtchan")
 # What run.py printed of whole runs.
 RUNS = {
     "as they are": "hercules-3.13.txt",
@@ -61,7 +64,6 @@ channel, and `hdtchan` whole channels.
 
 | | Hercules alone | With `hdtdasd` | With `hdtchan` |
 |---|---|---|---|
-| Facts that remain | 1 to 34 | 3 to 8, 11 to 14, 20, 21, 22, 29, 33 | 7, which asks for an arm that takes time; it was not played with the option `arms` |
 | Vectors right, of those that can be asked | 67 of 330 | 254 of 330 | 330 of 330 |
 | Random lists that differ | 44 of 81 | not counted | 0 of 35 |
 | The worked utility by IPL | waits for ever, since no device end comes after a seek | `DONE` | `DONE` |
@@ -104,6 +106,29 @@ def section(number: int, path: str, emulator: Emulator) -> str:
     return "\n".join(lines)
 
 
+def remains(path: str, emulator: Emulator) -> bool:
+    """Whether an emulator answers a deck otherwise than it must."""
+    vector, must, _ = read_deck(path)
+    outcome = emulator.play(vector)
+    return bool(outcome.broke) or any(wanted for _, _, wanted in compared(vector, must, outcome, emulator.lacks))
+
+
+def doors(paths: Sequence[str], modules: str) -> str:
+    """A table of the facts: where each remains."""
+    with HerculesEmulator() as emulator:
+        remain = {"Hercules alone": [remains(it, emulator) for it in paths]}
+    for name in MODULES:
+        os.environ["MODULE"] = os.path.abspath(os.path.join(modules, name + ".so"))
+        with HerculesEmulator(WITH_MODULE) as emulator:
+            remain["With `%s`" % name] = [remains(it, emulator) for it in paths]
+    out = ["", "## Facts by door", "", "[adapters/hercules](../adapters/hercules/README.md) has two modules for the same, unmodified Hercules: "
+           "`hdtdasd` has drives, under Hercules'", "channel, and `hdtchan` whole channels.", "", "<!-- conformance/doors: begin -->", "",
+           "| Fact | %s |" % " | ".join(remain), "|---" * (len(remain) + 1) + "|"]
+    for at, path in enumerate(paths):
+        out.append("| %d. %s | %s |" % (at + 1, read_deck(path)[2]["title"], " | ".join("differs" if it[at] else "as it must" for it in remain.values())))
+    return "\n".join([*out, "", "<!-- conformance/doors: end -->", "", ""])
+
+
 def note(line: str, answer: str, wanted: Optional[str], broke: Optional[str]) -> str:
     """What stands behind an event: its answer, or both where they differ."""
     if wanted:
@@ -137,10 +162,14 @@ def results() -> str:
 
 
 def main() -> int:
+    if len(sys.argv) != 2:
+        print(__doc__, file=sys.stderr)
+        return 2
     folder = os.path.join(HERE, "hercules")
+    paths = [os.path.join(folder, it) for it in sorted(os.listdir(folder))]
     with HerculesEmulator() as emulator:
-        facts = [section(number, os.path.join(folder, it), emulator) for number, it in enumerate(sorted(os.listdir(folder)), 1)]
-    print(HEAD)
+        facts = [section(number, it, emulator) for number, it in enumerate(paths, 1)]
+    print(HEAD + doors(paths, sys.argv[1]))
     print("\n".join(facts), end="")
     print(ALIKE, end="")
     print(results())
