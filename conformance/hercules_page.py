@@ -59,29 +59,29 @@ one of the facts 8, 11, 12, 16, 17, 25, 28, 32, 33 and 34. This search found 28,
 
 ## With the modules of this repository
 
-[adapters/hercules](../adapters/hercules/README.md) has two modules for the same, unmodified Hercules: `hdtdasd` has drives, under Hercules'
-channel, and `hdtchan` whole channels.
-
 | | Hercules alone | With `hdtdasd` | With `hdtchan` |
 |---|---|---|---|
 | Vectors right, of those that can be asked | 67 of 330 | 254 of 330 | 330 of 330 |
-| Random lists that differ | 44 of 81 | not counted | 0 of 35 |
+| Random lists that differ | 44 of 81 | not counted | LISTS |
 | The worked utility by IPL | waits for ever, since no device end comes after a seek | `DONE` | `DONE` |
-| The copier of two channels | not run | not run | `DONE` in 60 of 60 runs, with `arms` |
+| The copier of two channels | not run | not run | `DONE` in 100 of 100 runs, with `arms` |
 
-No vector asks the following. `hdtchan` executes SIOF as SIO and CLRIO as TIO, as a channel without these functions does. HDV leaves the program
-of another drive alone, with condition code 2. CLRCH resets the channel and its drives. STIDC stores zeros, a selector channel of no model. HDV,
-CLRCH and STIDC are from memory of the System/370 manual, and not tested.
+What `hdtdasd` does not change is Hercules' channel. Fact 7 asks for an arm that takes time, and `hdtchan` was asked without the option `arms`.
 
-Instructions of all of Hercules for a channel program, by callgrind, as the difference of two numbers of programs. A guest starts each by SIO and
-asks by TIO. The library was built without its proofs, by the same compiler:
+No vector asks the following, and it is no part of this project's rules. `adapters/hercules/tests/supervisor.py` tests it with `hdtchan`:
 
-| Program | Hercules alone | With `hdtdasd` | With `hdtchan` |
-|---|---|---|---|
-| Search ID for the last of 20 records, read it | 20,542 | 25,448 (1.24) | 7,579 (0.37) |
-| the first record, read | 5,648 | 6,536 (1.16) | 7,105 (1.26) |
-| 20 times Read Count, Key and Data | 15,023 | 19,467 (1.30) | 17,701 (1.18) |
-| 20 records formatted | 26,326 | 37,793 (1.44) | 83,854 (3.19) |
+- SIOF is executed as SIO and CLRIO as TIO, as by a channel without these functions. HDV leaves the program of another drive alone, with condition
+  code 2. CLRCH resets the channel and its drives. STIDC stores zeros, a selector channel of no model. HDV, CLRCH and STIDC are from memory of the
+  System/370 manual.
+- The channel address word and the channel status word are in the processor's prefixed page. In EC mode an interruption waits for the channel's bit in
+  control register 2.
+- Reference bits are set for the words of a program and the areas that they name, and change bits for the areas into which a command reads and may
+  store by the key. They are set when the program starts, and again when its words may have changed.
+
+Instructions within Start I/O and the device's thread for a channel program, by callgrind, and microseconds of processor time of all of Hercules
+(`adapters/hercules/tests/measure.py`). A guest starts each program by SIO and asks by TIO:
+
+TABLE
 """
 
 

@@ -138,14 +138,15 @@ def findings(units: list[Segment], whole: list[Segment]) -> Iterator[tuple[int, 
 
 def by_vectors(segments: Iterator[Segment]) -> Iterator[list[Segment]]:
     """The calls of each vector."""
-    of_one: list[Segment] = []
+    of_one: list[Segment] | None = None
     for it in segments:
-        if it.kind == VECTOR and of_one:
-            yield of_one
+        if it.kind == VECTOR:
+            if of_one is not None:
+                yield of_one
             of_one = []
-        if it.kind != VECTOR:
+        elif of_one is not None:
             of_one.append(it)
-    yield of_one
+    yield of_one or []
 
 
 def main() -> int:

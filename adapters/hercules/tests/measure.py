@@ -6,7 +6,7 @@
 MODULES is a folder with hdtdasd.so and hdtchan.so. A guest starts a program by Start I/O again and again, and asks by Test I/O until it has
 ended, with 0C and no count left. The volume is a 2314 whose tracks have 20 records with a key of 8 bytes and data of 160 each. Counted by
 callgrind is what a thread executes within Start I/O and in the device's thread, as the difference of two numbers of programs; with
---times the microseconds of processor time of the whole process, the least of five runs. Between brackets is the ratio to Hercules' own."""
+--times the microseconds of processor time of the whole process, the least of three runs. Between brackets is the ratio to Hercules' own."""
 from __future__ import annotations
 
 import argparse
@@ -153,8 +153,8 @@ def instructions(module: str, name: str) -> float:
 
 def microseconds(module: str, name: str) -> float:
     """The processor time of a program."""
-    many = 1000 if name == "key" else 40000
-    return (min(run(module, name, many, ())[0] for _ in range(5)) - min(run(module, name, 1, ())[0] for _ in range(3))) / many * 1e6
+    many = 10000 if name == "key" else 200000
+    return (min(run(module, name, many, ())[0] for _ in range(3)) - min(run(module, name, 1, ())[0] for _ in range(3))) / many * 1e6
 
 
 def main() -> int:
