@@ -62,7 +62,7 @@ one of the facts 8, 11, 12, 16, 17, 25, 28, 32, 33 and 34. This search found 28,
 | | Hercules alone | With `hdtdasd` | With `hdtchan` |
 |---|---|---|---|
 | Vectors right, of those that can be asked | 67 of 330 | 254 of 330 | 330 of 330 |
-| Random lists that differ | 44 of 81 | not counted | LISTS |
+| Random lists that differ | 44 of 81 | not counted | 0 of 35 |
 | The worked utility by IPL | waits for ever, since no device end comes after a seek | `DONE` | `DONE` |
 | The copier of two channels | not run | not run | `DONE` in 100 of 100 runs, with `arms` |
 
@@ -78,10 +78,22 @@ No vector asks the following, and it is no part of this project's rules. `adapte
 - Reference bits are set for the words of a program and the areas that they name, and change bits for the areas into which a command reads and may
   store by the key. They are set when the program starts, and again when its words may have changed.
 
-Instructions within Start I/O and the device's thread for a channel program, by callgrind, and microseconds of processor time of all of Hercules
-(`adapters/hercules/tests/measure.py`). A guest starts each program by SIO and asks by TIO:
+Instructions within Start I/O and the device's thread for a channel program, by callgrind (`adapters/hercules/tests/measure.py`). A guest starts each
+program by SIO and asks by TIO. Between brackets is the ratio to Hercules alone:
 
-TABLE
+<!-- adapters/hercules/tests/measure: begin -->
+
+| Program | Hercules alone | With `hdtdasd` | With `hdtchan` |
+|---|---|---|---|
+| Search ID for the last of 20 records, read it | 19,844 | 20,417 (1.03) | 5,918 (0.30) |
+| Search Key over the 400 of a cylinder, read the last | 383,230 | 453,275 (1.18) | 78,819 (0.21) |
+| the first record, read | 4,892 | 4,381 (0.90) | 5,027 (1.03) |
+| a record of each of two cylinders | 8,507 | 10,082 (1.19) | 9,463 (1.11) |
+| 20 times Read Count, Key and Data | 21,431 | 17,460 (0.81) | 11,685 (0.55) |
+| the first record, updated | 5,069 | 5,678 (1.12) | 6,497 (1.28) |
+| 20 records formatted | 20,289 | 29,673 (1.46) | 22,048 (1.09) |
+
+<!-- adapters/hercules/tests/measure: end -->
 """
 
 

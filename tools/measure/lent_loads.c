@@ -21,7 +21,7 @@ static dasd_memory memory;
 static unsigned channel;
 static int by_units;
 
-static void mark(enum mark it) { marks[it * 16] = 1; }
+static void mark(enum mark it) { marks[(size_t)it * 16] = 1; }
 
 /* What the library copies by, a byte at a time: that of the C library loads and stores some bytes of a copy twice, by vectors that overlap. */
 void *memcpy(void *restrict to, const void *restrict from, size_t count) {

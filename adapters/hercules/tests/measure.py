@@ -6,7 +6,8 @@
 MODULES is a folder with hdtdasd.so and hdtchan.so. A guest starts a program by Start I/O again and again, and asks by Test I/O until it has
 ended, with 0C and no count left. The volume is a 2314 whose tracks have 20 records with a key of 8 bytes and data of 160 each. Counted by
 callgrind is what a thread executes within Start I/O and in the device's thread, as the difference of two numbers of programs; with
---times the microseconds of processor time of the whole process, the least of three runs. Between brackets is the ratio to Hercules' own."""
+--times the microseconds of processor time of the whole process in user mode, the least of three runs. Between brackets is the ratio to
+Hercules' own."""
 from __future__ import annotations
 
 import argparse
@@ -115,7 +116,7 @@ def storage(name: str, times: int) -> bytes:
 
 
 def run(module: str, name: str, times: int, under: Tuple[str, ...]) -> Tuple[float, str]:
-    """Runs Hercules: its processor time in seconds, and what callgrind has left in `counts`."""
+    """Runs Hercules: its processor time in user mode, in seconds, and what callgrind has left in `counts`."""
     with tempfile.TemporaryDirectory() as folder:
         room = Path(folder)
         make_pack(room / "pack")
@@ -133,7 +134,7 @@ def run(module: str, name: str, times: int, under: Tuple[str, ...]) -> Tuple[flo
         if under:
             annotated = subprocess.run(["callgrind_annotate", "--inclusive=yes", "--threshold=100", "counts"], cwd=room, capture_output=True, text=True,
                                        check=True).stdout
-        return after.ru_utime - before.ru_utime + after.ru_stime - before.ru_stime, annotated
+        return after.ru_utime - before.ru_utime, annotated
 
 
 def instructions(module: str, name: str) -> float:
@@ -153,7 +154,7 @@ def instructions(module: str, name: str) -> float:
 
 def microseconds(module: str, name: str) -> float:
     """The processor time of a program."""
-    many = 10000 if name == "key" else 200000
+    many = 2500 if name == "key" else 50000
     return (min(run(module, name, many, ())[0] for _ in range(3)) - min(run(module, name, 1, ())[0] for _ in range(3))) / many * 1e6
 
 
