@@ -1,9 +1,10 @@
 #!/usr/bin/env python3
-"""Writes docs/HERCULES.md: each deck of hercules/ is played, and what Hercules answers stands beside what it must. The counts of whole
-runs are taken from results/.
+"""Writes docs/HERCULES.md: each deck of hercules/ is played, with Hercules' own drives and with each module of adapters/hercules, and what
+Hercules answers stands beside what it must. The counts of whole runs are taken from results/.
 
-  hercules_page.py > ../docs/HERCULES.md
-"""
+  hercules_page.py MODULES > ../docs/HERCULES.md
+
+MODULES is the folder with hdtdasd.so and hdtchan.so."""
 from __future__ import annotations
 
 import os
@@ -17,6 +18,8 @@ from suite.adapters.hercules import HerculesEmulator
 from suite.vectors import HERE
 
 RESULTS = os.path.join(HERE, "results")
+WITH_MODULE = os.path.join(os.path.dirname(HERE), "adapters", "hercules", "tests", "with_module")
+MODULES = ("hdtdasd", "hdtchan")
 # What run.py printed of whole runs.
 RUNS = {
     "as they are": "hercules-3.13.txt",
@@ -56,30 +59,41 @@ one of the facts 8, 11, 12, 16, 17, 25, 28, 32, 33 and 34. This search found 28,
 
 ## With the modules of this repository
 
-[adapters/hercules](../adapters/hercules/README.md) has two modules for the same, unmodified Hercules: `hdtdasd` has drives, under Hercules'
-channel, and `hdtchan` whole channels.
-
 | | Hercules alone | With `hdtdasd` | With `hdtchan` |
 |---|---|---|---|
-| Facts that remain | 1 to 34 | 3 to 8, 11 to 14, 20, 21, 22, 29, 33 | 7, which asks for an arm that takes time; it was not played with the option `arms` |
 | Vectors right, of those that can be asked | 67 of 330 | 254 of 330 | 330 of 330 |
 | Random lists that differ | 44 of 81 | not counted | 0 of 35 |
 | The worked utility by IPL | waits for ever, since no device end comes after a seek | `DONE` | `DONE` |
-| The copier of two channels | not run | not run | `DONE` in 60 of 60 runs, with `arms` |
+| The copier of two channels | not run | not run | `DONE` in 100 of 100 runs, with `arms` |
 
-No vector asks the following. `hdtchan` executes SIOF as SIO and CLRIO as TIO, as a channel without these functions does. HDV leaves the program
-of another drive alone, with condition code 2. CLRCH resets the channel and its drives. STIDC stores zeros, a selector channel of no model. HDV,
-CLRCH and STIDC are from memory of the System/370 manual, and not tested.
+What `hdtdasd` does not change is Hercules' channel. Fact 7 asks for an arm that takes time, and `hdtchan` was asked without the option `arms`.
 
-Instructions of all of Hercules for a channel program, by callgrind, as the difference of two numbers of programs. A guest starts each by SIO and
-asks by TIO. The library was built without its proofs, by the same compiler:
+No vector asks the following, and it is no part of this project's rules. `adapters/hercules/tests/supervisor.py` tests it with `hdtchan`:
+
+- SIOF is executed as SIO and CLRIO as TIO, as by a channel without these functions. HDV leaves the program of another drive alone, with condition
+  code 2. CLRCH resets the channel and its drives. STIDC stores zeros, a selector channel of no model. HDV, CLRCH and STIDC are from memory of the
+  System/370 manual.
+- The channel address word and the channel status word are in the processor's prefixed page. In EC mode an interruption waits for the channel's bit in
+  control register 2.
+- Reference bits are set for the words of a program and the areas that they name, and change bits for the areas into which a command reads and may
+  store by the key. They are set when the program starts, and again when its words may have changed.
+
+Instructions within Start I/O and the device's thread for a channel program, by callgrind (`adapters/hercules/tests/measure.py`). A guest starts each
+program by SIO and asks by TIO. Between brackets is the ratio to Hercules alone:
+
+<!-- adapters/hercules/tests/measure: begin -->
 
 | Program | Hercules alone | With `hdtdasd` | With `hdtchan` |
 |---|---|---|---|
-| Search ID for the last of 20 records, read it | 20,542 | 25,448 (1.24) | 7,579 (0.37) |
-| the first record, read | 5,648 | 6,536 (1.16) | 7,105 (1.26) |
-| 20 times Read Count, Key and Data | 15,023 | 19,467 (1.30) | 17,701 (1.18) |
-| 20 records formatted | 26,326 | 37,793 (1.44) | 83,854 (3.19) |
+| Search ID for the last of 20 records, read it | 19,844 | 20,417 (1.03) | 5,918 (0.30) |
+| Search Key over the 400 of a cylinder, read the last | 383,230 | 453,275 (1.18) | 78,819 (0.21) |
+| the first record, read | 4,892 | 4,381 (0.90) | 5,027 (1.03) |
+| a record of each of two cylinders | 8,507 | 10,082 (1.19) | 9,463 (1.11) |
+| 20 times Read Count, Key and Data | 21,431 | 17,460 (0.81) | 11,685 (0.55) |
+| the first record, updated | 5,069 | 5,678 (1.12) | 6,497 (1.28) |
+| 20 records formatted | 20,289 | 29,673 (1.46) | 22,048 (1.09) |
+
+<!-- adapters/hercules/tests/measure: end -->
 """
 
 
@@ -102,6 +116,29 @@ def section(number: int, path: str, emulator: Emulator) -> str:
     run = "[Run it](../try/#deck=%s)." % quote(said["title"], safe="")
     lines += ["- Manuals: %s." % said["manual"], "- Guests: %s." % said["matters"], shown + " " + run, ""]
     return "\n".join(lines)
+
+
+def remains(path: str, emulator: Emulator) -> bool:
+    """Whether an emulator answers a deck otherwise than it must."""
+    vector, must, _ = read_deck(path)
+    outcome = emulator.play(vector)
+    return bool(outcome.broke) or any(wanted for _, _, wanted in compared(vector, must, outcome, emulator.lacks))
+
+
+def doors(paths: Sequence[str], modules: str) -> str:
+    """A table of the facts: where each remains."""
+    with HerculesEmulator() as emulator:
+        remain = {"Hercules alone": [remains(it, emulator) for it in paths]}
+    for name in MODULES:
+        os.environ["MODULE"] = os.path.abspath(os.path.join(modules, name + ".so"))
+        with HerculesEmulator(WITH_MODULE) as emulator:
+            remain["With `%s`" % name] = [remains(it, emulator) for it in paths]
+    out = ["", "## Facts by door", "", "[adapters/hercules](../adapters/hercules/README.md) has two modules for the same, unmodified Hercules: "
+           "`hdtdasd` has drives, under Hercules'", "channel, and `hdtchan` whole channels.", "", "<!-- conformance/doors: begin -->", "",
+           "| Fact | %s |" % " | ".join(remain), "|---" * (len(remain) + 1) + "|"]
+    for at, path in enumerate(paths):
+        out.append("| %d. %s | %s |" % (at + 1, read_deck(path)[2]["title"], " | ".join("differs" if it[at] else "as it must" for it in remain.values())))
+    return "\n".join([*out, "", "<!-- conformance/doors: end -->", "", ""])
 
 
 def note(line: str, answer: str, wanted: Optional[str], broke: Optional[str]) -> str:
@@ -137,10 +174,14 @@ def results() -> str:
 
 
 def main() -> int:
+    if len(sys.argv) != 2:
+        print(__doc__, file=sys.stderr)
+        return 2
     folder = os.path.join(HERE, "hercules")
+    paths = [os.path.join(folder, it) for it in sorted(os.listdir(folder))]
     with HerculesEmulator() as emulator:
-        facts = [section(number, os.path.join(folder, it), emulator) for number, it in enumerate(sorted(os.listdir(folder)), 1)]
-    print(HEAD)
+        facts = [section(number, it, emulator) for number, it in enumerate(paths, 1)]
+    print(HEAD + doors(paths, sys.argv[1]))
     print("\n".join(facts), end="")
     print(ALIKE, end="")
     print(results())

@@ -6,14 +6,16 @@
 #include "channel.h"
 
 #include "processors.h"
+#include "recording.h"
+#include "saving.h"
 #include "timer.h"
 
 /* Locations of the channel status word, its status bytes, and the channel address word. */
 enum { CSW = 64, STATUS = 68, CAW = 72 };
 enum { SENSE = 0x04, EQUIPMENT_CHECK = 0x10, PCI = 0x80, BUSY = 0x10 };
-/* So many units of a program are a slice; and so many slices are done within Start I/O, each of twice the units of the one before, as long as
- * the program asks for no interruption. */
-enum { SLICE = 64, SLICES_AT_START = 9 };
+/* So many units of a program are a slice. Within Start I/O a program does as many as AT_START: at once where no word asks for an interruption;
+ * else in slices, each of twice the units of the one before, until one has asked. */
+enum { SLICE = 64, AT_START = 32768 };
 /* What an arm takes to move, and how often it is looked whether the processors are as far, in microseconds. */
 enum { ARM_BEGINS = 25000, ARM_CYLINDER = 550, ARM_WAITS = 1000 };
 /* The word of a device that says that it was not reset. */
@@ -22,6 +24,8 @@ enum { ARM_BEGINS = 25000, ARM_CYLINDER = 550, ARM_WAITS = 1000 };
 struct channel {
     int drives;
     bool works, has_thread;
+    bool asks;          /* the program may ask for an interruption */
+    bool records_again; /* what it refers to is to be recorded in each slice: its words may change */
     uint8_t key, unit;
     uint32_t sense_at; /* where the first byte of a Sense goes that begins the program; else 0 */
     COND go;
@@ -70,21 +74,15 @@ bool channel_works(uint8_t channel, uint8_t *unit) {
 
 /* --- Saving --- */
 
+static int32_t next_changed_of(DEVBLK *dev, uint64_t since, dasd_changed *track) {
+    return dasd_next_changed(&disks, dev->devnum, 0, since, track);
+}
+
 bool channel_save(DEVBLK *dev) {
-    struct unit *u = unit_of(dev);
-    dasd_changed track = {0, 0, 0, 0};
     dasd_file shown;
-    int fault = 0;
-    if (u->file.read_only || dasd_show_file(&disks, dev->devnum, 0, &shown) < 0 || shown.changes == u->saved) return true;
-    while (dasd_next_changed(&disks, dev->devnum, 0, u->saved, &track) == 1) {
-        int refused = pack_write(&u->file, track.at, shown.at + track.at, track.len);
-        if (refused) fault = refused;
-    }
-    if (!fault) u->saved = shown.changes;
-    if (fault && !u->file.failed) logmsg("HHCSX003E %4.4X %s is not written: %s\n", dev->devnum, u->file.name, strerror(fault));
-    if (!fault && u->file.failed) logmsg("HHCSX006I %4.4X %s is written after all\n", dev->devnum, u->file.name);
-    u->file.failed = fault != 0;
-    return !fault;
+    dasd_drive seen;
+    if (dasd_show_file(&disks, dev->devnum, 0, &shown) < 0 || dasd_show_drive(&disks, dev->devnum, &seen) < 0) return true;
+    return save_tracks(dev, &unit_of(dev)->file, &shown, (size_t)seen.cylinder * (seen.model == 2311 ? 10 : 20), next_changed_of);
 }
 
 /* --- What pends at Hercules --- */
@@ -219,11 +217,19 @@ static bool slice(uint8_t channel, uint32_t units) {
     struct channel *c = &channels[channel];
     dasd_memory m = lent(sysblk.mainstor, c->key);
     dasd_run ran = {units, 0, 0, 0, 0};
-    bool asked;
-    int32_t fault = dasd_lent_run_on(&disks, &m, channel, &ran);
+    dasd_program at;
+    bool asked, records = c->records_again && dasd_show_program(&disks, channel, &at) == DASD_DONE;
+    int32_t fault;
+    struct point from = {0};
+    if (records) {
+        from = (struct point){at.next, at.address, at.count, at.code, at.flags, at.key};
+        record_program(&from, size);
+    }
+    fault = dasd_lent_run_on(&disks, &m, channel, &ran);
+    if (records) record_program(&from, size);
     if (fault < 0) logmsg("HHCSX008E channel %d: %s\n", channel, dasd_fault_text(fault));
     c->works = fault >= 0 && ran.subchannel == DASD_WORKING;
-    asked = offer(channel);
+    asked = (ran.asked || !c->works) && offer(channel);
     if (!c->works) leave(channel);
     return asked;
 }
@@ -247,6 +253,7 @@ static void *run(void *of_channel) {
 static void hand_over(uint8_t channel) {
     struct channel *c = &channels[channel];
     TID thread;
+    c->records_again = true;
     if (!c->has_thread) {
         initialize_condition(&c->go);
         c->has_thread = !create_thread(&thread, DETACHED, run, c, "selector channel");
@@ -259,9 +266,14 @@ static void hand_over(uint8_t channel) {
 static void note_start(const struct target *t, const uint8_t *caw) {
     struct channel *c = &channels[t->channel];
     struct unit *u = unit_of(t->dev);
-    const uint8_t *word = sysblk.mainstor + (fetch_fw(caw) & 0xFFFFFF);
+    const struct point from = {.next = fetch_fw(caw) & 0xFFFFFF, .key = caw[0] >> 4};
+    const uint8_t *word = sysblk.mainstor + from.next;
     bool senses = word[0] == SENSE && !(word[4] & CCW_FLAGS_SKIP);
+    struct recorded recorded;
     c->works = true;
+    recorded = record_program(&from, size);
+    c->records_again = recorded.again;
+    c->asks = recorded.asks || recorded.again;
     c->key = caw[0] >> 4;
     c->unit = (uint8_t)t->address;
     if (word[0] != SENSE) u->checked = false;
@@ -302,8 +314,8 @@ int channel_start(REGS *regs, const struct target *t) {
     if (code != 0 || !t->dev) return code <= 0 ? 3 : code;
     note_start(t, page + CAW);
     hold_device_ends(t->channel);
-    asked = offer(t->channel);
-    for (int i = 0; i < SLICES_AT_START && c->works && !asked; i++) asked = slice(t->channel, SLICE << i);
+    asked = c->asks && offer(t->channel);
+    for (uint32_t units = c->asks ? SLICE : AT_START; units <= AT_START && c->works && !asked; units *= 2) asked = slice(t->channel, units);
     if (c->works) hand_over(t->channel);
     return 0;
 }
@@ -356,7 +368,7 @@ static const char *attach_now(DEVBLK *dev) {
     int32_t fault = dasd_attach_files(&disks, dev->devnum, &u->files);
     if (fault < 0) return dasd_fault_text(fault);
     dasd_show_file(&disks, dev->devnum, 0, &shown);
-    u->saved = shown.changes;
+    u->file.saved = shown.changes;
     u->cylinder = 0;
     return NULL;
 }

@@ -16,7 +16,6 @@ enum { CHANNELS = 7, UNITS = 8 };
 struct unit {
     pack file;
     dasd_files files; /* the volume, until the channels are made: Hercules attaches devices before it has main storage */
-    uint64_t saved;   /* the number `changes` of the file as it was last saved */
     int cylinder;     /* where the arm was last seen at rest */
     bool arms;        /* whether arms take time */
     U64 due;          /* when its arm arrives, by the channels' own clock; 0: it does not move */

@@ -23,6 +23,15 @@ enum { CHANNEL_ID = 168, VARIANT = 1, HEADER_TYPE = 16 };
 
 /* --- Instructions --- */
 
+/* A device of another module on a channel of ours is not found: the console is told, once for each channel. */
+static void tell_of_other(const DEVBLK *dev) {
+    static bool told[CHANNELS];
+    bool *of_channel = &told[dev->devnum >> 8];
+    if (!*of_channel)
+        logmsg("HHCSX010E %4.4X %s is not found: a channel with a drive of this module has no other devices\n", dev->devnum, dev->typname);
+    *of_channel = true;
+}
+
 /* Whether an instruction is for a channel of ours, in supervisor state; then it is begun: its address is known, and the lock is held. */
 static bool begin(const BYTE *inst, REGS *regs, struct target *t) {
     U32 at = (U32)(inst[2] & 15) << 8 | inst[3];
@@ -33,7 +42,10 @@ static bool begin(const BYTE *inst, REGS *regs, struct target *t) {
     t->address = (uint16_t)at;
     t->channel = (uint8_t)(t->address >> 8);
     t->dev = find_device_by_devnum(0, t->address);
-    if (t->dev && t->dev->hnd != &channel_handler) t->dev = NULL;
+    if (t->dev && t->dev->hnd != &channel_handler) {
+        tell_of_other(t->dev);
+        t->dev = NULL;
+    }
     return true;
 }
 

@@ -11,6 +11,7 @@ typedef struct pack {
     int fd;
     bool read_only; /* no byte of the file is written: changed tracks are dropped at close */
     bool failed;    /* the last write failed, and was reported */
+    uint64_t saved; /* the number `changes` of its volume, as it was saved last */
     size_t len;
     char name[4096];
 } pack;

@@ -21,13 +21,15 @@ from dataclasses import dataclass, field
 from pathlib import Path
 from typing import Callable, Dict, List, Tuple
 
+import supervisor
+
 EXAMPLES = Path(__file__).resolve().parents[3] / "c" / "examples"
 CONFIGURATION = """CPUSERIAL 000001
 CPUMODEL 0145
 MAINSIZE 16
 XPNDSIZE 0
 NUMCPU 1
-ARCHMODE S/370
+ARCHMODE %s
 CNSLPORT 0
 OSTAILOR QUIET
 LDMOD %s
@@ -65,6 +67,7 @@ class Room:
     folder: Path
     devices: List[str] = field(default_factory=list)
     commands: List[str] = field(default_factory=list)
+    mode: str = "S/370"
 
     def put(self, name: str, data: bytes) -> Path:
         """A file of this folder."""
@@ -74,7 +77,7 @@ class Room:
 
     def start(self) -> subprocess.Popen[bytes]:
         """Starts Hercules; its console goes into `log`."""
-        conf = self.put("conf", (CONFIGURATION % self.module + "".join("%s\n" % it for it in self.devices)).encode())
+        conf = self.put("conf", (CONFIGURATION % (self.mode, self.module) + "".join("%s\n" % it for it in self.devices)).encode())
         rc = self.put("rc", "".join("%s\n" % it for it in self.commands).encode())
         with (self.folder / "log").open("wb") as log:
             return subprocess.Popen(["hercules", "-d", "-f", str(conf)], stdin=subprocess.DEVNULL, stdout=log, stderr=subprocess.STDOUT,
@@ -185,6 +188,49 @@ def killed(room: Room) -> None:
         fcntl.flock(file, fcntl.LOCK_EX | fcntl.LOCK_NB)
 
 
+def instructions(room: Room) -> None:
+    """The instructions that no deck has, prefixing, the masks of EC mode, reference and change bits: each result is as the supervisor wants it."""
+    core, wanted = supervisor.guest()
+    room.put("core", core)
+    volume = (EXAMPLES.parents[1] / "conformance/vectors/x.img").read_bytes()
+    room.devices = ["019%d 2311 %s" % (unit, room.put("%d.ckd" % unit, volume)) for unit in (0, 1)]
+    room.until_wait()
+    saving = "sh sleep 0.2\nsavecore %s/kept 0 9FFF\n" % room.folder
+    room.put("end", ("psw\n" + saving * 2 + "sh sleep 0.1\nquit\n").encode())
+    room.commands += ["loadcore %s/core 0" % room.folder, "restart"]
+    log = room.run()
+    if not (room.folder / "kept").exists():
+        raise Wrong("nothing was kept:\n" + log[-1500:])
+    kept = (room.folder / "kept").read_bytes()
+    wrong = ["%s is %s and not %s" % (what, kept[at:at + len(it) // 2].hex().upper(), it)
+             for what, at, it in wanted if kept[at:at + len(it) // 2].hex().upper() != it]
+    if wrong:
+        raise Wrong("\n".join(wrong))
+
+
+def refused(room: Room) -> None:
+    """Other modes than System/370, and other devices on a channel of the module, are refused by name."""
+    pack = writer(room, bytes(4))
+    drive, tape = "0190 2311 %s" % pack, "0192 3420"
+    asks = bytearray(0x1000)
+    asks[0:8] = RESTART
+    asks[0x200:0x208] = bytes.fromhex("9D00019282000208")
+    asks[0x208:0x210] = bytes.fromhex("0002000000000ACE")
+    room.put("core", asks)
+    restart = list(room.commands)
+    cases: List[Tuple[str, List[str], List[str], str]] = [
+        ("ESA/390", [drive], [], "0190 %s: ARCHMODE S/370 is wanted before it" % pack),
+        ("z/Arch", [drive], [], "0190 %s: ARCHMODE S/370 is wanted before it" % pack),
+        ("S/370", [drive], ["archmode ESA/390", "ipl 190"], "0190 works in System/370 mode alone"),
+        ("S/370", [tape, drive], [], "0190 %s: a channel with a drive of this module has no other devices" % pack),
+        ("S/370", [drive, tape], restart, "0192 3420 is not found: a channel with a drive of this module has no other devices"),
+    ]
+    for mode, devices, commands, wanted in cases:
+        room.mode, room.devices = mode, devices
+        room.commands = [*commands, "sh sleep 0.3", "quit"]
+        expect("%s is refused in %s" % (wanted, mode), wanted in room.run(), True)
+
+
 def in_use(room: Room) -> None:
     """A pack that another program has locked is refused by name, and stays."""
     pack = writer(room, bytes(4))
@@ -246,6 +292,8 @@ def fill(disk: Path, pack: Path) -> None:
 TESTS: Dict[str, Tuple[Tuple[str, ...], Callable[[Room], None]]] = {
     "utility": (("hdtdasd", "hdtchan"), utility),
     "copier": (("hdtchan",), copier),
+    "instructions": (("hdtchan",), instructions),
+    "refused": (("hdtchan",), refused),
     "killed": (("hdtdasd", "hdtchan"), killed),
     "in_use": (("hdtdasd", "hdtchan"), in_use),
     "read_only": (("hdtdasd", "hdtchan"), read_only),
