@@ -1,6 +1,6 @@
 //! What a reader gives: the bytes of a file, and over them those of the journal.
 
-ghost use Rattle.std.specs.Prelude.{◌≡◌, ◌<◌, ◌+◌, ℕ, List, length, slice_index_or, OnOk};
+ghost use Rattle.std.specs.Prelude.{◌≡◌, ◌<◌, ◌≤◌, ◌+◌, ◌++◌, ℕ, List, length, take, drop, slice_index_or, OnOk};
 ghost use Rattle.atomic_save.specs.Changes.{State, note_of, notes, or_none, byte_of, byte_after, opened};
 ghost use Rattle.atomic_save.specs.Saves.{HasCause};
 
@@ -73,6 +73,13 @@ fn lay_over(change: &Change, at: u64, into: &mut [u8])
     let to = (first - at) as usize;
     if from < change.bytes.len() && to < into.len() {
         let count = (change.bytes.len() - from).min(into.len() - to);
-        into[to..to + count].copy_from_slice(&change.bytes[from..from + count]);
+        put_over(into, to, &change.bytes[from..from + count]);
     }
+}
+
+fn put_over(into: &mut [u8], at: usize, bytes: &[u8])
+    requires { at + length bytes.now ≤ length into.old }
+    ensures { into.new ≡ take at into.old ++ bytes.now ++ drop (at + length bytes.now) into.old }
+{
+    into[at..at + bytes.len()].copy_from_slice(bytes);
 }

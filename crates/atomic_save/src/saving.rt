@@ -1,20 +1,21 @@
 //! The save: the journal first, then the files, then the journal goes.
 
-ghost use Rattle.std.specs.Prelude.{◌≡◌, ◌⊎◌, ◌<◌, ℕ, length, slice_get, None, Some, OnOk, IfErr, IfNone, IfSome, position};
-ghost use Rattle.atomic_save.specs.Changes.{State, notes};
+ghost use Rattle.std.specs.Prelude.{◌≡◌, ◌⊎◌, ◌↔◌, List, slice_get, None, Some, OnOk, IfErr, IfNone, IfSome, IsTrue, position};
+ghost use Rattle.atomic_save.specs.Changes.{State, Note, notes};
 ghost use Rattle.atomic_save.specs.Calls.{files_of, shown, MayLeave};
 ghost use Rattle.atomic_save.specs.Saves.{HasCause, HasSaveCause, is_outside, AllLie, AllHanded, SafeThroughout, SavedFor, SameThroughout, NoJournal, Untouched, Tells, FinishTells, ids_of, KeepsSafe, Leads, Writing, Written, New, Follows, Fits};
 
 use crate::{Change, FileId, Host, HostFault, Journal, JournalFile, SaveFault};
 
-/// Saves all changes as one, where no journal is. After `Ok` the files have them, for good.
+/// Saves all changes as one, where no journal is, or the one of a save of the same that was cut off. After `Ok` the files have them, for
+/// good.
 ///
 /// # Errors
 ///
 /// `Outside`: a change lies outside its file. Else the host refused something, and the fault says what the files are. Whatever it is, a
 /// reader finds the old bytes of all files or the new ones of all.
 pub fn save<H: Host>(host: &mut H, changes: &[Change]) -> Result<(), SaveFault>
-    requires free { shown (H.events host.old) ≡ None }
+    requires free { (shown (H.events host.old) ≡ None) ⊎ (shown (H.events host.old) ≡ Some (notes changes.now)) }
 
     // Whatever call failed, a crash at any moment leaves the old bytes of all files, or the new ones of all.
     ensures any_moment { SafeThroughout (notes changes.now) (H.events host.old) (H.events host.new) }
@@ -24,9 +25,19 @@ pub fn save<H: Host>(host: &mut H, changes: &[Change]) -> Result<(), SaveFault>
     ensures told { IfErr result (Tells changes.now (H.events host.old) (H.events host.new)) }
     ensures cause { HasSaveCause (H.faults host.old) (H.faults host.new) result }
 {
-    match first_outside(host.files(), changes) {
-        Some(outside) => Err(SaveFault::Outside(outside)),
-        None => write_all(host, changes),
+    if let Some(outside) = first_outside(host.files(), changes) {
+        return Err(SaveFault::Outside(outside));
+    }
+    publish(host, changes)?;
+    if let Err(fault) = put(host, changes) {
+        return Err(SaveFault::Begun(fault));
+    }
+    if let Err(fault) = sync_files(host) {
+        return Err(SaveFault::Begun(fault));
+    }
+    match settle(host) {
+        Ok(()) => Ok(()),
+        Err(fault) => Err(SaveFault::Saved(fault)),
     }
 }
 
@@ -55,10 +66,7 @@ pub fn finish<H: Host>(host: &mut H, journal: &Journal) -> Result<(), SaveFault>
     if let Some(other) = first_other(host.files(), &journal.files) {
         return Err(SaveFault::Other(other));
     }
-    match first_outside(host.files(), &journal.changes) {
-        Some(outside) => Err(SaveFault::Outside(outside)),
-        None => write_all(host, &journal.changes),
-    }
+    save(host, &journal.changes)
 }
 
 // The first change that lies in none of the files.
@@ -67,7 +75,7 @@ fn first_outside(files: &[FileId], changes: &[Change]) -> Option<usize>
 {
     changes.iter().position(
         |change: &Change| -> bool
-            ensures { result ≡ is_outside files.now change.now }
+            ensures { result ≡ is_outside files.entry.now change.now }
         { lies_outside(files, change) },
     )
 }
@@ -88,44 +96,21 @@ fn first_other(files: &[FileId], named: &[JournalFile]) -> Option<usize>
     ensures same { IfNone result (ids_of named.now ≡ files.now) }
     ensures other { IfSome result (λ i. slice_get (ids_of named.now) i ≡ slice_get files.now i → ⊥) }
 {
-    let mut place = 0;
-    let mut rest = files;
-    let mut rest_named = named;
-    loop {
-        match (rest, rest_named) {
-            ([], []) => return None,
-            ([file, others @ ..], [name, other_names @ ..]) if name.id == *file => {
-                rest = others;
-                rest_named = other_names;
-                place += 1;
-            }
-            _ => return Some(place),
+    for place in 0..files.len().max(named.len()) {
+        if !is_named(files, named, place) {
+            return Some(place);
         }
     }
+    None
 }
 
-// Writes all changes, each of which lies within its file.
-fn write_all<H: Host>(host: &mut H, changes: &[Change]) -> Result<(), SaveFault>
-    requires inside { AllLie (files_of (H.events host.old)) (notes changes.now) }
-    requires free { (shown (H.events host.old) ≡ None) ⊎ (shown (H.events host.old) ≡ Some (notes changes.now)) }
-    ensures any_moment { SafeThroughout (notes changes.now) (H.events host.old) (H.events host.new) }
-    ensures saved { OnOk result (SavedFor (notes changes.now) (H.events host.old) (H.events host.new)) }
-    ensures gone { OnOk result (NoJournal (H.events host.new)) }
-    ensures told { IfErr result (Tells changes.now (H.events host.old) (H.events host.new)) }
-    ensures cause { HasSaveCause (H.faults host.old) (H.faults host.new) result }
+fn is_named(files: &[FileId], named: &[JournalFile], place: usize) -> bool
+    ensures { IsTrue result ↔ (slice_get (ids_of named.now) place ≡ slice_get files.now place) }
 {
-    publish(host, changes)?;
-    match put(host, changes) {
-        Ok(()) => {}
-        Err(fault) => return Err(SaveFault::Begun(fault)),
-    }
-    match sync_files(host) {
-        Ok(()) => {}
-        Err(fault) => return Err(SaveFault::Begun(fault)),
-    }
-    match settle(host) {
-        Ok(()) => Ok(()),
-        Err(fault) => Err(SaveFault::Saved(fault)),
+    match (files.get(place), named.get(place)) {
+        (Some(file), Some(name)) => name.id == *file,
+        (None, None) => true,
+        _ => false,
     }
 }
 
@@ -173,7 +158,7 @@ fn put<H: Host>(host: &mut H, changes: &[Change]) -> Result<(), HostFault>
 // Syncs all files.
 fn sync_files<H: Host>(host: &mut H) -> Result<(), HostFault>
     ensures any_moment { (ns : List Note) → shown (H.events host.old) ≡ Some ns → KeepsSafe ns (Writing ns) (H.events host.old) (H.events host.new) }
-    ensures synced { OnOk result ((ns : List Note) → AllLie (files_of (H.events host.old)) ns → AllHanded ns (H.events host.old) → Leads ns (Writing ns) (Written ns) (H.events host.old) (H.events host.new)) }
+    ensures synced { OnOk result ((ns : List Note) → shown (H.events host.old) ≡ Some ns → AllLie (files_of (H.events host.old)) ns → AllHanded ns (H.events host.old) → Leads ns (Writing ns) (Written ns) (H.events host.old) (H.events host.new)) }
     ensures shown { shown (H.events host.new) ≡ shown (H.events host.old) }
     ensures cause { HasCause (H.faults host.old) (H.faults host.new) result }
 {
