@@ -1,5 +1,5 @@
 -- Bytes after changes.
-use Rattle.std.proofs.Common.{◌≡◌, ◌⊎◌, inl, inr, ⊎_elim, ℕ, ◌-◌, List, [], ◌∷◌, get_or, Bool, true, false, cond, ◌||◌, refl, sym, ◌∙◌, ap, true≢false}
+use Rattle.std.proofs.Common.{◌≡◌, ⊎_elim, ℕ, ◌-◌, List, [], ◌∷◌, get_or, true, false, cond, ◌||◌, refl, sym, ◌∙◌, ap, true≢false}
 use Rattle.std.proofs.lemmas.Bool.{cases_Bool, or_parts}
 use Rattle.atomic_save.specs.Changes.{Note, covers, byte_of, byte_after, touches}
 

@@ -1,5 +1,5 @@
 -- Lists that are the same at each place.
-use Rattle.std.proofs.Common.{◌≡◌, ℕ, zero, suc, ◌<◌, ◌≤◌, List, [], ◌∷◌, length, slice_get, Some, None, refl, arith}
+use Rattle.std.proofs.Common.{◌≡◌, ℕ, zero, suc, ◌<◌, ◌≤◌, List, [], ◌∷◌, length, slice_get, Some, refl, arith}
 use Rattle.atomic_save.specs.declared.changes.FileId.{FileId}
 
 head : (x y : FileId) → Some x ≡ Some y → x ≡ y

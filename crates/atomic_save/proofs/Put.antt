@@ -2,13 +2,13 @@
 use Rattle.std.proofs.Common.{◌≡◌, ⊎_elim, ℕ, zero, suc, ◌+◌, ◌-◌, ◌≤◌, ◌<◌, List, [], ◌∷◌, length, get_or, take, drop, Bool, true, false, true≢false, cond, not, ◌&&◌, ◌||◌, ◌==◌, nat_le, nat_lt, position, refl, sym, ◌∙◌, ap, subst, arith}
 use Rattle.std.specs.List.{position_or_len}
 use Rattle.std.proofs.lemmas.Bool.{cases_Bool, cases_lt, or_parts, or_from, and_parts, eqb-true}
-use Rattle.std.specs.Prelude.{slice_get, Option, Some, None}
+use Rattle.std.specs.Prelude.{slice_get, Some, None}
 use Rattle.std.proofs.lemmas.List.{take_all}
 use Rattle.atomic_save.specs.declared.changes.Change.{Change}
 use Rattle.atomic_save.specs.declared.changes.FileId.{FileId}
 use Rattle.atomic_save.specs.Changes.{Note, State, note_of, notes, covers, byte_of, byte_after, touches}
-use Rattle.atomic_save.specs.Calls.{Event, Wrote, Synced, Torn, Due, MayLeave, shown, lies_in, Lies}
-use Rattle.atomic_save.specs.Saves.{is_outside, Follows, Writing, Written, AllHanded, AllLie, Reached, Safe, CalmBefore, EachMoment}
+use Rattle.atomic_save.specs.Calls.{Event, Wrote, Synced, Due, MayLeave, shown, lies_in}
+use Rattle.atomic_save.specs.Saves.{is_outside, Follows, Writing, Written, AllHanded, AllLie, Reached, Safe, CalmBefore}
 use Rattle.atomic_save.proofs.Moments.{next_moment}
 use Rattle.atomic_save.proofs.Steps.{writing_safe, written_step}
 

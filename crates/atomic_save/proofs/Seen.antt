@@ -1,5 +1,5 @@
 -- What is seen now is one of the outcomes of a crash.
-use Rattle.std.proofs.Common.{◌≡◌, inr, ⊎_elim, ℕ, List, [], ◌∷◌, false, Option, refl, sym, ◌∙◌, ap}
+use Rattle.std.proofs.Common.{◌≡◌, inr, ⊎_elim, ℕ, List, [], ◌∷◌, Option, refl, sym, ◌∙◌, ap}
 use Rattle.std.proofs.lemmas.Bool.{cases_Bool}
 use Rattle.atomic_save.specs.Changes.{Note, State, covers, byte_of}
 use Rattle.atomic_save.specs.Calls.{Event, Opened, Drafted, Committed, Retired, NamesSynced, Wrote, Synced, LedTo, Due, MayLeave, seen}

@@ -1,10 +1,10 @@
 -- What may be found at each stage of a save.
-use Rattle.std.proofs.Common.{◌≡◌, ◌⊎◌, inl, inr, ⊎_elim, ℕ, List, ◌∷◌, Bool, true, false, Option, Some, None, Result, Ok, Err, is_ok, OnOk, refl, sym, ◌∙◌, ap, subst}
+use Rattle.std.proofs.Common.{◌≡◌, ◌⊎◌, inl, inr, ⊎_elim, ℕ, List, ◌∷◌, Bool, true, Some, None, Result, Ok, Err, is_ok, OnOk, refl, sym, ◌∙◌, ap, subst}
 use Rattle.std.proofs.lemmas.Bool.{cases_Bool}
 use Rattle.std.specs.Prelude.{⊤}
 use Rattle.atomic_save.specs.declared.faults.HostFault.{HostFault}
 use Rattle.atomic_save.specs.Changes.{Note, State, byte_after, touches, read_by, opened}
-use Rattle.atomic_save.specs.Calls.{Event, Drafted, Committed, Retired, NamesSynced, Synced, Renamed, shown, MayLeave}
+use Rattle.atomic_save.specs.Calls.{Event, Drafted, Committed, Retired, NamesSynced, Renamed, shown, MayLeave}
 use Rattle.atomic_save.specs.Saves.{Follows, OldOrNew, SameRead, Reads, New, Idle, Fits, Safe, EachMoment, NoJournal, Calm, CalmBefore, Writing, Written, Reached, KeepsSafe, Leads, SafeThroughout, SameThroughout}
 use Rattle.atomic_save.proofs.Bytes.{untouched, after_twice, same_after}
 use Rattle.atomic_save.proofs.Moments.{same_moment, next_moment, at_each}

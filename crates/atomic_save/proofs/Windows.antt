@@ -1,5 +1,5 @@
 -- Bytes of a change over those of its file from a place on.
-use Rattle.std.proofs.Common.{◌≡◌, ◌⊎◌, inl, inr, ⊎_elim, ℕ, ◌+◌, ◌-◌, ◌<◌, ◌≤◌, List, ◌++◌, length, get_or, take, drop, min, max, true, false, cond, ◌&&◌, nat_le, nat_lt, ◌==◌, refl, sym, ap, ◌∙◌, length-take, length-drop, arith}
+use Rattle.std.proofs.Common.{◌≡◌, ⊎_elim, ℕ, ◌+◌, ◌-◌, ◌<◌, ◌≤◌, List, ◌++◌, length, get_or, take, drop, min, max, true, false, cond, nat_le, ◌==◌, refl, sym, ap, ◌∙◌, length-take, length-drop, arith}
 use Rattle.std.proofs.lemmas.Bool.{cases_lt, lt-ltb, le-ltb, le-leb, lt-leb, eq-eqb, and_from, and_left, and_right}
 use Rattle.std.proofs.lemmas.List.{get_or-take, get_or-drop}
 use Rattle.std.proofs.lemmas.Grind.{common_steps}

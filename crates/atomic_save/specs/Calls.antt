@@ -1,7 +1,7 @@
 -- What is taken of the host, for files and a folder of a local file system, as a function of what was asked of it and what it answered.
 use Rattle.std.specs.Prelude.{◌≡◌, ℕ, ◌-◌, List, [], ◌∷◌, length, slice_get, Bool, true, false, ◌&&◌, nat_le, Option, Some, None, ◌⊎◌}
 use Rattle.atomic_save.specs.declared.changes.FileId.{FileId}
-use Rattle.atomic_save.specs.Changes.{Note, State, covers, byte_of, touches}
+use Rattle.atomic_save.specs.Changes.{Note, State, covers, byte_of}
 
 -- A call and its answer. A draft, a rename or an unlink that failed did nothing, and is none.
 pub data Event : Type 0 where

@@ -1,6 +1,5 @@
 -- The calls of a log as events.
-use Rattle.std.specs.Prelude.{List, Option, Some, None, option_map}
-use Rattle.atomic_save.specs.declared.changes.Change.{Change}
+use Rattle.std.specs.Prelude.{option_map}
 use Rattle.atomic_save.specs.declared.log.Call.{Call}
 use Rattle.atomic_save.specs.declared.log.Call.TheVariants as call
 use Rattle.atomic_save.specs.Changes.{note_of, notes}

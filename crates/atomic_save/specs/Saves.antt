@@ -1,5 +1,5 @@
 -- The theorem's words: what may be found after a stretch of calls, and at each moment of it.
-use Rattle.std.specs.Prelude.{◌≡◌, ◌⊎◌, ◌≤◌, ◌<◌, ℕ, List, [], ◌∷◌, length, map, slice_get, position, Bool, true, false, not, Option, Some, None, Result, Ok, Err, IsErr, IfErr, ⊤}
+use Rattle.std.specs.Prelude.{◌≡◌, ◌⊎◌, ◌≤◌, ◌<◌, ℕ, List, [], ◌∷◌, map, slice_get, position, Bool, true, false, not, Some, None, Result, IsErr, IfErr, ⊤}
 use Rattle.atomic_save.specs.declared.changes.Change.{Change}
 use Rattle.atomic_save.specs.declared.changes.FileId.{FileId}
 use Rattle.atomic_save.specs.declared.changes.Journal.{Journal}

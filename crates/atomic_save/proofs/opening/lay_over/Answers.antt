@@ -1,4 +1,4 @@
-use Rattle.std.proofs.Common.{◌≡◌, ◌-◌, ◌+◌, ◌<◌, length, min, take, drop, get_or, slice_index_or, ap, ap₂, sym, subst, ◌∙◌, arith}
+use Rattle.std.proofs.Common.{◌≡◌, ◌-◌, ◌+◌, length, min, take, drop, slice_index_or, ap, ap₂, sym, subst, ◌∙◌, arith}
 use Rattle.atomic_save.specs.Changes.{note_of, byte_of}
 use Rattle.atomic_save.proofs.Windows.{laid}
 use Rattle.atomic_save.proofs.opening.lay_over.Goals as goal

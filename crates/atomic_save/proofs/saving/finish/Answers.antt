@@ -1,4 +1,4 @@
-use Rattle.std.proofs.Common.{subst, ap, ◌∙◌, Some, refl, inr}
+use Rattle.std.proofs.Common.{subst}
 use Rattle.atomic_save.specs.Changes.{notes}
 use Rattle.atomic_save.specs.Saves.{Safe, SafeThroughout}
 use Rattle.atomic_save.proofs.Moments.{same_moment}

@@ -1,4 +1,4 @@
-use Rattle.std.proofs.Common.{length, arith}
+use Rattle.std.proofs.Common.{arith}
 use Rattle.std.proofs.lemmas.List.{length-map}
 use Rattle.atomic_save.specs.Saves.{ids_of}
 use Rattle.atomic_save.proofs.Files.{same_lists}

@@ -1,7 +1,7 @@
 use Rattle.std.proofs.Common.{◌≡◌, position, None, sym, subst, ◌∙◌}
 use Rattle.atomic_save.specs.Changes.{notes}
 use Rattle.atomic_save.specs.Calls.{files_of}
-use Rattle.atomic_save.specs.Saves.{Safe, AllLie, Writing, Written, New, is_outside}
+use Rattle.atomic_save.specs.Saves.{Safe, AllLie, Writing, is_outside}
 use Rattle.atomic_save.proofs.Moments.{same_moment}
 use Rattle.atomic_save.proofs.Put.{all_lie}
 use Rattle.atomic_save.proofs.Steps.{calm, safe_at_first, goes_on, written_then}

@@ -1,5 +1,4 @@
-use Rattle.std.proofs.Common.{subst, sym, ap, ◌∙◌}
-use Rattle.std.proofs.lemmas.Result.{on_ok_weaker}
+use Rattle.std.proofs.Common.{subst, sym}
 use Rattle.atomic_save.specs.Calls.{MayLeave}
 use Rattle.atomic_save.specs.Saves.{Follows, New}
 use Rattle.atomic_save.proofs.Steps.{written_new, settled_moments, settled_new, settled_gone}
