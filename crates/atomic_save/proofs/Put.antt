@@ -43,11 +43,14 @@ put_reached disk n rest ns before es new done is among some calm_before r =
   where
     torn : Follows (Writing ns) (MayLeave disk before) (MayLeave disk (Wrote n done ∷ es))
     torn c left =
-        let f = r.left left.0 left.1 in
-        (f.0, f.1, record {
-          journal = left.2.journal ∙ f.2.journal;
-          elsewhere = λ file k isnt. left.2.elsewhere file k (or_parts (covers n file k) (touches rest file k) (among file k isnt)).0 ∙ f.2.elsewhere file k isnt;
-        })
+        let f = r.left left.0 left.1 in (
+          f.0,
+          f.1,
+          record {
+            journal = left.2.journal ∙ f.2.journal;
+            elsewhere = λ file k isnt. left.2.elsewhere file k (or_parts (covers n file k) (touches rest file k) (among file k isnt)).0 ∙ f.2.elsewhere file k isnt;
+          },
+        )
 
 -- one file more is synced, or not
 pub sync_reached : (disk : State) (ns : List Note) (before es new : List Event) (file : ℕ) (done : Bool) → new ≡ Synced file done ∷ es → shown es ≡ Some ns → CalmBefore disk ns before

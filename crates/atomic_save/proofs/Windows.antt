@@ -42,12 +42,16 @@ laid n at xs first count part f-is c-is from-in to-in p-is k lt =
   where
     from : ℕ
     from = first - n.at
+
     to : ℕ
     to = first - at
+
     long : length part ≡ count
     long = ap length p-is ∙ omega (arith, length-take count (drop from n.bytes), length-drop from n.bytes, c-is, from-in)
+
     fits : to + length part ≤ length xs
     fits = omega (arith, long, c-is, to-in)
+
     byte : to ≤ k → k < to + count → get_or part (k - to) 0 ≡ get_or n.bytes (at + k - n.at) 0
     byte since in-it =
         ap (λ l. get_or l (k - to) 0) p-is ∙ get_or-take count (drop from n.bytes) (k - to) 0 (omega (arith, since, in-it)) ∙ get_or-drop from n.bytes (k - to) 0 ∙ ap (λ i. get_or n.bytes i 0) (omega (arith, f-is, since))

@@ -34,12 +34,7 @@ pub trait Found {
 /// # Errors
 ///
 /// The host refuses it: `into` holds any bytes.
-pub fn open<F: Found>(
-    found: &mut F,
-    file: usize,
-    at: u64,
-    into: &mut [u8],
-) -> Result<(), HostFault>
+pub fn open<F: Found>(found: &mut F, file: usize, at: u64, into: &mut [u8]) -> Result<(), HostFault>
     ensures length { length into.new ≡ length into.old }
     ensures opened { OnOk result ((k : ℕ) → k < length into.new → slice_index_or into.new k 0 ≡ opened (F.state found.new) file (at + k)) }
     ensures cause { HasCause (F.faults found.old) (F.faults found.new) result }

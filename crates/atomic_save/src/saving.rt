@@ -84,9 +84,7 @@ fn lies_outside(files: &[FileId], change: &Change) -> bool
     ensures { result ≡ is_outside files.now change.now }
 {
     match files.get(change.file) {
-        Some(file) => {
-            change.at > file.size || change.bytes.len() as u64 > file.size - change.at
-        }
+        Some(file) => { change.at > file.size || change.bytes.len() as u64 > file.size - change.at }
         None => true,
     }
 }

@@ -27,7 +27,7 @@ returns-in_err-write-clause-any_moment g c disk before calm r =
     let xs = c.loop-rest.rest.now in
     let split = first_and_rest xs c.change-item.result c.in-len1-up.len_at_least c.change-item.is in
     (put_reached disk (note_of c.change-item.result) (notes (take (length xs - 1) (drop 1 xs))) ns before (g.H.Host.events c.loop-rest.host) (g.H.Host.events c.write.new.self) _ c.in_err-write.ensures.events
-      (subst (λ l. Among (notes l) ns) split c.loop-rest.invariant.among) (ap shown c.in_err-write.ensures.events ∙ c.loop-rest.invariant.shown ∙ c.requires.journal) calm (c.loop-rest.invariant.reached disk before calm r)).safe
+    (subst (λ l. Among (notes l) ns) split c.loop-rest.invariant.among) (ap shown c.in_err-write.ensures.events ∙ c.loop-rest.invariant.shown ∙ c.requires.journal) calm (c.loop-rest.invariant.reached disk before calm r)).safe
 
 pub loop-rest-preserved : goal.loop-rest-preserved
 loop-rest-preserved g c =

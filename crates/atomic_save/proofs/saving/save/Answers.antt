@@ -30,7 +30,7 @@ returns-in-Err-sync_files-clause-any_moment g c disk fits =
     let old = g.H.Host.events c.args.host.now in
     let calm_old = calm disk ns old fits c.requires.free in
     let put = goes_on disk ns old (g.H.Host.events c.publish.new.host) (g.H.Host.events c.put.new.host) (Writing ns) (Writing ns) calm_old
-        (record { safe = c.publish.ensures.any_moment disk fits; left = c.in_ok-publish.ensures.journal disk fits }) c.put.ensures.any_moment c.in_default-put.ensures.written in
+    (record { safe = c.publish.ensures.any_moment disk fits; left = c.in_ok-publish.ensures.journal disk fits }) c.put.ensures.any_moment c.in_default-put.ensures.written in
     c.sync_files.ensures.any_moment ns (c.put.ensures.shown ∙ c.in_ok-publish.ensures.shown) disk old calm_old put
 
 pub returns-in-Ok-clause-any_moment : goal.returns-in-Ok-clause-any_moment
