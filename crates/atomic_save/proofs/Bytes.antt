@@ -28,9 +28,12 @@ touched (n ∷ ns) file k a b h =
 -- changes that are made again change nothing
 pub after_twice : (ns : List Note) (file k b : ℕ) → byte_after ns file k (byte_after ns file k b) ≡ byte_after ns file k b
 after_twice ns file k b =
-    ⊎_elim (λ is. touched ns file k (byte_after ns file k b) b is) (λ isnt. ap (byte_after ns file k) (untouched ns file k b isnt)) (cases_Bool (touches ns file k))
+    ⊎_elim (λ is. touched ns file k (byte_after ns file k b) b is) (λ isnt. ap (byte_after ns file k) (untouched ns file k b isnt))
+    (cases_Bool (touches ns file k))
 
 -- changes make the same of bytes that differ only where they touch them
-pub same_after : (ns : List Note) (held read : ℕ → ℕ → ℕ) → ((file k : ℕ) → touches ns file k ≡ false → read file k ≡ held file k) → (file k : ℕ) → byte_after ns file k (read file k) ≡ byte_after ns file k (held file k)
+pub same_after : (ns : List Note) (held read : ℕ → ℕ → ℕ) → ((file k : ℕ) → touches ns file k ≡ false → read file k ≡ held file k)
+    → (file k : ℕ) → byte_after ns file k (read file k) ≡ byte_after ns file k (held file k)
 same_after ns held read same file k =
-    ⊎_elim (λ is. touched ns file k (read file k) (held file k) is) (λ isnt. ap (byte_after ns file k) (same file k isnt)) (cases_Bool (touches ns file k))
+    ⊎_elim (λ is. touched ns file k (read file k) (held file k) is) (λ isnt. ap (byte_after ns file k) (same file k isnt))
+    (cases_Bool (touches ns file k))

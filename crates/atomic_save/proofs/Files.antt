@@ -5,7 +5,8 @@ use Rattle.atomic_save.specs.declared.changes.FileId.{FileId}
 head : (x y : FileId) → Some x ≡ Some y → x ≡ y
 head x y e = cc
 
-pub same_lists : (xs ys : List FileId) (m : ℕ) → length xs ≤ m → length ys ≤ m → ((k : ℕ) → k < m → slice_get xs k ≡ slice_get ys k) → xs ≡ ys
+pub same_lists : (xs ys : List FileId) (m : ℕ) → length xs ≤ m → length ys ≤ m → ((k : ℕ) → k < m → slice_get xs k ≡ slice_get ys k)
+    → xs ≡ ys
 same_lists [] [] m p q same = refl
 same_lists [] (y ∷ ys) m p q same = let e = same 0 (omega (arith, q)) in absurd cc
 same_lists (x ∷ xs) [] m p q same = let e = same 0 (omega (arith, p)) in absurd cc

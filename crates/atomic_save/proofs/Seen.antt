@@ -14,7 +14,8 @@ due_seen disk (Retired ∷ es) f k b due = due_seen disk es f k b due
 due_seen disk (NamesSynced done ∷ es) f k b due = due_seen disk es f k b due
 due_seen disk (Wrote n done ∷ es) f k b due =
     let a = due.1 in
-    ⊎_elim (λ is. covered n f k ((seen disk es).held f k) a.0 is) (λ isnt. ap (byte_of n f k) (due_seen disk es f k a.0 (a.1 isnt))) (cases_Bool (covers n f k)) ∙ sym a.2
+    ⊎_elim (λ is. covered n f k ((seen disk es).held f k) a.0 is) (λ isnt. ap (byte_of n f k) (due_seen disk es f k a.0 (a.1 isnt)))
+    (cases_Bool (covers n f k)) ∙ sym a.2
 due_seen disk (Synced file done ∷ es) f k b due = due_seen disk es f k b due.1
 
 led_seen : (disk : State) (es : List Event) (j : Option (List Note)) → LedTo es j → (seen disk es).journal ≡ j
@@ -34,5 +35,6 @@ left_seen disk (Drafted ns ∷ es) = left_seen disk es
 left_seen disk (Committed ∷ es) = (seen disk es, left_seen disk es, record { held = refl; name = inr refl })
 left_seen disk (Retired ∷ es) = (seen disk es, left_seen disk es, record { held = refl; name = inr refl })
 left_seen disk (NamesSynced done ∷ es) = (left_seen disk es, λ is j led. led_seen disk es j led)
-left_seen disk (Wrote n done ∷ es) = (seen disk es, left_seen disk es, record { journal = refl; elsewhere = λ f k off. uncovered n f k ((seen disk es).held f k) off })
+left_seen disk (Wrote n done ∷ es) =
+    (seen disk es, left_seen disk es, record { journal = refl; elsewhere = λ f k off. uncovered n f k ((seen disk es).held f k) off })
 left_seen disk (Synced file done ∷ es) = (left_seen disk es, λ is k b due. due_seen disk es file k b due)

@@ -1,5 +1,6 @@
 -- Changes of files, and what a crash leaves of files and journal.
-use Rattle.std.specs.Prelude.{ℕ, ◌+◌, ◌-◌, List, [], ◌∷◌, length, get_or, Bool, false, ◌&&◌, ◌||◌, ◌==◌, nat_le, nat_lt, cond, Option, Some, None}
+use Rattle.std.specs.Prelude.{ℕ, ◌+◌, ◌-◌, List, [], ◌∷◌, length, get_or, Bool, false, ◌&&◌, ◌||◌, ◌==◌, nat_le, nat_lt, cond, Option, Some}
+use Rattle.std.specs.Prelude.{None}
 use Rattle.atomic_save.specs.declared.changes.Change.{Change}
 
 -- a run of bytes for a place of a file

@@ -1,5 +1,6 @@
 -- The theorem's words: what may be found after a stretch of calls, and at each moment of it.
-use Rattle.std.specs.Prelude.{◌≡◌, ◌⊎◌, ◌≤◌, ◌<◌, ℕ, List, [], ◌∷◌, map, slice_get, position, Bool, true, false, not, Some, None, Result, IsErr, IfErr, ⊤}
+use Rattle.std.specs.Prelude.{◌≡◌, ◌⊎◌, ◌≤◌, ◌<◌, ℕ, List, [], ◌∷◌, map, slice_get, position, Bool, true, false, not, Some, None, Result}
+use Rattle.std.specs.Prelude.{IsErr, IfErr, ⊤}
 use Rattle.atomic_save.specs.declared.changes.Change.{Change}
 use Rattle.atomic_save.specs.declared.changes.FileId.{FileId}
 use Rattle.atomic_save.specs.declared.changes.Journal.{Journal}
@@ -141,12 +142,14 @@ pub record Reached (disk : State) (ns : List Note) (before : List Event) (stage 
 -- calls from a stage on keep each moment safe
 abbrev pub KeepsSafe : List Note → (State → State → Type 0) → List Event → List Event → Type 0
 KeepsSafe ns stage old new =
-    (disk : State) (before : List Event) → CalmBefore disk ns before → Reached disk ns before stage old → EachMoment (Safe disk ns before) before new
+    (disk : State) (before : List Event) → CalmBefore disk ns before → Reached disk ns before stage old
+    → EachMoment (Safe disk ns before) before new
 
 -- calls lead from one stage to another
 abbrev pub Leads : List Note → (State → State → Type 0) → (State → State → Type 0) → List Event → List Event → Type 0
 Leads ns stage next old new =
-    (disk : State) (before : List Event) → CalmBefore disk ns before → Reached disk ns before stage old → Follows next (MayLeave disk before) (MayLeave disk new)
+    (disk : State) (before : List Event) → CalmBefore disk ns before → Reached disk ns before stage old
+    → Follows next (MayLeave disk before) (MayLeave disk new)
 
 -- all bytes of these changes were handed over
 abbrev pub AllHanded : List Note → List Event → Type 0

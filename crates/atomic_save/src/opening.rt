@@ -47,7 +47,8 @@ pub fn open<F: Found>(found: &mut F, file: usize, at: u64, into: &mut [u8]) -> R
 /// Makes of the bytes of a file from `at` on those after these changes.
 pub fn overlay(changes: &[Change], file: usize, at: u64, into: &mut [u8])
     ensures length { length into.new ≡ length into.old }
-    ensures after { (k : ℕ) → k < length into.old → slice_index_or into.new k 0 ≡ byte_after (notes changes.now) file (at + k) (slice_index_or into.old k 0) }
+    ensures after { (k : ℕ) → k < length into.old
+        → slice_index_or into.new k 0 ≡ byte_after (notes changes.now) file (at + k) (slice_index_or into.old k 0) }
 {
     let mut rest = changes;
     while let [change, after @ ..] = rest {
@@ -61,7 +62,8 @@ pub fn overlay(changes: &[Change], file: usize, at: u64, into: &mut [u8])
 // Lays the bytes of a change over those of its file from `at` on.
 fn lay_over(change: &Change, at: u64, into: &mut [u8])
     ensures length { length into.new ≡ length into.old }
-    ensures after { (k : ℕ) → k < length into.old → slice_index_or into.new k 0 ≡ byte_of (note_of change.now) change.now.file (at + k) (slice_index_or into.old k 0) }
+    ensures after { (k : ℕ) → k < length into.old
+        → slice_index_or into.new k 0 ≡ byte_of (note_of change.now) change.now.file (at + k) (slice_index_or into.old k 0) }
 {
     let first = change.at.max(at);
     let from = (first - change.at) as usize;

@@ -116,7 +116,8 @@ fn is_named(files: &[FileId], named: &[JournalFile], place: usize) -> bool
 fn publish<H: Host>(host: &mut H, changes: &[Change]) -> Result<(), SaveFault>
     requires free { (shown (H.events host.old) ≡ None) ⊎ (shown (H.events host.old) ≡ Some (notes changes.now)) }
     ensures any_moment { SafeThroughout (notes changes.now) (H.events host.old) (H.events host.new) }
-    ensures journal { OnOk result ((disk : State) → Fits disk (H.events host.old) → Follows (Writing (notes changes.now)) (MayLeave disk (H.events host.old)) (MayLeave disk (H.events host.new))) }
+    ensures journal { OnOk result ((disk : State) → Fits disk (H.events host.old)
+        → Follows (Writing (notes changes.now)) (MayLeave disk (H.events host.old)) (MayLeave disk (H.events host.new))) }
     ensures shown { OnOk result (shown (H.events host.new) ≡ Some (notes changes.now)) }
     ensures files { files_of (H.events host.new) ≡ files_of (H.events host.old) }
     ensures told { IfErr result (Tells changes.now (H.events host.old) (H.events host.new)) }
@@ -139,7 +140,8 @@ fn put<H: Host>(host: &mut H, changes: &[Change]) -> Result<(), HostFault>
     requires inside { AllLie (files_of (H.events host.old)) (notes changes.now) }
     requires journal { shown (H.events host.old) ≡ Some (notes changes.now) }
     ensures any_moment { KeepsSafe (notes changes.now) (Writing (notes changes.now)) (H.events host.old) (H.events host.new) }
-    ensures written { OnOk result (Leads (notes changes.now) (Writing (notes changes.now)) (Writing (notes changes.now)) (H.events host.old) (H.events host.new)) }
+    ensures written { OnOk result (Leads (notes changes.now) (Writing (notes changes.now)) (Writing (notes changes.now))
+        (H.events host.old) (H.events host.new)) }
     ensures handed { OnOk result (AllHanded (notes changes.now) (H.events host.new)) }
     ensures shown { shown (H.events host.new) ≡ shown (H.events host.old) }
     ensures files { files_of (H.events host.new) ≡ files_of (H.events host.old) }
@@ -156,7 +158,9 @@ fn put<H: Host>(host: &mut H, changes: &[Change]) -> Result<(), HostFault>
 // Syncs all files.
 fn sync_files<H: Host>(host: &mut H) -> Result<(), HostFault>
     ensures any_moment { (ns : List Note) → shown (H.events host.old) ≡ Some ns → KeepsSafe ns (Writing ns) (H.events host.old) (H.events host.new) }
-    ensures synced { OnOk result ((ns : List Note) → shown (H.events host.old) ≡ Some ns → AllLie (files_of (H.events host.old)) ns → AllHanded ns (H.events host.old) → Leads ns (Writing ns) (Written ns) (H.events host.old) (H.events host.new)) }
+    ensures synced { OnOk result ((ns : List Note) → shown (H.events host.old) ≡ Some ns
+        → AllLie (files_of (H.events host.old)) ns → AllHanded ns (H.events host.old)
+        → Leads ns (Writing ns) (Written ns) (H.events host.old) (H.events host.new)) }
     ensures shown { shown (H.events host.new) ≡ shown (H.events host.old) }
     ensures cause { HasCause (H.faults host.old) (H.faults host.new) result }
 {

@@ -11,8 +11,15 @@ returns-then-to-into-clause-after c k lt =
     let to = first - c.args.at in
     let xs = c.args.into.now in
     let count = c.min-count.result in
-    let bytes : length c.args.change.now.bytes.items ≡ c.args.change.now.bytes.len = omega (arith, c.deref.ensures.len, ap length c.deref.ensures.value) in
+    let bytes : length c.args.change.now.bytes.items ≡ c.args.change.now.bytes.len =
+    omega (arith, c.deref.ensures.len, ap length c.deref.ensures.value) in
     let size = c.min-count.ensures ∙ ap (λ l. min (l - from) (length xs - to)) (c.len-then-to-into.ensures ∙ sym bytes) in
     let part = ap₂ (λ m l. take m (drop from l)) (omega arith) c.deref.ensures.value in
     subst (λ l. slice_index_or l k 0 ≡ byte_of n c.args.change.now.file (c.args.at + k) (slice_index_or xs k 0)) (sym c.put_over.ensures)
-    (laid n c.args.at xs first count _ c.max-first.ensures size (omega (arith, c.if-from-len.true, c.len.ensures, bytes)) c.if-to-into.true part k lt)
+    (laid n c.args.at xs first count _ (record {
+      first_is = c.max-first.ensures;
+      count_is = size;
+      in_change = omega (arith, c.if-from-len.true, c.len.ensures, bytes);
+      in_window = c.if-to-into.true;
+      part_is = part;
+    }) k lt)

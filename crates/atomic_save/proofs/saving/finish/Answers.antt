@@ -16,10 +16,12 @@ returns-in-Some-clause-same g c disk there = same_at_first disk (g.H.Host.events
 
 pub returns-clause-any_moment : goal.returns-clause-any_moment
 returns-clause-any_moment g c disk fits =
-    subst (λ l. SafeThroughout (notes l) (g.H.Host.events c.args.host.now) (g.H.Host.events c.save.new.host)) c.deref-2.ensures.value c.save.ensures.any_moment disk fits
+    subst (λ l. SafeThroughout (notes l) (g.H.Host.events c.args.host.now) (g.H.Host.events c.save.new.host)) c.deref-2.ensures.value
+    c.save.ensures.any_moment disk fits
 
 pub returns-clause-same : goal.returns-clause-same
 returns-clause-same g c =
     let old = g.H.Host.events c.args.host.now in
     let new = g.H.Host.events c.save.new.host in
-    same_throughout (notes c.args.journal.now.changes.items) old new c.requires.shown (subst (λ l. SafeThroughout (notes l) old new) c.deref-2.ensures.value c.save.ensures.any_moment)
+    same_throughout (notes c.args.journal.now.changes.items) old new c.requires.shown
+    (subst (λ l. SafeThroughout (notes l) old new) c.deref-2.ensures.value c.save.ensures.any_moment)

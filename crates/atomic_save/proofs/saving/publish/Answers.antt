@@ -13,20 +13,24 @@ returns-in-Err-clause-any_moment g c disk fits =
 
 pub returns-in-Err-commit-clause-any_moment : goal.returns-in-Err-commit-clause-any_moment
 returns-in-Err-commit-clause-any_moment g c disk fits =
-    drafted_moments disk (notes c.args.changes.now) (g.H.Host.events c.args.host.now) _ (c.in-Err-commit.ensures.err ∙ c.in_default.ensures.ok) fits
+    drafted_moments disk (notes c.args.changes.now) (g.H.Host.events c.args.host.now) _
+    (c.in-Err-commit.ensures.err ∙ c.in_default.ensures.ok) fits
 
 pub returns-in-Ok-clause-any_moment : goal.returns-in-Ok-clause-any_moment
 returns-in-Ok-clause-any_moment g c disk fits =
     let ns = notes c.args.changes.now in
     let es = g.H.Host.events c.args.host.now in
-    named_moments disk ns es _ _ _ _ c.in_default.ensures.ok c.in_default-commit.ensures.ok c.in-Ok.ensures.events fits (calm disk ns es fits c.requires.free)
+    named_moments disk ns es _ _ _ _ c.in_default.ensures.ok c.in_default-commit.ensures.ok c.in-Ok.ensures.events fits
+    (calm disk ns es fits c.requires.free)
 
 pub returns-in-Ok-clause-journal : goal.returns-in-Ok-clause-journal
 returns-in-Ok-clause-journal g c disk fits =
-    named_writing disk (notes c.args.changes.now) (g.H.Host.events c.args.host.now) _ _ _ c.in_default.ensures.ok c.in_default-commit.ensures.ok c.in-Ok.ensures.events
+    named_writing disk (notes c.args.changes.now) (g.H.Host.events c.args.host.now) _ _ _ c.in_default.ensures.ok
+    c.in_default-commit.ensures.ok c.in-Ok.ensures.events
 
 pub returns-in-Err-sync_names-clause-any_moment : goal.returns-in-Err-sync_names-clause-any_moment
 returns-in-Err-sync_names-clause-any_moment g c disk fits =
     let ns = notes c.args.changes.now in
     let es = g.H.Host.events c.args.host.now in
-    named_moments disk ns es _ _ _ _ c.in_default.ensures.ok c.in_default-commit.ensures.ok c.in-Err-sync_names.ensures.events fits (calm disk ns es fits c.requires.free)
+    named_moments disk ns es _ _ _ _ c.in_default.ensures.ok c.in_default-commit.ensures.ok c.in-Err-sync_names.ensures.events fits
+    (calm disk ns es fits c.requires.free)

@@ -7,7 +7,8 @@ use Rattle.atomic_save.proofs.saving.put.Given as goal
 
 abbrev pub invariant-loop-rest : goal.invariant-loop-rest
 invariant-loop-rest g l = record {
-  reached : (disk : State) (before : List Event) → CalmBefore disk (notes l.fn.changes) before → Reached disk (notes l.fn.changes) before (Writing (notes l.fn.changes)) (g.H.Host.events l.fn.host)
+  reached : (disk : State) (before : List Event) → CalmBefore disk (notes l.fn.changes) before
+      → Reached disk (notes l.fn.changes) before (Writing (notes l.fn.changes)) (g.H.Host.events l.fn.host)
       → Reached disk (notes l.fn.changes) before (Writing (notes l.fn.changes)) (g.H.Host.events l.host);
   pending : Pending (notes l.rest) (notes l.fn.changes) (g.H.Host.events l.host);
   among : Among (notes l.rest) (notes l.fn.changes);
