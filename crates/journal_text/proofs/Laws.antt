@@ -1,5 +1,7 @@
 -- The two laws: what is read is spelled so, and what is spelled so is read.
-use Rattle.std.proofs.Common.{◌≡◌, ℕ, suc, ◌+◌, ◌^◌, ◌<◌, ◌≤◌, Bool, true, false, cond, eqb, ltb, not, ◌==◌, List, [], ◌∷◌, ◌++◌, length, get_or, take, drop, Result, Ok, Err, bytes_eq, refl, sym, ap, ap₂, subst, ◌∙◌, append_assoc, drop-cons, drop-drop, true≢false, arith}
+use Rattle.std.proofs.Common.{◌≡◌, ℕ, suc, ◌+◌, ◌^◌, ◌<◌, ◌≤◌, Bool, true, false, cond, eqb, ltb, not, ◌==◌, List, [], ◌∷◌, ◌++◌, length}
+use Rattle.std.proofs.Common.{get_or, take, drop, Result, Ok, Err, bytes_eq, refl, sym, ap, ap₂, subst, ◌∙◌, append_assoc, drop-cons}
+use Rattle.std.proofs.Common.{drop-drop, true≢false, arith}
 use Rattle.std.specs.Prelude.{IfOk, nat_eq}
 use Rattle.std.specs.Int.{w64, from_be_bytes, to_be_bytes}
 use Rattle.std.proofs.lemmas.Bool.{and_parts, eqb-true, eq-eqb, ltb-false, le-ltb}
@@ -11,17 +13,23 @@ use Rattle.atomic_save.specs.Changes.{Note}
 use Rattle.atomic_save.specs.declared.changes.Journal.{Journal}
 use Rattle.journal_text.specs.declared.faults.JournalFault.{JournalFault}
 use Rattle.journal_text.specs.declared.faults.JournalFault.TheVariants.{Foreign, Later, Truncated, Damaged}
-use Rattle.journal_text.specs.Spelling.{Named, Said, number, string, list_text, file_text, change_text, body, tag, version, sealed, spelling, said_by, FileFits, NoteFits, SaidFits}
-use Rattle.journal_text.specs.Reading.{◌>>=◌, Gives, number_at, string_at, file_at, change_at, items_at, list_at, body_at, content_of, rest_of, body_in, journal_at}
-use Rattle.journal_text.proofs.Fields.{IsBytes, IsBytes-take, IsBytes-drop, bind_ok, passed, ok_is, Takes, Takes-then, number_takes, number_again, string_takes, string_again, file_takes, file_again, change_takes, change_again, list_takes, list_again}
+use Rattle.journal_text.specs.Spelling.{Named, Said, number, string, list_text, file_text, change_text, body, tag, version, sealed}
+use Rattle.journal_text.specs.Spelling.{spelling, said_by, FileFits, NoteFits, SaidFits}
+use Rattle.journal_text.specs.Reading.{◌>>=◌, Gives, number_at, string_at, file_at, change_at, items_at, list_at, body_at, content_of}
+use Rattle.journal_text.specs.Reading.{rest_of, body_in, journal_at}
+use Rattle.journal_text.proofs.Fields.{IsBytes, IsBytes-take, IsBytes-drop, bind_ok, passed, ok_is, Takes, Takes-then, number_takes}
+use Rattle.journal_text.proofs.Fields.{number_again, string_takes, string_again, file_takes, file_again, change_takes, change_again}
+use Rattle.journal_text.proofs.Fields.{list_takes, list_again}
 
 -- ---- the body
 
 body_takes : (bytes : List ℕ) (s : Said) → IsBytes bytes → length bytes < 2 ^ 64 → body_at bytes ≡ Ok s → SaidFits s × (bytes ≡ body s)
 unfolding body_at
 body_takes bytes s fits short e =
-    let made = λ (files : List Named) (changes : List Note) (more : List ℕ × List ℕ). cond (eqb (length more.1) 0) (Ok (record { files = files; changes = changes; more = more.0 })) (Err Damaged) in
-    let a = bind_ok (list_at file_at bytes) (λ files. list_at change_at files.1 >>= λ changes. string_at changes.1 >>= λ more. made files.0 changes.0 more) s e in
+    let made = λ (files : List Named) (changes : List Note) (more : List ℕ × List ℕ). cond (eqb (length more.1) 0)
+    (Ok (record { files = files; changes = changes; more = more.0 })) (Err Damaged) in
+    let a = bind_ok (list_at file_at bytes) (λ files. list_at change_at files.1 >>= λ changes. string_at changes.1 >>= λ more.
+    made files.0 changes.0 more) s e in
     let b = bind_ok (list_at change_at a.0.1) (λ changes. string_at changes.1 >>= λ more. made a.0.0 changes.0 more) s a.2 in
     let c = bind_ok (string_at b.0.1) (λ more. made a.0.0 b.0.0 more) s b.2 in
     let g = ended (eqb (length c.0.1) 0) (record { files = a.0.0; changes = b.0.0; more = c.0.0 }) s c.2 in
@@ -31,9 +39,19 @@ body_takes bytes s fits short e =
     let e1 = Takes-then a.0.1 (list_text change_text b.0.0) b.0.1 (string c.0.0) c.0.1 t1.0 t2.0 in
     let e0 = Takes-then bytes (list_text file_text a.0.0) a.0.1 (list_text change_text b.0.0 ++ string c.0.0) c.0.1 t0.0 e1 in
     let whole : Said = record { files = a.0.0; changes = b.0.0; more = c.0.0 } in
-    let all : bytes ≡ body whole = e0.parts ∙ ap (λ (r : List ℕ). body whole ++ r) (nil_from_length c.0.1 (eqb-true _ _ g.0)) ∙ append-nil (body whole) in
-    subst (λ (v : Said). SaidFits v × (bytes ≡ body v)) g.1
-    (record { file_count = t0.1; files = t0.2; change_count = t1.1; changes = t1.2; more = t2.1; whole = subst (λ (l : List ℕ). length l < 2 ^ 64) all short }, all)
+    let all : bytes ≡ body whole =
+    e0.parts ∙ ap (λ (r : List ℕ). body whole ++ r) (nil_from_length c.0.1 (eqb-true _ _ g.0)) ∙ append-nil (body whole) in
+    subst (λ (v : Said). SaidFits v × (bytes ≡ body v)) g.1 (
+      record {
+        file_count = t0.1;
+        files = t0.2;
+        change_count = t1.1;
+        changes = t1.2;
+        more = t2.1;
+        whole = subst (λ (l : List ℕ). length l < 2 ^ 64) all short;
+      },
+      all,
+    )
   where
     ended : (b : Bool) (x y : Said) → cond b (Ok x) (Err Damaged) ≡ Ok y → (b ≡ true) × (x ≡ y)
     ended true x y e = (refl, cc)
@@ -43,8 +61,13 @@ body_again : (s : Said) → SaidFits s → body_at (body s) ≡ Ok s
 unfolding body_at
 body_again s fits =
     let rest = list_text change_text s.changes ++ string s.more in
-    let more : string_at (string s.more) ≡ Ok (s.more, []) = ap string_at (sym (append-nil (string s.more))) ∙ string_again s.more [] fits.more in
-    rw (list_again file_at file_text FileFits file_again s.files rest fits.file_count fits.files, list_again change_at change_text NoteFits change_again s.changes (string s.more) fits.change_count fits.changes, more) refl
+    let more : string_at (string s.more) ≡ Ok (s.more, []) =
+    ap string_at (sym (append-nil (string s.more))) ∙ string_again s.more [] fits.more in
+    rw (
+      list_again file_at file_text FileFits file_again s.files rest fits.file_count fits.files,
+      list_again change_at change_text NoteFits change_again s.changes (string s.more) fits.change_count fits.changes,
+      more,
+    ) refl
 
 -- ---- the head
 
@@ -64,7 +87,8 @@ yes : (b : Bool) → not b ≡ false → b ≡ true
 yes true e = refl
 yes false e = absurd (true≢false e)
 
-content_takes : (len : ℕ) (digest bytes b : List ℕ) → content_of len digest bytes ≡ Ok b → (length b ≡ len) × (digest ≡ sha256 b) × (bytes ≡ b)
+content_takes : (len : ℕ) (digest bytes b : List ℕ) → content_of len digest bytes ≡ Ok b
+    → (length b ≡ len) × (digest ≡ sha256 b) × (bytes ≡ b)
 unfolding content_of
 content_takes len digest bytes b e =
     let r2 = cond (not (bytes_eq digest (sha256 bytes))) (Err Damaged) (Ok bytes) in
@@ -77,21 +101,30 @@ content_takes len digest bytes b e =
 
 content_again : (bytes : List ℕ) → content_of (length bytes) (sha256 bytes) bytes ≡ Ok bytes
 unfolding content_of
-content_again bytes = rw (le-ltb (length bytes) (length bytes) (omega arith), eq-eqb (length bytes) (length bytes) refl, bytes_same (sha256 bytes)) refl
+content_again bytes =
+    rw (le-ltb (length bytes) (length bytes) (omega arith), eq-eqb (length bytes) (length bytes) refl, bytes_same (sha256 bytes)) refl
 
-rest_takes : (bytes b : List ℕ) → IsBytes bytes → rest_of bytes ≡ Ok b → (bytes ≡ number (length b) ++ (sha256 b ++ b)) × IsBytes b × (length b < 2 ^ 64)
+rest_takes : (bytes b : List ℕ) → IsBytes bytes → rest_of bytes ≡ Ok b
+    → (bytes ≡ number (length b) ++ (sha256 b ++ b)) × IsBytes b × (length b < 2 ^ 64)
 unfolding rest_of
 rest_takes bytes b fits e =
     let a = bind_ok (number_at bytes) (λ len. content_of len.0 (take 32 len.1) (drop 32 len.1)) b e in
     let t = number_takes bytes a.0.0 a.0.1 fits a.1 in
     let p = content_takes a.0.0 (take 32 a.0.1) (drop 32 a.0.1) b a.2 in
-    let tail : a.0.1 ≡ sha256 b ++ b = sym (take-append-drop 32 a.0.1) ∙ (λ i. p.1 i ++ p.2 i) in
-    (t.0.parts ∙ (λ i. number (sym p.0 i) ++ tail i), subst IsBytes p.2 (IsBytes-drop 32 a.0.1 t.0.rest_fits), subst (λ (k : ℕ). k < 2 ^ 64) (sym p.0) t.1)
+    let tail : a.0.1 ≡ sha256 b ++ b = sym (take-append-drop 32 a.0.1) ∙ (λ i. p.1 i ++ p.2 i) in (
+      t.0.parts ∙ (λ i. number (sym p.0 i) ++ tail i),
+      subst IsBytes p.2 (IsBytes-drop 32 a.0.1 t.0.rest_fits),
+      subst (λ (k : ℕ). k < 2 ^ 64) (sym p.0) t.1,
+    )
 
 rest_again : (bytes : List ℕ) → length bytes < 2 ^ 64 → rest_of (number (length bytes) ++ (sha256 bytes ++ bytes)) ≡ Ok bytes
 unfolding rest_of
 rest_again bytes short =
-    rw (number_again (length bytes) (sha256 bytes ++ bytes) short, take_at (sha256 bytes) bytes 32 (length-sha256 bytes), drop_at (sha256 bytes) bytes 32 (length-sha256 bytes)) (content_again bytes)
+    rw (
+      number_again (length bytes) (sha256 bytes ++ bytes) short,
+      take_at (sha256 bytes) bytes 32 (length-sha256 bytes),
+      drop_at (sha256 bytes) bytes 32 (length-sha256 bytes),
+    ) (content_again bytes)
 
 body_in_takes : (text b : List ℕ) → IsBytes text → body_in text ≡ Ok b → (text ≡ sealed b) × IsBytes b × (length b < 2 ^ 64)
 unfolding body_in
@@ -135,6 +168,7 @@ pub journal_again : (s : Said) → SaidFits s → journal_at (spelling s) ≡ Ok
 unfolding journal_at
 journal_again s fits = rw (body_in_again (body s) fits.whole) (body_again s fits)
 
-pub is_found : (text : List ℕ) (r : Result Journal JournalFault) → IsBytes text → Gives said_by r (journal_at text) → IfOk r (λ j. SaidFits (said_by j) × (text ≡ spelling (said_by j)))
+pub is_found : (text : List ℕ) (r : Result Journal JournalFault) → IsBytes text → Gives said_by r (journal_at text)
+    → IfOk r (λ j. SaidFits (said_by j) × (text ≡ spelling (said_by j)))
 is_found text (Ok j) fits given = journal_takes text (said_by j) fits given
 is_found text (Err e) fits given = tt

@@ -1,5 +1,6 @@
 -- Reading from left to right, with the first fault that is met.
-use Rattle.std.specs.Prelude.{◌≡◌, ℕ, zero, suc, List, [], ◌∷◌, length, get_or, take, drop, Result, Ok, Err, nat_lt, nat_le, ◌==◌, not, ◌||◌, bytes_eq, if◌then◌else◌}
+use Rattle.std.specs.Prelude.{◌≡◌, ℕ, zero, suc, List, [], ◌∷◌, length, get_or, take, drop, Result, Ok, Err, nat_lt, nat_le, ◌==◌, not}
+use Rattle.std.specs.Prelude.{◌||◌, bytes_eq, if◌then◌else◌}
 use Rattle.std.specs.Int.{w64, from_be_bytes}
 use Rattle.sha2.specs.Sha256.{sha256}
 use Rattle.atomic_save.specs.Changes.{Note}

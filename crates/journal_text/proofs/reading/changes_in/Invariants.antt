@@ -5,4 +5,5 @@ use Rattle.journal_text.proofs.Loop.{with_front}
 use Rattle.journal_text.proofs.reading.changes_in.Given as goal
 
 abbrev pub invariant-loop : goal.invariant-loop
-invariant-loop l = with_front change_at (all_notes l.changes.items) (items_at change_at (l.count - l.counter) l.rest) ≡ items_at change_at l.count l.bytes
+invariant-loop l =
+    with_front change_at (all_notes l.changes.items) (items_at change_at (l.count - l.counter) l.rest) ≡ items_at change_at l.count l.bytes

@@ -5,4 +5,5 @@ use Rattle.journal_text.proofs.Loop.{with_front}
 use Rattle.journal_text.proofs.reading.files_in.Given as goal
 
 abbrev pub invariant-loop : goal.invariant-loop
-invariant-loop l = with_front file_at (all_named l.files.items) (items_at file_at (l.count - l.counter) l.rest) ≡ items_at file_at l.count l.bytes
+invariant-loop l =
+    with_front file_at (all_named l.files.items) (items_at file_at (l.count - l.counter) l.rest) ≡ items_at file_at l.count l.bytes

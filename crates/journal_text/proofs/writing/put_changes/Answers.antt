@@ -14,4 +14,5 @@ loop-change-preserved c =
     let text = change_text (note_of c.change-item.result) in
     let more = one_more note_of change_text cs i c.change-item.result c.loop-change-test.true c.change-item.is in
     let front = c.args.out.now.items ++ head in
-    c.in_ok-put_change.ensures ∙ ap (λ (l : List ℕ). l ++ text) c.loop-change.invariant ∙ append_assoc front before text ∙ ap (λ (l : List ℕ). front ++ l) (sym more)
+    c.in_ok-put_change.ensures ∙ ap (λ (l : List ℕ). l ++ text) c.loop-change.invariant ∙ append_assoc front before text
+    ∙ ap (λ (l : List ℕ). front ++ l) (sym more)

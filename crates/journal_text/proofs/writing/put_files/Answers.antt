@@ -13,4 +13,5 @@ loop-file-preserved c =
     let text = file_text (named_of c.file-item.result) in
     let more = one_more named_of file_text cs i c.file-item.result c.loop-file-test.true c.file-item.is in
     let front = c.args.out.now.items ++ head in
-    c.in_ok-put_file.ensures ∙ ap (λ (l : List ℕ). l ++ text) c.loop-file.invariant ∙ append_assoc front before text ∙ ap (λ (l : List ℕ). front ++ l) (sym more)
+    c.in_ok-put_file.ensures ∙ ap (λ (l : List ℕ). l ++ text) c.loop-file.invariant ∙ append_assoc front before text
+    ∙ ap (λ (l : List ℕ). front ++ l) (sym more)
