@@ -1,0 +1,4 @@
+pub mod Changes
+pub mod Calls
+pub mod Noted
+pub mod Saves

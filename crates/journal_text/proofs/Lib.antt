@@ -1,0 +1,3 @@
+mod Loop
+mod Fields
+mod Laws
