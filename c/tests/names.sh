@@ -33,7 +33,8 @@ if [ -n "$shared" ]; then
     same "$shared" "$work/shared"
 fi
 
-printf '%s\n' free malloc memcpy memmove memset realloc > "$work/known"
+# the assembler of Debian 11 leaves the linker's own name of the table of offsets
+printf '%s\n' _GLOBAL_OFFSET_TABLE_ free malloc memcpy memmove memset realloc | sort > "$work/known"
 names -g --undefined-only "$archive" | awk '$1 == "U" { print $2 }' | sort -u > "$work/wanted"
 for it in $(comm -13 "$work/known" "$work/wanted"); do tell "$archive wants $it, which it should not"; done
 
