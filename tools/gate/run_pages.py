@@ -97,6 +97,7 @@ NEEDS = {
     "shared": Need("libdasd.so.1, which `make` makes", has_shared),
     "drive": Need("libdasd_drive.a, which `make` makes, and a C compiler", has_drive),
     "web": Need("web/out/program.wasm, which `make -C web` makes, and node", has_module),
+    "check": Need("half a minute, and not `make check`, which runs the other examples", has("make"), True),
     "page": Need("compiled/dasd.wasm, which `release/check --write` makes", (TOP / "compiled/dasd.wasm").exists),
     "hercules": Need("Hercules", has("hercules"), True),
     "sqlite3": Need("sqlite3", has("sqlite3")),
