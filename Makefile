@@ -104,6 +104,7 @@ prove:
 	release/check --sums-alone
 
 page:
+	@command -v python3 > /dev/null || { echo "make: python3 is missing: Debian's package python3 has it" >&2; exit 1; }
 	web/make_page web/out/page/index.html
 
 # Of what was built alone: nothing is built here, so that `sudo make install` makes no file of root's in the tree.

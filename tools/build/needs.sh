@@ -18,4 +18,7 @@ for tool in as ld objcopy ar; do
     command -v "$("$1" -print-prog-name=$tool)" > /dev/null || lacks "$tool" binutils
 done
 command -v sha256sum > /dev/null || lacks sha256sum coreutils
-echo '#include <stdlib.h>' | "$@" -E -x c - > /dev/null 2>&1 || lacks "the C library's headers, stdlib.h" libc6-dev
+echo '#include <stdlib.h>' | "$@" -E -x c - > /dev/null 2>&1 || case $1 in
+    aarch64-*) lacks "the C library's headers, stdlib.h" libc6-dev-arm64-cross ;;
+    *) lacks "the C library's headers, stdlib.h" libc6-dev ;;
+esac
