@@ -1,7 +1,8 @@
 """Looks for what is stale in the documents.
 
 - Each crate of crates.txt has a README.md, and a row in docs/MAP.md.
-- README.md has the repository's address of release/identity; while that is not set, it says so, and no page has an address that is not set.
+- README.md has the repository's address of release/identity; while that is not set, it says so, and no page has an address that is not set. LICENSE and
+  CITATION.cff name the maintainer of release/identity, and no other file of a package has an address of people.
 - Each link of a document leads to a file that is there.
 - tools/edits/README.md names the must-fail edits of the gate, each of them.
 - Each file of Rattle or antt that a document names is there: `crates/NAME/src/x.rt`, `NAME/specs/X.antt`; a name without a folder, as `Geometry.antt`,
@@ -25,6 +26,9 @@ from tools.make import rules
 CODE = re.compile(r"`([^`\n]+)`")
 LINK = re.compile(r"\]\((?!https?:)([^)#\s]+)[^)]*\)")
 FILE = re.compile(r"(?:[a-z0-9_]+/)*[A-Za-z0-9_]+\.(?:rt|antt)")
+MAIL = re.compile(r"[\w.-]+@[\w-]+(?:\.[a-zA-Z]{2,})+")
+# What names people in packages.
+PACKAGED = ("CITATION.cff", "adapters/*/make_package", "release/make_*", "release/debian/**/*", "**/Cargo.toml", "**/pyproject.toml")
 WORD = re.compile(r"(?:[A-Z]\w*::)?([A-Za-z_]\w*)")
 
 
@@ -86,6 +90,12 @@ def check_addresses(findings: Findings) -> None:
         findings.expect(is_missing, "README.md does not say that there is no public address yet")
     else:
         findings.expect(address in text and not is_missing, "README.md has not the repository's address of release/identity")
+    maintainer = identity.value("MAINTAINER", names)
+    for name in ("LICENSE", "CITATION.cff"):
+        findings.expect(maintainer in (TOP / name).read_text(encoding="utf-8"), f"{name} does not name {maintainer}, as release/identity does")
+    for file in sorted(it for pattern in PACKAGED for it in TOP.glob(pattern) if it.is_file()):
+        found = MAIL.search(file.read_text(encoding="utf-8"))
+        findings.expect(not found, f"{file.relative_to(TOP)} has an address that is not taken from release/identity")
     for page in documents(TOP):
         findings.expect(identity.UNSET + "/" not in page.read_text(encoding="utf-8"), f"{page.relative_to(TOP)}: an address that is not set")
 

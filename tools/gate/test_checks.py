@@ -75,6 +75,9 @@ law all_end
   words   busy
 """,
 }
+# Whose the small repository is.
+PEOPLE = "MAINTAINER='A'\n"
+OWN: dict[str, str | None] = {"LICENSE": "Copyright (c) A\n", "CITATION.cff": '- name: "A"\n'}
 SENTENCE = "A word is a number (`word`), and it"
 COPIES = {"README.md": check_version.COPIES["README.md"], "CHANGELOG.md": check_version.COPIES["CHANGELOG.md"]}
 # A crate with wrong bodies of two functions, one of which reads as the other does, and three that can't stand beside a right one.
@@ -143,14 +146,22 @@ class Checks(unittest.TestCase):
         self.finds(check_documents, {"crates.txt": "low:\nhigh: low\n"}, "crates/high: no README.md", "docs/MAP.md: no row of high")
 
     def test_address_that_is_not_set(self) -> None:
-        names: dict[str, str | None] = {"release/identity": "REPOSITORY='https://example.invalid/dasd.git'\n"}
+        names = {**OWN, "release/identity": f"{PEOPLE}REPOSITORY='https://example.invalid/dasd.git'\n"}
         self.finds(check_documents, names, "README.md does not say that there is no public address yet")
         names["README.md"] = "There is no public address yet: https://example.invalid/dasd.git\n"
         self.finds(check_documents, names, "README.md: an address that is not set")
 
     def test_address_that_the_page_lacks(self) -> None:
-        names: dict[str, str | None] = {"release/identity": "REPOSITORY='https://a.example/dasd.git'\n"}
+        names = {**OWN, "release/identity": f"{PEOPLE}REPOSITORY='https://a.example/dasd.git'\n"}
         self.finds(check_documents, names, "README.md has not the repository's address of release/identity")
+        names["README.md"] = "https://a.example/dasd.git\n"
+        self.finds(check_documents, names)
+        self.finds(check_documents, {**names, "LICENSE": "Copyright (c) B\n"}, "LICENSE does not name A, as release/identity does")
+        self.finds(
+            check_documents,
+            {**names, "rust/Cargo.toml": 'authors = ["B <b@b.example>"]\n'},
+            "rust/Cargo.toml has an address that is not taken from release/identity",
+        )
 
     def test_link_to_nothing(self) -> None:
         self.finds(check_documents, {"README.md": "[times](docs/TIMES.md)\n"}, "README.md: nothing at docs/TIMES.md")
