@@ -2,13 +2,16 @@
 """Copies the pages of a release's tree for a package that has the pages alone, and follows their links.
 
     release/package_pages.py TREE FOLDER
-    release/package_pages.py --check FOLDER
+    release/package_pages.py --text FOLDER
+    release/package_pages.py --check FOLDER..
 
 README.md, docs/ and its pictures are put into FOLDER as they are laid out in the tree, and the page in the browser as try/index.html, of the
 modules in compiled/. A link into that page names its file, since no server would find it in its folder. A link to another file that is not
 among them becomes its text, so that none leads nowhere. The last line is 'N pages, M links became text'.
 
---check follows the links of a FOLDER, as it was made or as a package installed it: each leads to a file, and one into the page in the browser to
+--text does the same with the pages that a FOLDER has, in their places.
+
+--check follows the links of each FOLDER, as it was made or as a package installed it: each leads to a file, and one into the page in the browser to
 a deck that the page has. The last line is 'N links, M into the page, K wrong', with status 1 where K is not 0."""
 
 import base64
@@ -24,7 +27,7 @@ from typing import Any
 from urllib.parse import unquote
 
 TRY = Path("try")
-LINK = re.compile(r"(!?)\[([^\]\n]*)\]\((?!\w+:|#)([^)#\s]+)(#[^)\s]*)?\)")
+LINK = re.compile(r"(!?)\[([^\]]*)\]\((?!\w+:|#)([^)#\s]+)(#[^)\s]*)?\)")
 EXAMPLES = re.compile(r'id="examples\.json">([^<]*)<')
 
 
@@ -70,9 +73,19 @@ def put(tree: Path, folder: Path) -> tuple[int, int]:
     return pages, dropped
 
 
+def put_text(folder: Path) -> tuple[int, int]:
+    """Makes text of what leads out of the folder, or nowhere, in each of its pages: how many pages, and how many links."""
+    known, pages, dropped = {it.relative_to(folder) for it in folder.rglob("*")}, 0, 0
+    for it in sorted(folder.rglob("*.md")):
+        text, count = linked(it.relative_to(folder), it.read_text(encoding="utf-8"), known)
+        it.write_text(text, encoding="utf-8")
+        pages, dropped = pages + 1, dropped + count
+    return pages, dropped
+
+
 def decks(page: Path) -> set[str]:
-    """The decks of a page in the browser, as its addresses name them."""
-    found = EXAMPLES.search(page.read_text(encoding="utf-8"))
+    """The decks of a page in the browser, as its addresses name them; none where there is no such page."""
+    found = EXAMPLES.search(page.read_text(encoding="utf-8")) if page.is_file() else None
     if not found:
         return set()
     examples: Any = json.loads(gzip.decompress(base64.b64decode(found[1])))["examples"]
@@ -103,10 +116,15 @@ def check(folder: Path) -> tuple[int, int, list[str]]:
 
 def main() -> int:
     """Does as the words say."""
-    if len(sys.argv) == 3 and sys.argv[1] == "--check":
-        count, inside, wrong = check(Path(sys.argv[2]))
-        print(*wrong, f"{count} links, {inside} into the page, {len(wrong)} wrong", sep="\n")
-        return 1 if wrong or not inside else 0
+    if len(sys.argv) > 2 and sys.argv[1] == "--check":
+        counts, insides, wrongs = zip(*(check(Path(it)) for it in sys.argv[2:]))
+        wrong = [it for each in wrongs for it in each]
+        print(*wrong, f"{sum(counts)} links, {sum(insides)} into the page, {len(wrong)} wrong", sep="\n")
+        return 1 if wrong or not sum(insides) else 0
+    if len(sys.argv) == 3 and sys.argv[1] == "--text":
+        pages, dropped = put_text(Path(sys.argv[2]))
+        print(f"{pages} pages, {dropped} links became text")
+        return 0
     if len(sys.argv) != 3 or sys.argv[1].startswith("-"):
         sys.exit(__doc__)
     tree, folder = Path(sys.argv[1]), Path(sys.argv[2])

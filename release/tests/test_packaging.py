@@ -138,6 +138,14 @@ class Pages(unittest.TestCase):
             self.assertEqual((folder / "README.md").read_text(), "[a](docs/A.md#b) c [d](https://d.invalid) [e](#e)\n")
             self.assertEqual((folder / "docs" / "A.md").read_text(), "[top](../README.md) c ![p](pictures/p.png) [v](../try/index.html#vector=v)\n")
 
+    def test_links_out_of_a_folder_become_text(self) -> None:
+        with tempfile.TemporaryDirectory() as room:
+            page = Path(room, "README.md")
+            page.write_text("[out\nof it](../docs/A.md), [itself](README.md)\n", encoding="utf-8")
+            self.assertEqual(package_pages.put_text(Path(room)), (1, 1))
+            self.assertEqual(page.read_text(encoding="utf-8"), "out\nof it, [itself](README.md)\n")
+            self.assertEqual(package_pages.check(Path(room)), (1, 0, []))
+
     def test_links_are_followed(self) -> None:
         with tempfile.TemporaryDirectory() as room:
             folder = Path(room)
