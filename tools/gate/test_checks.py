@@ -146,13 +146,13 @@ class Checks(unittest.TestCase):
         self.finds(check_documents, {"crates.txt": "low:\nhigh: low\n"}, "crates/high: no README.md", "docs/MAP.md: no row of high")
 
     def test_address_that_is_not_set(self) -> None:
-        names = {**OWN, "release/identity": f"{PEOPLE}REPOSITORY='https://example.invalid/dasd.git'\n"}
+        names: dict[str, str | None] = {**OWN, "release/identity": f"{PEOPLE}REPOSITORY='https://example.invalid/dasd.git'\n"}
         self.finds(check_documents, names, "README.md does not say that there is no public address yet")
         names["README.md"] = "There is no public address yet: https://example.invalid/dasd.git\n"
         self.finds(check_documents, names, "README.md: an address that is not set")
 
     def test_address_that_the_page_lacks(self) -> None:
-        names = {**OWN, "release/identity": f"{PEOPLE}REPOSITORY='https://a.example/dasd.git'\n"}
+        names: dict[str, str | None] = {**OWN, "release/identity": f"{PEOPLE}REPOSITORY='https://a.example/dasd.git'\n"}
         self.finds(check_documents, names, "README.md has not the repository's address of release/identity")
         names["README.md"] = "https://a.example/dasd.git\n"
         self.finds(check_documents, names)
