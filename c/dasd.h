@@ -28,7 +28,7 @@
  *   4. malloc, realloc and free are one allocator. No call is made in a signal handler.
  *   5. What a call shows is used no longer than that call's text says.
  *
- * A CALL THAT ASKS takes its handle as `const dasd *`: whatever it answers, the handle holds behind it what it held before. While it
+ * A CALL THAT ASKS takes its handle as `const dasd *`: whatever it answers, the handle holds after it what it held before. While it
  * runs it writes the handle's own bytes, and puts them back: so a handle is never defined `const`, and rule 3 is for these calls too.
  *
  * AN ADDRESS is that of the System/360: the channel's number is the high byte, and the low byte is the drive's (190 is drive 90 of
@@ -123,7 +123,7 @@ enum dasd_fault {
     DASD_NO_TRACK = -47        /* a drive was saved at a track that its volume does not have */
 };
 
-/* The sentence of a number of enum dasd_fault, as it stands there; of DASD_DONE that it was done, and of a number that is none of them that it
+/* The sentence of a number of enum dasd_fault, as it is there; of DASD_DONE that it was done, and of a number that is none of them that it
  * is no fault. The text stays. It is the header's own: the library exports no such name. */
 static inline const char *dasd_fault_text(int32_t code) {
     switch (code) {
@@ -177,8 +177,8 @@ static inline const char *dasd_fault_text(int32_t code) {
 
 /* --- Structs with a size ---
  *
- * A dasd_program, a dasd_registers and a dasd_progress may get fields behind those of today. So the library is told how many bytes such a
- * struct has, by the calls of the header that answer one: it writes the fields that it knows, as far as they have room, and zeros behind
+ * A dasd_program, a dasd_registers and a dasd_progress may get fields after those of today. So the library is told how many bytes such a
+ * struct has, by the calls of the header that answer one: it writes the fields that it knows, as far as they have room, and zeros after
  * them. A program goes on with a newer library, which leaves out what the program's struct has not; and with an older one of this
  * interface, from which newer fields are zero. These are the library's own calls, for those who bind it without the header: `shown` and
  * `ran` lead to `size` bytes, a struct's, whose numbers have the lowest byte first, and no bytes lie between its fields. */
@@ -268,7 +268,7 @@ typedef struct dasd_file {
 } dasd_file;
 
 /* Shows a file of a drive's volume, 0 for its first, where the drive's program does not run: that of another drive may. All that the
- * drive's programs wrote is in it. The bytes stand there, and are the volume's, until the next dasd_step, dasd_run_on, dasd_run_until,
+ * drive's programs wrote is in it. The bytes are there, and are the volume's, until the next dasd_step, dasd_run_on, dasd_run_until,
  * dasd_hio or dasd_reset of that channel, dasd_detach, dasd_detach_files or dasd_free. DASD_NO_CHANNEL, DASD_PROGRAM_RUNS, DASD_NO_DRIVE,
  * DASD_NO_FILE. */
 int32_t dasd_show_file(const dasd *d, uint16_t address, uint8_t file, dasd_file *shown);
@@ -282,7 +282,7 @@ typedef struct dasd_changed {
 } dasd_changed;
 
 /* Shows the first track of a file, from number `next` of it on, that was written since the file's `changes` was `since`: 1, and `track`
- * names it, with `next` behind it; or 0, there is none, and `track` stays. Each byte of a track that is passed over is what it was when
+ * names it, with `next` after it; or 0, there is none, and `track` stays. Each byte of a track that is passed over is what it was when
  * the number was `since`, and so is the header, which no drive writes. So a copy of the file, made when the number was `since`, is the
  * file once each track that is shown was copied:
  *
@@ -332,7 +332,7 @@ int32_t dasd_files_show(const dasd_files *f, uint8_t file, dasd_space *shown);
 
 /* Attaches a drive under an address, as dasd_attach does, with the volume that these files hold as their bytes are now. They are the
  * drive's from then on, and `f` holds nothing: none is copied, and memory is taken for the drive, and to keep which tracks are written,
- * alone. `changes` is counted anew, from 0, also where the files were a drive's before: a number that was shown then says nothing now.
+ * alone. `changes` is counted from 0 again, also where the files were a drive's before: a number that was shown then says nothing now.
  * DASD_NOTHING_HELD, `d` or `f` does; then as dasd_attach: DASD_NO_CHANNEL, DASD_NO_MEMORY, DASD_NOT_CKD_P370 to DASD_LENGTH,
  * DASD_ADDRESS_TAKEN, DASD_FULL. Where it is refused `f` holds the files as they were. */
 int32_t dasd_attach_files(dasd *d, uint16_t address, dasd_files *f);
@@ -391,13 +391,13 @@ int32_t dasd_step(dasd *d, uint8_t channel, uint32_t units, uint32_t *done);
 /* What came of dasd_run_on. */
 typedef struct dasd_run {
     uint32_t units;     /* how many were done */
-    uint8_t subchannel; /* enum dasd_subchannel behind them: DASD_WORKING, the program goes on; DASD_ENDED, it has ended */
+    uint8_t subchannel; /* enum dasd_subchannel after them: DASD_WORKING, the program goes on; DASD_ENDED, it has ended */
     uint8_t device;     /* the low byte of the address whose program that is; 0 for DASD_AVAILABLE */
     uint8_t asked;      /* 1: a word of the program asked for an interruption that is not yet taken */
     uint8_t reserved;   /* 0 */
 } dasd_run;
 
-/* The same, with what the channel does behind it. DASD_NO_CHANNEL. */
+/* The same, with what the channel does after it. DASD_NO_CHANNEL. */
 int32_t dasd_run_on(dasd *d, uint8_t channel, uint32_t units, dasd_run *ran);
 
 /* What dasd_run_until waits for: bits. */
@@ -416,16 +416,16 @@ typedef struct dasd_progress {
     uint32_t stored;     /* how many bytes were stored into main storage */
     uint32_t low;        /* the lowest address that was stored into; where none was, 0 */
     uint32_t high;       /* the highest */
-    uint8_t subchannel;  /* enum dasd_subchannel behind them, as dasd_run_on tells it */
+    uint8_t subchannel;  /* enum dasd_subchannel after them, as dasd_run_on tells it */
     uint8_t device;      /* the low byte of the address whose program that is; 0 for DASD_AVAILABLE */
     uint8_t asked;       /* 1: a word of the program asked for an interruption that is not yet taken */
     uint8_t stopped;     /* what happened in the last unit of what was waited for: bits of enum dasd_until; 0, nothing did */
     uint8_t reserved[4]; /* 0 */
 } dasd_progress;
 
-/* Lets the program that runs on a channel do units as dasd_run_on, and ends also behind the first that brings what is waited for, a set of
+/* Lets the program that runs on a channel do units as dasd_run_on, and ends also after the first that brings what is waited for, a set of
  * bits of enum dasd_until: so an emulator that goes by events has each in its time. With no bits it is dasd_run_on with counts. It looks at
- * the channel behind each unit: where nothing is waited for or counted, dasd_run_on costs less. The first word of a program is fetched by
+ * the channel after each unit: where nothing is waited for or counted, dasd_run_on costs less. The first word of a program is fetched by
  * Start I/O: what that asks for pends before any of these units. DASD_BAD_UNTIL, DASD_NO_CHANNEL. */
 static inline int32_t dasd_run_until(dasd *d, uint8_t channel, uint32_t units, uint8_t until, dasd_progress *ran) {
     dasd_wanted wanted = {units, channel, until, {0, 0}};
@@ -460,7 +460,7 @@ typedef struct dasd_state {
     uint8_t device;     /* the low byte of the address whose program runs or ended; else 0 */
     uint8_t asked;      /* 1: a word of the program asked for an interruption that is not yet taken */
     uint8_t drives;     /* how many drives are attached */
-    uint8_t units[8];   /* the low bytes of their addresses, in the order of attachment; behind them 0 */
+    uint8_t units[8];   /* the low bytes of their addresses, in the order of attachment; after them 0 */
     uint8_t arms[8];    /* enum dasd_arm of each */
 } dasd_state;
 
@@ -506,7 +506,7 @@ enum dasd_area {
     DASD_DATA = 4
 };
 
-/* What a command leaves for the very next one, between which Transfer In Channel may stand. */
+/* What a command leaves for the very next one, between which Transfer In Channel may come. */
 enum dasd_credit {
     DASD_NO_CREDIT = 0,
     DASD_EQUAL_HOME_ADDRESS = 1, /* a search found the whole of it equal */
@@ -539,8 +539,8 @@ static inline int32_t dasd_show_registers(const dasd *d, uint8_t channel, dasd_r
 /* --- A trace ---
  *
  * The lines of `dasd run --trace` for an emulator's own log (docs/TRACING.md): for each channel command word what it asked for, met and came
- * to; why a program failed; what a call answered. A trace is of one channel, and the library keeps nothing of it. What it has seen stands in
- * a `dasd_trace` of the caller's, which is told before a start, behind each unit, and behind a call:
+ * to; why a program failed; what a call answered. A trace is of one channel, and the library keeps nothing of it. What it has seen is in
+ * a `dasd_trace` of the caller's, by which it looks before a start, after each unit, and after a call:
  *
  *     static char lines[DASD_TRACE_ROOM];
  *     static dasd_trace trace = {lines, sizeof lines, 0, {0}};
@@ -558,20 +558,20 @@ static inline int32_t dasd_show_registers(const dasd *d, uint8_t channel, dasd_r
  * So a program that is traced does one unit a call. Where a start or a unit is passed over, lines are wanting or untrue until the next start
  * that is looked at, and nothing else comes of it. */
 
-/* When a trace looks. Behind a call `answer` is what that answered; one that was refused is not told, DASD_BAD_MOMENT. */
+/* When a trace looks. After a call `answer` is what that answered; one that was refused is not reported, DASD_BAD_MOMENT. */
 enum dasd_when {
     DASD_BEFORE_SIO = 0,  /* dasd_sio is about to be called for this address */
     DASD_BEHIND_UNIT = 1, /* the channel's program has done a unit */
-    DASD_BEHIND_SIO = 2,  /* behind dasd_sio, dasd_tio, dasd_hio, dasd_tch: the condition code */
+    DASD_BEHIND_SIO = 2,  /* after dasd_sio, dasd_tio, dasd_hio, dasd_tch: the condition code */
     DASD_BEHIND_TIO = 3,
     DASD_BEHIND_HIO = 4,
     DASD_BEHIND_TCH = 5,
-    DASD_BEHIND_STEP = 6,      /* so many units were done, 65,535 at most, behind the last of which it has looked */
+    DASD_BEHIND_STEP = 6,      /* so many units were done, 65,535 at most, after the last of which it has looked */
     DASD_BEHIND_RUN = 7,       /* the same, with another word and any number */
-    DASD_BEHIND_ARRIVE = 8,    /* behind dasd_arrive: 1 or 0 */
-    DASD_BEHIND_INTERRUPT = 9, /* behind dasd_interrupt: 1, from this address, or 0 */
-    DASD_BEHIND_RESET = 10,    /* behind dasd_reset: 0; or 1, with the track that is lost */
-    DASD_AT_END = 11           /* the trace ends: a word that is still at work is told */
+    DASD_BEHIND_ARRIVE = 8,    /* after dasd_arrive: 1 or 0 */
+    DASD_BEHIND_INTERRUPT = 9, /* after dasd_interrupt: 1, from this address, or 0 */
+    DASD_BEHIND_RESET = 10,    /* after dasd_reset: 0; or 1, with the track that is lost */
+    DASD_AT_END = 11           /* the trace ends: a word that is still at work is reported */
 };
 
 /* A moment. */
@@ -586,15 +586,15 @@ typedef struct dasd_moment {
 /* Room for the lines of any look. */
 #define DASD_TRACE_ROOM 2048
 
-/* A trace of one channel. It is copied by `=`, with lines of its own, as a handle is by dasd_copy; and begins anew with zeros in `kept`. */
+/* A trace of one channel. It is copied by `=`, with lines of its own, as a handle is by dasd_copy; and begins again with zeros in `kept`. */
 typedef struct dasd_trace {
     char *lines;       /* where the lines of a look go */
-    size_t size;       /* how many bytes may stand there, DASD_TRACE_ROOM or more */
-    size_t length;     /* how many the lines of the last look have; each ends in a line feed, and no zero stands behind them */
+    size_t size;       /* how many bytes there may be, DASD_TRACE_ROOM or more */
+    size_t length;     /* how many the lines of the last look have; each ends in a line feed, and no zero comes after them */
     uint64_t kept[32]; /* what it has seen: the library's. All zero it is nothing */
 } dasd_trace;
 
-/* Looks at a channel at a moment, and puts the lines that tell of it at `lines`; often there are none. The bytes behind
+/* Looks at a channel at a moment, and puts the lines that tell of it at `lines`; often there are none. The bytes after
  * them stay. What does not fit is not cut: DASD_NO_ROOM comes for a size below DASD_TRACE_ROOM, whatever the lines are.
  * DASD_NO_CHANNEL, DASD_BAD_MOMENT, DASD_NO_ROOM, in this order. */
 int32_t dasd_trace_look(const dasd *d, dasd_trace *trace, const dasd_moment *moment);
@@ -655,8 +655,8 @@ typedef struct dasd_memory {
 int32_t dasd_new_lent(dasd *d, uint32_t storage_bytes, uint8_t channels);
 
 /* The calls above of these names, over this memory. DASD_BAD_SIZE, no main storage has so many bytes; DASD_BAD_BLOCKS; DASD_OTHER_SIZE;
- * in this order, behind DASD_NOTHING_HELD and before all others. `ran->units` says before dasd_lent_run_on and dasd_lent_run_until how many
- * units are done at most, and behind it how many were; and so does `*units` of dasd_lent_step. Of a call that is refused it stays. */
+ * in this order, after DASD_NOTHING_HELD and before all others. `ran->units` says before dasd_lent_run_on and dasd_lent_run_until how many
+ * units are done at most, and after it how many were; and so does `*units` of dasd_lent_step. Of a call that is refused it stays. */
 int32_t dasd_lent_sio(dasd *d, dasd_memory *memory, uint16_t address);
 int32_t dasd_lent_tio(dasd *d, dasd_memory *memory, uint16_t address);
 int32_t dasd_lent_hio(dasd *d, dasd_memory *memory, uint16_t address);

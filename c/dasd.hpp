@@ -18,10 +18,10 @@
  * A SPAN is std::span where the standard library has it (C++20), and else libdasd::Span, which has as much of it as is needed here. An
  * empty span may be null, as that of an empty vector is.
  *
- * WHAT THE CALLER OWES is what dasd.h asks, but for what this header does: a Subsystem is made, moved and freed by the rules of C++, and
+ * WHAT THE CALLER OWES is what dasd.h asks, except for what this header does: a Subsystem is made, moved and freed by the rules of C++, and
  * a null pointer with no bytes is allowed. It remains that no bytes that are given to a call lie in main storage or in a file that is
  * shown; that a Subsystem is in one call at a time, asking calls too, none of which is const therefore; that a span of what a call
- * shows is used no longer than that call's text says; and what stands at LentSubsystem. */
+ * shows is used no longer than that call's text says; and what is said at LentSubsystem. */
 #ifndef DASD_HPP
 #define DASD_HPP
 
@@ -331,7 +331,7 @@ class Channels {
     void attach(std::uint16_t address, Bytes file) { attach(address, {file}); }
 
     /* The same with files that are taken over, as their bytes are now: none is copied, and they hold nothing then. Their changes are counted
-     * anew. Where it is refused they stay. */
+     * again. Where it is refused they stay. */
     void attach(std::uint16_t address, HeldFiles &files) {
         dasd *const disks = held();
         detail::done(dasd_attach_files(disks, address, files.held()));
@@ -358,7 +358,7 @@ class Channels {
         return files;
     }
 
-    /* A file of a drive's volume, 0 for its first, where the drive's program does not run: that of another drive may. Its bytes stand there
+    /* A file of a drive's volume, 0 for its first, where the drive's program does not run: that of another drive may. Its bytes are there
      * until the next step, run_on, run_until, hio or reset of that channel, detach or free. DASD_NO_CHANNEL, DASD_PROGRAM_RUNS,
      * DASD_NO_DRIVE, DASD_NO_FILE. */
     File file(std::uint16_t address, std::uint8_t place = 0) {
@@ -519,14 +519,14 @@ class Subsystem : public Channels {
         return did;
     }
 
-    /* The same, with what the channel does behind it. DASD_NO_CHANNEL. */
+    /* The same, with what the channel does after it. DASD_NO_CHANNEL. */
     dasd_run run_on(std::uint8_t channel, std::uint32_t units) {
         dasd_run ran{};
         detail::done(dasd_run_on(held(), channel, units, &ran));
         return ran;
     }
 
-    /* The same, and it ends also behind the first unit that brings what is waited for, bits of enum dasd_until; with counts of what the units
+    /* The same, and it ends also after the first unit that brings what is waited for, bits of enum dasd_until; with counts of what the units
      * came to. DASD_BAD_UNTIL, DASD_NO_CHANNEL. */
     dasd_progress run_until(std::uint8_t channel, std::uint32_t units, std::uint8_t until) {
         dasd_progress ran{};
@@ -594,7 +594,7 @@ class Lent {
 
 /* Channels for main storage of one size, which each call that needs it is lent. Nothing of it is copied, and no address is kept: between two
  * calls the bytes and the keys are the program's, and may be somewhere else at the next. While a call runs, nobody else reads or writes the
- * bytes, or writes the keys. What these calls do and answer is said at those of a Subsystem. Each of them throws, behind
+ * bytes, or writes the keys. What these calls do and answer is said at those of a Subsystem. Each of them throws, after
  * DASD_NOTHING_HELD and before all others: DASD_BAD_SIZE, no main storage has so many bytes; DASD_BAD_BLOCKS; DASD_OTHER_SIZE. */
 class LentSubsystem : public Channels {
   public:
@@ -642,8 +642,8 @@ class LentSubsystem : public Channels {
 
 /* --- A trace --- */
 
-/* A trace of one channel, by looks: the lines of `dasd run --trace` for a log of the program's own. It is told before each start, behind each
- * unit, and behind each call whose line is wanted:
+/* A trace of one channel, by looks: the lines of `dasd run --trace` for a log of the program's own. It looks before each start, after each
+ * unit, and after each call whose line is wanted:
  *
  *     libdasd::Trace trace(1);
  *     log << trace.look(disks, DASD_BEFORE_SIO, drive);
@@ -655,7 +655,7 @@ class Trace {
   public:
     explicit Trace(std::uint8_t channel) noexcept : number(channel) {}
 
-    /* Looks at its channel, which it never changes: the lines that tell of the moment, often none, which stay until the next look. Behind a
+    /* Looks at its channel, which it never changes: the lines that tell of the moment, often none, which stay until the next look. After a
      * call `address` and `answer` are the call's: 1 and the address for an interruption that was taken. DASD_NO_CHANNEL, DASD_BAD_MOMENT. */
     std::string_view look(Subsystem &disks, dasd_when what, std::uint16_t address = 0, std::uint32_t answer = 0) {
         const dasd_moment moment = at(what, address, answer);

@@ -15,13 +15,13 @@
  * A COMMAND goes by its phase, which dasd_drive_next answers: it is begun where the drive is idle; it is looked for while it looks for its
  * area, each answer being an index that passed, an area that was found, or a failure; bytes are given or taken, in pieces of any length;
  * and it is ended, whenever the channel's count is exhausted or no more bytes are left. A look is allowed while bytes pass, too: it says
- * anew how many more may pass. Write Count, Key and Data asks for eight bytes of count first, and for key and data once these came.
+ * again how many more may pass. Write Count, Key and Data asks for eight bytes of count first, and for key and data once these came.
  * What is not allowed now is refused by its name, and nothing has changed.
  *
  * WHAT A CALL ANSWERS, WHAT NO CALL DOES and WHAT THE CALLER OWES are as in dasd.h: zero or above, it was done; below zero, one of
  * `enum dasd_fault` or of `enum dasd_drive_fault`, and nothing has changed, nor has what a pointer leads to. On a handle that holds nothing
  * every call but the two that attach answers DASD_NOTHING_HELD, before anything else. Only these two and dasd_drive_copy take memory. Its
- * calls stand in libdasd_drive.a; a program that has a subsystem of dasd.h too links both libraries.
+ * calls are in libdasd_drive.a; a program that has a subsystem of dasd.h too links both libraries.
  *
  * Rules that come from a manual name it: 'CD' are the IBM component descriptions of the 2841 (A26-5988) and of the 2314 (A26-3599).
  *
@@ -69,7 +69,7 @@ int32_t dasd_drive_attach(dasd_drive_alone *d, const uint8_t *file, size_t len);
 int32_t dasd_drive_attach_new(dasd_drive_alone *d, uint16_t model, uint16_t cylinders);
 
 /* Shows the file of the volume (`dasd_file` of dasd.h), to be saved, where no command is open and no track waits to be saved: so call
- * dasd_drive_settle before. The bytes stand there until the next call of the drive that is none of dasd_drive_next and the two that show.
+ * dasd_drive_settle before. The bytes are there until the next call of the drive that is none of dasd_drive_next and the two that show.
  * `changes` is another number after each write to the file. DASD_COMMAND_OPEN, DASD_NOT_SAVED. */
 int32_t dasd_drive_show_file(dasd_drive_alone *d, dasd_file *shown);
 
@@ -87,7 +87,7 @@ int32_t dasd_drive_free(dasd_drive_alone *d);
 
 /* --- A command --- */
 
-/* A channel program begins, that is a Start I/O was accepted: the track stands at its index, the file mask is 00 and none was set, and no
+/* A channel program begins, that is a Start I/O was accepted: the track is at its index, the file mask is 00 and none was set, and no
  * command went before. Cylinder, head and sense stay, and a track that was written stays to be saved. DASD_COMMAND_OPEN. */
 int32_t dasd_drive_begin_program(dasd_drive_alone *d);
 

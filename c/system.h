@@ -5,7 +5,7 @@
 #include <stddef.h>
 #include <stdint.h>
 
-/* Each copies a text into `room` bytes, without the zero behind it, and answers how many there are; or one of these. */
+/* Each copies a text into `room` bytes, without the zero after it, and answers how many there are; or one of these. */
 enum { TEXT_MISSING = -1, TEXT_TOO_LONG = -2 };
 
 int64_t rattle_arg(size_t index, char *into, size_t room);     /* the program's word of this number, from 0, its name */

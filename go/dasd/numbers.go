@@ -215,7 +215,7 @@ const BeforeSio = 0
 // BehindUnit is of enum dasd_when: the channel's program has done a unit.
 const BehindUnit = 1
 
-// BehindSio is of enum dasd_when: behind dasd_sio, dasd_tio, dasd_hio, dasd_tch: the condition code.
+// BehindSio is of enum dasd_when: after dasd_sio, dasd_tio, dasd_hio, dasd_tch: the condition code.
 const BehindSio = 2
 
 // BehindTio is of enum dasd_when.
@@ -227,22 +227,22 @@ const BehindHio = 4
 // BehindTch is of enum dasd_when.
 const BehindTch = 5
 
-// BehindStep is of enum dasd_when: so many units were done, 65,535 at most, behind the last of which it has looked.
+// BehindStep is of enum dasd_when: so many units were done, 65,535 at most, after the last of which it has looked.
 const BehindStep = 6
 
 // BehindRun is of enum dasd_when: the same, with another word and any number.
 const BehindRun = 7
 
-// BehindArrive is of enum dasd_when: behind dasd_arrive: 1 or 0.
+// BehindArrive is of enum dasd_when: after dasd_arrive: 1 or 0.
 const BehindArrive = 8
 
-// BehindInterrupt is of enum dasd_when: behind dasd_interrupt: 1, from this address, or 0.
+// BehindInterrupt is of enum dasd_when: after dasd_interrupt: 1, from this address, or 0.
 const BehindInterrupt = 9
 
-// BehindReset is of enum dasd_when: behind dasd_reset: 0; or 1, with the track that is lost.
+// BehindReset is of enum dasd_when: after dasd_reset: 0; or 1, with the track that is lost.
 const BehindReset = 10
 
-// AtEnd is of enum dasd_when: the trace ends: a word that is still at work is told.
+// AtEnd is of enum dasd_when: the trace ends: a word that is still at work is reported.
 const AtEnd = 11
 
 var faults = []struct {

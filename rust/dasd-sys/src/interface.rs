@@ -229,7 +229,7 @@ pub const DASD_ENDED: u8 = 2;
 pub struct dasd_run {
     /// How many were done.
     pub units: u32,
-    /// A value of `enum dasd_subchannel` behind them: [`DASD_WORKING`], the program goes on; [`DASD_ENDED`], it has ended.
+    /// A value of `enum dasd_subchannel` after them: [`DASD_WORKING`], the program goes on; [`DASD_ENDED`], it has ended.
     pub subchannel: u8,
     /// The low byte of the address whose program that is; 0 for [`DASD_AVAILABLE`].
     pub device: u8,
@@ -264,7 +264,7 @@ pub struct dasd_progress {
     pub low: u32,
     /// The highest.
     pub high: u32,
-    /// A value of `enum dasd_subchannel` behind them, as [`dasd_run_on`] tells it.
+    /// A value of `enum dasd_subchannel` after them, as [`dasd_run_on`] tells it.
     pub subchannel: u8,
     /// The low byte of the address whose program that is; 0 for [`DASD_AVAILABLE`].
     pub device: u8,
@@ -300,7 +300,7 @@ pub struct dasd_state {
     pub asked: u8,
     /// How many drives are attached.
     pub drives: u8,
-    /// The low bytes of their addresses, in the order of attachment; behind them 0.
+    /// The low bytes of their addresses, in the order of attachment; after them 0.
     pub units: [u8; 8],
     /// A value of `enum dasd_arm` of each.
     pub arms: [u8; 8],
@@ -402,7 +402,7 @@ pub struct dasd_registers {
 pub const DASD_BEFORE_SIO: u8 = 0;
 /// Of `enum dasd_when`: the channel's program has done a unit.
 pub const DASD_BEHIND_UNIT: u8 = 1;
-/// Of `enum dasd_when`: behind [`dasd_sio`], [`dasd_tio`], [`dasd_hio`], [`dasd_tch`]: the condition code.
+/// Of `enum dasd_when`: after [`dasd_sio`], [`dasd_tio`], [`dasd_hio`], [`dasd_tch`]: the condition code.
 pub const DASD_BEHIND_SIO: u8 = 2;
 /// Of `enum dasd_when`.
 pub const DASD_BEHIND_TIO: u8 = 3;
@@ -410,17 +410,17 @@ pub const DASD_BEHIND_TIO: u8 = 3;
 pub const DASD_BEHIND_HIO: u8 = 4;
 /// Of `enum dasd_when`.
 pub const DASD_BEHIND_TCH: u8 = 5;
-/// Of `enum dasd_when`: so many units were done, 65,535 at most, behind the last of which it has looked.
+/// Of `enum dasd_when`: so many units were done, 65,535 at most, after the last of which it has looked.
 pub const DASD_BEHIND_STEP: u8 = 6;
 /// Of `enum dasd_when`: the same, with another word and any number.
 pub const DASD_BEHIND_RUN: u8 = 7;
-/// Of `enum dasd_when`: behind [`dasd_arrive`]: 1 or 0.
+/// Of `enum dasd_when`: after [`dasd_arrive`]: 1 or 0.
 pub const DASD_BEHIND_ARRIVE: u8 = 8;
-/// Of `enum dasd_when`: behind [`dasd_interrupt`]: 1, from this address, or 0.
+/// Of `enum dasd_when`: after [`dasd_interrupt`]: 1, from this address, or 0.
 pub const DASD_BEHIND_INTERRUPT: u8 = 9;
-/// Of `enum dasd_when`: behind [`dasd_reset`]: 0; or 1, with the track that is lost.
+/// Of `enum dasd_when`: after [`dasd_reset`]: 0; or 1, with the track that is lost.
 pub const DASD_BEHIND_RESET: u8 = 10;
-/// Of `enum dasd_when`: the trace ends: a word that is still at work is told.
+/// Of `enum dasd_when`: the trace ends: a word that is still at work is reported.
 pub const DASD_AT_END: u8 = 11;
 
 /// A moment.
@@ -444,15 +444,15 @@ pub struct dasd_moment {
 /// Room for the lines of any look.
 pub const DASD_TRACE_ROOM: usize = 2048;
 
-/// A trace of one channel. It is copied by `=`, with lines of its own, as a handle is by [`dasd_copy`]; and begins anew with zeros in `kept`.
+/// A trace of one channel. It is copied by `=`, with lines of its own, as a handle is by [`dasd_copy`]; and begins again with zeros in `kept`.
 #[repr(C)]
 #[derive(Clone, Copy, Debug)]
 pub struct dasd_trace {
     /// Where the lines of a look go.
     pub lines: *mut u8,
-    /// How many bytes may stand there, [`DASD_TRACE_ROOM`] or more.
+    /// How many bytes there may be, [`DASD_TRACE_ROOM`] or more.
     pub size: usize,
-    /// How many the lines of the last look have; each ends in a line feed, and no zero stands behind them.
+    /// How many the lines of the last look have; each ends in a line feed, and no zero comes after them.
     pub length: usize,
     /// What it has seen: the library's. All zero it is nothing.
     pub kept: [u64; 32],
@@ -534,12 +534,12 @@ extern "C" {
     /// [`DASD_NO_CHANNEL`], [`DASD_NO_DRIVE`], [`DASD_PROGRAM_RUNS`], [`DASD_ENDING_PENDS`], [`DASD_DEVICE_END_OWED`].
     pub fn dasd_detach(d: *mut dasd, address: u16) -> i32;
     /// Shows a file of a drive's volume, 0 for its first, where the drive's program does not run: that of another drive may. All that the
-    /// drive's programs wrote is in it. The bytes stand there, and are the volume's, until the next [`dasd_step`], [`dasd_run_on`], `dasd_run_until`,
+    /// drive's programs wrote is in it. The bytes are there, and are the volume's, until the next [`dasd_step`], [`dasd_run_on`], `dasd_run_until`,
     /// [`dasd_hio`] or [`dasd_reset`] of that channel, [`dasd_detach`], [`dasd_detach_files`] or [`dasd_free`]. [`DASD_NO_CHANNEL`], [`DASD_PROGRAM_RUNS`], [`DASD_NO_DRIVE`],
     /// [`DASD_NO_FILE`].
     pub fn dasd_show_file(d: *mut dasd, address: u16, file: u8, shown: *mut dasd_file) -> i32;
     /// Shows the first track of a file, from number `next` of it on, that was written since the file's `changes` was `since`: 1, and `track`
-    /// names it, with `next` behind it; or 0, there is none, and `track` stays. Each byte of a track that is passed over is what it was when
+    /// names it, with `next` after it; or 0, there is none, and `track` stays. Each byte of a track that is passed over is what it was when
     /// the number was `since`, and so is the header, which no drive writes. So a copy of the file, made when the number was `since`, is the
     /// file once each track that is shown was copied:
     ///
@@ -563,7 +563,7 @@ extern "C" {
     pub fn dasd_files_show(f: *mut dasd_files, file: u8, shown: *mut dasd_space) -> i32;
     /// Attaches a drive under an address, as [`dasd_attach`] does, with the volume that these files hold as their bytes are now. They are the
     /// drive's from then on, and `f` holds nothing: none is copied, and memory is taken for the drive, and to keep which tracks are written,
-    /// alone. `changes` is counted anew, from 0, also where the files were a drive's before: a number that was shown then says nothing now.
+    /// alone. `changes` is counted from 0 again, also where the files were a drive's before: a number that was shown then says nothing now.
     /// [`DASD_NOTHING_HELD`], `d` or `f` does; then as [`dasd_attach`]: [`DASD_NO_CHANNEL`], [`DASD_NO_MEMORY`], [`DASD_NOT_CKD_P370`] to [`DASD_LENGTH`],
     /// [`DASD_ADDRESS_TAKEN`], [`DASD_FULL`]. Where it is refused `f` holds the files as they were.
     pub fn dasd_attach_files(d: *mut dasd, address: u16, f: *mut dasd_files) -> i32;
@@ -588,7 +588,7 @@ extern "C" {
     /// Lets the program that runs on a channel do units until it ends, but so many at most, and says how many it did: fewer where it ended,
     /// and none where none runs. [`DASD_NO_CHANNEL`].
     pub fn dasd_step(d: *mut dasd, channel: u8, units: u32, done: *mut u32) -> i32;
-    /// The same, with what the channel does behind it. [`DASD_NO_CHANNEL`].
+    /// The same, with what the channel does after it. [`DASD_NO_CHANNEL`].
     pub fn dasd_run_on(d: *mut dasd, channel: u8, units: u32, ran: *mut dasd_run) -> i32;
     /// The arm of the drive at an address has arrived: 1, if it moved, and its device end is to be stored; 0, if it did not, or there is no
     /// such drive. The caller's clock says when.
@@ -605,7 +605,7 @@ extern "C" {
     pub fn dasd_reset(d: *mut dasd, channel: u8, unsaved: *mut dasd_track) -> i32;
     /// Shows a channel. [`DASD_NO_CHANNEL`].
     pub fn dasd_show_channel(d: *mut dasd, channel: u8, shown: *mut dasd_state) -> i32;
-    /// Looks at a channel at a moment, and puts the lines that tell of it at `lines`; often there are none. The bytes behind
+    /// Looks at a channel at a moment, and puts the lines that tell of it at `lines`; often there are none. The bytes after
     /// them stay. What does not fit is not cut: [`DASD_NO_ROOM`] comes for a size below [`DASD_TRACE_ROOM`], whatever the lines are.
     /// [`DASD_NO_CHANNEL`], [`DASD_BAD_MOMENT`], [`DASD_NO_ROOM`], in this order.
     pub fn dasd_trace_look(d: *mut dasd, trace: *mut dasd_trace, moment: *const dasd_moment) -> i32;
