@@ -34,7 +34,9 @@ OSTAILOR QUIET
 0190 2314 %s/pack
 """
 #: L 2,times; SIO; BNZ wrong; TIO; BC 2; CLI 68,0C; BNE wrong; CLC the residual count; BNE wrong; BCT 2; LPSW; wrong: LPSW.
-GUEST = "58200300" "9C000190" "47700226" "9D000190" "4720020C" "950C0044" "47700226" "46200204" "82000310" "0700" "82000318"
+GUEST = "".join(
+    ("58200300", "9C000190", "47700226", "9D000190", "4720020C", "950C0044", "47700226", "46200204", "82000310", "0700", "82000318")
+)
 #: What the threads begin in that execute a program: none calls another of them.
 BEGIN = ("s370_start_io", "start_io", "device_thread", "run")
 COUNTS = {"key": (20, 120)}
