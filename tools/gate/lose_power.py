@@ -5,7 +5,8 @@
 A command is run once under Debian's `strace`. From its calls follow the disks that a loss of power may leave (tools/gate/lost_power.py). On each of them
 a reader, and then the next run, must find the volumes of the command as they were, or as the command leaves them: all of them the same. With `--replace`
 files take their places one by one, so each must be its old or its new one. The run that takes up what was cut off is cut off itself, from some of these
-disks on. Files keep their numbers and their times of birth, by which a save knows them.
+disks on. Files keep their numbers and their times of birth, by which a save knows them. Last, the first sync of each command is left out: then some disk
+must be wrong.
 
 It runs crates/dasd_cmd/out/dasd_cmd, as `rt ci` leaves it; with --built FILE that program; with words after these, the commands whose names have one
 of them. The last line is 'N disks of N commands, M wrong', and the status 1 where M is not 0."""
@@ -23,7 +24,7 @@ from pathlib import Path
 
 from tools import TOP
 from tools.gate.fail_calls import CARDS, deck_for, fill
-from tools.gate.lost_power import TRACED, Call, Node, State, Traced, states
+from tools.gate.lost_power import TRACED, Call, Node, State, Sync, Traced, states
 
 # From how many of the disks of a command the next run is cut off too.
 AGAIN = 4
@@ -170,6 +171,16 @@ def disks(room: Room, writer: Writer, calls: list[Call]) -> Iterator[State]:
         yield from states(disk, room.trace(next_run(writer), b"", disk))
 
 
+def notices_no_sync(room: Room, writer: Writer, ends: Ends, calls: list[Call]) -> bool:
+    """Whether a disk is found wrong where the first sync of a command is left out."""
+    first = next(at for at, call in enumerate(calls) if isinstance(call, Sync))
+    for disk in states(room.begun, calls[:first] + calls[first + 1 :]):
+        room.lay_out(disk)
+        if wrong_with(room, writer, ends):
+            return True
+    return False
+
+
 def try_writer(dasd: Path, writer: Writer) -> tuple[int, list[str]]:
     """How many disks of a command were looked at, and what was wrong with them."""
     with tempfile.TemporaryDirectory(prefix="lose_power-") as folder:
@@ -185,6 +196,8 @@ def try_writer(dasd: Path, writer: Writer) -> tuple[int, list[str]]:
             said = wrong_with(room, writer, ends)
             if said:
                 wrong[said] = wrong.get(said, 0) + 1
+        if not notices_no_sync(room, writer, ends, calls):
+            wrong["a sync that is left out leaves no wrong disk"] = 1
         return count, [f"{writer.name}: {number} times: {said}" for said, number in wrong.items()]
 
 
