@@ -14,13 +14,14 @@ use std::marker::Model;
 /// Which writes move the number of changes on.
 #[derive(Clone, Copy)]
 pub(crate) enum CountedWrites {
-    /// All of them, also those of bytes that stand there already. Nothing is compared.
+    /// All of them, also those of bytes that are there already. Nothing is compared.
     All,
-    /// Those that change a byte.
-    Changing,
+    /// Those from the first on that changes a byte: up to it bytes are compared.
+    FromFirstChange,
 }
 
-/// The bytes of a file in memory, and a number that is another after each write that changes one of them. Their length stays:
+/// The bytes of a file in memory, and a number that is another after each write that changes one of them; after the first such write
+/// it moves on with each write, also of bytes that are there already. Their length stays:
 /// a write that would pass their end fails and changes nothing; every other call succeeds.
 #[derive(Drop)]
 pub struct VolumeFile {
@@ -69,13 +70,13 @@ impl VolumeFile {
             origin,
             refused: Count::new(),
             changes: 0,
-            counted: CountedWrites::Changing,
+            counted: CountedWrites::FromFirstChange,
             past,
             parts: None,
         }
     }
 
-    /// The same file, whose number moves on with each write from now on: nothing is compared, and a write of bytes that stand
+    /// The same file, whose number moves on with each write from now on: nothing is compared, and a write of bytes that are
     /// there already counts too.
     pub fn counting_all_writes(mut self) -> VolumeFile
         ensures { result ≡ self }
@@ -146,8 +147,8 @@ impl VolumeFile {
         self.held.as_ptr()
     }
 
-    /// A number: 0 before the first write that changes a byte, and the next one after each, so none that was seen comes back. Where all
-    /// writes are counted it moves on with each of them.
+    /// A number: 0 before the first write that changes a byte, and the next one after it and each write from then on, so none that was
+    /// seen comes back. Where all writes are counted it moves on with each of them.
     pub fn changes(&self) -> u64
         ensures { result ≡ self.now.changes }
     {
@@ -213,6 +214,8 @@ impl ImageStore for VolumeFile {
             mark(&mut self.parts, from, bytes.len(), was);
             self.past = longer(&self.origin, &self.past, was, self.held.as_slice());
             self.changes = another(was);
+            // A file that was changed is saved in any case, so nothing is compared from now on.
+            self.counted = CountedWrites::All;
         }
         Ok(())
     }
@@ -274,7 +277,7 @@ fn write_over(held: &mut [u8], at: usize, bytes: &[u8], counted: CountedWrites) 
             put(held, at, bytes);
             true
         }
-        CountedWrites::Changing => overwrite(held, at, bytes),
+        CountedWrites::FromFirstChange => overwrite(held, at, bytes),
     }
 }
 

@@ -1,11 +1,6 @@
 -- The bytes of a journal beside those of its file.
 use Rattle.std.specs.Prelude.{◌≡◌, ◌⊎◌, ◌<◌, ℕ, List, length, slice_index_or, bit_xor}
 
--- by which bits each byte differs from the one that is saved at its place
-pub record Differ (saved held differing : List ℕ) : Type 0 where
-  pub count : length differing ≡ length held
-  pub each : (k : ℕ) → k < length saved → slice_index_or differing k 0 ≡ bit_xor (slice_index_or held k 0) (slice_index_or saved k 0)
-
 -- a byte is the one that is saved, or the one that differs from it by these bits
 abbrev pub IsEither : (saved difference held : ℕ) → Type 0
 IsEither saved difference held = (held ≡ saved) ⊎ (held ≡ bit_xor saved difference)

@@ -3,15 +3,13 @@
 ghost use Rattle.std.specs.Prelude.{◌≡◌, IfErr};
 ghost use Rattle.std.specs.IoError.{error_kind};
 
-use crate::notes::Notes;
+use crate::drafts::NAME_BEGIN;
+use crate::notes::{Notes, Told};
 use std::fs::{self, DirEntry, File};
 use std::io::{self, ErrorKind};
 use std::os::unix::fs::MetadataExt;
 use std::path::Path;
-use std::{fmt, process};
-
-/// What the name of a new file begins with, before the number of its program and a number of its own.
-pub const NAME_BEGIN: &str = ".dasd-";
+use std::process;
 
 /// Removes from a folder the new files that programs left which were killed before these took their places, and remarks each. A file
 /// whose program still runs, which is locked, or which the host does not give away, stays.
@@ -55,7 +53,7 @@ fn clear<N: Notes>(notes: &N, entry: &DirEntry) {
     }
     if let Some(_locked) = lock_left(host, path) {
         if fs::remove_file(host, path.as_str()).is_ok() {
-            notes.note(&Removed(path.as_str()));
+            notes.note(&Told::Removed(path.as_str()));
         }
     }
 }
@@ -93,18 +91,4 @@ fn lock_left(host: &HostRuntime, path: Path<'_>) -> Option<File> {
     file.try_lock().ok()?;
     let known = file.metadata().ok()?;
     (known.dev() == named.dev() && known.ino() == named.ino()).then_some(file)
-}
-
-/// A file that was left and is removed.
-#[derive(Clone, Copy)]
-struct Removed<'a>(&'a str);
-
-impl fmt::Display for Removed<'_> {
-    fn fmt<W: fmt::Write>(&self, f: &mut fmt::Formatter<W>) -> fmt::Result {
-        write!(
-            f,
-            "{}: a program that was killed had left it, and it is removed",
-            self.0
-        )
-    }
 }

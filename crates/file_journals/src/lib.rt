@@ -1,21 +1,24 @@
-//! Journals of images that keep their places. What is to be saved of such a file stands whole beside it, in its journal, before a byte of it
-//! is written over, and while it is, a mark stands in the place of its header; so the file is old or new, whole, for all who look for its
-//! journal, wherever a save is cut off, and no image for all others. Files that are saved together are old or new together.
+//! Files that are saved in their own places by `atomic_save`, several as one; saves that were cut off, and what killed programs left.
 #![tactic(auto)]
 
 mod bytes;
-mod commits;
+mod changes;
+mod drafts;
+mod hosts;
 mod journals;
 mod leftovers;
 mod marks;
 mod notes;
+mod old_journals;
 mod places;
-mod records;
+mod readers;
+mod recovery;
 mod saves;
 
-pub use crate::commits::{Part, save_files};
-pub use crate::journals::{Journal, SaveFault};
-pub use crate::leftovers::{NAME_BEGIN, clear_folder};
+pub use crate::drafts::{NAME_BEGIN, create_beside};
+pub use crate::leftovers::clear_folder;
 pub use crate::notes::{Notes, Told};
-pub use crate::places::{folder_of, home_of, note_folder, sync_folder, sync_folders};
-pub use crate::saves::{WholeFile, is_same, is_written_since, open_target, whole_file};
+pub use crate::places::{folder_of, home_of, sync_folder};
+pub use crate::readers::{ReadFiles, has_other_bytes};
+pub use crate::recovery::{WholeFile, whole_file};
+pub use crate::saves::{Part, SaveFault, is_same, open_target, save_files};

@@ -33,24 +33,26 @@ pub enum Told<'a> {
     Begun(&'a str),
     /// The file has all that is saved, but its journal could not be removed.
     Saved(&'a str),
-    /// It was one of several files, of which none is saved.
-    TakenBack(&'a str),
-    /// The journal is read in the file's place.
+    /// The journal is read over the file.
     Instead(&'a str, &'a str),
-    /// Another program wrote the file since; the journal is of version 1.1.0.
-    Changed(&'a str, &'a str),
     /// Another program wrote the file since.
-    Written(&'a str, &'a str),
+    Changed(&'a str, &'a str),
     /// The journal is not there.
     Lost(&'a str, &'a str),
-    /// The file is whole, and the journal is removed.
-    Needless(&'a str, &'a str),
-    /// The file is whole, and the journal is another's.
-    Others(&'a str, &'a str),
-    /// The file is a copy of the one that the journal was made for.
-    Copied(&'a str, &'a str),
+    /// The file is another than the one of the journal.
+    Other(&'a str, &'a str),
+    /// It is not there, and the journal is of it too.
+    Missing(&'a str, &'a str),
+    /// What is at the journal's name is not taken for one.
+    Unfit(&'a str),
+    /// The file is marked by a program between versions 1.1.0 and 1.2.0.
+    Unreleased(&'a str),
     /// It has its new bytes or its new name, but the folder was not synced.
     Unsynced(&'a str),
+    /// Its file system has no sync of folders.
+    NoSync(&'a str),
+    /// A program that was killed had left it, and it is removed.
+    Removed(&'a str),
     /// It was replaced, and could not be put back where another one of its save was not.
     Parted(&'a str),
     /// It was named before.
@@ -73,10 +75,6 @@ impl fmt::Display for Told<'_> {
                 f,
                 "{path}: it is saved; only the removal of its journal failed"
             ),
-            Told::TakenBack(path) => write!(
-                f,
-                "{path}: a save of it and others was cut off before it counted, and is taken back"
-            ),
             Told::Instead(path, journal) => write!(
                 f,
                 "{path}: a save of it was cut off, and {journal} is read in its place"
@@ -85,29 +83,34 @@ impl fmt::Display for Told<'_> {
                 f,
                 "{path}: a save of it was cut off; without {journal}, which has what was saved, it is taken as it is now"
             ),
-            Told::Written(path, journal) => write!(
-                f,
-                "{path}: a save of it was cut off, and it was written since; {journal} begins with what was saved: put back that, or another copy of the file"
-            ),
             Told::Lost(path, journal) => write!(
                 f,
                 "{path}: a save of it was cut off; the rest is in {journal}, which is not there: move it there from the folder in which the save was begun, or put back another copy of the file"
             ),
-            Told::Needless(path, journal) => write!(
+            Told::Other(path, journal) => write!(
                 f,
-                "{path}: a save of it was cut off before its first byte or after its last; the file is whole, and {journal} is removed"
+                "{path}: {journal} is of another file, which this is a copy of or took the place of; if this one is whole, remove the journal"
             ),
-            Told::Others(path, journal) => write!(
+            Told::Missing(path, journal) => write!(
                 f,
-                "{path}: {journal} is of another file and is not used; remove it if that file is gone"
+                "{path}: it is not there, and {journal} has what was saved of it: put it back"
             ),
-            Told::Copied(path, journal) => write!(
+            Told::Unfit(journal) => write!(
                 f,
-                "{path}: {journal} was made for the file that this is a copy of, and stays; remove it if no other copy needs it"
+                "{journal}: it can't be used; without it the file is taken as it is, half saved or not"
+            ),
+            Told::Unreleased(path) => write!(
+                f,
+                "{path}: an unreleased dasd between 1.1.0 and 1.2.0 was cut off as it saved it: the same program (commit 57949ba) ends that"
             ),
             Told::Unsynced(path) => write!(
                 f,
                 "{path}: what is new is there; a loss of power may undo that"
+            ),
+            Told::NoSync(folder) => write!(f, "{folder}: its file system has no sync of folders"),
+            Told::Removed(path) => write!(
+                f,
+                "{path}: a program that was killed had left it, and it is removed"
             ),
             Told::Parted(path) => write!(
                 f,

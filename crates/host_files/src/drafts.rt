@@ -1,25 +1,22 @@
 //! New files, which are written beside the old ones.
 
-ghost use Rattle.std.specs.Prelude.{◌≡◌, ◌↔◌, [], length, None, IsTrue, IfOk};
+ghost use Rattle.std.specs.Prelude.{◌≡◌, ◌↔◌, [], length, None, IsSome, IfSome, IsTrue, IfOk};
 
 use crate::locks::wrong;
 use crate::remarks::Remarks;
 use ckd_image::{ImageStore, StoreFault};
 use dasd_jobs::NewFile;
 use file_journals::{
-    Journal, NAME_BEGIN, Notes, Part, SaveFault, Told, folder_of, is_same, is_written_since,
-    save_files, sync_folder,
+    Notes, Part, SaveFault, Told, create_beside, folder_of, has_other_bytes, is_same, save_files,
+    sync_folder,
 };
 use ghost_data::{Count, Trace};
 use std::cell::Cell;
-use std::fs::{self, File, Metadata, OpenOptions, Permissions, TryLockError};
+use std::fs::{self, File, Metadata, Permissions};
+use std::io;
 use std::io::{Error, ErrorKind, Write};
-use std::os::unix::fs::{MetadataExt, OpenOptionsExt, PermissionsExt, fchown};
+use std::os::unix::fs::{MetadataExt, PermissionsExt, fchown};
 use std::path::{Path, PathBuf};
-use std::{fmt, io, process};
-
-/// How many names are tried for a new file.
-const NAMES: u32 = 1_000;
 
 /// Why a file is not saved over that is not as it was read.
 const WRITTEN_SINCE: &str = "another program wrote it since it was read";
@@ -113,9 +110,7 @@ impl<'a> HostDraft<'a> {
             is_put: Cell::new(false),
         };
         if let Some(old) = &draft.old {
-            if old.target.is_some() {
-                give_to_owner(&draft.file, old)?;
-            } else {
+            if old.target.is_none() {
                 draft.is_taken_over = !keep_owner(host, &draft.file, old)?;
             }
         }
@@ -151,7 +146,7 @@ impl<'a> HostDraft<'a> {
             if !is_same(&there, &old.known) {
                 return Err(wrong("another program has replaced it"));
             }
-            if is_written_since(&old.known, &there) {
+            if has_other_bytes(&old.known, &there, false) {
                 return Err(wrong(WRITTEN_SINCE));
             }
         }
@@ -159,22 +154,15 @@ impl<'a> HostDraft<'a> {
     }
 
     // What is saved of a file that keeps its place.
-    fn part(&self) -> io::Result<Part<'_, Remarks<'a>>> {
-        let Some(
-            Old {
-                path,
-                known,
-                target: Some(target),
-            },
-        ) = &self.old
-        else {
-            return Err(wrong("another program has removed it"));
-        };
-        let given = self.given.as_str();
-        Ok(Part {
-            journal: Journal::of_draft(self.remarks, given, &self.file, path.as_path(), known)?,
-            hidden: self.beside.as_path(),
-            target,
+    fn part(&self) -> Option<Part<'_>>
+        ensures { IfSome result (λ _. IsSome self.now.old) }
+    {
+        let old = self.old.as_ref()?;
+        Some(Part {
+            given: self.given.as_str(),
+            home: old.path.as_path(),
+            target: old.target.as_ref()?,
+            draft: &self.file,
         })
     }
 
@@ -256,16 +244,16 @@ fn save_in_place<'p>(
     let mut parts = Vec::new(remarks.host().alloc());
     for it in new {
         let pushed = match it.draft.part() {
-            Ok(part) => parts
+            Some(part) => parts
                 .push(part)
                 .map_err(|_| Error::from(ErrorKind::OutOfMemory)),
-            Err(fault) => Err(fault),
+            None => Err(wrong("another program has removed it")),
         };
         if let Err(fault) = pushed {
             return Err((it.path, SaveFault::Kept(fault)));
         }
     }
-    match save_files(parts.as_mut_slice()) {
+    match save_files(remarks, &parts) {
         Ok(()) => Ok(()),
         Err((place, fault)) => Err((new.get(place).map_or("", |it| it.path), fault)),
     }
@@ -379,59 +367,6 @@ fn append(file: &mut File, remarks: &Remarks, path: &str, bytes: &[u8]) -> bool 
     }
 }
 
-// Makes a file in the folder of a path, where nothing stands, and keeps it locked, so that it is seen to be at work.
-fn create_beside(host: &HostRuntime, path: Path<'_>, mode: u32) -> io::Result<(File, PathBuf)> {
-    let folder = folder_of(path);
-    let number = process::id(host.process());
-    for turn in 0..NAMES {
-        let name = format!(in host.alloc(); "{NAME_BEGIN}{number}-{turn}")?;
-        let beside = folder.join(host.alloc(), name.as_str())?;
-        let made = OpenOptions::new()
-            .read(true)
-            .write(true)
-            .create_new(true)
-            .mode(mode)
-            .open(host, beside.as_str());
-        match made {
-            Ok(file) => match is_held(host, &file, beside.as_str()) {
-                Ok(true) => return Ok((file, beside)),
-                Ok(false) => {}
-                Err(fault) => {
-                    let _ = fs::remove_file(host, beside.as_str());
-                    return Err(fault);
-                }
-            },
-            Err(fault) if fault.kind() == ErrorKind::AlreadyExists => {}
-            Err(fault) => return Err(fault),
-        }
-    }
-    Err(Error::from(ErrorKind::AlreadyExists))
-}
-
-// Locks a new file, and says whether it still has its name: what clears up behind others may have come between. Where a file system has
-// no locks it goes without.
-fn is_held(host: &HostRuntime, file: &File, path: &str) -> io::Result<bool> {
-    match file.try_lock() {
-        Err(TryLockError::WouldBlock) => return Ok(false),
-        Ok(()) | Err(TryLockError::Error(_)) => {}
-    }
-    let made = file.metadata()?;
-    match fs::symlink_metadata(host, path) {
-        Ok(there) => Ok(there.dev() == made.dev() && there.ino() == made.ino()),
-        Err(fault) if fault.kind() == ErrorKind::NotFound => Ok(false),
-        Err(fault) => Err(fault),
-    }
-}
-
-// Gives a new file that nobody but its owner may read to the owner of the old one, if the host does that.
-fn give_to_owner(file: &File, old: &Old) -> io::Result<()> {
-    let owner = old.known.uid();
-    if file.metadata()?.uid() != owner {
-        let _ = fchown(file, Some(owner), None);
-    }
-    Ok(())
-}
-
 // Gives a new file the owner, the group and the mode of the old one, and says whether the owner is kept. Where the host refuses him, the
 // group alone is kept, which those who may use the file are in; without it the file is refused. The owner comes first, since that takes
 // bits of the mode away.
@@ -476,5 +411,42 @@ fn name_new(host: &HostRuntime, from: &str, to: &str) -> io::Result<()> {
         }
         Err(fault) if fault.kind() == ErrorKind::AlreadyExists => Err(fault),
         Err(_) => fs::rename(host, from, to),
+    }
+}
+
+/// Notes the folder of a new file, which is synced later; where there is no memory for that, it is synced now. It says whether that is done.
+pub(crate) fn note_folder<N: Notes>(notes: &N, unsettled: &mut Vec<String>, path: &str) -> bool {
+    let folder = folder_of(Path::new(path)).as_str();
+    if unsettled.iter().any(|noted| noted.as_str() == folder) {
+        return true;
+    }
+    let noted = match folder.to_string(notes.host().alloc()) {
+        Ok(folder) => unsettled.push(folder).is_ok(),
+        Err(_) => false,
+    };
+    noted || is_synced(notes, folder)
+}
+
+/// Syncs the folders that were noted, and says whether that is done.
+pub(crate) fn sync_folders<N: Notes>(notes: &N, unsettled: &mut Vec<String>) -> bool {
+    let mut done = true;
+    for folder in unsettled.iter() {
+        if !is_synced(notes, folder.as_str()) {
+            done = false;
+        }
+    }
+    unsettled.clear();
+    done
+}
+
+// Syncs a folder, and says whether that is done; if not, it is noted why.
+fn is_synced<N: Notes>(notes: &N, folder: &str) -> bool {
+    match sync_folder(notes, Path::new(folder)) {
+        Ok(()) => true,
+        Err(fault) => {
+            notes.note_fault(folder, &fault);
+            notes.tell(&Told::Unsynced(folder));
+            false
+        }
     }
 }

@@ -3,7 +3,7 @@
 ghost use Rattle.std.specs.Prelude.{◌≡◌, ◌≢◌, ◌↔◌, [], ◌++◌, IsTrue, IfOk, IfErr, OnOk, OnErr};
 ghost use Rattle.dasd_jobs.specs.Written.{files_of};
 
-use crate::drafts::{HostDraft, Old, put_drafts};
+use crate::drafts::{HostDraft, Old, note_folder, put_drafts, sync_folders};
 use crate::locks::{
     Locked, find_old, is_locked, keep, look_again, open_locked, open_trace_file, try_to_write,
 };
@@ -11,9 +11,7 @@ use crate::reading::{HostFile, read_some};
 use crate::remarks::Remarks;
 use crate::traces::{TraceFile, TraceSink};
 use dasd_jobs::{FileFault, ImageFiles, NewFile, SavePlan, Sources, Traces, Written};
-use file_journals::{
-    Notes, SaveFault, Told, clear_folder, folder_of, note_folder, sync_folders, whole_file,
-};
+use file_journals::{Notes, SaveFault, Told, clear_folder, folder_of, whole_file};
 use std::alloc::Global;
 use std::fs::File;
 use std::io::{BufWriter, ErrorKind};

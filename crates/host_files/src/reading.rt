@@ -32,7 +32,9 @@ struct RegularFile {
 
 impl RegularFile {
     // A file of this length, of which nothing is read yet.
-    fn new(alloc: Global, file: WholeFile, len: u64) -> io::Result<RegularFile> {
+    fn new(alloc: Global, file: WholeFile, len: u64) -> io::Result<RegularFile>
+        ensures { IfOk result (λ it. (it.len ≡ len) × (it.held ≡ 0)) }
+    {
         let window = vec![in alloc; 0; WINDOW]?;
         Ok(RegularFile {
             file,
@@ -56,32 +58,33 @@ impl RegularFile {
     }
 
     // Reads ahead from `at` on.
-    fn read_ahead(&mut self, at: u64) -> io::Result<()> {
+    fn read_ahead(&mut self, remarks: &Remarks, at: u64) -> io::Result<()>
+        ensures { self.new.len ≡ self.old.len }
+    {
         let left = self.len.saturating_sub(at);
         let count = left.min(self.window.len() as u64) as usize;
         self.held = 0;
         self.file.read_exact_at(&mut self.window[..count], at)?;
+        remarks.read.look()?;
         self.begin = at;
         self.held = count;
         Ok(())
     }
 
-    // Reads the bytes from `at` on that fill `into`.
-    fn read_at(&mut self, at: u64, into: &mut [u8]) -> io::Result<()> {
-        if into.len() > self.window.len() {
-            return self.file.read_exact_at(into, at);
-        }
+    // Reads the bytes from `at` on that fill `into`, unless a file was written since it was opened to be read.
+    fn read_at(&mut self, remarks: &Remarks, at: u64, into: &mut [u8]) -> io::Result<()>
+        ensures { length into.new ≡ length into.old }
+    {
         // what can't be read behind these bytes is no fault of theirs
-        if self.ahead(at).len() < into.len() && self.read_ahead(at).is_err() {
-            return self.file.read_exact_at(into, at);
+        if into.len() <= self.window.len() && self.ahead(at).len() < into.len() {
+            let _ = self.read_ahead(remarks, at);
         }
-        match self.ahead(at).get(..into.len()) {
-            Some(found) => {
-                into.copy_from_slice(found);
-                Ok(())
-            }
-            None => self.file.read_exact_at(into, at),
+        if let Some(found) = self.ahead(at).get(..into.len()) {
+            into.copy_from_slice(found);
+            return Ok(());
         }
+        self.file.read_exact_at(into, at)?;
+        remarks.read.look()
     }
 }
 
@@ -112,8 +115,9 @@ impl<'a> HostFile<'a> {
     ) -> io::Result<HostFile<'a>> {
         let known = file.metadata()?;
         if known.is_file() {
+            let len = remarks.read.add(remarks, path, &file)?;
             let file = whole_file(remarks, path, file, false)?;
-            return HostFile::of(alloc, remarks, path, file, known.len());
+            return HostFile::of(alloc, remarks, path, file, len);
         }
         let mut bytes = Vec::new(alloc);
         read_up_to(&mut file, &mut bytes, HEADER_LENGTH)?;
@@ -159,7 +163,7 @@ impl OpenedFile for HostFile<'_> {
         let read = match &mut self.bytes {
             FileBytes::Regular(it) => {
                 self.remarks.show_reading(self.path.as_str(), at, it.len);
-                it.read_at(at, into)
+                it.read_at(self.remarks, at, into)
             }
             FileBytes::Read(bytes) => copy_at(bytes.as_slice(), at, into),
         };

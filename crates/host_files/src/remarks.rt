@@ -5,7 +5,7 @@ ghost use Rattle.std.specs.IoError.{error_kind};
 ghost use Rattle.host_files.specs.Faults.{fault_of_kind};
 
 use dasd_jobs::FileFault;
-use file_journals::Notes;
+use file_journals::{Notes, ReadFiles};
 use std::alloc::Global;
 use std::cell::{Cell, RefCell};
 use std::fmt;
@@ -30,6 +30,8 @@ pub struct Remarks<'a> {
     lines: RefCell<String>,
     /// Those of them that everybody is told.
     told: RefCell<String>,
+    /// The files that are read without a lock.
+    pub(crate) read: ReadFiles,
     is_terminal: bool,
     has_stages: Cell<bool>,
     is_shown: Cell<bool>,
@@ -45,6 +47,7 @@ impl<'a> Remarks<'a> {
             alloc,
             lines: RefCell::new(String::new(alloc)),
             told: RefCell::new(String::new(alloc)),
+            read: ReadFiles::new(alloc),
             is_terminal: host.stderr().is_terminal(),
             has_stages: Cell::new(false),
             is_shown: Cell::new(false),

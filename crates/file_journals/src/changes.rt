@@ -1,0 +1,311 @@
+//! What a save changes, by what its files held before; and whether they still hold that.
+//!
+//! What a journal has beside the changes are, for each file, the SHA-256 of the bytes that stay, and for each 512 bytes that are changed
+//! the beginning of that of the old ones. They only say whether another program wrote the file since.
+
+ghost use Rattle.std.specs.Prelude.{◌≡◌, ◌≤◌, [], length, take};
+ghost use Rattle.sha2.specs.Sha256.{sha256};
+
+use crate::hosts::OpenedFile;
+use crate::marks::{is_marked, put_mark, take_mark};
+use crate::notes::Notes;
+use crate::places::name_of;
+use atomic_save::{Change, Journal};
+use sha2::{Digest, Sha256};
+use std::alloc::Global;
+use std::fs::File;
+use std::io;
+use std::os::unix::fs::FileExt;
+
+/// What is written of a file: whole blocks.
+pub(crate) const BLOCK: usize = 4_096;
+
+/// How many bytes are read at once.
+const WINDOW: usize = 16 * BLOCK;
+
+/// What a disk writes whole.
+const SECTOR: usize = 512;
+
+/// How many bytes of the SHA-256 of a sector's old bytes are kept.
+const SUM: usize = 8;
+
+/// How many bytes the SHA-256 has.
+const DIGEST: usize = 32;
+
+/// A file of a save that is read. Where its bytes can't be, it notes where and why.
+#[derive(Drop)]
+pub(crate) struct Looked<'a, N: Notes> {
+    pub(crate) notes: &'a N,
+    pub(crate) path: &'a str,
+    pub(crate) file: &'a File,
+    /// Its number in the save.
+    pub(crate) place: usize,
+}
+
+/// What a save changes.
+#[derive(Drop)]
+pub(crate) struct Changes {
+    alloc: Global,
+    /// The changes after the first block of each file.
+    rest: Vec<Change>,
+    /// The new first blocks.
+    first: Vec<Change>,
+    /// What is known of the old bytes of these changes.
+    rest_sums: Vec<u8>,
+    first_sums: Vec<u8>,
+}
+
+impl Changes {
+    /// None.
+    pub(crate) fn new(alloc: Global) -> Changes
+        ensures { (result.rest.items ≡ []) × (result.first.items ≡ []) }
+    {
+        Changes {
+            alloc,
+            rest: Vec::new(alloc),
+            first: Vec::new(alloc),
+            rest_sums: Vec::new(alloc),
+            first_sums: Vec::new(alloc),
+        }
+    }
+
+    /// Adds those of a file of this length by its draft.
+    pub(crate) fn add<N: Notes>(
+        &mut self,
+        it: &Looked<'_, N>,
+        draft: &Looked<'_, N>,
+        len: u64,
+    ) -> io::Result<()> {
+        let mut saved = vec![in self.alloc; 0; WINDOW]?;
+        let mut held = vec![in self.alloc; 0; WINDOW]?;
+        let before = self.rest.len();
+        let mut at = 0u64;
+        for _ in 0..u64::MAX {
+            let count = count_at(len, at, saved.len().min(held.len()));
+            if count == 0 {
+                break;
+            }
+            draft.read(&mut saved[..count], at)?;
+            it.read(&mut held[..count], at)?;
+            for (saved, held) in saved[..count]
+                .chunks(BLOCK)
+                .zip(held[..count].chunks(BLOCK))
+            {
+                if saved != held {
+                    self.add_block(it.place, at, saved, held)?;
+                }
+                at = at.saturating_add(saved.len() as u64);
+            }
+        }
+        if self.rest.len() != before {
+            self.add_first(it, draft, len)?;
+        }
+        Ok(())
+    }
+
+    // Adds a block to the change before it, or as a new one; of a file's first one only its place.
+    fn add_block(&mut self, place: usize, at: u64, saved: &[u8], held: &[u8]) -> io::Result<()> {
+        if at == 0 {
+            let bytes = Vec::new(self.alloc);
+            self.rest.push(Change {
+                file: place,
+                at,
+                bytes,
+            })?;
+            return Ok(());
+        }
+        add_sums(&mut self.rest_sums, held)?;
+        if let Some(last) = self.rest.last_mut() {
+            if last.file == place && last.at.saturating_add(last.bytes.len() as u64) == at {
+                last.bytes.extend_from_slice(saved)?;
+                return Ok(());
+            }
+        }
+        let bytes = Vec::from_slice(self.alloc, saved)?;
+        self.rest.push(Change {
+            file: place,
+            at,
+            bytes,
+        })?;
+        Ok(())
+    }
+
+    // Adds the first block of a file, which is written last.
+    fn add_first<N: Notes>(
+        &mut self,
+        it: &Looked<'_, N>,
+        draft: &Looked<'_, N>,
+        len: u64,
+    ) -> io::Result<()> {
+        let count = len.min(BLOCK as u64) as usize;
+        let mut bytes = vec![in self.alloc; 0; count]?;
+        it.read(&mut bytes, 0)?;
+        add_sums(&mut self.first_sums, &bytes)?;
+        draft.read(&mut bytes, 0)?;
+        self.first.push(Change {
+            file: it.place,
+            at: 0,
+            bytes,
+        })?;
+        Ok(())
+    }
+
+    /// All of them in the order in which they are written, each file's mark first, and its own first block last; and what is known of the
+    /// old bytes of these files.
+    pub(crate) fn in_order<N: Notes>(
+        self,
+        notes: &N,
+        files: &[OpenedFile],
+    ) -> io::Result<(Vec<Change>, Vec<u8>)> {
+        let mut all = Vec::new(self.alloc);
+        for change in self.first.iter() {
+            let mut bytes = Vec::from_slice(self.alloc, &change.bytes)?;
+            if let Some(it) = files.get(change.file) {
+                put_mark(&mut bytes, name_of(it.beside.as_path()));
+            }
+            if is_marked(&bytes) {
+                all.push(Change {
+                    file: change.file,
+                    at: 0,
+                    bytes,
+                })?;
+            }
+        }
+        for change in self.rest {
+            if !change.bytes.is_empty() {
+                all.push(change)?;
+            }
+        }
+        for change in self.first {
+            all.push(change)?;
+        }
+        let mut known = Vec::new(self.alloc);
+        for (place, it) in files.iter().enumerate() {
+            let it = Looked {
+                notes,
+                path: it.home.as_str(),
+                file: &it.file,
+                place,
+            };
+            known.extend_from_slice(&it.digest_of_rest(&all)?)?;
+        }
+        known.extend_from_slice(&self.rest_sums)?;
+        known.extend_from_slice(&self.first_sums)?;
+        Ok((all, known))
+    }
+}
+
+// How many of a file's bytes are read next.
+fn count_at(len: u64, at: u64, most: usize) -> usize
+    ensures { result ≤ most }
+{
+    len.saturating_sub(at).min(most as u64) as usize
+}
+
+// Adds the sums of each sector of these bytes.
+fn add_sums(sums: &mut Vec<u8>, bytes: &[u8]) -> io::Result<()> {
+    for sector in bytes.chunks(SECTOR) {
+        sums.extend_from_slice(&sum_of(sector))?;
+    }
+    Ok(())
+}
+
+// The sum of a sector.
+fn sum_of(sector: &[u8]) -> [u8; SUM]
+    ensures { result ≡ take SUM (sha256 sector.now) }
+{
+    let digest = Sha256::digest(sector);
+    let mut sum = [0; SUM];
+    sum.copy_from_slice(&digest[..SUM]);
+    sum
+}
+
+impl<N: Notes> Looked<'_, N> {
+    /// Reads bytes of the file.
+    pub(crate) fn read(&self, into: &mut [u8], at: u64) -> io::Result<()>
+        ensures { length into.new ≡ length into.old }
+    {
+        let read = self.file.read_exact_at(into, at);
+        if let Err(fault) = &read {
+            self.notes.note_reading(self.path, at, fault);
+        }
+        read
+    }
+
+    // The SHA-256 of the bytes that no change touches, after the first block.
+    fn digest_of_rest(&self, changes: &[Change]) -> io::Result<[u8; DIGEST]> {
+        let mut digest = Sha256::new();
+        let mut at = BLOCK as u64;
+        for change in changes {
+            if change.file == self.place && change.at >= at {
+                self.feed(&mut digest, at, change.at)?;
+                at = change.at.saturating_add(change.bytes.len() as u64);
+            }
+        }
+        self.feed(&mut digest, at, self.file.metadata()?.len())?;
+        Ok(digest.finalize())
+    }
+
+    // Feeds a digest with the bytes from one place to another.
+    fn feed(&self, digest: &mut Sha256, from: u64, to: u64) -> io::Result<()> {
+        let mut bytes = vec![in self.notes.host().alloc(); 0; WINDOW]?;
+        let mut at = from;
+        for _ in 0..u64::MAX {
+            let count = count_at(to, at, bytes.len());
+            if count == 0 {
+                break;
+            }
+            self.read(&mut bytes[..count], at)?;
+            digest.update(&bytes[..count]);
+            at = at.saturating_add(count as u64);
+        }
+        Ok(())
+    }
+
+    /// Whether the file holds, wherever a journal changes it, what that writes or what it held before, and elsewhere what it held before.
+    pub(crate) fn fits(&self, journal: &Journal) -> io::Result<bool> {
+        if !journal
+            .changes
+            .iter()
+            .any(|change| change.file == self.place)
+        {
+            return Ok(true);
+        }
+        let digest = self.digest_of_rest(&journal.changes)?;
+        if journal.more.chunks(DIGEST).nth(self.place) != Some(&digest[..]) {
+            return Ok(false);
+        }
+        let begin = journal.files.len().saturating_mul(DIGEST);
+        let mut sums = journal.more.get(begin..).unwrap_or(&[]);
+        for change in journal.changes.iter() {
+            if change.at == 0 && is_marked(&change.bytes) {
+                continue;
+            }
+            let count = change.bytes.len().div_ceil(SECTOR).saturating_mul(SUM);
+            let (Some(own), Some(after)) = (sums.get(..count), sums.get(count..)) else {
+                return Ok(false);
+            };
+            if change.file == self.place && !self.holds(change, own)? {
+                return Ok(false);
+            }
+            sums = after;
+        }
+        Ok(true)
+    }
+
+    // Whether each sector that a change touches is the new one, or has the sum of the old one.
+    fn holds(&self, change: &Change, sums: &[u8]) -> io::Result<bool> {
+        let mut held = vec![in self.notes.host().alloc(); 0; change.bytes.len()]?;
+        self.read(&mut held, change.at)?;
+        if change.at == 0 {
+            take_mark(&mut held, &change.bytes);
+        }
+        let pairs = held.chunks(SECTOR).zip(change.bytes.chunks(SECTOR));
+        for ((held, new), sum) in pairs.zip(sums.chunks(SUM)) {
+            if held != new && sum != sum_of(held).as_slice() {
+                return Ok(false);
+            }
+        }
+        Ok(true)
+    }
+}
