@@ -30,7 +30,7 @@ difference_text (Identifier i one other) =
     concat (codes "record " ∷ decimal i ∷ codes " identifier " ∷ bytes_text one ∷ codes " and " ∷ bytes_text other ∷ [])
 difference_text (Key i at) = concat (codes "record " ∷ decimal i ∷ codes " key from " ∷ decimal at ∷ codes " on" ∷ [])
 difference_text (Contents i at) = concat (codes "record " ∷ decimal i ∷ codes " data from " ∷ decimal at ∷ codes " on" ∷ [])
-difference_text (BehindEnd at) = concat (codes "behind the end mark from " ∷ decimal at ∷ codes " on" ∷ [])
+difference_text (BehindEnd at) = concat (codes "after the end mark from " ∷ decimal at ∷ codes " on" ∷ [])
 difference_text (FirstUnreadable fault) = concat (codes "unreadable in the first: " ∷ fault_text fault ∷ [])
 difference_text (SecondUnreadable fault) = concat (codes "unreadable in the second: " ∷ fault_text fault ∷ [])
 difference_text (Unreadable at) = concat (codes "unreadable in both, bytes from " ∷ decimal at ∷ codes " on" ∷ [])

@@ -43,7 +43,7 @@ kind_text (OverCapacity _) = codes "over capacity"
 kind_text (SameIdentifier _ _) = codes "same identifier"
 kind_text (OtherIdentifier _ _) = codes "other identifier"
 kind_text (EndOfFile _) = codes "end of file"
-kind_text (BytesBehindEnd _) = codes "bytes behind end"
+kind_text (BytesBehindEnd _) = codes "bytes after end"
 
 -- a problem in words
 abbrev pub problem_text : StrictProblem → List ℕ
@@ -58,7 +58,7 @@ problem_text (SameIdentifier i id) =
 problem_text (OtherIdentifier i id) =
     concat (codes "record " ∷ decimal i ∷ codes " has the identifier " ∷ bytes_text id ∷ codes " of another track" ∷ [])
 problem_text (EndOfFile i) = concat (codes "record " ∷ decimal i ∷ codes " is an end of file" ∷ [])
-problem_text (BytesBehindEnd at) = concat (codes "bytes behind the end mark from " ∷ decimal at ∷ codes " on" ∷ [])
+problem_text (BytesBehindEnd at) = concat (codes "bytes after the end mark from " ∷ decimal at ∷ codes " on" ∷ [])
 
 -- where it is: in the header of a file, or on a track
 abbrev pub place_text : FindingPlace → List ℕ

@@ -43,7 +43,7 @@ impl fmt::Display for Difference {
             Difference::Identifier(i, one, other) => write_identifiers(f, *i, one, other),
             Difference::Key(i, at) => write_area(f, *i, " key from ", *at),
             Difference::Contents(i, at) => write_area(f, *i, " data from ", *at),
-            Difference::BehindEnd(at) => write_offset(f, "behind the end mark from ", *at),
+            Difference::BehindEnd(at) => write_offset(f, "after the end mark from ", *at),
             Difference::FirstUnreadable(fault) => {
                 write_unreadable(f, "unreadable in the first: ", *fault)
             }

@@ -98,7 +98,7 @@ impl StrictProblem {
             StrictProblem::SameIdentifier(_, _) => "same identifier",
             StrictProblem::OtherIdentifier(_, _) => "other identifier",
             StrictProblem::EndOfFile(_) => "end of file",
-            StrictProblem::BytesBehindEnd(_) => "bytes behind end",
+            StrictProblem::BytesBehindEnd(_) => "bytes after end",
         }
     }
 }
@@ -147,7 +147,7 @@ impl fmt::Display for StrictProblem {
             ),
             StrictProblem::EndOfFile(i) => write_number(f, "record ", *i, " is an end of file"),
             StrictProblem::BytesBehindEnd(at) => {
-                write_number(f, "bytes behind the end mark from ", *at, " on")
+                write_number(f, "bytes after the end mark from ", *at, " on")
             }
         }
     }

@@ -137,7 +137,7 @@ fn rule_of(fault: &ProgramFault) -> Option<&'static str> {
         }
         ProgramFault::ChannelNumber => Some("a channel has a number from 0 to 6"),
         ProgramFault::AddressTaken => {
-            Some("each volume has an address of its own; the files of one image stand together")
+            Some("each volume has an address of its own; the files of one image are named together")
         }
         ProgramFault::TooManyDrives => Some("a channel has at most eight drives"),
         ProgramFault::NoTrack => Some("dasd list says how many cylinders and heads a volume has"),

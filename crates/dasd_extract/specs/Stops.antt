@@ -13,7 +13,7 @@ use Rattle.dasd_extract.specs.declared.stops.Stop.{Stop}
 -- why bytes are no record
 abbrev pub lie_text : RecordFault → List ℕ
 lie_text ShortRecord = codes "ends within a record"
-lie_text NoDescriptor = codes "has no descriptor word where one must stand"
+lie_text NoDescriptor = codes "has no descriptor word where there must be one"
 lie_text BlockLength = codes "has a block descriptor word of another length"
 lie_text RecordLength = codes "has a record descriptor word of a length that can't be"
 lie_text SegmentCode = codes "has a segment code that its format has not"
@@ -23,7 +23,7 @@ abbrev pub cause_text : Cause → List ℕ
 cause_text EndOfFile = codes "end of file"
 cause_text EndBehindAlternates = codes "end of file"
 cause_text PastExtents = codes "the extents end before an end of file"
-cause_text Outside = codes "it is behind the extents"
+cause_text Outside = codes "it is after the extents"
 cause_text BadExtent = codes "an extent is no run of tracks"
 cause_text NoTrack = codes "an extent has a track that the volume has not"
 cause_text NoAlternate = codes "it is defective, and no record 0 names a track of the volume"

@@ -121,7 +121,7 @@ impl fmt::Display for Cause {
         match self {
             Cause::EndOfFile | Cause::EndBehindAlternates => f.write_str("end of file"),
             Cause::PastExtents => f.write_str("the extents end before an end of file"),
-            Cause::Outside => f.write_str("it is behind the extents"),
+            Cause::Outside => f.write_str("it is after the extents"),
             Cause::BadExtent => f.write_str("an extent is no run of tracks"),
             Cause::NoTrack => f.write_str("an extent has a track that the volume has not"),
             Cause::NoAlternate => {
@@ -153,7 +153,7 @@ impl fmt::Display for Lie {
     fn fmt<W: fmt::Write>(&self, f: &mut fmt::Formatter<W>) -> fmt::Result {
         f.write_str(match self.0 {
             RecordFault::ShortRecord => "ends within a record",
-            RecordFault::NoDescriptor => "has no descriptor word where one must stand",
+            RecordFault::NoDescriptor => "has no descriptor word where there must be one",
             RecordFault::BlockLength => "has a block descriptor word of another length",
             RecordFault::RecordLength => "has a record descriptor word of a length that can't be",
             RecordFault::SegmentCode => "has a segment code that its format has not",

@@ -7,3 +7,4 @@ pub mod Opening
 pub mod Unopened
 pub mod Written
 pub mod Printed
+pub mod Found

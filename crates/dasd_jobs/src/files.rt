@@ -80,7 +80,7 @@ pub trait ImageFiles {
     // the files that were opened, locked or read so far, in order
     ghost opened: { Self → List SourceFile };
 
-    /// Opens a file to be read. It waits for no other user of the file, and is refused for none.
+    /// Opens a file to be read. It takes no lock, and waits at most for a save of the file by another program.
     ///
     /// # Errors
     ///

@@ -128,8 +128,8 @@ impl fmt::Display for Remark<'_> {
                 write!(f, "{path}: {tracks} not in the file, from {from} on")
             }
             Remark::LeavesOut(path, number) => {
-                let one = "byte behind the last whole track is left out";
-                let many = "bytes behind the last whole track are left out";
+                let one = "byte after the last whole track is left out";
+                let many = "bytes after the last whole track are left out";
                 let bytes = Quantity::new(*number, one, many);
                 write!(f, "{path}: {bytes}")
             }

@@ -4,6 +4,7 @@
 
 mod faults;
 mod files;
+mod found;
 mod headers;
 mod jobs;
 mod lengths;

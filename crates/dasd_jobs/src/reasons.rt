@@ -3,6 +3,7 @@
 ghost use Rattle.std.specs.Prelude.{◌≡◌};
 
 use crate::files::ImageFiles;
+use crate::found::found_text;
 use crate::headers::is_header;
 use byteorder::{ByteOrder, LittleEndian};
 use ckd_image::{HEADER_LENGTH, MountFault};
@@ -40,6 +41,8 @@ impl Head {
 enum Reason {
     /// What a fault that lies in this file alone says.
     Fault(MountFault),
+    /// What the file is instead, by its first bytes.
+    Found(&'static str),
     /// It is named alone, and others follow it.
     OthersFollow(u16),
     /// It is named alone, and has a number behind the first.
@@ -64,10 +67,11 @@ impl fmt::Display for Reason {
     fn fmt<W: fmt::Write>(&self, f: &mut fmt::Formatter<W>) -> fmt::Result {
         match self {
             Reason::Fault(fault) => write!(f, "{fault}"),
+            Reason::Found(found) => write!(f, "{found}"),
             Reason::OthersFollow(highest) => {
                 write!(
                     f,
-                    "it ends with cylinder {highest}, and the files behind it are not named"
+                    "it ends with cylinder {highest}, and the files after it are not named"
                 )
             }
             Reason::Number(number) => write!(
@@ -75,10 +79,7 @@ impl fmt::Display for Reason {
                 "it is file {number} of an image, and is named alone"
             ),
             Reason::Place(number, place) => {
-                write!(
-                    f,
-                    "it is named as file {place} and bears the number {number}"
-                )
+                write!(f, "it is named as file {place} and has the number {number}")
             }
             Reason::OtherDrive => write!(
                 f,
@@ -152,7 +153,10 @@ fn remark_of<'a>(paths: &[&'a str], heads: &[Head], fault: MountFault) -> Option
         let reason = match fault {
             MountFault::Split => reason_of_split(heads, place, head, before),
             MountFault::Length => reason_of_length(heads, place, head, before),
-            fault => (!is_header(&head.header)).then_some(Reason::Fault(fault)),
+            fault => (!is_header(&head.header)).then_some(found_text(&head.header).map_or(
+                Reason::Fault(fault),
+                Reason::Found,
+            )),
         };
         if let Some(reason) = reason {
             return Some(Remark { path, reason });

@@ -5,4 +5,5 @@ mod Loading
 pub mod Paths
 pub mod Saving
 mod Told
+pub mod Obeying
 pub mod Writes

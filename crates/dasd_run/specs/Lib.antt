@@ -19,3 +19,4 @@ pub mod Words
 pub mod Labels
 pub mod Answers
 pub mod Folders
+pub mod Obeyed

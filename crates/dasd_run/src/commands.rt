@@ -1,10 +1,12 @@
 //! The commands of `dasd`.
 
 ghost use Rattle.std.specs.Prelude.{◌≡◌, true, map, IfErr};
+ghost use Rattle.admitted_words.specs.Writing.{OnlyRead};
 ghost use Rattle.counted_io.specs.Streams.{seen_by};
 ghost use Rattle.dasd_run.specs.Answers.{FormatsVolume, ListsVolume, ChecksVolume, Answers};
 ghost use Rattle.dasd_run.specs.Ended.{worse, KeepsFiles};
 ghost use Rattle.dasd_run.specs.Faults.{keeps_files};
+ghost use Rattle.dasd_run.specs.Obeyed.{Obeys};
 ghost use Rattle.dasd_run.specs.Outside.{Looks};
 ghost use Rattle.dasd_run.specs.Runs.{RunsOrStops, Tells};
 ghost use Rattle.dasd_run.specs.Saves.{Ends, plan_of};
@@ -46,6 +48,7 @@ pub enum Ending {
     Findings,
 }
 
+#[tactic(auto, using(crate::proofs::Obeying::writes_none))]
 /// Does what these words ask, the first of which is the program's name.
 ///
 /// # Errors
@@ -58,7 +61,9 @@ pub fn obey<F: Traces, R: Read, W: Write, P: Progress>(
     host: &mut Host<F, R, W, P>,
     words: &[&str],
 ) -> Result<Ending, ProgramFault>
-    ensures { KeepsFiles result host.old host.new }
+    ensures keeps { KeepsFiles result host.old host.new }
+    ensures obeys { Obeys (map (λ word. word.now) words.now) result host.old host.new }
+    ensures only_reads { OnlyRead (map (λ word. word.now) words.now) → host.new.written ≡ host.old.written }
 {
     let asked = match read_admitted(host.alloc, words) {
         Ok(asked) => asked,

@@ -1,7 +1,10 @@
 //! What commands have of the host.
 
-ghost use Rattle.std.specs.Prelude.{◌≡◌, true, IfErr};
+ghost use Rattle.std.specs.Prelude.{◌≡◌, true, map, IfErr};
+ghost use Rattle.admitted_words.specs.Writing.{OnlyRead};
+ghost use Rattle.counted_io.specs.Streams.{seen_by};
 ghost use Rattle.dasd_run.specs.Faults.{keeps_files};
+ghost use Rattle.dasd_run.specs.Obeyed.{Obeys, outside};
 
 use crate::commands::{Ending, obey};
 use crate::fault::ProgramFault;
@@ -65,7 +68,12 @@ pub fn obey_with<F: Traces, R: Read, W: Write, P: Progress>(
     parts: HostParts<F, R, W, P>,
     words: &[&str],
 ) -> (Result<Ending, ProgramFault>, HostParts<F, R, W, P>)
-    ensures { IfErr result.0 (λ e. keeps_files e ≡ true → F.written result.1.files ≡ F.written parts.files) }
+    ensures keeps { IfErr result.0 (λ e. keeps_files e ≡ true → F.written result.1.files ≡ F.written parts.files) }
+    ensures obeys { Obeys (map (λ word. word.now) words.now) result.0
+        (outside (seen_by R.remaining parts.reader) (seen_by W.contents parts.writer) (F.written parts.files) (F.opened parts.files))
+        (outside (seen_by R.remaining result.1.reader) (seen_by W.contents result.1.writer) (F.written result.1.files)
+        (F.opened result.1.files)) }
+    ensures only_reads { OnlyRead (map (λ word. word.now) words.now) → F.written result.1.files ≡ F.written parts.files }
 {
     let HostParts {
         alloc,

@@ -70,7 +70,7 @@ chain_texts (Some fault) = chain_text fault ∷ []
 -- with a directory
 abbrev pub directory_text : DirectoryFault → List ℕ
 directory_text UsedBytes = codes "a directory block has a count of bytes that can't be"
-directory_text EntryPastUsed = codes "an entry of the directory ends behind its block"
+directory_text EntryPastUsed = codes "an entry of the directory ends after its block"
 
 abbrev pub directory_texts : Option DirectoryFault → List (List ℕ)
 directory_texts None = []

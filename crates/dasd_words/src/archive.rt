@@ -10,8 +10,8 @@ use clap::ArgMatches;
 use std::alloc::Global;
 
 const NO_NUMBERS: &str = "\
-error: no cylinder and head behind the paths, as 0 3, 0-2 3 1-4 or 0x14 0x3
-Numbers are decimal, or hexadecimal behind 0x, as places are printed; records have those from 0 to 255.
+error: no cylinder and head after the paths, as 0 3, 0-2 3 1-4 or 0x14 0x3
+Numbers are decimal, or hexadecimal after 0x, as places are printed; records have those from 0 to 255.
 ";
 
 const STRICT_JSON: &str = "error: --json goes with --strict\n";

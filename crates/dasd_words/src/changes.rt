@@ -12,10 +12,10 @@ use std::alloc::Global;
 const PATHS_AND_NAMES: &str = "WORD";
 
 const NO_NAMES: &str =
-    "error: rename takes the files of an image, and behind them the name of a data set and its new one\n";
+    "error: rename takes the files of an image, and after them the name of a data set and its new one\n";
 
 const NO_NAME: &str =
-    "error: delete takes the files of an image, and behind them the name of a data set\n";
+    "error: delete takes the files of an image, and after them the name of a data set\n";
 
 const NO_FIELD: &str = "error: relabel takes --label, --owner or both\n";
 

@@ -39,7 +39,7 @@ fn row_at(place: usize) -> Option<&'static CommandRow> {
 fn dasd_command<'a>(alloc: Global) -> Result<Command<'a>, AllocError> {
     let dasd = Command::new(alloc, "dasd")
         .about("Formats, lists and checks CKD_P370 disk images, and runs decks over them")
-        .version("1.1.0")
+        .version("1.2.0")
         .after_help("Example: dasd run 90=new:2311:1 < deck.txt")
         .subcommand_required(true);
     let dasd = with_commands(alloc, dasd)?;

@@ -15,7 +15,7 @@ use std::alloc::Global;
 const PATHS_AND_NAME: &str = "WORD";
 
 const NO_NAME: &str =
-    "error: no name of a data set behind the paths, as SYS1.MACLIB(OPEN) or PAYROLL\n";
+    "error: no name of a data set after the paths, as SYS1.MACLIB(OPEN) or PAYROLL\n";
 
 const RAW_MEMBER: &str = "error: --raw takes the tracks of a data set, and of no member\n";
 
@@ -39,7 +39,7 @@ pub(crate) static COMMAND: CommandRow = CommandRow {
     args: &[
         ArgRow {
             id: PATHS_AND_NAME,
-            help: "the files of an image, and behind them a data set or a member, as PAYROLL or SYS1.MACLIB(OPEN); with --all no name",
+            help: "the files of an image, and after them a data set or a member, as PAYROLL or SYS1.MACLIB(OPEN); with --all no name",
             kind: WORDS,
         },
         ArgRow {
@@ -60,7 +60,7 @@ pub(crate) static COMMAND: CommandRow = CommandRow {
         },
         ArgRow {
             id: "text",
-            help: "writes records as lines of text, from EBCDIC; without it, blocks as they stand",
+            help: "writes records as lines of text, from EBCDIC; without it, blocks as they are",
             kind: ArgKind::FlagWithout(&["with-lengths"]),
         },
         WITH_LENGTHS,
@@ -69,7 +69,7 @@ pub(crate) static COMMAND: CommandRow = CommandRow {
         BLOCK_LENGTH,
         ArgRow {
             id: "raw",
-            help: "writes the tracks of a data set as they stand in the image: all bytes of each, in order",
+            help: "writes the tracks of a data set as they are in the image: all bytes of each, in order",
             kind: ArgKind::Flag,
         },
         ArgRow {

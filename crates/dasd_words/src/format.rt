@@ -72,7 +72,7 @@ pub(crate) static COMMAND: CommandRow = CommandRow {
         },
         ArgRow {
             id: "vtoc-at",
-            help: "cylinder and head of its first track; without it 0:1, behind the label",
+            help: "cylinder and head of its first track; without it 0:1, after the label",
             kind: ArgKind::Valued(Value {
                 name: "C:H",
                 ..FILE

@@ -9,7 +9,7 @@ use std::alloc::Global;
 /// The command, with its words.
 pub(crate) static COMMAND: CommandRow = CommandRow {
     name: "hash",
-    about: "Prints the SHA-256 of what a volume says, without what stands behind end marks",
+    about: "Prints the SHA-256 of the records of a volume, without the bytes after end marks",
     usage: None,
     after_help: "Example: dasd hash --members pack.ckd",
     args: &[

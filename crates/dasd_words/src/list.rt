@@ -8,7 +8,7 @@ use clap::ArgMatches;
 use std::alloc::Global;
 
 const CYLINDERS_RULE: &str =
-    "a number or a range, as 3, 0-2 or 0x14, decimal or hexadecimal behind 0x, as places are printed";
+    "a number or a range, as 3, 0-2 or 0x14, decimal, or hexadecimal after 0x, as places are printed";
 
 /// The command, with its words.
 pub(crate) static COMMAND: CommandRow = CommandRow {

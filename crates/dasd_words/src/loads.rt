@@ -13,10 +13,10 @@ use std::alloc::Global;
 const PATHS_AND_NAME: &str = "WORD";
 
 const NO_NAME: &str =
-    "error: load takes the files of an image, and behind them the name of a data set\n";
+    "error: load takes the files of an image, and after them the name of a data set\n";
 
 const MEMBER_NAMED: &str = "\
-error: load takes the name of a data set, and none of a member in parentheses behind it
+error: load takes the name of a data set, and none of a member in parentheses after it
 A new member has its name by --member: dasd load pack.ckd SYS1.MACLIB --member OPEN --from open.txt --text
 ";
 
@@ -63,7 +63,7 @@ pub(crate) static COMMAND: CommandRow = CommandRow {
         },
         ArgRow {
             id: "member",
-            help: "puts the file into this library as a new member of this name, and writes the library anew",
+            help: "puts the file into this library as a new member of this name, and writes the library again",
             kind: ArgKind::Valued(Value {
                 name: "MEMBER",
                 conflicts: &["all"],

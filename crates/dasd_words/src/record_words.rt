@@ -40,7 +40,7 @@ pub(crate) const BLOCK_LENGTH: ArgRow = ArgRow {
     }),
 };
 
-const FORMAT_RULE: &str = "F, V or U with letters of BSTAM behind it, as FB, VBS or FBA";
+const FORMAT_RULE: &str = "F, V or U followed by letters of BSTAM, as FB, VBS or FBA";
 
 const LENGTH_RULE: &str = "a number of bytes from 1 to 65535";
 

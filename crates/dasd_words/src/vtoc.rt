@@ -16,12 +16,12 @@ pub(crate) static COMMAND: CommandRow = CommandRow {
         PATHS,
         ArgRow {
             id: "members",
-            help: "prints the members of each partitioned data set too, behind the table",
+            help: "prints the members of each partitioned data set too, after the table",
             kind: ArgKind::Flag,
         },
         ArgRow {
             id: "long",
-            help: "prints more of each data set, behind the table: its extents, volumes, keys and password",
+            help: "prints more of each data set, after the table: its extents, volumes, keys and password",
             kind: ArgKind::Flag,
         },
         AS_FAR,
