@@ -110,7 +110,7 @@ finding_text s member text = finding_for s.json s (what s.name member) text
 -- why a directory is not read on
 abbrev pub directory_text : DirectoryFault → List ℕ
 directory_text UsedBytes = codes "a directory block has a count of bytes that can't be"
-directory_text EntryPastUsed = codes "an entry of the directory ends behind its block"
+directory_text EntryPastUsed = codes "an entry of the directory ends after its block"
 
 abbrev pub wrong_text : Wrong → List ℕ
 wrong_text (Directory fault) = directory_text fault

@@ -266,6 +266,6 @@ fn directory_text(fault: DirectoryFault) -> &'static str
 {
     match fault {
         DirectoryFault::UsedBytes => "a directory block has a count of bytes that can't be",
-        DirectoryFault::EntryPastUsed => "an entry of the directory ends behind its block",
+        DirectoryFault::EntryPastUsed => "an entry of the directory ends after its block",
     }
 }

@@ -45,7 +45,7 @@ pub enum DescribedFault {
 #[derive(Clone, Copy, Debug, PartialEq, Eq, Error)]
 pub enum BlockFault {
     /// The data set has keys, and the file has none.
-    #[error("keys stand only beside the lengths of their blocks")]
+    #[error("keys are given only with the lengths of their blocks")]
     Keys,
     /// Nobody says how long a block is.
     #[error("no block length")]

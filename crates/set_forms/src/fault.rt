@@ -6,7 +6,7 @@ use thiserror::Error;
 #[derive(Clone, Copy, Debug, PartialEq, Eq, Error)]
 pub enum FormLineFault {
     /// Its first words say none of the three things that a line may be of.
-    #[error("a line begins with `data set`, `member` or `alias`, or is a comment behind #")]
+    #[error("a line begins with `data set`, `member` or `alias`, or is a comment after #")]
     Kind,
     /// It has too few words, or too many.
     #[error("too few words or too many")]
@@ -18,7 +18,7 @@ pub enum FormLineFault {
     #[error("an organisation is PS, PO, DA, IS, or X'4100' with its bits")]
     Organisation,
     /// The record format of a data set is none.
-    #[error("a record format is F, V or U with letters of BSTAM behind it, or X'91' with its bits")]
+    #[error("a record format is F, V or U followed by letters of BSTAM, or X'91' with its bits")]
     Format,
     /// The length of its records is none.
     #[error("a record length is a number to 65535")]
@@ -39,13 +39,13 @@ pub enum FormLineFault {
     #[error("at its end a data set may have `volume`, its number to 65535, `extents`, and the types of these, as X'80'")]
     Details,
     /// A note is none, or stands where none may.
-    #[error("at most three notes stand before the user data: a number of a block and a byte, as 5/00, or an address and a byte, as @000102/00")]
+    #[error("at most three notes come before the user data: a number of a block and a byte, as 5/00, or an address and a byte, as @000102/00")]
     Note,
     /// User data are none, or too long.
     #[error("user data are one word of pairs of hexadecimal digits, an even number of bytes, and with four for each note at most 62")]
     UserData,
     /// An entry stands behind no data set that has a directory.
-    #[error("a member or an alias stands behind its data set, which has a directory")]
+    #[error("a member or an alias comes after its data set, which has a directory")]
     NoDirectory,
 }
 

@@ -1,0 +1,10 @@
+pub mod Marks
+pub mod Held
+pub mod Shared
+pub mod Reached
+pub mod Frame
+pub mod Kept
+pub mod Loads
+pub mod Blocks
+pub mod Deletions
+pub mod Relabelled
