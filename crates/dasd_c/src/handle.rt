@@ -56,9 +56,9 @@ pub(crate) fn put(handle: &mut Handle, subsystem: Box<Subsystem>)
 /// The version of the library: major, minor and patch, in 16 bits, 8 and 8.
 #[unsafe(no_mangle)]
 pub extern "C" fn dasd_version() -> u32
-    ensures { result ≡ 0x010100 }
+    ensures { result ≡ 0x010200 }
 {
-    0x01_01_00
+    0x01_02_00
 }
 
 /// The number of the binary interface.

@@ -1,5 +1,5 @@
 -- What C is told by numbers. They are those of dasd.h and of dasd_drive.h.
-use Rattle.std.specs.Prelude.{ℤ, pos, neg_ℤ, Result, Ok, Err}
+use Rattle.std.specs.Prelude.{ℤ, pos, neg_ℤ, ℕ, Result, Ok, Err}
 use Rattle.ckd_image.specs.declared.fault.MountFault.{MountFault}
 use Rattle.ckd_image.specs.declared.fault.MountFault.TheVariants as mount
 use Rattle.ckd_image.specs.declared.store.StoreFault.{StoreFault}
@@ -21,6 +21,25 @@ in_use = neg_ℤ (pos 2)
 
 abbrev pub bad_model : ℤ
 bad_model = neg_ℤ (pos 8)
+
+-- DASD_PROGRAM_RUNS, DASD_NO_ROOM, DASD_NO_SAVED_STATE, DASD_OTHER_VERSION, DASD_SAVED_LENGTH, DASD_NO_TRACK
+abbrev pub program_runs : ℤ
+program_runs = neg_ℤ (pos 17)
+
+abbrev pub no_room : ℤ
+no_room = neg_ℤ (pos 24)
+
+abbrev pub no_saved_state : ℤ
+no_saved_state = neg_ℤ (pos 40)
+
+abbrev pub other_version : ℤ
+other_version = neg_ℤ (pos 41)
+
+abbrev pub saved_length : ℤ
+saved_length = neg_ℤ (pos 42)
+
+abbrev pub no_track : ℤ
+no_track = neg_ℤ (pos 47)
 
 -- DASD_COMMAND_OPEN, DASD_NO_COMMAND, DASD_NO_END, DASD_GIVES_NONE, DASD_TAKES_NONE, DASD_TOO_MANY, DASD_BYTES_PASSED, DASD_NOT_SAVED,
 -- DASD_OTHER_LENGTH
@@ -73,6 +92,16 @@ abbrev pub begun_code : Begun → ℤ
 begun_code Rejected = pos 0
 begun_code Immediate = pos 1
 begun_code Started = pos 2
+
+-- the same as a word's number
+abbrev pub begun_number : Begun → ℕ
+begun_number Rejected = 0
+begun_number Immediate = 1
+begun_number Started = 2
+
+-- DASD_DRIVE_STAYS_OPEN: the command of a word is still open
+abbrev pub stays_open : ℤ
+stays_open = pos 256
 
 -- enum dasd_drive_look: what a look led to
 abbrev pub look_code : Look → ℤ

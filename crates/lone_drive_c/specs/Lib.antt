@@ -3,5 +3,8 @@ pub mod Phases
 pub mod Calls
 pub mod Shown
 pub mod Volume
+pub mod Changed
 pub mod Copying
+pub mod Words
 pub mod Making
+pub mod Saving

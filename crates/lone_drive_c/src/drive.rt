@@ -4,10 +4,11 @@ ghost use Rattle.std.specs.Prelude.{◌≡◌, ◌<◌, IfOk, IfErr, OnOk};
 ghost use Rattle.ckd_drive.specs.Work.{new_drive};
 ghost use Rattle.lone_drive_c.specs.Making.{IsOver, NotMounted, NotFormatted, new_volume};
 
+use crate::changed::{slot_size, watched};
 use crate::refusal::NotMade;
 use ckd_drive::Drive;
 use ckd_image::{Image, image_len};
-use ckd_track::DriveModel;
+use ckd_track::{DriveModel, Geometry};
 use dasd_files::VolumeFile;
 use std::alloc::Global;
 
@@ -19,7 +20,7 @@ pub struct LoneDrive {
 }
 
 impl LoneDrive {
-    /// A drive over the volume that a copy of this file holds.
+    /// A drive over the volume that a copy of this file holds, whose tracks are watched.
     ///
     /// # Errors
     ///
@@ -29,6 +30,9 @@ impl LoneDrive {
         ensures refused { IfErr result (λ e. NotMounted file.now e) }
     {
         let Ok(copy) = VolumeFile::copy_of(alloc, file) else {
+            return Err(NotMade::OutOfMemory);
+        };
+        let Ok(copy) = watched(alloc, copy, slot_size(file)) else {
             return Err(NotMade::OutOfMemory);
         };
         match Image::mount(copy.counting_all_writes()) {
@@ -51,6 +55,10 @@ impl LoneDrive {
             return Err(NotMade::NoCylinders);
         }
         let Ok(file) = VolumeFile::zeros(alloc, image_len(model, cylinders)) else {
+            return Err(NotMade::OutOfMemory);
+        };
+        let size = Geometry::new(model, cylinders).track_size;
+        let Ok(file) = watched(alloc, file, size) else {
             return Err(NotMade::OutOfMemory);
         };
         match Image::format(file.counting_all_writes(), model, cylinders) {

@@ -5,16 +5,20 @@
 #![tactic(auto)]
 
 mod allowed;
+mod changed;
 mod commands;
 mod copying;
 mod drive;
 mod handle;
 mod passing;
 mod refusal;
+mod saving;
 mod showing;
 mod slot;
 mod tell;
 mod volume;
+mod whole;
 
 pub use crate::drive::LoneDrive;
 pub use crate::refusal::NotMade;
+pub use crate::saving::what_is_saved_is_restored;

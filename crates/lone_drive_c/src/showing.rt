@@ -40,7 +40,8 @@ fn show_next(drive: &Drive<VolumeFile>, next: &mut Next) -> i32
     of_phase(phase)
 }
 
-fn as_next(phase: Phase) -> Next
+/// What is shown of a command that is so far.
+pub(crate) fn as_next(phase: Phase) -> Next
     ensures { result ≡ next_shown phase }
 {
     match phase {

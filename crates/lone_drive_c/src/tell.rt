@@ -2,7 +2,7 @@
 //! `enum dasd_drive_fault`.
 
 ghost use Rattle.std.specs.Prelude.{◌≡◌, pos};
-ghost use Rattle.lone_drive_c.specs.Codes.{begun_code, look_code, made_code, phase_code, settled_code};
+ghost use Rattle.lone_drive_c.specs.Codes.{begun_code, begun_number, look_code, made_code, phase_code, settled_code};
 
 use crate::NotMade;
 use ckd_drive::{Begun, Look, Phase};
@@ -25,6 +25,24 @@ pub(crate) const BAD_MODEL: i32 = -8;
 
 /// A volume has at least one cylinder.
 pub(crate) const NO_CYLINDERS: i32 = -9;
+
+/// The drive remembers something of a program.
+pub(crate) const PROGRAM_RUNS: i32 = -17;
+
+/// What is to be written has more bytes than there is room for.
+pub(crate) const NO_ROOM: i32 = -24;
+
+/// The bytes are no saved drive.
+pub(crate) const NO_SAVED_STATE: i32 = -40;
+
+/// They are a saved drive of another version.
+pub(crate) const OTHER_VERSION: i32 = -41;
+
+/// They are a saved drive that is cut short, or too long.
+pub(crate) const SAVED_LENGTH: i32 = -42;
+
+/// The drive was saved at a track that its volume does not have.
+pub(crate) const NO_TRACK: i32 = -47;
 
 /// A command is open.
 pub(crate) const COMMAND_OPEN: i32 = -48;
@@ -53,6 +71,12 @@ pub(crate) const NOT_SAVED: i32 = -55;
 /// The volume's file has another length.
 pub(crate) const OTHER_LENGTH: i32 = -56;
 
+/// The command of a word is still open.
+pub(crate) const STAYS_OPEN: i32 = 256;
+
+/// The unit status of a command that was not begun: channel end, device end and unit check.
+pub(crate) const FAILED: i32 = 0x0E;
+
 /// Why there is no drive.
 pub(crate) fn of_not_made(why: NotMade) -> i32
     ensures { result ≡ made_code why }
@@ -74,6 +98,17 @@ pub(crate) fn of_not_made(why: NotMade) -> i32
 /// What a command code led to.
 pub(crate) fn of_begun(begun: Begun) -> i32
     ensures { result ≡ begun_code begun }
+{
+    match begun {
+        Begun::Rejected => 0,
+        Begun::Immediate => 1,
+        Begun::Started => 2,
+    }
+}
+
+/// The same as a word's number.
+pub(crate) fn number_of_begun(begun: Begun) -> u8
+    ensures { result ≡ begun_number begun }
 {
     match begun {
         Begun::Rejected => 0,

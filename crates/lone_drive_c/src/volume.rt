@@ -49,8 +49,8 @@ fn show_file(drive: &Drive<VolumeFile>, shown: &mut File) -> i32
     DONE
 }
 
-// The first file of an image, which each has.
-fn first_file(image: &Image<VolumeFile>) -> &VolumeFile
+/// The first file of an image, which each has.
+pub(crate) fn first_file(image: &Image<VolumeFile>) -> &VolumeFile
     ensures { IsFileAt image.now 0 (Some result.now.content) }
 {
     match image.store(0) {
