@@ -27,7 +27,7 @@ pub(crate) fn change_while_it_runs(
     let first = channel.step(3);
     channel.poke(0x408, &bytes_of((SENSE, 0x620, 0, 6)))?;
     let rest = run_on(channel);
-    println!(rt; "  its next word is replaced: {first} units before, {rest} behind")?;
+    println!(rt; "  its next word is replaced: {first} units before, {rest} after")?;
     take(rt, channel)?;
     show(rt, channel, 0x620, 6)
 }

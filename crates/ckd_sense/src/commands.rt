@@ -48,11 +48,11 @@ pub enum Command {
     ReadKeyAndData,
     /// Gives the next record's count, key and data.
     ReadCountKeyAndData,
-    /// Writes the home address, and leaves no record behind it.
+    /// Writes the home address, and leaves no record after it.
     WriteHomeAddress,
-    /// Writes R0, and leaves no record behind it.
+    /// Writes R0, and leaves no record after it.
     WriteR0,
-    /// Writes a record's count, key and data, and leaves no record behind it.
+    /// Writes a record's count, key and data, and leaves no record after it.
     WriteCountKeyAndData,
     /// Writes the data of a record.
     WriteData,

@@ -143,7 +143,7 @@ fn drive_through(rt: &HostRuntime, drive: &mut Drive<MemoryStore>) {
     let _ = println!(rt; "record 1 found: {found}, read: {read} {data:?}");
     let found = search(drive, [0, 1, 0, 0, 1]);
     let halted = told(command(drive, WRITE_DATA, &mut [21, 22]));
-    let _ = println!(rt; "record 1 found: {found}, an update halted behind two bytes: {halted}");
+    let _ = println!(rt; "record 1 found: {found}, an update halted after two bytes: {halted}");
     let found = search(drive, [0, 1, 0, 0, 1]);
     let read = told(command(drive, READ_DATA, &mut data));
     let _ = println!(rt; "record 1 found: {found}, read: {read} {data:?}");

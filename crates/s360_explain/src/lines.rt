@@ -258,7 +258,7 @@ impl fmt::Display for Line {
 // The command address of a channel status word.
 fn write_next_word<W: fmt::Write>(f: &mut fmt::Formatter<W>, next: u32) -> fmt::Result {
     let last = next.wrapping_sub(8) & 0x00FF_FFFF;
-    write!(f, "address {next:06X}: the last word stands at {last:06X}")
+    write!(f, "address {next:06X}: the last word is at {last:06X}")
 }
 
 // Where a transfer in channel goes.
@@ -326,7 +326,7 @@ impl fmt::Display for CommandLine {
                 " Transfer In Channel: the next word is fetched elsewhere",
             ),
             Code::Invalid => f.write_str(
-                ": no channel takes it, program check, but behind chain data",
+                ": no channel takes it, program check, but after chain data",
             ),
             Code::Unknown => f.write_str(": the drive has no such command"),
             Code::Drive(

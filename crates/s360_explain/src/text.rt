@@ -98,7 +98,7 @@ fn second_sense_text(bit: u16) -> &'static str {
         0x0080 => "the data check is in a count area, which no drive here reports",
         0x0040 => "the record does not fit what is left of the track",
         0x0020 => "a command with the multi-track bit went past the last head of the cylinder",
-        0x0010 => "the command may not stand behind those before it",
+        0x0010 => "the command may not come after those before it",
         0x0008 => "the index passed twice, and no such area was found",
         0x0004 => "the file mask of this program does not allow it",
         0x0002 => "the track has no address marker where one must be",
@@ -122,9 +122,9 @@ pub(crate) fn command_text(command: Command) -> &'static str {
         Command::SearchHomeAddressEqual =>
             "compares cylinder and head, four bytes, and skips the next word where they are equal",
         Command::SearchIdEqual | Command::SearchIdHigh | Command::SearchIdEqualOrHigh =>
-            "compares the next identifier, five bytes, and skips the next word where it is satisfied; no record found behind two passes of the index",
+            "compares the next identifier, five bytes, and skips the next word where it is satisfied; no record found after two passes of the index",
         Command::SearchKeyEqual | Command::SearchKeyHigh | Command::SearchKeyEqualOrHigh =>
-            "compares the next key, and skips the next word where it is satisfied; no record found behind two passes of the index",
+            "compares the next key, and skips the next word where it is satisfied; no record found after two passes of the index",
         _ => transfer_text(command),
     }
 }
@@ -143,14 +143,14 @@ fn transfer_text(command: Command) -> &'static str {
         Command::ReadCountKeyAndData =>
             "gives count, key and data of the next record; unit exception where it has no data",
         Command::WriteHomeAddress =>
-            "writes the home address, which must be the track's own, and leaves no record behind it",
+            "writes the home address, which must be the track's own, and leaves no record after it",
         Command::WriteR0 =>
-            "writes record 0, right behind a Search HA Equal that compared all bytes and was equal or Write Home Address, and leaves no record behind it",
+            "writes record 0, right after a Search HA Equal that compared all bytes and was equal or Write Home Address, and leaves no record after it",
         Command::WriteCountKeyAndData =>
-            "writes a record, right behind a Search ID Equal or Search Key Equal that compared all bytes of the one before it and was equal or a write of that one, and leaves none behind it",
+            "writes a record, right after a Search ID Equal or Search Key Equal that compared all bytes of the one before it and was equal or a write of that one, and leaves none behind it",
         Command::WriteData =>
-            "writes the data of a record, right behind a Search ID Equal or Search Key Equal that compared all its bytes and was equal",
+            "writes the data of a record, right after a Search ID Equal or Search Key Equal that compared all its bytes and was equal",
         _ =>
-            "writes key and data of a record, right behind a Search ID Equal that compared all its bytes and was equal",
+            "writes key and data of a record, right after a Search ID Equal that compared all its bytes and was equal",
     }
 }

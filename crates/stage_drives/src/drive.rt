@@ -15,7 +15,7 @@ const NOT_NOW: &str = "the drive's phase does not allow it";
 
 /// What a drive is that is not there.
 pub(crate) const NO_DRIVE: &str =
-    "no drive stands alone: DRIVE MOUNT makes one, and a program takes it";
+    "no drive is held alone: DRIVE MOUNT makes one, and a program takes it";
 
 /// What a drive shows, also while a program runs.
 #[derive(Clone, Copy)]

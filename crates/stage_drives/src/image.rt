@@ -8,7 +8,7 @@ use ckd_image::Image;
 use stage_files::{FileStore, Files, Line, MEMORY, No, Said, Word};
 use std::alloc::Global;
 
-const NO_IMAGE: &str = "no image stands alone: MOUNT makes one";
+const NO_IMAGE: &str = "no image is held alone: MOUNT makes one";
 
 /// Calls of files: they are mounted, for a drive or alone, or come back.
 #[derive(Clone, Copy)]

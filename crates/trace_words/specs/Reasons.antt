@@ -30,7 +30,7 @@ use Rattle.trace_words.specs.declared.reasons.BareTrack.TheVariants.{NoKey, NoRe
 -- what is wrong with a word that was not taken
 abbrev pub ccw_fault_text : Ccw → List ℕ
 ccw_fault_text ccw =
-    if is_transfer ccw then codes "a Transfer In Channel may not come first, or right behind another"
+    if is_transfer ccw then codes "a Transfer In Channel may not come first, or right after another"
     else if ccw.count == 0 then codes "the count of the word is zero"
     else if has_reserved_flags ccw then codes "a reserved bit of the word is on"
     else codes "the code of the word is no command of a channel"
@@ -42,7 +42,7 @@ stored_fault_text (Some ccw) = ccw_fault_text ccw
 
 -- what is wrong at an address
 abbrev pub word_fault_text : (at : ℕ) → Option Ccw → List ℕ
-word_fault_text at word = if at % 8 == 0 then stored_fault_text word else codes "the word does not stand at a multiple of 8"
+word_fault_text at word = if at % 8 == 0 then stored_fault_text word else codes "the word is not at a multiple of 8"
 
 -- incorrect length, by the count that is left
 abbrev pub length_text : (left : ℕ) → List ℕ
@@ -101,13 +101,13 @@ cause_of s = find (has_cause s) told_causes
 abbrev pub sequence_text : Command → List ℕ
 sequence_text command.SetFileMask = codes "a second Set File Mask in one program"
 sequence_text command.WriteData =
-    codes "no Search ID Equal or Search Key Equal that compared all bytes and was equal stands right before it"
-sequence_text command.WriteKeyAndData = codes "no Search ID Equal that compared all bytes and was equal stands right before it"
+    codes "no Search ID Equal or Search Key Equal that compared all bytes and was equal comes right before it"
+sequence_text command.WriteKeyAndData = codes "no Search ID Equal that compared all bytes and was equal comes right before it"
 sequence_text command.WriteR0 =
-    codes "no Search HA Equal that compared all bytes and was equal, and no Write Home Address, stands right before it"
+    codes "no Search HA Equal that compared all bytes and was equal, and no Write Home Address, comes right before it"
 sequence_text _ =
     codes "no Search ID Equal or Search Key Equal that compared all bytes and was equal, and no write that made a record, "
-    ++ codes "stands right before it"
+    ++ codes "comes right before it"
 
 -- what the file mask does not allow of a command
 abbrev pub seek_text : Command → List ℕ
@@ -160,9 +160,9 @@ bare_track _ = None
 
 -- the same in words
 abbrev pub bare_track_text : BareTrack → List ℕ
-bare_track_text NoKey = codes "no record behind R0 has a key"
+bare_track_text NoKey = codes "no record after R0 has a key"
 bare_track_text NoRecord1 = codes "the track has no record R1"
-bare_track_text NoRecordBehindR0 = codes "the track has no record behind R0"
+bare_track_text NoRecordBehindR0 = codes "the track has no record after R0"
 bare_track_text NoRecord = codes "the track has no record"
 
 -- how many bytes were compared, and of how many where that is known

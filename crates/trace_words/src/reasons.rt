@@ -305,9 +305,9 @@ fn bare_track_text(lacks: BareTrack) -> &'static str
     ensures { result.now ≡ bare_track_text lacks }
 {
     match lacks {
-        BareTrack::NoKey => "no record behind R0 has a key",
+        BareTrack::NoKey => "no record after R0 has a key",
         BareTrack::NoRecord1 => "the track has no record R1",
-        BareTrack::NoRecordBehindR0 => "the track has no record behind R0",
+        BareTrack::NoRecordBehindR0 => "the track has no record after R0",
         BareTrack::NoRecord => "the track has no record",
     }
 }
@@ -328,13 +328,13 @@ fn of_word(at: u32, word: Option<Ccw>) -> &'static str
     ensures { result.now ≡ word_fault_text at word }
 {
     if at % 8 != 0 {
-        return "the word does not stand at a multiple of 8";
+        return "the word is not at a multiple of 8";
     }
     let Some(ccw) = word else {
         return "the word is outside storage";
     };
     if ccw.is_transfer() {
-        return "a Transfer In Channel may not come first, or right behind another";
+        return "a Transfer In Channel may not come first, or right after another";
     }
     if ccw.count == 0 {
         return "the count of the word is zero";
@@ -380,13 +380,13 @@ fn of_sequence(command: Command) -> &'static str
     match command {
         Command::SetFileMask => "a second Set File Mask in one program",
         Command::WriteData =>
-            "no Search ID Equal or Search Key Equal that compared all bytes and was equal stands right before it",
+            "no Search ID Equal or Search Key Equal that compared all bytes and was equal comes right before it",
         Command::WriteKeyAndData =>
-            "no Search ID Equal that compared all bytes and was equal stands right before it",
+            "no Search ID Equal that compared all bytes and was equal comes right before it",
         Command::WriteR0 =>
-            "no Search HA Equal that compared all bytes and was equal, and no Write Home Address, stands right before it",
+            "no Search HA Equal that compared all bytes and was equal, and no Write Home Address, comes right before it",
         _ =>
-            "no Search ID Equal or Search Key Equal that compared all bytes and was equal, and no write that made a record, stands right before it",
+            "no Search ID Equal or Search Key Equal that compared all bytes and was equal, and no write that made a record, comes right before it",
     }
 }
 
