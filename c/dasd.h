@@ -54,8 +54,8 @@ extern "C" {
 #endif
 
 /* The version of this header: major, minor, patch; and in a number, 16 bits, 8 and 8. dasd_version answers the library's. */
-#define DASD_VERSION "1.1.0"
-#define DASD_VERSION_NUMBER 0x010100u
+#define DASD_VERSION "1.2.0"
+#define DASD_VERSION_NUMBER 0x010200u
 
 /* The number of the binary interface. dasd_interface answers the library's; a program and a library of one number fit together. */
 #define DASD_INTERFACE 1u

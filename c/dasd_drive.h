@@ -69,9 +69,14 @@ int32_t dasd_drive_attach(dasd_drive_alone *d, const uint8_t *file, size_t len);
 int32_t dasd_drive_attach_new(dasd_drive_alone *d, uint16_t model, uint16_t cylinders);
 
 /* Shows the file of the volume (`dasd_file` of dasd.h), to be saved, where no command is open and no track waits to be saved: so call
- * dasd_drive_settle before. The bytes are there until the next call of the drive that is none of dasd_drive_next and the two that show.
- * `changes` is another number after each write to the file. DASD_COMMAND_OPEN, DASD_NOT_SAVED. */
+ * dasd_drive_settle before. The bytes are there until the next call of the drive that is none of dasd_drive_next,
+ * dasd_drive_next_changed and the two that show. `changes` is another number after each write to the file. DASD_COMMAND_OPEN, DASD_NOT_SAVED. */
 int32_t dasd_drive_show_file(dasd_drive_alone *d, dasd_file *shown);
+
+/* Shows the first track of the volume's file, from number `next` of it on, that was written since the file's `changes` was `since`, as
+ * dasd_next_changed of dasd.h does: 1, or 0 where there is none, and `track` stays. It keeps no list that the caller would have to clear.
+ * DASD_COMMAND_OPEN, DASD_NOT_SAVED. */
+int32_t dasd_drive_next_changed(dasd_drive_alone *d, uint64_t since, dasd_changed *track);
 
 /* Gives the volume back: copies its file, with all that was written, to `into`, which has just its length, and frees the drive. The handle
  * holds nothing then. DASD_COMMAND_OPEN, DASD_NOT_SAVED, DASD_OTHER_LENGTH. */
@@ -81,6 +86,20 @@ int32_t dasd_drive_give_back(dasd_drive_alone *d, uint8_t *into, size_t len);
  * Whatever is called of both from then on is answered alike, and no call of one changes the other. It costs what copying the volume does.
  * DASD_IN_USE, `copy` holds something; DASD_NO_MEMORY. Where it is refused both are as they were. */
 int32_t dasd_drive_copy(dasd_drive_alone *d, dasd_drive_alone *copy);
+
+/* How many bytes a saved drive has. */
+#define DASD_DRIVE_SAVED 15u
+
+/* Saves what the drive is between two programs, for a file: the cylinder, the head and the sense bytes. The volume's file is not in it: save
+ * it beside it. The first DASD_DRIVE_SAVED of `len` bytes are written, and `written` is DASD_DRIVE_SAVED. DASD_COMMAND_OPEN; DASD_NOT_SAVED;
+ * DASD_PROGRAM_RUNS, the drive remembers a file mask, a place on the track or what a search found: call dasd_drive_begin_program where the
+ * program is over; DASD_NO_ROOM, `len` is less than DASD_DRIVE_SAVED. docs/DRIVE.md has the format. */
+int32_t dasd_drive_save(dasd_drive_alone *d, uint8_t *into, size_t len, size_t *written);
+
+/* Makes the drive what was saved, with what it remembers of a program lost. Its volume stays, and has the track where the arm was. The bytes may
+ * come from a stranger: whatever they are, the drive is sound afterwards. DASD_COMMAND_OPEN, DASD_NOT_SAVED; DASD_NO_SAVED_STATE,
+ * DASD_OTHER_VERSION, DASD_SAVED_LENGTH, DASD_NO_TRACK. */
+int32_t dasd_drive_restore(dasd_drive_alone *d, const uint8_t *from, size_t len);
 
 /* Frees the drive and its volume, whether it was saved or not. The handle holds nothing then. */
 int32_t dasd_drive_free(dasd_drive_alone *d);
@@ -149,6 +168,35 @@ int32_t dasd_drive_end(dasd_drive_alone *d);
  * program, a halt, a reset, and before the file is shown or given back; a track is saved by itself when the arm leaves it. 0; or 1, where
  * it could not be saved, which no file in memory does. DASD_BYTES_PASSED. */
 int32_t dasd_drive_settle(dasd_drive_alone *d);
+
+/* What a word answers whose command is not ended. */
+enum dasd_drive_done {
+    DASD_DRIVE_STAYS_OPEN = 256 /* more of its bytes may pass: the next word goes on; or it still looks, which 255 looks did not end */
+};
+
+/* A command word for dasd_drive_do. */
+typedef struct dasd_drive_word {
+    size_t moved;        /* answered: how many of the bytes passed */
+    size_t left;         /* answered: how many more of the command's bytes may, by the last look */
+    uint8_t code;        /* the command's code */
+    uint8_t begun;       /* 0: begin the command; else go on with it. Answered: enum dasd_drive_begun; it stays where the word goes on */
+    uint8_t chains;      /* 1: the next word goes on with the command, if more of its bytes may pass then: data is chained */
+    uint8_t reserved[5]; /* kept */
+} dasd_drive_word;
+
+/* Does a whole word in one call, and exactly what these calls do one after another: dasd_drive_begin; dasd_drive_look until the area is
+ * found, or the command is over; dasd_drive_give or dasd_drive_take of as many of the `len` bytes as may pass, and where a command has taken
+ * all that it may, a look and once more the bytes that are left: the key and data of a formatting write; and dasd_drive_end, unless more
+ * bytes may pass and `chains` says that the next word has them. Answers the unit status, 0 to 255, as dasd_drive_end does, and 0E of a
+ * command that is rejected; or DASD_DRIVE_STAYS_OPEN. Bytes that the drive takes stay as they are. A word that chains data, and the next:
+ *
+ *     dasd_drive_word w = {0, 0, 0x06, 0, 1, {0}};
+ *     int32_t status = dasd_drive_do(&d, &w, first, 100);    Read Data
+ *     w.chains = 0;
+ *     if (status == DASD_DRIVE_STAYS_OPEN) status = dasd_drive_do(&d, &w, second, 200);
+ *
+ * DASD_COMMAND_OPEN, where it begins a command; DASD_NO_COMMAND, where it goes on and none is open. */
+int32_t dasd_drive_do(dasd_drive_alone *d, dasd_drive_word *word, uint8_t *bytes, size_t len);
 
 /* --- Sense, and the arm --- */
 

@@ -94,6 +94,19 @@ class Drive {
         return second;
     }
 
+    /* What the drive is between two programs, as bytes for a file: the volume's is saved beside it. DASD_COMMAND_OPEN, DASD_NOT_SAVED,
+     * DASD_PROGRAM_RUNS, where begin_program was not called since; std::bad_alloc. */
+    std::vector<std::uint8_t> save() {
+        std::vector<std::uint8_t> saved(DASD_DRIVE_SAVED);
+        std::size_t written = 0;
+        done(dasd_drive_save(held(), saved.data(), saved.size(), &written));
+        return saved;
+    }
+
+    /* Makes the drive what was saved. Its volume stays. DASD_COMMAND_OPEN, DASD_NOT_SAVED, DASD_NO_SAVED_STATE, DASD_OTHER_VERSION,
+     * DASD_SAVED_LENGTH, DASD_NO_TRACK. */
+    void restore(Bytes saved) { done(dasd_drive_restore(held(), detail::place_of(saved), saved.size())); }
+
     /* Frees the drive and its volume, whether it was saved or not. It holds nothing then. */
     void free() noexcept { handle.reset(); }
 
@@ -103,12 +116,21 @@ class Drive {
     /* The handle, for calls of dasd_drive.h that do not free it; null where it holds nothing. */
     dasd_drive_alone *get() noexcept { return handle.get(); }
 
-    /* The file of the volume, to be saved, until the next call that is none of file, next and show. DASD_COMMAND_OPEN; DASD_NOT_SAVED, where
-     * a written track waits: call settle before. */
+    /* The file of the volume, to be saved, until the next call that is none of file, changed, next and show. DASD_COMMAND_OPEN; DASD_NOT_SAVED,
+     * where a written track waits: call settle before. */
     File file() {
         dasd_file shown{};
         done(dasd_drive_show_file(held(), &shown));
         return {{shown.at, shown.len}, shown.changes};
+    }
+
+    /* The tracks of the file that were written since its `changes` was this number, as Channels::changed. DASD_COMMAND_OPEN, DASD_NOT_SAVED;
+     * std::bad_alloc. */
+    std::vector<dasd_changed> changed(std::uint64_t since) {
+        std::vector<dasd_changed> tracks;
+        dasd_changed next{};
+        while (done(dasd_drive_next_changed(held(), since, &next)) == 1) tracks.push_back(next);
+        return tracks;
     }
 
     /* Gives the volume's file back, with all that was written. It holds nothing then. DASD_COMMAND_OPEN, DASD_NOT_SAVED; std::bad_alloc. */
@@ -148,6 +170,12 @@ class Drive {
 
     /* Ends the command by the bytes that have passed: its unit status. DASD_NO_END. */
     std::uint8_t end() { return static_cast<std::uint8_t>(done(dasd_drive_end(held()))); }
+
+    /* Does a whole word, with these bytes: its unit status, or DASD_DRIVE_STAYS_OPEN. DASD_COMMAND_OPEN, DASD_NO_COMMAND. */
+    std::int32_t do_word(dasd_drive_word &word, Span<std::uint8_t> bytes) {
+        std::uint8_t none = 0;
+        return done(dasd_drive_do(held(), &word, bytes.empty() ? &none : bytes.data(), bytes.size()));
+    }
 
     /* Saves the track under the arm, if it was written: whether it could not be saved, which no file in memory does. DASD_BYTES_PASSED. */
     bool settle() { return done(dasd_drive_settle(held())) == 1; }

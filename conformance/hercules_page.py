@@ -34,28 +34,27 @@ HEAD = """# What Hercules 3.13 does differently
 Hercules 3.13 (Debian's package `hercules`, 3.13-7) beside this suite's vectors. Each difference comes from a run:
 `conformance/ask.py hercules DECK` shows it again, and the page in the browser has both answers. `conformance/hercules_page.py` writes this page.
 
-A small supervisor in System/370 mode, on a bare machine with one processor and 16 MB, issues the instructions of a deck and keeps each result.
-Storage and images are compared afterwards (`conformance/suite/adapters/hercules.py`). A step waits until the program's interruption pends.
-Left out are units, arrivals, a reset in the middle, storage of another size, and images in several files.
+A small supervisor in System/370 mode issues the instructions of a deck and keeps each result. Storage and images are compared afterwards
+(`conformance/suite/adapters/hercules.py`). A step waits until the program's interruption pends. Left out are units, arrivals, a reset in the
+middle, storage of another size, and images in several files.
 
 The volume is the suite's `x.img` at 190 unless another is named. Only an event with different results has two answers. `must` is what this
-suite's vectors say, and a choice of the suite is named as one. The manuals are named as in [FORMAT.md](../conformance/FORMAT.md). `Guests` says
-what an operating system notices. Sense bytes 2 to 5 are not compared.
+suite's vectors say, and a choice of the suite is named as one. `Guests` says what an operating system notices. Sense bytes 2 to 5 are not
+compared.
 """
 
 ALIKE = """
 ## What is alike
 
-With a Seek before each program the vectors that come out right include data chaining of reads and updates, skipping, transfers, searches by
-identifier and key and with the multi-track bit, reads of every kind and where they leave the track, unit exception, updates of data and keys,
-formatting writes that fit, a whole track formatted, seeks of each kind (except for sense bytes), Read IPL, and images with other track sizes.
-Images that Hercules wrote are the same track by track. It keeps the bytes after a track's end mark.
+With a Seek before each program these come out right: data chaining of reads and updates, skipping, transfers, searches, reads of every kind and
+where they leave the track, unit exception, updates, formatting writes that fit, seeks (except for sense bytes), Read IPL, and images with other
+track sizes. Images that Hercules wrote are the same track by track. It keeps the bytes after a track's end mark.
 
 ## Lists by chance
 
 `conformance/differ.py model hercules --plain --seek-first --readable --without-profile --lists 700` plays lists by chance whose programs each
-begin with a Seek, and which rest on no choice of this suite. Of 700 seeds 81 made such a list, and 44 came out differently, in 14 ways. Each is
-one of the facts 8, 11, 12, 16, 17, 25, 28, 32, 33 and 34. This search found 28, 32, 33 and 34.
+begin with a Seek, and which rest on no choice of this suite. Of 700 seeds 81 made such a list, and 44 came out differently, each by one of the
+facts 8, 11, 12, 16, 17, 25, 28, 32, 33 and 34.
 
 ## With the modules of this repository
 

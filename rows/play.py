@@ -11,6 +11,7 @@ from __future__ import annotations
 
 import argparse
 import os
+import subprocess
 import sys
 import time
 from concurrent.futures import ProcessPoolExecutor, as_completed
@@ -71,7 +72,7 @@ def play_part(part: Part) -> Result:
             wrong.append(told(part, case.name, "at:     %s\n    wanted: %s\n    got:    %s" % (why.line, why.wanted, why.came)))
         except Skipped as why:
             print("%s: skipped: %s" % (case.name, why))
-        except (Broke, ValueError, LookupError, OSError) as why:
+        except (Broke, AssertionError, ValueError, LookupError, OSError, subprocess.TimeoutExpired) as why:
             wrong.append(told(part, case.name, "%s: %s" % (type(why).__name__, why)))
         if wrong and part.first:
             break

@@ -11,34 +11,24 @@
 
 #include "dasd_drive.h"
 #include "pack.h"
+#include "saving.h"
 #include "timer.h"
 
-/* Where the first track stands in a file; the command Sense; equipment check, in sense byte 0. */
-enum { HEADER = 512, SENSE = 0x04, EQUIPMENT_CHECK = 0x10 };
+/* The command Sense; equipment check, in sense byte 0. */
+enum { SENSE = 0x04, EQUIPMENT_CHECK = 0x10 };
 /* What an arm takes to move, and how often it looks whether its device end can be told, in microseconds. */
 enum { ARM_BEGINS = 25000, ARM_CYLINDER = 550, ARM_WAITS = 1000 };
 
 /* A drive: what dev->dev_data leads to. */
 struct drive {
     dasd_drive_alone alone;
+    dasd_drive_word word; /* the last one of a command */
     pack file;
-    uint8_t *written; /* for each track whether it is to be saved */
-    size_t low, high; /* no track below or from here on is */
-    size_t slot;      /* bytes of a track in the file */
-    int heads;
+    uint64_t tried;  /* the number `changes` of the volume, as its tracks were saved last, or were tried to be */
     bool arms;       /* whether arms take time */
     int from, to;    /* where the arm was, and goes to: alike where it rests */
-    bool wrote;      /* the program has written since its tracks were saved last, or were tried to be */
     bool owes_check; /* a track could not be saved behind the last status of a program: the next one is told */
     bool checked;    /* the sense bytes have equipment check beside their own bits */
-};
-
-/* A command word: its bytes in Hercules' buffer, and how many have passed. */
-struct word {
-    uint8_t *bytes;
-    size_t count, moved;
-    bool writes; /* a write; the other commands that take bytes search, or control */
-    uint8_t code, flags;
 };
 
 /* The codes that Hercules is to take for immediate: of their words it does not tell incorrect length. */
@@ -56,41 +46,20 @@ static void fill_sense(DEVBLK *dev) {
 
 /* --- Saving --- */
 
-/* The library lists no written tracks of a drive alone; but a command leaves its track `written`, until the arm leaves it. */
-static void note_written(struct drive *m) {
-    dasd_drive_seen seen;
-    size_t track;
-    if (dasd_drive_show(&m->alone, &seen) != DASD_DONE || !seen.written) return;
-    track = (size_t)seen.cylinder * (size_t)m->heads + seen.head;
-    m->written[track] = 1;
-    m->wrote = true;
-    if (m->low >= m->high) {
-        m->low = track;
-        m->high = track + 1;
-    }
-    if (track < m->low) m->low = track;
-    if (track >= m->high) m->high = track + 1;
+static int32_t next_changed_of(DEVBLK *dev, uint64_t since, dasd_changed *track) {
+    return dasd_drive_next_changed(&drive_of(dev)->alone, since, track);
 }
 
-/* Writes the tracks that are to be saved: whether all are. One that can't be written stays, for the next time. */
-static bool save(DEVBLK *dev) {
+/* Writes the tracks that were written since it was tried last, and those that could not be then; `again`: also where none was. Whether all are
+ * in the file. */
+static bool save(DEVBLK *dev, bool again) {
     struct drive *m = drive_of(dev);
+    dasd_drive_seen seen;
     dasd_file shown;
-    int fault = 0;
-    m->wrote = false;
-    if (m->low >= m->high || m->file.read_only) return true;
-    if (dasd_drive_show_file(&m->alone, &shown) < 0) return false;
-    for (size_t track = m->low; track < m->high; track++) {
-        size_t at = HEADER + track * m->slot;
-        int refused = m->written[track] ? pack_write(&m->file, at, shown.at + at, m->slot) : 0;
-        if (!refused) m->written[track] = 0;
-        else fault = refused;
-    }
-    if (!fault) m->low = m->high = 0;
-    if (fault && !m->file.failed) logmsg("HHCSX003E %4.4X %s is not written: %s\n", dev->devnum, m->file.name, strerror(fault));
-    if (!fault && m->file.failed) logmsg("HHCSX006I %4.4X %s is written after all\n", dev->devnum, m->file.name);
-    m->file.failed = fault != 0;
-    return !fault;
+    if (dasd_drive_show_file(&m->alone, &shown) < 0 || dasd_drive_show(&m->alone, &seen) < 0) return false;
+    if (shown.changes == m->tried && !again) return true;
+    m->tried = shown.changes;
+    return save_tracks(dev, &m->file, &shown, (size_t)seen.cylinder * (seen.model == 2311 ? 10 : 20), next_changed_of);
 }
 
 /* --- The arm --- */
@@ -117,84 +86,61 @@ static void send_off(DEVBLK *dev) {
 
 /* --- Commands --- */
 
-/* Begins a command: whether it goes on. Else its word ends with unit check, and the sense bytes say why. */
-static bool begin(DEVBLK *dev, uint8_t code) {
+/* A command is over with this unit status: what Hercules is told. Where its chain ends written tracks are saved. */
+static uint8_t ended(DEVBLK *dev, uint8_t status, bool last) {
     struct drive *m = drive_of(dev);
-    int32_t begun;
-    if (m->owes_check && code != SENSE) {
-        m->owes_check = false;
-        m->checked = true;
-        return false;
-    }
-    if (code != SENSE) m->checked = false;
-    begun = dasd_drive_begin(&m->alone, code);
-    if (begun < 0) logmsg("HHCSX004E %4.4X %s: command %2.2X, fault %d\n", dev->devnum, m->file.name, code, begun);
-    while (begun == DASD_DRIVE_STARTED && dasd_drive_look(&m->alone) == DASD_DRIVE_PASSED) {
-    }
-    return begun > DASD_DRIVE_REJECTED;
-}
-
-/* Moves the bytes of a word, and answers how many more the command has; IDLE: the record was over with the word before. */
-static size_t move(dasd_drive_alone *d, struct word *w, bool *idle) {
-    dasd_drive_next_bytes next = {0, 0};
-    int32_t phase = dasd_drive_next(d, &next);
-    *idle = phase == DASD_DRIVE_IDLE;
-    while (phase == DASD_DRIVE_GIVES || phase == DASD_DRIVE_TAKES) {
-        size_t len;
-        if (w->writes && next.left == 0) { /* key and data come behind the count that a formatting write was given */
-            dasd_drive_look(d);
-            phase = dasd_drive_next(d, &next);
-        }
-        len = next.left < w->count - w->moved ? next.left : w->count - w->moved;
-        if (len == 0) break;
-        if (phase == DASD_DRIVE_GIVES) dasd_drive_give(d, w->bytes + w->moved, len);
-        else dasd_drive_take(d, w->bytes + w->moved, len);
-        w->moved += len;
-        next.left -= len;
-        if (!w->writes || next.left > 0) break;
-    }
-    return next.left;
-}
-
-/* Ends the command, and saves where its chain ends: the unit status. */
-static uint8_t end(DEVBLK *dev, const struct word *w) {
-    struct drive *m = drive_of(dev);
-    bool last = !(w->flags & CCW_FLAGS_CC);
-    uint8_t status;
-    if (m->arms && last) m->from = m->to = cylinder_of(m, m->from);
-    status = (uint8_t)dasd_drive_end(&m->alone);
     if (!(status & CSW_DE)) { /* an arm moves; within a chain it takes no time */
         if (m->arms && last) m->to = cylinder_of(m, m->to);
         if (m->from == m->to) status |= CSW_DE;
     }
-    if (w->writes) note_written(m);
     if (last || status & CSW_UC) {
         dasd_drive_settle(&m->alone);
-        if (m->wrote && !save(dev)) {
+        if (!save(dev, false)) {
             m->checked = true;
             status |= CSW_UC;
         }
     }
-    if (w->code == SENSE && m->checked && w->moved) w->bytes[0] |= EQUIPMENT_CHECK;
     return status;
+}
+
+/* A word that begins a command, or goes on with that of the word before: what Hercules is told. */
+static uint8_t does(DEVBLK *dev, BYTE *bytes, size_t count, bool last) {
+    struct drive *m = drive_of(dev);
+    dasd_drive_word *w = &m->word;
+    bool begins = !w->begun;
+    uint8_t told = CSW_CE | CSW_DE; /* of a record that was over with the word before, too */
+    int32_t status;
+    w->moved = w->left = 0;
+    if (begins && m->owes_check && w->code != SENSE) {
+        m->owes_check = false;
+        m->checked = true;
+        return told | CSW_UC;
+    }
+    if (begins && w->code != SENSE) m->checked = false;
+    if (m->arms && last) m->from = m->to = cylinder_of(m, m->from);
+    status = dasd_drive_do(&m->alone, w, bytes, count);
+    if (status == DASD_COMMAND_OPEN) {
+        logmsg("HHCSX004E %4.4X %s: command %2.2X, fault %d\n", dev->devnum, m->file.name, w->code, status);
+        return told | CSW_UC;
+    }
+    if (status >= 0 && status != DASD_DRIVE_STAYS_OPEN) told = w->begun ? ended(dev, (uint8_t)status, last) : (uint8_t)status;
+    if (begins && w->code == SENSE && m->checked && w->moved) bytes[0] |= EQUIPMENT_CHECK;
+    return told;
 }
 
 /* Hercules gives one word at a time. Of a read whose data is chained the next call gives the rest. */
 static void drive_execute(DEVBLK *dev, BYTE code, BYTE flags, BYTE chained, U16 count, BYTE prevcode, int ccwseq, BYTE *iobuf, BYTE *more,
                           BYTE *unitstat, U16 *residual) {
-    struct word w = {iobuf, count, 0, (code & 3) == 1 && code < 0x20, code, flags};
-    bool idle;
-    size_t left;
+    dasd_drive_word *w = &drive_of(dev)->word;
     UNREFERENCED(prevcode);
     UNREFERENCED(ccwseq);
-    *unitstat = CSW_CE | CSW_DE;
-    if (!(chained & CCW_FLAGS_CD) && !begin(dev, code)) {
-        *unitstat |= CSW_UC;
-    } else {
-        left = move(&drive_of(dev)->alone, &w, &idle);
-        *residual = (U16)(count - w.moved);
-        *more = left > 0;
-        if (!idle && !(flags & CCW_FLAGS_CD && left)) *unitstat = end(dev, &w);
+    w->code = code;
+    w->begun = chained & CCW_FLAGS_CD ? DASD_DRIVE_STARTED : 0;
+    w->chains = (flags & CCW_FLAGS_CD) != 0;
+    *unitstat = does(dev, iobuf, count, !(flags & CCW_FLAGS_CC));
+    if (w->begun) {
+        *residual = (U16)(count - w->moved);
+        *more = w->left > 0;
     }
     if (*unitstat & CSW_UC) {
         fill_sense(dev);
@@ -209,10 +155,9 @@ static void drive_end(DEVBLK *dev) {
     struct drive *m = drive_of(dev);
     if (dasd_drive_settle(&m->alone) == DASD_BYTES_PASSED) {
         dasd_drive_end(&m->alone);
-        note_written(m);
         dasd_drive_settle(&m->alone);
     }
-    if (m->wrote && !save(dev)) m->owes_check = true;
+    if (!save(dev, false)) m->owes_check = true;
     send_off(dev);
 }
 
@@ -225,11 +170,10 @@ static int drive_close(DEVBLK *dev) {
     timer_cancel(arrive, dev);
     m->from = m->to;
     drive_end(dev);
-    if (!save(dev)) logmsg("HHCSX007E %4.4X %s: written tracks are lost\n", dev->devnum, m->file.name);
+    if (!save(dev, true)) logmsg("HHCSX007E %4.4X %s: written tracks are lost\n", dev->devnum, m->file.name);
     fault = pack_close(&m->file);
     if (fault) logmsg("HHCSX003E %4.4X %s is not written: %s\n", dev->devnum, m->file.name, strerror(fault));
     dasd_drive_free(&m->alone);
-    free(m->written);
     free(m);
     dev->dev_data = NULL;
     dev->fd = -1;
@@ -249,16 +193,16 @@ static const char *read_options(struct drive *m, int argc, char *argv[], bool *r
 
 /* Attaches the image to the drive: NULL, or why it is none. */
 static const char *attach(struct drive *m, int type, dasd_drive_seen *seen) {
+    dasd_file shown;
     uint8_t *bytes = malloc(m->file.len ? m->file.len : 1);
     const char *why = bytes ? pack_read(&m->file, bytes) : "memory was refused";
     int32_t fault = why ? 0 : dasd_drive_attach(&m->alone, bytes, m->file.len);
     free(bytes);
     if (why || fault < 0) return why ? why : dasd_fault_text(fault);
     if (dasd_drive_show(&m->alone, seen) < 0 || seen->model != (type == 0x2311 ? 2311 : 2314)) return "the image is of the other drive";
-    m->heads = seen->model == 2311 ? 10 : 20;
-    m->slot = (m->file.len - HEADER) / ((size_t)seen->cylinders * (size_t)m->heads);
-    m->written = calloc((size_t)seen->cylinders * (size_t)m->heads, 1);
-    return m->written ? NULL : "memory was refused";
+    if (dasd_drive_show_file(&m->alone, &shown) < 0) return "the image is not shown";
+    m->tried = m->file.saved = shown.changes;
+    return NULL;
 }
 
 /* What Hercules is to know of the device. An fd above 2 has it call close at its end. */
@@ -267,7 +211,7 @@ static void show_device(DEVBLK *dev, struct drive *m, const dasd_drive_seen *see
     dev->dev_data = m;
     dev->fd = m->file.fd;
     dev->ckdcyls = seen->cylinders;
-    dev->ckdheads = m->heads;
+    dev->ckdheads = seen->model == 2311 ? 10 : 20;
     dev->numsense = sizeof seen->sense;
     dev->syncio = 1; /* no call waits for anything but its file */
     logmsg("HHCSX000I %4.4X %s: a %d of %d cylinders%s\n", dev->devnum, m->file.name, seen->model, seen->cylinders, how);
@@ -291,7 +235,6 @@ static int drive_init(DEVBLK *dev, int argc, char *argv[]) {
         if (m) {
             pack_close(&m->file);
             dasd_drive_free(&m->alone);
-            free(m->written);
         }
         free(m);
         return -1;

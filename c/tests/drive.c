@@ -1,5 +1,5 @@
 /* drive.c - a drive alone: each call in each phase, what is refused by its name and changes nothing, volumes that are attached and given
- * back, and, with HEAP, memory that is refused. The rows of a drive are played by drive_stage.c. */
+ * back, drives that are saved and restored, and, with HEAP, memory that is refused. The rows of a drive are played by drive_stage.c. */
 #include <stdint.h>
 #include <stdio.h>
 #include <string.h>
@@ -39,12 +39,25 @@ static void made(dasd_drive_alone *d, int32_t wanted) {
 }
 
 /* The calls that a phase may refuse, by a number. */
-enum { PROGRAM, BEGIN, LOOK, GIVE, TAKE, END, SETTLE, CLEAR, FILE_SHOWN, BACK, CALLS };
+enum { PROGRAM, BEGIN, LOOK, GIVE, TAKE, END, SETTLE, CLEAR, FILE_SHOWN, BACK, DO, GO_ON, CHANGED, SAVE, RESTORE, CALLS };
 
 static uint8_t bytes[HEADER + 10 * 4096];
 
+/* a drive that was saved at cylinder 0 and head 0, with sense bytes that are zero */
+static const uint8_t at_rest[DASD_DRIVE_SAVED] = {'D', 'A', 'S', 'D', 'D', 'R', 'I', 'V', 1};
+
+/* Does a word, and what it is refused by leaves it as it is. */
+static int32_t word(dasd_drive_alone *d, uint8_t code, uint8_t begun) {
+    dasd_drive_word w = {77, 77, code, begun, 0, {0}}, before = w;
+    int32_t status = dasd_drive_do(d, &w, bytes, 1);
+    CHECK(status >= 0 || !memcmp(&w, &before, sizeof w));
+    return status;
+}
+
 static int32_t call(dasd_drive_alone *d, int number) {
     dasd_file shown = {NULL, 77, 77};
+    dasd_changed track = {0, 0, 0, 0};
+    size_t written = 77;
     int32_t code;
     switch (number) {
     case PROGRAM: return dasd_drive_begin_program(d);
@@ -56,6 +69,18 @@ static int32_t call(dasd_drive_alone *d, int number) {
     case SETTLE: return dasd_drive_settle(d);
     case CLEAR: return dasd_drive_clear_sense(d);
     case BACK: return dasd_drive_give_back(d, bytes, sizeof bytes);
+    case DO: return word(d, NO_OPERATION, 0);
+    case GO_ON: return word(d, NO_OPERATION, DASD_DRIVE_STARTED);
+    case CHANGED:
+        code = dasd_drive_next_changed(d, 0, &track);
+        CHECK(code == 1 || track.next == 0);
+        return code;
+    case SAVE:
+        code = dasd_drive_save(d, bytes, sizeof bytes, &written);
+        CHECK(code == DASD_DONE ? written == sizeof at_rest && !memcmp(bytes, at_rest, sizeof at_rest) && bytes[written] == 0xEE
+                                : written == 77);
+        return code;
+    case RESTORE: return dasd_drive_restore(d, at_rest, sizeof at_rest);
     default:
         code = dasd_drive_show_file(d, &shown);
         CHECK(code == DASD_DONE ? shown.len == sizeof bytes : shown.len == 77 && shown.changes == 77 && shown.at == NULL);
@@ -65,15 +90,16 @@ static int32_t call(dasd_drive_alone *d, int number) {
 
 /* What a phase refuses each call by; 0 where it allows it. */
 static const int refused[PHASES][CALLS] = {
-    [DASD_DRIVE_IDLE] = {[LOOK] = DASD_NO_COMMAND, [GIVE] = DASD_GIVES_NONE, [TAKE] = DASD_TAKES_NONE, [END] = DASD_NO_END},
+    [DASD_DRIVE_IDLE] =
+        {[LOOK] = DASD_NO_COMMAND, [GIVE] = DASD_GIVES_NONE, [TAKE] = DASD_TAKES_NONE, [END] = DASD_NO_END, [GO_ON] = DASD_NO_COMMAND},
     [DASD_DRIVE_OVER] = {DASD_COMMAND_OPEN, DASD_COMMAND_OPEN, DASD_NO_COMMAND, DASD_GIVES_NONE, DASD_TAKES_NONE, 0, 0, DASD_COMMAND_OPEN,
-                         DASD_COMMAND_OPEN, DASD_COMMAND_OPEN},
+                         DASD_COMMAND_OPEN, DASD_COMMAND_OPEN, DASD_COMMAND_OPEN, 0, DASD_COMMAND_OPEN, DASD_COMMAND_OPEN, DASD_COMMAND_OPEN},
     [DASD_DRIVE_LOOKING] = {DASD_COMMAND_OPEN, DASD_COMMAND_OPEN, 0, DASD_GIVES_NONE, DASD_TAKES_NONE, DASD_NO_END, 0, DASD_COMMAND_OPEN,
-                            DASD_COMMAND_OPEN, DASD_COMMAND_OPEN},
+                            DASD_COMMAND_OPEN, DASD_COMMAND_OPEN, DASD_COMMAND_OPEN, 0, DASD_COMMAND_OPEN, DASD_COMMAND_OPEN, DASD_COMMAND_OPEN},
     [DASD_DRIVE_GIVES] = {DASD_COMMAND_OPEN, DASD_COMMAND_OPEN, 0, 0, DASD_TAKES_NONE, 0, 0, DASD_COMMAND_OPEN, DASD_COMMAND_OPEN,
-                          DASD_COMMAND_OPEN},
+                          DASD_COMMAND_OPEN, DASD_COMMAND_OPEN, 0, DASD_COMMAND_OPEN, DASD_COMMAND_OPEN, DASD_COMMAND_OPEN},
     [DASD_DRIVE_TAKES] = {DASD_COMMAND_OPEN, DASD_COMMAND_OPEN, 0, DASD_GIVES_NONE, 0, 0, 0, DASD_COMMAND_OPEN, DASD_COMMAND_OPEN,
-                          DASD_COMMAND_OPEN},
+                          DASD_COMMAND_OPEN, DASD_COMMAND_OPEN, 0, DASD_COMMAND_OPEN, DASD_COMMAND_OPEN, DASD_COMMAND_OPEN},
 };
 
 /* Each call in each phase: it is allowed, or refused by its name, and then phase, bytes and arm are as before. */
@@ -224,6 +250,99 @@ static void copied_in_the_middle(void) {
     CHECK(dasd_drive_free(&d) == DASD_DONE && phase(&e) == DASD_DRIVE_IDLE && dasd_drive_free(&e) == DASD_DONE);
 }
 
+/* --- Saved and restored --- */
+
+enum { SAVED = DASD_DRIVE_SAVED };
+
+/* A save is refused so, and writes nothing. */
+static void is_not_saved(dasd_drive_alone *d, size_t len, int32_t why) {
+    uint8_t into[SAVED];
+    size_t written = 77;
+    memset(into, 0xEE, SAVED);
+    CHECK(dasd_drive_save(d, into, len, &written) == why && written == 77);
+    for (int i = 0; i < SAVED; i++) CHECK(into[i] == 0xEE);
+}
+
+/* A restore is refused so, and the drive stays. */
+static void is_not_restored(dasd_drive_alone *d, const uint8_t *from, size_t len, int32_t why) {
+    dasd_drive_seen seen, still;
+    CHECK(dasd_drive_show(d, &seen) == DASD_DONE && dasd_drive_restore(d, from, len) == why);
+    CHECK(dasd_drive_show(d, &still) == DASD_DONE && !memcmp(&seen, &still, sizeof seen));
+}
+
+/* What is remembered of a program is not saved until the next one begins; nor is a written track that waits. */
+static void only_between_programs(void) {
+    static const uint8_t mask = 0x18, home[4] = {0, 0, 0, 0}, id[5] = {0, 0, 0, 0, 0}, data[1] = {0xC1};
+    dasd_drive_alone d = DASD_DRIVE_NOTHING;
+    made(&d, DASD_DRIVE_IDLE);
+    is_not_saved(&d, SAVED - 1, DASD_NO_ROOM);
+    is_not_saved(&d, 0, DASD_NO_ROOM);
+    CHECK(does(&d, SET_FILE_MASK, &mask, 1) == 0x0C);
+    is_not_saved(&d, SAVED, DASD_PROGRAM_RUNS);
+    CHECK(dasd_drive_begin_program(&d) == DASD_DONE && does(&d, SEARCH_HOME_ADDRESS, home, 4) == 0x4C);
+    is_not_saved(&d, SAVED, DASD_PROGRAM_RUNS);
+    CHECK(dasd_drive_settle(&d) == 0);
+    is_not_saved(&d, 0, DASD_PROGRAM_RUNS);
+    CHECK(dasd_drive_begin_program(&d) == DASD_DONE && does(&d, SEARCH_ID, id, 5) == 0x4C);
+    CHECK(does(&d, WRITE_DATA, data, 1) == 0x0C && dasd_drive_begin_program(&d) == DASD_DONE);
+    is_not_saved(&d, SAVED, DASD_NOT_SAVED);
+    is_not_restored(&d, at_rest, SAVED, DASD_NOT_SAVED);
+    memset(bytes, 0xEE, sizeof bytes);
+    CHECK(dasd_drive_settle(&d) == 0 && call(&d, SAVE) == DASD_DONE && call(&d, RESTORE) == DASD_DONE);
+    CHECK(dasd_drive_free(&d) == DASD_DONE);
+}
+
+/* Cylinder, head and sense bytes come back, in another drive whose volume has the track; what that drive remembered of a program is lost. */
+static void arm_and_sense_come_back(void) {
+    static const uint8_t far[6] = {0, 0, 0, 202, 0, 19}, none[6] = {0, 0, 1, 2, 0, 0};
+    static const uint8_t wanted[SAVED] = {'D', 'A', 'S', 'D', 'D', 'R', 'I', 'V', 1, 0, 202, 0, 19, 0x81, 0};
+    dasd_drive_alone d = DASD_DRIVE_NOTHING, e = DASD_DRIVE_NOTHING;
+    dasd_drive_seen seen;
+    dasd_file before = {NULL, 0, 0}, after = {NULL, 0, 1};
+    uint8_t into[SAVED + 1], other[SAVED];
+    size_t written = 0;
+    CHECK(dasd_drive_attach_new(&d, 2314, 203) == DASD_DONE && does(&d, SEEK, far, 6) == 0x08 && does(&d, SEEK, none, 6) == 0x0E);
+    CHECK(dasd_drive_begin_program(&d) == DASD_DONE);
+    into[SAVED] = 0xEE;
+    CHECK(dasd_drive_save(&d, into, sizeof into, &written) == DASD_DONE && written == SAVED && into[SAVED] == 0xEE);
+    CHECK(!memcmp(into, wanted, SAVED) && dasd_drive_attach_new(&e, 2311, 203) == DASD_DONE);
+    is_not_restored(&e, wanted, SAVED, DASD_NO_TRACK); /* it has ten heads */
+    CHECK(dasd_drive_free(&e) == DASD_DONE && dasd_drive_attach_new(&e, 2314, 202) == DASD_DONE);
+    is_not_restored(&e, wanted, SAVED, DASD_NO_TRACK);
+    CHECK(dasd_drive_free(&e) == DASD_DONE && dasd_drive_attach_new(&e, 2314, 203) == DASD_DONE);
+    CHECK(does(&e, SET_FILE_MASK, none, 1) == 0x0C && dasd_drive_show_file(&e, &before) == DASD_DONE);
+    CHECK(dasd_drive_restore(&e, wanted, SAVED) == DASD_DONE && dasd_drive_show_file(&e, &after) == DASD_DONE);
+    CHECK(before.at == after.at && before.changes == after.changes);
+    CHECK(dasd_drive_show(&e, &seen) == DASD_DONE && seen.cylinder == 202 && seen.head == 19 && seen.sense[0] == 0x81 && seen.sense[1] == 0);
+    CHECK(does(&e, SET_FILE_MASK, none, 1) == 0x0C && dasd_drive_save(&d, other, SAVED, &written) == DASD_DONE && !memcmp(other, wanted, SAVED));
+    CHECK(dasd_drive_free(&d) == DASD_DONE && dasd_drive_free(&e) == DASD_DONE);
+}
+
+/* Each prefix, one byte more, and each byte replaced by each other one: refused by its name; or, past the version, a place and sense bytes. */
+static void other_bytes(void) {
+    dasd_drive_alone d = DASD_DRIVE_NOTHING;
+    dasd_drive_seen seen;
+    uint8_t from[SAVED + 1] = {0};
+    made(&d, DASD_DRIVE_IDLE);
+    memcpy(from, at_rest, SAVED);
+    for (size_t len = 0; len <= SAVED + 1; len++)
+        if (len != SAVED) is_not_restored(&d, from, len, len < 9 ? DASD_NO_SAVED_STATE : DASD_SAVED_LENGTH);
+    for (int at = 0; at < SAVED; at++)
+        for (int byte = 0; byte < 256; byte++) {
+            from[at] = (uint8_t)byte;
+            if (byte == at_rest[at]) CHECK(dasd_drive_restore(&d, from, SAVED) == DASD_DONE);
+            else if (at < 9) is_not_restored(&d, from, SAVED, at < 8 ? DASD_NO_SAVED_STATE : DASD_OTHER_VERSION);
+            else if (at < 12 || (at == 12 && byte > 9)) is_not_restored(&d, from, SAVED, DASD_NO_TRACK); /* one cylinder, ten heads */
+            else {
+                CHECK(dasd_drive_restore(&d, from, SAVED) == DASD_DONE && dasd_drive_show(&d, &seen) == DASD_DONE);
+                CHECK(seen.cylinder == 0 && seen.head == from[12] && seen.sense[0] == from[13] && seen.sense[1] == from[14] &&
+                      seen.sense[2] == 0);
+            }
+            from[at] = at_rest[at];
+        }
+    CHECK(dasd_drive_free(&d) == DASD_DONE);
+}
+
 #ifdef HEAP
 extern long heap_refuse_at, heap_live;
 
@@ -269,6 +388,9 @@ int main(void) {
     written_track_is_not_lost();
     arm_and_sense();
     copied_in_the_middle();
+    only_between_programs();
+    arm_and_sense_come_back();
+    other_bytes();
 #ifdef HEAP
     memory_is_refused(1);
     memory_is_refused(0);

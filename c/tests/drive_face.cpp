@@ -1,5 +1,5 @@
-// drive_face.cpp - the face of a drive alone for C++: records are written, found and read, the volume goes out and in again, a copy goes its own
-// way, and each refusal is thrown with its name and its sentence.
+// drive_face.cpp - the face of a drive alone for C++: records are written, found and read, the volume goes out and in again, what the drive is
+// too, a copy goes its own way, and each refusal is thrown with its name and its sentence.
 #include <cstring>
 #include <string>
 
@@ -28,20 +28,11 @@ template <class Call> std::int32_t refused(Call call) {
 }
 
 // A command that takes bytes, from its beginning to its end: its unit status.
-std::uint8_t takes(Drive &drive, std::uint8_t code, Bytes bytes) {
-    CHECK(drive.begin(code) == DASD_DRIVE_STARTED);
-    std::size_t at = 0;
-    while (at < bytes.size()) {
-        const libdasd::Next next = drive.next();
-        if (next.phase != DASD_DRIVE_TAKES || next.left == 0) {
-            if (next.phase == DASD_DRIVE_OVER || drive.look() == DASD_DRIVE_FAILED) break;
-            continue;
-        }
-        const std::size_t len = next.left < bytes.size() - at ? next.left : bytes.size() - at;
-        drive.take(bytes.subspan(at, len));
-        at += len;
-    }
-    return drive.end();
+std::int32_t takes(Drive &drive, std::uint8_t code, Bytes bytes) {
+    std::vector<std::uint8_t> given(bytes.begin(), bytes.end());
+    dasd_drive_word word{};
+    word.code = code;
+    return drive.do_word(word, given);
 }
 
 // Seeks to cylinder 1, head 2, and finds the record of this identifier.
@@ -70,13 +61,28 @@ void reads(Drive &drive) {
     CHECK(drive.end() == 0x0C && !std::memcmp(data.data(), record + 8, data.size()));
 }
 
+// What this drive is after a read comes back in another one over the same file.
+void saves(Drive &drive, Bytes file) {
+    CHECK(refused([&] { (void)drive.save(); }) == DASD_PROGRAM_RUNS);
+    drive.begin_program();
+    const std::vector<std::uint8_t> saved = drive.save();
+    Drive other(file);
+    other.restore(saved);
+    CHECK(saved.size() == DASD_DRIVE_SAVED && other.show().cylinder == 1 && other.show().head == 2 && other.save() == saved);
+    CHECK(refused([&] { other.restore(Bytes(saved.data(), 14)); }) == DASD_SAVED_LENGTH);
+    CHECK(refused([&] { other.restore(Bytes()); }) == DASD_NO_SAVED_STATE);
+}
+
 void volumes() {
     Drive drive = written();
     CHECK(refused([&] { (void)drive.file(); }) == DASD_NOT_SAVED && !drive.settle());
     const libdasd::File file = drive.file();
     CHECK(file.changes > 0 && file.bytes.size() == drive.file().bytes.size());
+    const std::vector<dasd_changed> tracks = drive.changed(0);
+    CHECK(!tracks.empty() && drive.changed(file.changes).empty());
     Drive other(file.bytes);
     reads(other);
+    saves(other, file.bytes);
     const std::vector<std::uint8_t> whole = drive.give_back();
     CHECK(!drive && drive.get() == nullptr && whole.size() == other.file().bytes.size());
     CHECK(!std::memcmp(whole.data(), other.file().bytes.data(), whole.size()));

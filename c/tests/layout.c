@@ -142,6 +142,14 @@ _Static_assert(sizeof(dasd_drive_next_bytes) == 16, "dasd_drive_next_bytes");
 LIES(dasd_drive_next_bytes, passed, 0);
 LIES(dasd_drive_next_bytes, left, 8);
 
+_Static_assert(sizeof(dasd_drive_word) == 24, "dasd_drive_word");
+LIES(dasd_drive_word, moved, 0);
+LIES(dasd_drive_word, left, 8);
+LIES(dasd_drive_word, code, 16);
+LIES(dasd_drive_word, begun, 17);
+LIES(dasd_drive_word, chains, 18);
+LIES(dasd_drive_word, reserved, 19);
+
 _Static_assert(sizeof(dasd_drive_seen) == 16, "dasd_drive_seen");
 LIES(dasd_drive_seen, model, 0);
 LIES(dasd_drive_seen, cylinders, 2);

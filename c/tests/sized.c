@@ -38,6 +38,14 @@ static int32_t run_until(dasd *d, uint8_t channel, uint8_t *into, size_t size) {
     return dasd_run_until_sized(d, &wanted, into, size);
 }
 
+/* The same over main storage that is lent: the word is fetched, and its bytes are stored there. */
+static int32_t lent_run_until(dasd *d, uint8_t channel, uint8_t *into, size_t size) {
+    static uint8_t bytes[65536], keys[32];
+    const dasd_wanted wanted = {4, channel, 0, {0x5A, 0x5A}};
+    dasd_memory memory = {bytes, sizeof bytes, keys, sizeof keys};
+    return dasd_lent_run_until_sized(d, &memory, &wanted, into, size);
+}
+
 /* Seek to cylinder 2, head 3: six bytes and an end; and behind it Read R0, whose word is fetched. */
 static void started(dasd *d) {
     uint32_t done;
@@ -80,6 +88,7 @@ int main(void) {
     fits(show_program, program, sizeof program);
     fits(show_registers, registers, sizeof registers);
     fits(run_until, progress, sizeof progress);
+    fits(lent_run_until, progress, sizeof progress);
     unknown_bit();
     if (failures == 0) puts("sized.c: all checks passed");
     return failures != 0;

@@ -32,6 +32,7 @@ static const struct {
     {"dasd_drive_alone", sizeof(dasd_drive_alone), 16},
     {"dasd_drive_next_bytes", sizeof(dasd_drive_next_bytes), 16},
     {"dasd_drive_seen", sizeof(dasd_drive_seen), 16},
+    {"dasd_drive_word", sizeof(dasd_drive_word), 24},
 };
 
 int main(void) {

@@ -257,10 +257,58 @@ static void other_handles(void) {
     CHECK(dasd_free(&d) == DASD_DONE && dasd_free(&e) == DASD_DONE);
 }
 
+/* A channel with so many drives, each at another cylinder, every second one still on its way, is saved and restored. */
+static void drives_at_cylinders(uint16_t count) {
+    uint8_t saved[DASD_SAVED], again[DASD_SAVED];
+    dasd d = DASD_NOTHING, e = DASD_NOTHING;
+    CHECK(dasd_new(&d, SIZE, DASD_CHANNEL(1)) == DASD_DONE && dasd_new(&e, SIZE, DASD_CHANNEL(1)) == DASD_DONE);
+    store(&d, 0x48, "00000100");
+    store(&d, 0x100, "07000200 20000006");
+    for (uint16_t address = 0x190; address < 0x190 + count; address++) {
+        const uint8_t seek[6] = {0, 0, 0, (uint8_t)(address - 0x18F), 0, (uint8_t)(address & 7)};
+        dasd_run ran;
+        uint16_t from = 0;
+        CHECK(dasd_attach_new(&d, address, 2311, 9) == DASD_DONE &&
+              dasd_attach_new(&e, (uint16_t)(0x31F + count - address), 2311, 9) == DASD_DONE);
+        CHECK(dasd_poke(&d, 0x200, seek, sizeof seek) == DASD_DONE && dasd_sio(&d, address) == 0);
+        CHECK(dasd_run_on(&d, 1, 1000, &ran) == DASD_DONE && dasd_interrupt(&d, 0xFE, &from) == 1 && from == address);
+        if (address & 1) CHECK(dasd_arrive(&d, address) == 1 && dasd_interrupt(&d, 0xFE, &from) == 1);
+    }
+    dasd_state shown = {0};
+    CHECK(dasd_show_channel(&d, 1, &shown) == DASD_DONE && shown.drives == count);
+    for (int i = 0; i < count; i++) CHECK(shown.units[i] == 0x90 + i && shown.arms[i] == !(i & 1));
+    save(&d, saved);
+    CHECK(dasd_restore(&e, saved, DASD_SAVED) == DASD_DONE);
+    save(&e, again);
+    for (uint16_t address = 0x190; address < 0x190 + count; address++) {
+        dasd_drive one = {0}, other = {0};
+        CHECK(dasd_show_drive(&d, address, &one) == DASD_DONE && dasd_show_drive(&e, address, &other) == DASD_DONE);
+        CHECK(one.cylinder == address - 0x18F && one.arm == !(address & 1) && !memcmp(&one, &other, sizeof one));
+    }
+    CHECK(dasd_restore(&d, again, DASD_SAVED) == DASD_DONE);
+    save(&d, again);
+    CHECK(!memcmp(saved, again, DASD_SAVED));
+    CHECK(dasd_free(&d) == DASD_DONE && dasd_free(&e) == DASD_DONE);
+}
+
+/* A channel without drives is saved and restored, and not where it has a drive. */
+static void no_drives(void) {
+    uint8_t saved[DASD_SAVED];
+    dasd d = DASD_NOTHING, e = DASD_NOTHING;
+    CHECK(dasd_new(&d, SIZE, both) == DASD_DONE && dasd_new(&e, SIZE, both) == DASD_DONE);
+    CHECK(dasd_attach_new(&d, 0x190, 2311, 1) == DASD_DONE && dasd_attach_new(&e, 0x190, 2311, 1) == DASD_DONE);
+    save(&d, saved);
+    CHECK(dasd_restore(&e, saved, DASD_SAVED) == DASD_DONE && dasd_attach_new(&e, 0x290, 2311, 1) == DASD_DONE);
+    is_refused(&e, saved, DASD_SAVED, DASD_OTHER_DRIVES);
+    CHECK(dasd_free(&d) == DASD_DONE && dasd_free(&e) == DASD_DONE);
+}
+
 int main(void) {
     goes_on();
     changed_bytes();
     other_handles();
+    for (uint16_t count = 1; count <= 8; count++) drives_at_cylinders(count);
+    no_drives();
     if (failures) return 1;
     puts("states: all as they were saved");
     return 0;

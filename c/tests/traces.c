@@ -9,10 +9,10 @@
 
 #include "../dasd.h"
 #include "deck.h"
-#include "digits.h"
+#include "row_volumes.h"
 #include "tests.h"
 
-enum { STORAGE = 65536, VOLUME = 1 << 20, TEXT = 1 << 20, MOST_LINES = 1024, SLOT = 4096, HEADER = 512 };
+enum { STORAGE = 65536, TEXT = 1 << 20, MOST_LINES = 1024 };
 
 static const uint16_t drives[] = {0x190, 0x191};
 
@@ -110,8 +110,7 @@ static void traced(dasd *d, const event *e) {
 
 typedef struct row {
     char name[256];
-    uint8_t volume[VOLUME];
-    size_t len;
+    row_volume volume;
     event events[MOST_LINES];
     size_t count;
     int fails;
@@ -119,31 +118,6 @@ typedef struct row {
 } row;
 
 static row first, one;
-
-/* A new volume of the model and the cylinders that a line names. */
-static void new_volume(row *r, const char *line) {
-    dasd d = DASD_NOTHING;
-    dasd_file file;
-    unsigned model, cylinders;
-    if (sscanf(line, "volume %u %u", &model, &cylinders) != 2 || model != 2311) stop("no volume", line);
-    CHECK(dasd_new(&d, 4096, DASD_CHANNEL(1)) == DASD_DONE && dasd_attach_new(&d, 0x190, (uint16_t)model, (uint16_t)cylinders) == DASD_DONE);
-    CHECK(dasd_show_file(&d, 0x190, 0, &file) == DASD_DONE);
-    if (file.len > VOLUME) stop("too large", line);
-    memcpy(r->volume, file.at, r->len = file.len);
-    CHECK(dasd_free(&d) == DASD_DONE);
-}
-
-/* Bytes, as `0000+C1*80`, of the slot of a track from a place on. */
-static void put_bytes(row *r, char *line) {
-    char *words;
-    size_t track = strtoul(line, &words, 10), at = HEADER + track * SLOT + strtoul(words, &words, 10);
-    for (char *part = strtok(words, " +"); part; part = strtok(NULL, "+")) {
-        char *times = strchr(part, '*');
-        size_t count = times ? strtoul(times + 1, NULL, 10) : 1;
-        if (times) *times = '\0';
-        while (count--) at += bytes_of(part, r->volume + at, r->len - at);
-    }
-}
 
 /* The last lines of a text once more, as often as it is said. */
 static void repeat(text *t, unsigned lines, unsigned times) {
@@ -164,12 +138,12 @@ static void read_row_line(row *r, char *line) {
     } else if (!strncmp(line, "| ", 2)) {
         put(&r->wanted, line + 2, strlen(line) - 2);
         put(&r->wanted, "\n", 1);
-    } else if (!strncmp(line, "track ", 6)) put_bytes(r, line + 6);
+    } else if (!strncmp(line, "track ", 6)) put_track(&r->volume, line + 6);
     else if (!strncmp(line, "failing ", 8)) r->fails = 1;
 }
 
 static void made(dasd *d, const row *r) {
-    dasd_bytes file = {r->volume, r->len};
+    dasd_bytes file = {r->volume.bytes, r->volume.len};
     CHECK(dasd_new(d, STORAGE, DASD_CHANNEL(1)) == DASD_DONE);
     for (size_t i = 0; i < DRIVES; i++) CHECK(dasd_attach(d, drives[i], &file, 1) == DASD_DONE);
 }
@@ -234,7 +208,7 @@ static void play_rows(FILE *rows) {
     row *r = &first;
     while (fgets(line, sizeof line, rows)) {
         line[strcspn(line, "\n")] = '\0';
-        if (is_first && !strncmp(line, "volume ", 7)) new_volume(r, line);
+        if (is_first && !strncmp(line, "volume ", 7)) make_volume(&r->volume, line + 7);
         else if (line[0] && !one.name[0] && !is_first) snprintf(one.name, sizeof one.name, "%.255s", line);
         else if (line[0]) read_row_line(r, line);
         else {
@@ -277,11 +251,23 @@ static void refused(void) {
     CHECK(dasd_free(&d) == DASD_DONE);
 }
 
+/* A reset that could not save a track names it. No file in memory does so. */
+static void lost(void) {
+    static dasd d;
+    const dasd_moment moment = {DASD_BEHIND_RESET, 1, 0x191, 1, 12, 3};
+    begin_trace();
+    made(&d, &first);
+    CHECK(dasd_trace_look(&d, &trace, &moment) == DASD_DONE);
+    put(&came, trace.lines, trace.length);
+    CHECK(!strcmp(came.at, "RESET; 191 has lost the track of cylinder 12 head 3\n") && dasd_free(&d) == DASD_DONE);
+}
+
 int main(int argc, char **argv) {
     FILE *rows = argc == 2 ? fopen(argv[1], "r") : NULL;
     if (!rows) stop("usage", "traces ROWS");
     play_rows(rows);
     fclose(rows);
+    lost();
     refused();
     printf("traces.c: %zu traces played, %zu left out\n", played, left_out);
     if (failures == 0 && played > 0) puts("traces.c: all checks passed");

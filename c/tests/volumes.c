@@ -80,6 +80,32 @@ static void eight_files(void) {
     CHECK(dasd_free(&d) == DASD_DONE);
 }
 
+/* A new record of each file is halted amid its data, or lost by a reset: the track is saved in its own file, with zeros after what came. */
+static void halted_in_each_file(void) {
+    dasd d = DASD_NOTHING;
+    dasd_file before = {0}, after = {0};
+    dasd_track unsaved;
+    uint16_t from;
+    uint32_t done;
+    CHECK(dasd_new(&d, 4096, DASD_CHANNEL(1)) == DASD_DONE && dasd_attach(&d, 0x190, files, FILES) == DASD_DONE);
+    store(&d, 0x48, "00000100");
+    /* Seek, Search Identifier Equal of record 0, and Write Count, Key and Data: 6 bytes and an end, 5 and an end, a word each, 8 and 4 bytes */
+    store(&d, 0x100, "07000200 40000006 31000208 40000005 08000108 00000000 1D000210 20000010");
+    for (int i = 0; i < 2 * FILES; i++) {
+        const uint8_t c = (uint8_t)(i % FILES + 1), place[6] = {0, 0, 0, c, 0, 0}, identifier[5] = {0, c, 0, 0, 0};
+        const uint8_t record[16] = {0, c, 0, 0, 1, 0, 0, 8, c, c, c, c, c, c, c, c}, left[24] = {0, c, 0, 0, 1, 0, 0, 8, c, c, c, c};
+        CHECK(dasd_poke(&d, 0x200, place, 6) == DASD_DONE && dasd_poke(&d, 0x208, identifier, 5) == DASD_DONE);
+        CHECK(dasd_poke(&d, 0x210, record, 16) == DASD_DONE && dasd_show_file(&d, 0x190, c - 1, &before) == DASD_DONE);
+        CHECK(dasd_sio(&d, 0x190) == 0 && dasd_step(&d, 1, 27, &done) == DASD_DONE && done == 27);
+        if (i < FILES) CHECK(dasd_hio(&d, 0x190) == 2 && dasd_interrupt(&d, ALL, &from) == 1 && shows(&d, 0x40, "00000120 0C000004"));
+        else CHECK(dasd_reset(&d, 1, &unsaved) == 0);
+        CHECK(dasd_show_file(&d, 0x190, c - 1, &after) == DASD_DONE && after.changes != before.changes);
+        const uint8_t *slot = after.at + HEADER + (c == 1 ? CYLINDER : 0);
+        CHECK(!memcmp(slot + 21, left, 16) && !memcmp(slot + 37, "\xFF\xFF\xFF\xFF\xFF\xFF\xFF\xFF", 8));
+    }
+    CHECK(dasd_free(&d) == DASD_DONE);
+}
+
 /* Files that are no image: some of its files, two of them changed for each other, one too many, and an empty file wherever it stands:
  * one that is shorter than a header has not the length of an image. */
 static void no_image(void) {
@@ -123,12 +149,15 @@ static void other_headers(void) {
         {7, HIGHEST_CYLINDER, 8, DASD_SPLIT, "a last file that says another follows"},
         {1, SEQUENCE, 3, DASD_SPLIT, "a second file that says it is the third"},
     };
+    dasd d = DASD_NOTHING;
+    CHECK(dasd_new(&d, 4096, DASD_CHANNEL(1)) == DASD_DONE);
     for (size_t i = 0; i < sizeof rows / sizeof *rows; i++) {
         uint8_t *at = &bytes[rows[i].file][rows[i].at], before = *at;
         *at = rows[i].byte;
-        if (dasd_check(files, FILES) != rows[i].code) CHECK(!rows[i].what);
+        if (dasd_check(files, FILES) != rows[i].code || dasd_attach(&d, 0x190, files, FILES) != rows[i].code) CHECK(!rows[i].what);
         *at = before;
     }
+    CHECK(dasd_free(&d) == DASD_DONE);
     CHECK(dasd_check(files + 1, 1) == DASD_SPLIT && dasd_check(files, FILES) == DASD_DONE);
 }
 
@@ -182,6 +211,7 @@ static void every_place(void) {
 /* A drive is taken off while another's program runs, its ending pends, and its device end is owed; and drives in any order. */
 static void taken_off(void) {
     dasd d = DASD_NOTHING;
+    dasd_files f = DASD_NO_FILES_HELD;
     dasd_state v;
     dasd_run ran;
     uint32_t done;
@@ -193,7 +223,8 @@ static void taken_off(void) {
     CHECK(dasd_sio(&d, 0x192) == 0 && dasd_step(&d, 1, 5, &done) == DASD_DONE && done == 5);
     CHECK(dasd_detach(&d, 0x192) == DASD_PROGRAM_RUNS && dasd_detach(&d, 0x193) == DASD_DONE);
     CHECK(dasd_step(&d, 1, 5, &done) == DASD_DONE && done == 5 && dasd_tch(&d, 0x100) == 2 && dasd_hio(&d, 0x192) == 2);
-    CHECK(dasd_detach(&d, 0x192) == DASD_ENDING_PENDS && dasd_detach(&d, 0x191) == DASD_DONE);
+    CHECK(dasd_detach(&d, 0x192) == DASD_ENDING_PENDS && dasd_detach_files(&d, 0x192, &f) == DASD_ENDING_PENDS);
+    CHECK(dasd_detach_files(&d, 0x191, &f) == DASD_DONE && dasd_files_free(&f) == DASD_DONE);
     CHECK(dasd_interrupt(&d, ALL, &from) == 1 && from == 0x192);
     store(&d, 0x100, "07000200 20000006"); /* Seek to cylinder 1 */
     store(&d, 0x200, "0000 0001 0000");
@@ -302,28 +333,70 @@ static void behind_the_end_mark(void) {
     }
 }
 
+/* How an interruption comes to pend: a program ends, a word of it asks for one, or an arm arrives. */
+enum { ENDS, ASKS, ARRIVES };
+
+/* An interruption of the drive pends. Its program of before has ended. */
+static void pends(dasd *d, uint16_t address, int how) {
+    static const char *const programs[] = {"16000200 20000010", "16000200 28000010", "07000300 20000006"}; /* Read R0, with PCI, Seek */
+    dasd_run ran;
+    dasd_drive drive;
+    uint16_t from;
+    CHECK(dasd_show_drive(d, address, &drive) == DASD_DONE);
+    store(d, 0x100, programs[how]);
+    store(d, 0x300, drive.cylinder ? "000000000000" : "000000010000");
+    CHECK(dasd_sio(d, address) == 0);
+    if (how == ASKS) return;
+    CHECK(dasd_run_on(d, (uint8_t)(address >> 8), 1000, &ran) == DASD_DONE && ran.subchannel == DASD_ENDED);
+    if (how == ENDS) return;
+    CHECK(dasd_interrupt(d, (uint8_t)(0x80 >> (address >> 8)), &from) == 1 && shows(d, 0x44, "0800") && dasd_arrive(d, address) == 1);
+}
+
+/* The interruption of a channel is taken, and the program that asked for it ends, too. */
+static void is_taken(dasd *d, uint16_t channel, int how) {
+    const uint8_t own = (uint8_t)DASD_CHANNEL(channel);
+    dasd_run ran;
+    uint16_t from = 0;
+    CHECK(dasd_interrupt(d, own, &from) == 1 && from == (channel << 8 | 0x90) && dasd_is_pending(d, own) == 0);
+    if (how != ASKS) return;
+    CHECK(dasd_run_on(d, (uint8_t)channel, 1000, &ran) == DASD_DONE && ran.subchannel == DASD_ENDED);
+    CHECK(dasd_interrupt(d, own, &from) == 1 && shows(d, 0x44, "0C00"));
+}
+
 /* An interruption of each channel pends: under every mask the lowest channel that is in it gives its own. */
-static void every_mask(void) {
+static void every_mask(int how) {
+    static const char *const status[] = {"0C00", "0080", "0400"};
     dasd d = DASD_NOTHING;
     dasd_run ran;
     CHECK(dasd_new(&d, 4096, ALL) == DASD_DONE);
     store(&d, 0x48, "00000100");
-    store(&d, 0x100, "16000200 20000010"); /* Read R0 */
-    for (uint16_t channel = 0; channel < 7; channel++) CHECK(dasd_attach_new(&d, (uint16_t)(channel << 8 | 0x90), 2311, 1) == DASD_DONE);
+    for (uint16_t channel = 0; channel < 7; channel++) CHECK(dasd_attach_new(&d, (uint16_t)(channel << 8 | 0x90), 2311, 2) == DASD_DONE);
     int is_pending[7] = {0};
+    uint16_t from = 0;
     for (unsigned mask = 2; mask <= ALL; mask += 2) {
-        uint16_t from = 0, lowest = 0;
+        uint16_t lowest = 0;
         for (uint16_t channel = 0; channel < 7; channel++) {
-            if (is_pending[channel]) continue;
-            CHECK(dasd_sio(&d, (uint16_t)(channel << 8 | 0x90)) == 0);
-            CHECK(dasd_run_on(&d, (uint8_t)channel, 1000, &ran) == DASD_DONE && ran.subchannel == DASD_ENDED);
+            if (!is_pending[channel]) pends(&d, (uint16_t)(channel << 8 | 0x90), how);
             is_pending[channel] = 1;
         }
         while (!(mask & (0x80u >> lowest))) lowest++;
         CHECK(dasd_is_pending(&d, (uint8_t)mask) == 1 && dasd_interrupt(&d, (uint8_t)mask, &from) == 1);
-        CHECK(from == (lowest << 8 | 0x90) && shows(&d, 0x44, "0C000000"));
+        CHECK(from == (lowest << 8 | 0x90) && shows(&d, 0x44, status[how]));
         is_pending[lowest] = 0;
         CHECK(dasd_is_pending(&d, (uint8_t)(0x80 >> lowest)) == 0);
+        if (how != ASKS) continue;
+        CHECK(dasd_run_on(&d, (uint8_t)lowest, 1000, &ran) == DASD_DONE && ran.subchannel == DASD_ENDED);
+        CHECK(dasd_interrupt(&d, (uint8_t)(0x80 >> lowest), &from) == 1 && shows(&d, 0x44, "0C00"));
+    }
+    for (uint16_t channel = 0; channel < 7; channel++) {
+        if (!is_pending[channel]) pends(&d, (uint16_t)(channel << 8 | 0x90), how);
+        is_taken(&d, channel, how);
+    }
+    CHECK(dasd_is_pending(&d, ALL) == 0);
+    for (uint16_t channel = 0; channel < 7; channel++) { /* it alone has one, also once the others were asked */
+        pends(&d, (uint16_t)(channel << 8 | 0x90), how);
+        CHECK(dasd_is_pending(&d, (uint8_t)(ALL & ~DASD_CHANNEL(channel))) == 0 && dasd_is_pending(&d, ALL) == 1);
+        is_taken(&d, channel, how);
     }
     CHECK(dasd_free(&d) == DASD_DONE);
 }
@@ -458,11 +531,33 @@ static void refused_memory(void) {
     CHECK(dasd_detach(&d, 0x690) == DASD_DONE && dasd_free(&d) == DASD_DONE && heap_live == 0);
     printf("memory was refused %d times\n", refused);
 }
+
+/* A handle with these channels, each with so many drives of eight files, is copied: each taking of memory is refused in turn, and what was
+ * taken before is given back. */
+static void copies_of_files(uint8_t channels, uint16_t drives) {
+    dasd d = DASD_NOTHING, other = DASD_NOTHING;
+    int32_t told = DASD_NO_MEMORY;
+    long n = 0;
+    CHECK(dasd_new(&d, 4096, channels) == DASD_DONE);
+    for (uint16_t address = 0; address < 0x700; address = (uint16_t)((address & 0xFF) + 1 < drives ? address + 1 : (address | 0xFF) + 1))
+        if (channels & DASD_CHANNEL(address >> 8)) CHECK(dasd_attach(&d, address, files, FILES) == DASD_DONE);
+    const long held = heap_live;
+    while (told == DASD_NO_MEMORY) {
+        heap_refuse_at = ++n;
+        told = dasd_copy(&d, &other);
+        CHECK(told == DASD_DONE || (heap_live == held && dasd_tch(&other, 0x190) == DASD_NOTHING_HELD));
+    }
+    heap_refuse_at = 0;
+    CHECK(told == DASD_DONE && n > (long)drives * FILES && heap_live > held);
+    CHECK(dasd_free(&other) == DASD_DONE && heap_live == held && dasd_free(&d) == DASD_DONE && heap_live == 0);
+    printf("memory was refused %ld times to a copy\n", n - 1);
+}
 #endif
 
 int main(void) {
     split();
     eight_files();
+    halted_in_each_file();
     no_image();
     other_headers();
     other_model();
@@ -471,10 +566,14 @@ int main(void) {
     above_the_channels();
     two_blocks();
     behind_the_end_mark();
-    every_mask();
+    for (int how = ENDS; how <= ARRIVES; how++) every_mask(how);
     taken_over();
     kept_where_refused();
 #ifdef HEAP
+    copies_of_files(ALL, 1);
+    copies_of_files(DASD_CHANNEL(1), 8);
+    for (int lower = 0; lower < 7; lower++)
+        for (int higher = lower + 1; higher < 7; higher++) copies_of_files((uint8_t)(DASD_CHANNEL(lower) | DASD_CHANNEL(higher)), 1);
     refused_memory();
 #endif
     return failures ? EXIT_FAILURE : EXIT_SUCCESS;

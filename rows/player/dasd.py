@@ -46,6 +46,7 @@ from .preload import library
 from .stage import Stage
 from .text import BadRow, Block, Case, Wrong, bytes_of, is_next, read_blocks, same, words_of
 
+JOURNAL = ".dasd-journal"
 SHOWN = re.compile(rb"\r([^\r\x1b]*)\x1b\[K")
 TRACE = "trace.of.the.row"
 # lines that let calls of the next command fail, and what failing_calls.c knows them by
@@ -185,10 +186,10 @@ class DasdRow:
             return False
         return True
 
-    def saved(self, name: str) -> str:
-        """The file that was saved as this one came: itself, or the one whose journal it is."""
-        number = name.removeprefix(".dasd+")
-        return next((it.name for it in self.folder.iterdir() if str(it.stat().st_ino) == number), name)
+    def saved(self, names: list[str]) -> list[str]:
+        """The files that were saved as these came: themselves, or those with a journal, whose first one comes last."""
+        files = [it.removeprefix(".").removesuffix(JOURNAL) if it.endswith(JOURNAL) else it for it in names]
+        return [*files[-1:], *files[:-1]] if names and names[-1].endswith(JOURNAL) else files
 
     # --- commands ---
 
@@ -205,7 +206,7 @@ class DasdRow:
             before = self.stamps()
             out, told = self.run(words, dict(self.environment, FAIL_NAME=traces, PUTS=str(puts)))
             behind = self.stamps()
-            order = [self.saved(Path(it).name) for it in puts.read_text().splitlines()]
+            order = self.saved([Path(it).name for it in puts.read_text().splitlines()])
         others = [it for it in behind if it != traces and it not in order and behind[it] != before.get(it)]
         self.replaced = [it for it in order if it in behind] + sorted(others)
         self.shown = [it.decode("ascii") for it in SHOWN.findall(told)]

@@ -184,7 +184,7 @@ def directory_end(block: bytes) -> str:
             return "-"
         at += 12 + (block[at + 11] & 31) * 2 if at + 12 <= used else 256
         if at > used:
-            return "an entry of the directory ends behind its block"
+            return "an entry of the directory ends after its block"
     return "-"
 
 
@@ -195,7 +195,7 @@ def block_end(block: bytes) -> str:
     at = 4
     while at < len(block):
         if len(block) - at < 4:
-            return "block 1 has no descriptor word where one must stand"
+            return "block 1 has no descriptor word where there must be one"
         length = int.from_bytes(block[at:at + 2], "big")
         if not 4 <= length <= len(block) - at:
             return "block 1 has a record descriptor word of a length that can't be"

@@ -8,12 +8,14 @@ from __future__ import annotations
 import json
 import os
 import re
+import resource
 import subprocess
+import sys
 import tempfile
 import time
 from contextlib import ExitStack
 from functools import partial
-from itertools import takewhile
+from itertools import dropwhile, takewhile
 from pathlib import Path
 from typing import IO, Callable, Iterator
 
@@ -21,15 +23,18 @@ from tools.common.images import Image
 from tools.common.said_sets import blocks_hash, library_hash
 from tools.common.volume_layouts import ebcdic
 
+from .beside import SECONDS, Beside, calls_of, matching, put_journal
 from .dasd import DasdRow
 from .host_lines import KINDS, HostFiles, needs
+from .preload import TOP
+from .refusals import Refused
 from .spelled_packs import Packs, blocks_of
 from .stage import Stage
 from .started import WROTE, How, deck_of
-from .text import DATA, BadRow, Block, Case, Wrong, bytes_of, read_blocks, same, words_of
+from .text import DATA, BadRow, Block, Case, Skipped, Wrong, bytes_of, read_blocks, same, words_of
 
-FOLDER = DATA / "files"
-VALUE = re.compile(r"\{(?P<name>[A-Z][A-Z0-9]*)(?:(?P<by>[/%+-])(?P<number>\d+))?(?::(?P<form>[0-9A-Zd]+))?\}")
+VALUE = re.compile(r"\{(?P<name>[A-Z][A-Z0-9]*)(?P<works>(?:[*/%+-]\d+)*)(?::(?P<form>[0-9A-Zd]+))?\}")
+WORK = re.compile(r"([*/%+-])(\d+)")
 QUOTED = re.compile(r"""'[^']*'|"(?:[^"\\]|\\.)*\"""")
 MOST = 1 << 16
 Setups = dict[str, tuple[str, ...]]
@@ -43,7 +48,9 @@ class FileRow(DasdRow):
         self.setups, self.packs, self.kept_open = setups, Packs(folder), ExitStack()
         self.host = HostFiles(self.kept_open)
         self.values: dict[str, str] = {}
+        self.beside = Beside(program, folder)
         self.errors: list[str] = []
+        self.begun = ""
         self.waiting: tuple[subprocess.Popen[bytes], IO[bytes]] | None = None
         self.before = self.after = self.stamps()
 
@@ -61,17 +68,23 @@ class FileRow(DasdRow):
         at = 0
         while at < len(lines):
             line = self.filled(lines[at])
-            if line.startswith("each "):
-                end = end_of(lines, at)
-                self.play_each(line.split()[1:], lines[at + 1:end])
+            if line.startswith(("each ", "when ")):
+                words, end = line.split()[1:], end_of(lines, at)
+                if line.startswith("each "):
+                    self.play_each(words, lines[at + 1:end])
+                elif words[0] == words[1]:
+                    self.play_lines(lines[at + 1:end])
                 at = end
             else:
                 self.play(line)
             at += 1
 
     def play_each(self, names: list[str], lines: list[str]) -> None:
-        """Plays lines once for each number of a range, or for each line of the table before them."""
-        if ".." in names[-1]:
+        """Plays lines once for each call of a command, for each number of a range, or for each line of the table before them."""
+        if names[1:2] == ["calls"]:
+            table, body = calls_of([self.program, *names[3:]], self.folder, self.deck, names[2].split(",")), lines
+            self.next_command()
+        elif ".." in names[-1]:
             first, last = (int(it) for it in names[1].split(".."))
             table, body = [[str(it)] for it in range(first, last + 1)], lines
         else:
@@ -93,10 +106,15 @@ class FileRow(DasdRow):
             self.let(*rest.split(" ", 2))
         elif word == "needs":
             needs(rest)
-        elif word in ("begin", "goes", "tool"):
+        elif word in ("begin", "goes", "tool", "can", "check", "refused", "start", "finish"):
             self.packs.save()
             self.is_said(line)
-            {"begin": self.begin_run, "goes": self.go_on, "tool": self.run_tool}[word]([bare(it) for it in words_of(rest)])
+            run = {"begin": self.begin_run, "goes": self.go_on, "tool": self.run_tool, "can": self.can, "check": self.check, "refused": self.refuse,
+                   "start": self.start, "finish": self.finish}[word]
+            run([bare(it) for it in words_of(rest)])
+        elif word in self.beside.lines:
+            self.packs.save()
+            self.beside.lines[word](*words_of(rest))
         elif not self.packs.makes(word, words_of(rest)):
             self.packs.save()
             super().play(line)
@@ -104,7 +122,13 @@ class FileRow(DasdRow):
     def let(self, name: str, kind: str, spelled: str = "") -> None:
         """Gives a value its name."""
         is_whole, words = not spelled.startswith("not whole"), words_of(spelled.removeprefix("not whole"))
-        if kind == "hash":
+        if kind == "status":
+            same("status %s" % spelled, True, str(self.status) in words)
+            self.values[name] = str(self.status)
+        elif kind in self.beside.kinds:
+            self.packs.save()
+            self.values[name] = str(self.beside.kinds[kind](*words))
+        elif kind == "hash":
             self.values[name] = blocks_hash(blocks_of(words), is_whole)
         elif kind == "library":
             members = [it.split("=") for it in words]
@@ -113,6 +137,10 @@ class FileRow(DasdRow):
             self.values[name] = bare(spelled) if kind == "word" else spelled
 
     def asks(self, word: str, rest: str) -> bool:
+        if word == ":":
+            with self.path(self.begun).open("a", encoding="utf-8") as file:
+                file.write(rest + "\n")
+            return True
         if word in ("writes", "stops"):
             self.deck += deck_of(word, rest)
         elif word == ">file":
@@ -124,7 +152,21 @@ class FileRow(DasdRow):
         return True
 
     def files(self, word: str, words: list[str]) -> bool:
-        return bool(words) and self.host.makes(word, self.path(words[0]), [bare(it) for it in words[1:]]) or super().files(word, words)
+        if word == "text" and len(words) == 1:
+            self.begun = words[0]
+            self.path(self.begun).parent.mkdir(parents=True, exist_ok=True)
+            self.path(self.begun).write_bytes(b"")
+        elif word == "more":
+            self.path(words[0]).write_bytes(self.held(words[0]) + bytes_of(words[1]))
+        elif word == "edit":
+            held, old = self.held(words[0]), bytes_of(words[1])
+            same("%s has it" % words[0], True, old in held)
+            self.path(words[0]).write_bytes(held.replace(old, bytes_of(words[2])))
+        elif word == "journal":
+            put_journal(self.path(words[0]), self.held(words[1]), self.held(words[2]))
+        else:
+            return bool(words) and self.host.makes(word, self.path(words[0]), [bare(it) for it in words[1:]]) or super().files(word, words)
+        return True
 
     # --- looks at what came ---
 
@@ -137,6 +179,10 @@ class FileRow(DasdRow):
             is_line(line, rest, self.next_printed())
         elif word == "!":
             self.is_told(line, rest)
+        elif word == "may":
+            self.errors = self.errors[bool(self.errors) and self.errors[0].startswith(rest):]
+        elif word == "next":
+            self.next_printed()
         elif word == "kept":
             for it in (it for it in self.kept if it != rest.removeprefix("but ")):
                 same(line, it, self.next_printed())
@@ -161,6 +207,11 @@ class FileRow(DasdRow):
             same(line, rest, self.next_printed()[-len(rest):])
         elif word in ("once", "begun"):
             same(line, 1, sum(rest in it if word == "once" else it.startswith("  %s " % rest) for it in self.printed))
+        elif word == "skip":
+            self.printed = list(dropwhile(lambda it: it != rest, self.printed))
+        elif word == "often":
+            least, text = rest.split(" ", 1)
+            same(line, True, sum(text in it for it in self.printed) >= int(least))
         elif word in ("has", "hasn't"):
             same(line, word == "has", rest in self.printed)
         elif word == "found":
@@ -213,8 +264,8 @@ class FileRow(DasdRow):
             key, data = Image(self.path(words[0])).block((int(words[1]), int(words[2])))
             wanted = bytes_of(words[4])
             same(line, wanted.hex(), (key if word == "keyed" else data)[int(words[3]):][:len(wanted)].hex())
-        elif word == "differ":
-            same(line, len(words), len({self.values[it] for it in words}))
+        elif word in ("differ", "alike"):
+            same(line, len(words) if word == "differ" else 1, len({self.values[it] for it in words}))
         elif word == "drained":
             same(line, self.held(words[1]), self.drained.read(MOST))
         else:
@@ -231,7 +282,7 @@ class FileRow(DasdRow):
         elif word == "kind":
             same(line, True, KINDS[words[1]](path.lstat().st_mode))
         elif word == "missing":
-            same(line, False, os.path.lexists(path))
+            same(line, [], matching(self.folder, words[0]) if "*" in words[0] else [words[0]] * os.path.lexists(path))
         elif word == "untouched":
             same(line, self.before[words[0]], self.after[words[0]])
         else:
@@ -248,11 +299,13 @@ class FileRow(DasdRow):
         """Runs a command to its end."""
         self.before = self.stamps()
         running = self.how.start([self.program, *(bare(it) for it in words_of(" ".join(words)))], self.folder)
+        used = processor_time()
         try:
             self.ends(running, *running.communicate(None if self.how.given else self.deck, timeout=self.how.seconds))
         except subprocess.TimeoutExpired as why:
             running.kill()
             raise Wrong(" ".join(words), "an end within %d seconds" % self.how.seconds, "none") from why
+        same("%s: seconds of the processor" % words[0], True, processor_time() - used <= self.how.most)
         self.after = self.stamps()
         self.replaced = sorted(it for it in self.before if it in self.after and self.before[it][0] != self.after[it][0])
         self.next_command()
@@ -262,11 +315,24 @@ class FileRow(DasdRow):
         self.printed, self.errors = (lines_of("what came", it or b"") for it in (out, told))
         self.status = running.returncode
 
+    def start(self, words: list[str]) -> None:
+        """Starts a command that goes on beside others."""
+        running = self.how.start([self.program, *words[1:]], self.folder)
+        self.kept_open.callback(running.kill)
+        self.beside.start(words[0], running, self.deck)
+        self.next_command()
+
+    def finish(self, words: list[str]) -> None:
+        """Waits for the end of a command that was started."""
+        running = self.beside.running.pop(words[0])
+        self.ends(running, *running.communicate(timeout=SECONDS))
+
     def begin_run(self, words: list[str]) -> None:
         """Begins a run that waits for its deck; it has its images as soon as it opens that."""
         os.mkfifo(self.path("deck"))
         self.path("deck").chmod(0o666)
         running = self.how.start([self.program, *words], self.folder)
+        self.beside.running["begun"] = running
         self.waiting = running, self.kept_open.enter_context(open(self.path("deck"), "wb", buffering=0))
         self.next_command()
 
@@ -283,6 +349,24 @@ class FileRow(DasdRow):
         self.ends(running, *running.communicate(timeout=self.how.seconds))
         self.next_command()
 
+    def refuse(self, words: list[str]) -> None:
+        """Refuses each taking of memory of a command: so many of these change nothing."""
+        same("refusals without effect", int(words[0]), Refused(self.program, self.folder, words[1:], self.deck).without_effect())
+        self.next_command()
+
+    def can(self, words: list[str]) -> None:
+        """Runs another program that may be missing, or can do nothing here."""
+        needs(words[0])
+        if subprocess.run(words, cwd=self.folder, capture_output=True, check=False).returncode:
+            raise Skipped("%s can do nothing in this file system" % words[0])
+
+    def check(self, words: list[str]) -> None:
+        """Runs a tool of tools/ over the folder, as over a repository."""
+        given = dict(os.environ, TOOLS_TOP=str(self.folder), PYTHONPATH=str(TOP), PYTHONSAFEPATH="1", PYTHONDONTWRITEBYTECODE="1")
+        tool = [sys.executable, "-m", "tools." + words[0].replace("/", "."), *words[1:]]
+        ran = subprocess.run(tool, cwd=self.folder, env=given, capture_output=True, timeout=self.how.seconds, check=False)
+        self.printed, self.errors, self.status = lines_of(words[0], ran.stdout), lines_of(words[0], ran.stderr), ran.returncode
+
     def run_tool(self, words: list[str]) -> None:
         """Runs another program."""
         ran = subprocess.run(words, cwd=self.folder, capture_output=True, text=True, timeout=self.how.seconds, check=False)
@@ -291,9 +375,15 @@ class FileRow(DasdRow):
 
 
 def is_line(line: str, wanted: str, came: str) -> None:
-    """That this line came; where `...` ends what is wanted, one that begins so."""
-    if not (wanted.endswith("...") and came.startswith(wanted[:-3])):
+    """That this line came; where `...` ends or begins what is wanted, one that begins or ends so."""
+    if not (wanted.endswith("...") and came.startswith(wanted[:-3])) and not (wanted.startswith("...") and came.endswith(wanted[3:])):
         same(line, wanted, came)
+
+
+def processor_time() -> float:
+    """The seconds of processor time of all commands that have ended, with the system's."""
+    used = resource.getrusage(resource.RUSAGE_CHILDREN)
+    return used.ru_utime + used.ru_stime
 
 
 def lines_of(line: str, held: bytes) -> list[str]:
@@ -304,9 +394,11 @@ def lines_of(line: str, held: bytes) -> list[str]:
 
 def value_of(part: re.Match[str], value: str) -> str:
     """A value as a line asks for it."""
-    if part["by"]:
-        works = {"/": int.__floordiv__, "%": int.__mod__, "+": int.__add__, "-": int.__sub__}
-        value = str(works[part["by"]](int(value), int(part["number"])))
+    if part["form"] and part["form"].startswith("L"):
+        return int(value).to_bytes(int(part["form"][1:]), "little").hex()
+    for work, number in WORK.findall(part["works"]):
+        works = {"*": int.__mul__, "/": int.__floordiv__, "%": int.__mod__, "+": int.__add__, "-": int.__sub__}
+        value = str(works[work](int(value), int(number)))
     return format(int(value), part["form"]) if part["form"] else value
 
 
@@ -319,7 +411,7 @@ def end_of(lines: list[str], at: int) -> int:
     """Where the lines end that `each` has here."""
     depth = 0
     for number in range(at, len(lines)):
-        depth += lines[number].startswith("each ") - (lines[number] == "end")
+        depth += lines[number].startswith(("each ", "when ")) - (lines[number] == "end")
         if not depth:
             return number
     raise BadRow(lines[at])
@@ -330,13 +422,18 @@ def setups_of(blocks: list[Block]) -> Setups:
     return {it.name.removeprefix("setup "): it.lines[1:] for it in blocks if it.name.startswith("setup ")}
 
 
+def put_setup(folder: Path, name: str) -> None:
+    """Plays a setup of setups.rows in a folder."""
+    row = FileRow("", folder, setups_of(read_blocks("files/setups.rows")))
+    row.play_lines(list(row.setups[name]))
+    row.packs.save()
+
+
 def made(name: str) -> bytes:
     """The file pack.ckd of a setup of setups.rows."""
     with tempfile.TemporaryDirectory() as folder:
-        row = FileRow("", Path(folder), setups_of(read_blocks("files/setups.rows")))
-        row.play_lines(list(row.setups[name]))
-        row.packs.save()
-        return row.held("pack.ckd")
+        put_setup(Path(folder), name)
+        return Path(folder, "pack.ckd").read_bytes()
 
 
 def play_row(program: str, setups: Setups, block: Block) -> None:
@@ -349,11 +446,11 @@ def play_row(program: str, setups: Setups, block: Block) -> None:
             row.is_said("the end")
 
 
-def all_rows(program: str) -> Iterator[tuple[str, Callable[[], None]]]:
-    """Each row: its name, and what plays it."""
-    shared = setups_of(read_blocks("files/setups.rows"))
-    for path in sorted(FOLDER.glob("*.rows")):
-        blocks = read_blocks("files/%s" % path.name)
+def all_rows(program: str, folder: str = "files") -> Iterator[tuple[str, Callable[[], None]]]:
+    """Each row of a folder of data: its name, and what plays it."""
+    shared = setups_of(read_blocks(folder + "/setups.rows"))
+    for path in sorted((DATA / folder).glob("*.rows")):
+        blocks = read_blocks("%s/%s" % (folder, path.name))
         setups = shared | setups_of(blocks)
         for block in blocks:
             if not block.name.startswith("setup "):

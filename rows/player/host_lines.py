@@ -1,6 +1,7 @@
 """Lines of rows that make what is no plain file: folders, links, pipes, sockets, devices, modes, owners, small disks."""
 from __future__ import annotations
 
+import fcntl
 import os
 import shutil
 import socket
@@ -12,12 +13,15 @@ from typing import Callable
 
 from .text import Skipped
 
-KINDS = {"pipe": stat.S_ISFIFO, "folder": stat.S_ISDIR, "socket": stat.S_ISSOCK, "device": stat.S_ISCHR}
+KINDS = {"pipe": stat.S_ISFIFO, "folder": stat.S_ISDIR, "socket": stat.S_ISSOCK, "device": stat.S_ISCHR, "link": stat.S_ISLNK}
 
 
 def remove(path: Path) -> None:
-    """Removes a file, or a folder with what is in it."""
-    if path.is_dir() and not path.is_symlink():
+    """Removes a file, those of a pattern, or a folder with what is in it."""
+    if "*" in path.name:
+        for it in path.parent.glob(path.name):
+            remove(it)
+    elif path.is_dir() and not path.is_symlink():
         shutil.rmtree(path)
     else:
         path.unlink()
@@ -40,7 +44,7 @@ class HostFiles:
             "pipe": os.mkfifo,
             "socket": self.put_socket,
             "device": put_device,
-            "small": self.put_disk,
+            "lock": self.lock,
             "remove": remove,
             "closed": lambda path: path.chmod(0o755 if os.geteuid() == 0 else 0o555),
         }
@@ -57,6 +61,8 @@ class HostFiles:
             path.write_bytes((path.parent / others[0]).read_bytes())
         elif word == "rename":
             path.replace(path.parent / others[0])
+        elif word == "small":
+            self.put_disk(path, others[0] if others else "80k")
         elif word == "zeros":
             with open(path, "wb") as file:
                 file.truncate(int(others[0]))
@@ -72,10 +78,14 @@ class HostFiles:
         """Binds a socket to a name."""
         self.kept_open.enter_context(socket.socket(socket.AF_UNIX)).bind(str(path))
 
-    def put_disk(self, path: Path) -> None:
-        """Mounts a file system of 80 KB, until the row ends."""
+    def lock(self, path: Path) -> None:
+        """Locks a file until the row ends."""
+        fcntl.flock(self.kept_open.enter_context(open(path, "rb")), fcntl.LOCK_EX)
+
+    def put_disk(self, path: Path, size: str) -> None:
+        """Mounts a file system of this size, until the row ends."""
         path.mkdir()
-        if subprocess.run(["mount", "-t", "tmpfs", "-o", "size=80k", "none", path], capture_output=True, check=False).returncode:
+        if subprocess.run(["mount", "-t", "tmpfs", "-o", "size=" + size, "none", path], capture_output=True, check=False).returncode:
             raise Skipped("no file system can be mounted")
         self.kept_open.callback(unmount, path)
 

@@ -9,7 +9,7 @@ from pathlib import Path
 from typing import Iterator
 
 TOP = Path(__file__).resolve().parent.parent.parent
-SOURCES = {"failing": TOP / "rows" / "failing_calls.c", "refusing": TOP / "tools" / "gate" / "refuse_memory.c"}
+SOURCES = {"failing": TOP / "rows" / "failing_calls.c", "refusing": TOP / "rows" / "refused_memory.c"}
 # names the folder of the compiled libraries to the processes that play
 FOLDER = "ROWS_LIBRARIES"
 

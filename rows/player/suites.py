@@ -98,7 +98,7 @@ SUITES = {
     "hostile_slots": Suite(hostile_slots.cases),
     "hostile_checks": Suite(dasd_cases=hostile_slots.dasd_cases),
     "dasd": Suite(dasd_cases=dasd.cases, wants_libraries=True),
-    "files": Suite(dasd_cases=files.cases, is_asked_for=True),
+    "files": Suite(dasd_cases=files.cases, wants_libraries=True, is_asked_for=True),
     "extracts": Suite(dasd_cases=extracts.cases),
     "hashes": Suite(dasd_cases=hashes.cases),
     "words": Suite(dasd_cases=words.cases, wants_libraries=True),

@@ -11,6 +11,7 @@ import shutil
 import subprocess
 import sys
 import tempfile
+from collections.abc import Callable
 from dataclasses import dataclass
 
 from tools import TOP
@@ -64,6 +65,14 @@ class Comparison:
         """Prints the last line, and answers the status."""
         print(f"{self.compared} compared, {self.differ} differ")
         return 1 if self.differ else 0
+
+
+def compared(usage: str | None, compare: Callable[[Comparison, str, pathlib.Path], None]) -> int:
+    """Has a program compared in a folder that is removed; the status."""
+    dasd, comparison = program(usage or ""), Comparison()
+    with tempfile.TemporaryDirectory() as name:
+        compare(comparison, dasd, pathlib.Path(name))
+    return comparison.end()
 
 
 def first_difference(one: object, other: object) -> int:

@@ -1,16 +1,21 @@
-"""Files of data sets by chance, for tools/gate/play_changes.py: what forms they have, which blocks, and why some have none.
+"""Files of data sets by chance, for tools/gate/play_changes.py: what forms they have, which blocks, and why some have none. And the command line of
+the tools that play by chance.
 
 A file has the data of its blocks one behind another; or each block behind its lengths and its key; or lines of text, each of which is a record. It
 shares no code with `dasd`: records are those of Data Management Services (GC26-3746), 'Record Formats', and characters Python's of code page 037."""
 
+import argparse
 import random
+import sys
 import unicodedata
 from collections.abc import Callable, Iterator
 from dataclasses import dataclass, replace
+from pathlib import Path
 
 from conformance.suite.volumes import Model
 from tools.common.record_forms import cut, described, variable_blocks, with_lengths
 from tools.common.said_sets import Block
+from tools.gate import parser
 
 # The byte of a record format.
 FORMATS = {"F": 0x80, "FB": 0x90, "FS": 0x88, "FBS": 0x98, "V": 0x40, "VB": 0x50, "U": 0xC0}
@@ -23,6 +28,20 @@ CHARACTERS = [it for it in bytes(range(256)).decode("cp037") if unicodedata.cate
 
 class Refused(Exception):
     """Why a change is refused."""
+
+
+def asked_for(usage: str | None, many: str, number: int) -> argparse.Namespace:
+    """Reads the words of a command line: --built FILE, --seed N and how many (`number`), so many if it does not say."""
+    words = parser(usage)
+    words.add_argument(f"--{many}", dest="number", type=int, default=number)
+    words.add_argument("--seed", type=int, default=1)
+    return words.parse_args()
+
+
+def same(got: object, want: object, what: str) -> None:
+    """Ends where something is not as it must be."""
+    if got != want:
+        sys.exit(f"{Path(sys.argv[0]).name}: {what}: {got}, and not {want}")
 
 
 @dataclass(frozen=True)

@@ -11,6 +11,7 @@ from collections.abc import Iterator
 from dataclasses import dataclass
 
 from tools import TOP
+from tools.gate import told
 
 PARTS = ["The machine", "The program and its volumes"]
 
@@ -50,11 +51,7 @@ def faults_of(crates: list[Crate]) -> Iterator[str]:
 def main() -> int:
     """Checks the file."""
     crates = list(crates_of((TOP / "crates.txt").read_text(encoding="utf-8")))
-    faults = list(faults_of(crates))
-    for fault in faults:
-        print(fault)
-    print(f"{len(crates)} crates and what they use looked at, {len(faults)} wrong")
-    return 1 if faults else 0
+    return told(faults_of(crates), f"{len(crates)} crates and what they use looked at")
 
 
 if __name__ == "__main__":

@@ -21,6 +21,7 @@ from pathlib import Path
 
 from release import identity
 from tools import TOP
+from tools.gate.check_crates import crates_of
 from tools.make import rules
 
 CODE = re.compile(r"`([^`\n]+)`")
@@ -46,12 +47,6 @@ class Findings:
             self.wrong += 1
 
 
-def crates() -> list[str]:
-    """The names of crates.txt."""
-    lines = (TOP / "crates.txt").read_text(encoding="utf-8").splitlines()
-    return [line.split(":")[0].split()[0] for line in lines if line.strip() and not line.startswith("#")]
-
-
 def documents(top: Path) -> list[Path]:
     """All pages of a repository: not what was built."""
     pages = {*top.glob("*.md"), *top.glob("docs/**/*.md"), *top.glob("*/*.md"), *top.glob("*/*/README.md")}
@@ -61,7 +56,7 @@ def documents(top: Path) -> list[Path]:
 def check_crates(findings: Findings) -> None:
     """Each crate has its page and its row."""
     rows = (TOP / "docs/MAP.md").read_text(encoding="utf-8").split("## Which definitions live where")[0]
-    for name in crates():
+    for name in (it.name for it in crates_of((TOP / "crates.txt").read_text(encoding="utf-8"))):
         findings.expect((TOP / "crates" / name / "README.md").is_file(), f"crates/{name}: no README.md")
         findings.expect(f"`{name}`" in rows, f"docs/MAP.md: no row of {name}")
 

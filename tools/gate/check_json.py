@@ -9,10 +9,8 @@ crates/dasd_cmd/out/dasd_cmd, or FILE.
 Each member of a definition, and each word of a list of words, should have been met: what was not is named, and is no fault. The last line
 is 'N lines of JSON, M are not as the schema has them', and the status 1 where M is not 0. It needs Debian's python3-jsonschema."""
 
-import argparse
 import json
 import os
-import shutil
 import subprocess
 import sys
 import tempfile
@@ -20,9 +18,9 @@ from collections.abc import Iterator
 from pathlib import Path
 from typing import Any
 
-from conformance.suite.volumes import HEADER, MODELS
+from rows.player.files import put_setup
 from tools import TOP
-
+from tools.gate import parser
 
 DEBIAN = "/usr/bin/python3"
 try:
@@ -34,7 +32,6 @@ except ImportError:
     sys.exit("no jsonschema here: apt-get install python3-jsonschema")
 
 SCHEMA = TOP / "docs/dasd.schema.json"
-MODEL = MODELS["2311"]
 SUITES = [
     ["gate/real_files", "--built"],
     ["gate/play_archives"],
@@ -121,69 +118,15 @@ class Lines:
                     yield from (f"{command}: {it}" for it in words or [name] if (command, it) not in self.met)
 
 
-def put(path: Path, at: int, held: bytes) -> None:
-    """Writes bytes into a file."""
-    with path.open("r+b") as file:
-        file.seek(at)
-        file.write(held)
-
-
-def slot(cylinder: int, head: int) -> int:
-    """Where a track begins in a file of the sample pack."""
-    return HEADER + (cylinder * MODEL.heads + head) * MODEL.slot
-
-
-def block(number: int, at: int) -> int:
-    """Where a byte of the data of a control block is: each is a record of a key of 44 bytes and 96 of data, behind record 0 of track
-    0000 0001. The sample pack has the blocks of formats 4 and 5 as 1 and 2, its data sets as 3 to 6, and free ones behind them."""
-    return slot(0, 1) + 21 + (number - 1) * 148 + 8 + 44 + at
-
-
-# What is another in each copy of the sample pack, by places: System Control Blocks (GC28-6628), 'Data Set Control Block', for those of the
-# table, and the layout of a slot (docs/DEFINITIONS.md) for the others.
-Changes = list[tuple[int, bytes]]
-COPIES: dict[str, Changes] = {
-    "header.ckd": [(20, b"\1")],
-    "tracks.ckd": [
-        (slot(0, 5), b"\0\0\7\0\7"),  # the home address of another track
-        (slot(0, 6), b"\2"),  # flags in one
-        (slot(0, 7) + 5 + 6, b"\xff\xff"),  # a length that leads out of the slot
-        (slot(0, 8) + 5, b"\xff" * 8),  # no record 0
-        (slot(1, 0) + 21 + 8 + 800, b"\0\1\0\0\1"),  # the identifier of the record before
-        (slot(1, 2) + 21, b"\0\1\0\3\1"),  # that of another track
-        (slot(3, 0) + 1000, b"\1"),  # bytes behind the end mark
-        (slot(3, 1) + 21, b"\0\3\0\1\1\0\x0f\x00" + b"\0" * 3840 + b"\xff" * 8),  # more than a track has room for
-    ],
-    "unlabelled.ckd": [(slot(0, 0) + 21 + 36 + 156 + 12, bytes(80))],
-    "tableless.ckd": [(block(1, -44), bytes(140))],
-    "turned-table.ckd": [(block(1, 61), b"\1\0\0\0\0\5\0\0\0\1")],
-    "unreadable-table.ckd": [(block(1, 61 + 8), b"\0\2"), (slot(0, 2) + 5 + 6, b"\xff\xff")],
-    "outside.ckd": [(block(3, 61), b"\1\0\0\x30\0\0\0\x31\0\0"), (block(5, 0), b"\x99")],
-    "number-of-extents.ckd": [(block(3, 15), b"\2")],
-    "turned-extent.ckd": [(block(3, 61 + 4), b"\0\5")],
-    "overlap.ckd": [(block(4, 61 + 2), b"\0\1\0\0\0\1\0\1")],
-    "missing.ckd": [(block(3, 91), b"\0\0\0\1\x20")],
-    "another-format.ckd": [(block(3, 91), b"\0\0\0\1\4")],
-    "endless.ckd": [(block(3, 91), b"\0\0\0\1\7"), (block(7, -44), b"\3\3\3\3"), (block(7, 0), b"\xf3"), (block(7, 91), b"\0\0\0\1\7")],
-    "free-tracks.ckd": [(block(2, -40), b"\0\x0a\0\0\1" + b"\0\x3c\0\0\1" + bytes(30))],
-    "lengths.ckd": [(slot(0, 1) + 21 + 7 * 148 + 5, b"\x2b\0\x61")],
-    "keys.ckd": [(block(2, -44), b"\7")],
-    "passwords.ckd": [(block(3, 49), b"\x10"), (block(4, 49), b"\x14"), (block(5, 49), b"\x80")],
-    "directory.ckd": [(slot(2, 0) + 21 + 8 + 8, b"\0\1")],
-}
-
-
 def make_packs(folder: Path) -> list[list[str]]:
     """The packs, each as the names of its files."""
     for names in (["pack.ckd"], ["half_1.ckd", "half_2.ckd"]):
         subprocess.run([TOP / "sample/make_sample.py", *names], cwd=folder, check=True)
-    for name, changes in COPIES.items():
-        shutil.copy(folder / "pack.ckd", folder / name)
-        for at, held in changes:
-            put(folder / name, at, held)
+    put_setup(folder, "copies with faults")
+    copies = sorted([it.name] for it in folder.iterdir() if not it.name.startswith(("pack", "half")))
     (folder / "short.ckd").write_bytes((folder / "pack.ckd").read_bytes()[:-1])
     vectors = sorted((TOP / "conformance/vectors").glob("*.img"))
-    return [["pack.ckd"], ["half_1.ckd", "half_2.ckd"], *[[it] for it in COPIES], ["short.ckd"], *[[str(it)] for it in vectors]]
+    return [["pack.ckd"], ["half_1.ckd", "half_2.ckd"], *copies, ["short.ckd"], *[[str(it)] for it in vectors]]
 
 
 def play(dasd: Path, folder: Path, lines: Lines) -> None:
@@ -227,17 +170,13 @@ def play_suites(dasd: Path, folder: Path, lines: Lines) -> None:
 
 def main() -> int:
     """Looks at all of it."""
-    words = argparse.ArgumentParser(description="Compares what dasd prints with --json with docs/dasd.schema.json.")
-    words.add_argument("--built", default=str(TOP / "crates/dasd_cmd/out/dasd_cmd"), metavar="FILE", help="the program dasd")
+    words = parser(__doc__)
     words.add_argument("--suites", action="store_true", help="runs the suites over real files too")
-    given = words.parse_args()
-    dasd, lines = Path(given.built).resolve(), Lines()
-    if not dasd.is_file():
-        sys.exit(f"there is no {dasd}")
+    given, lines = words.parse_args(), Lines()
     with tempfile.TemporaryDirectory() as name:
-        play(dasd, Path(name), lines)
+        play(given.built, Path(name), lines)
         if given.suites:
-            play_suites(dasd, Path(name), lines)
+            play_suites(given.built, Path(name), lines)
     for it in lines.not_met():
         print(f"not met: {it}")
     print(f"{lines.looked} lines of JSON, {lines.wrong} are not as the schema has them")

@@ -12,6 +12,7 @@ from collections.abc import Iterator
 from dataclasses import dataclass
 
 from tools import TOP
+from tools.gate import told
 
 # The last commit before messages were checked.
 BEFORE = "459879a1b603"
@@ -67,13 +68,9 @@ def main() -> int:
     if log is None:
         print("skipped: no history here")
         return 0
-    wrong, commits = 0, list(commits_in(log))
-    for commit in commits:
-        for fault in faults_of(commit):
-            print(f"{commit.name} {commit.subject}: {fault}")
-            wrong += 1
-    print(f"{len(commits)} messages, {wrong} wrong")
-    return 1 if wrong else 0
+    commits = list(commits_in(log))
+    faults = (f"{it.name} {it.subject}: {fault}" for it in commits for fault in faults_of(it))
+    return told(faults, f"{len(commits)} messages")
 
 
 if __name__ == "__main__":

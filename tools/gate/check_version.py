@@ -10,7 +10,7 @@ import sys
 from pathlib import Path
 
 from tools import TOP
-
+from tools.gate import told
 
 # Where the version is shown, and the pattern of the line there; the first line that fits is the copy.
 COPIES = {
@@ -24,6 +24,7 @@ COPIES = {
     "python/dasd/__init__.py": r'^__version__ = "([^"]*)"$',
     "catalogue/dasd_catalogue/__init__.py": r'^__version__ = "([^"]*)"$',
     "CITATION.cff": r'^version: "([^"]*)"$',
+    "docs/RELEASES.md": r"`git tag -a v(\S+) ",
 }
 
 
@@ -38,15 +39,9 @@ def copy_in(path: Path, pattern: str) -> str | None:
 def main() -> int:
     """Compares them all."""
     version = (TOP / "VERSION").read_text(encoding="utf-8").strip()
-    wrong = 0
-    copies = {name: pattern for name, pattern in COPIES.items() if (TOP / name.partition("/")[0]).exists()}
-    for name, pattern in copies.items():
-        shown = copy_in(TOP / name, pattern)
-        if shown != version:
-            print(f"{name}: {shown or 'no version'}, and VERSION has {version}")
-            wrong += 1
-    print(f"{len(copies)} copies of the version, {wrong} wrong")
-    return 1 if wrong else 0
+    copies = {name: copy_in(TOP / name, pattern) for name, pattern in COPIES.items() if (TOP / name.partition("/")[0]).exists()}
+    faults = (f"{name}: {shown or 'no version'}, and VERSION has {version}" for name, shown in copies.items() if shown != version)
+    return told(faults, f"{len(copies)} copies of the version")
 
 
 if __name__ == "__main__":

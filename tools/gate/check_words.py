@@ -4,12 +4,12 @@
 
 Of each page: its words, words per sentence, semicolons per 1,000 words, and hits of the word list. Words are those of the whole page, its code
 too. Sentences, semicolons and hits are those of the text without code, quotations and the targets of links; a cell of a table is no sentence.
-README.md has a limit, each page in docs/ one, and each crate's README one. What a tool writes, whole pages and the parts between comments
-`NAME: begin` and `NAME: end`, is counted and not limited.
+README.md has a limit, each page in docs/ one, each crate's README one, and all pages together one. What a tool writes is counted and not limited:
+whole pages, the parts between comments `NAME: begin` and `NAME: end`, and what was played for a page.
 
 tools/gate/page_words.txt has the pages that are over a limit or have hits, with both numbers, which may only fall: `--write` writes down those that
-fell. With pages, these alone are looked at, and each hit is printed with its line. The last line is 'N pages, M wrong', and the status 1 where M is
-not 0."""
+fell. With pages, these alone are looked at, and each hit is printed with its line. The last line is 'N pages, W words that no tool wrote, at most L,
+M wrong', and the status 1 where M is not 0."""
 
 import argparse
 import re
@@ -25,6 +25,10 @@ LIST = "tools/gate/page_words.txt"
 HEAD = "# Pages over their limit, and pages with hits of the word list, by tools/gate/check_words.py: PAGE WORDS HITS. '-' is within the limit.\n"
 # Pages that a tool writes whole.
 GENERATED = ("docs/ASSUMPTIONS.md", "docs/RULES.md", "docs/TRY.md")
+# Pages whose blocks of code a tool writes, of what it played.
+PLAYED = ("docs/HERCULES.md",)
+# How many words that no tool wrote all pages may have together.
+TOGETHER = 75_000
 # The first pattern that a page's path matches says how many words it may have.
 LIMITS = ((r"README\.md", 1200), (r"docs/.*\.md", 4000), (r"crates/[^/]*/README\.md", 150))
 WORDS = (
@@ -102,13 +106,20 @@ def sentences_of(prose: str) -> tuple[int, int]:
     return words, sentences
 
 
-def count_of(text: str) -> Count:
+def count_of(text: str, page: str = "") -> Count:
     """What a page has."""
     own = MADE.sub(newlines, text)
+    if page in PLAYED:
+        own = BLOCKS[0].sub(newlines, own)
     prose = prose_of(own)
     hits = ((prose.count("\n", 0, it.start()) + 1, " ".join(it[0].split())) for it in HIT.finditer(prose))
     semicolons = 1000 * prose.count(";") / (len(prose.split()) or 1)
     return Count(len(text.split()), len(own.split()), *sentences_of(prose), semicolons, tuple(hits))
+
+
+def by_hand(page: str, count: Count) -> int:
+    """The words of a page that no tool wrote."""
+    return 0 if page in GENERATED else count.written
 
 
 def limit_of(page: str) -> int | None:
@@ -159,10 +170,10 @@ def report(top: Path, named: Sequence[str], listed: Mapping[str, Allowed]) -> tu
     """Prints what pages have and what is wrong; how much is, and the list's entries, lowered to what is needed."""
     here = {str(it.relative_to(top)): it for it in documents(top)}
     entries = {page: it for page, it in listed.items() if page in here}
-    wrong = 0
+    wrong = words = 0
     print("| Page | Words | Of these generated | Limit of others | Words per sentence | Semicolons per 1,000 words | Hits |", "|---" * 7 + "|", sep="\n")
     for page in named or here:
-        count, allowed = count_of((top / page).read_text(encoding="utf-8")), listed.get(page, Allowed())
+        count, allowed = count_of((top / page).read_text(encoding="utf-8"), page), listed.get(page, Allowed())
         print(count.row(page, limit_of(page)))
         for line, word in count.hits if named else ():
             print(f"{page}:{line}: {word}")
@@ -170,9 +181,11 @@ def report(top: Path, named: Sequence[str], listed: Mapping[str, Allowed]) -> tu
             print(fault)
             wrong += 1
         entries[page] = lowered(page, count, allowed)
+        words += by_hand(page, count)
     for page in sorted(page for page in listed if listed[page] != entries.get(page, Allowed())):
         print(f"{page}: its entry in {LIST} can {'go' if entries.get(page, Allowed()) == Allowed() else 'fall'}: tools/run gate/check_words --write")
-    print(f"{len(named or here)} pages, {wrong} wrong")
+    wrong += words > TOGETHER
+    print(f"{len(named or here)} pages, {words:,} words that no tool wrote, at most {TOGETHER:,}, {wrong} wrong")
     return wrong, entries
 
 

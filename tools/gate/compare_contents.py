@@ -32,7 +32,6 @@ import json
 import pathlib
 import re
 import sys
-import tempfile
 from typing import Any
 
 from tools.common import hercules_readings as readings, volume_layouts as layouts
@@ -129,14 +128,9 @@ class Volume:
 
     def compare_set(self, found: Fields, listed: readings.Listed, where: str) -> None:
         """A data set, field by field."""
-        wanted = {
-            "name": listed.name,
-            "created": listed.created,
-            "expires": listed.expires,
+        wanted = {name: getattr(listed, name) for name in ("name", "created", "expires", "record_length", "block_length")} | {
             "organisation": listed.organisation or found.get("organisation"),
             "format": listed.form if listed.block_length else found.get("format"),
-            "record_length": listed.record_length,
-            "block_length": listed.block_length,
             "tracks": listed.tracks - self.label_tracks(listed.name),
         }
         for field, value in wanted.items():
@@ -184,17 +178,13 @@ def compare_labels_alone(comparison: readings.Comparison, dasd: str, folder: pat
         comparison.same(f"{image.name} of dasdinit: status", found.returncode, 1, "this script")
 
 
-def main() -> int:
-    dasd = readings.program(__doc__)
-    comparison = readings.Comparison()
-    with tempfile.TemporaryDirectory() as name:
-        folder = pathlib.Path(name)
-        for plan in volumes.plans():
-            plan.make(folder)
-            Volume(comparison, dasd, folder, plan).compare()
-        compare_labels_alone(comparison, dasd, folder)
-    return comparison.end()
+def compare_all(comparison: readings.Comparison, dasd: str, folder: pathlib.Path) -> None:
+    """Each volume."""
+    for plan in volumes.plans():
+        plan.make(folder)
+        Volume(comparison, dasd, folder, plan).compare()
+    compare_labels_alone(comparison, dasd, folder)
 
 
 if __name__ == "__main__":
-    sys.exit(main())
+    sys.exit(readings.compared(__doc__, compare_all))

@@ -20,7 +20,6 @@ line is 'N compared, M differ', and the status 1 where M is not 0."""
 import pathlib
 import random
 import sys
-import tempfile
 
 from tools.common import hercules_readings as readings, volume_layouts as layouts
 from tools.common.images import Image
@@ -114,6 +113,13 @@ class Written:
         self.comparison.holds(f"{path.name} holds other bytes than were to be written", path.read_bytes() == image.volume.bytes())
         return path
 
+    def compare_cards(self, path: pathlib.Path, cards: bytes, found: bytes, reader: str) -> None:
+        """Cards that were written, one by one, beside those that a reader finds."""
+        put, read = cut(cards, 80), cut(found, 80)
+        self.comparison.same(f"{path.name} number of records", len(put), len(read), reader)
+        for number, pair in enumerate(zip(put, read)):
+            self.comparison.same(f"{path.name} record {number}", *pair, reader)
+
 
 def compare_label(written: Written, model: str) -> None:
     """A volume with a label of this script's own."""
@@ -152,11 +158,8 @@ def compare_list(written: Written, path: pathlib.Path) -> None:
 
 def compare_records(written: Written, path: pathlib.Path, cards: bytes, members: dict[str, layouts.Member]) -> None:
     """Each record and each member of a volume with a label, and a copy of it."""
-    same, card = written.comparison.same, 80
-    by_dasdseq = cut(readings.records_by_dasdseq(path, "DECK.CARDS") or b"", card)
-    same(f"{path.name} number of records", len(cards) // card, len(by_dasdseq), "dasdseq")
-    for number, (put, read) in enumerate(zip(cut(cards, card), by_dasdseq)):
-        same(f"{path.name} record {number}", put, read, "dasdseq")
+    same = written.comparison.same
+    written.compare_cards(path, cards, readings.records_by_dasdseq(path, "DECK.CARDS") or b"", "dasdseq")
     unloaded = readings.members_by_dasdpdsu(path, "DECK.LIBRARY")
     same(f"{path.name} members", sorted(members), sorted(unloaded), "dasdpdsu")
     for name, member in members.items():
@@ -179,10 +182,7 @@ def compare_without_label(written: Written, model: str) -> None:
     path = written.write(image)
     place = ["-lrecl", 80, "-heads", image.heads, "-abs", 0, 4, 6, "FOUND"]
     readings.run("dasdseq", path.name, *place, folder=written.folder)
-    read = cut((written.folder / "FOUND").read_bytes(), 80)
-    written.comparison.same(f"{path.name} number of records", len(cards), len(read), "dasdseq -abs")
-    for number, (put, found) in enumerate(zip(cards, read)):
-        written.comparison.same(f"{path.name} record {number}", put, found, "dasdseq -abs")
+    written.compare_cards(path, b"".join(cards), (written.folder / "FOUND").read_bytes(), "dasdseq -abs")
 
 
 def compare_rewritten(written: Written, plan: volumes.Plan) -> None:
@@ -198,18 +198,15 @@ def compare_rewritten(written: Written, plan: volumes.Plan) -> None:
     written.comparison.same(f"{path.name} beside {original.path.name}", (compared.returncode, compared.stderr), (0, b""), "dasd compare")
 
 
-def main() -> int:
-    dasd = readings.program(__doc__)
-    comparison = readings.Comparison()
-    with tempfile.TemporaryDirectory() as name:
-        written = Written(comparison, dasd, pathlib.Path(name))
-        for model in ("2311", "2314"):
-            compare_label(written, model)
-            compare_without_label(written, model)
-        for plan in volumes.plans():
-            compare_rewritten(written, plan)
-    return comparison.end()
+def compare_all(comparison: readings.Comparison, dasd: str, folder: pathlib.Path) -> None:
+    """Each volume."""
+    written = Written(comparison, dasd, folder)
+    for model in ("2311", "2314"):
+        compare_label(written, model)
+        compare_without_label(written, model)
+    for plan in volumes.plans():
+        compare_rewritten(written, plan)
 
 
 if __name__ == "__main__":
-    sys.exit(main())
+    sys.exit(readings.compared(__doc__, compare_all))

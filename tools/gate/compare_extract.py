@@ -274,18 +274,14 @@ def compare_defective(comparison: readings.Comparison, dasd: str, image: pathlib
     comparison.holds("dasdseq does not end at a defective track", taken == cards(packs.CARDS[0]))
 
 
-def main() -> int:
-    dasd = readings.program(__doc__)
-    comparison = readings.Comparison()
-    with tempfile.TemporaryDirectory() as name:
-        folder = pathlib.Path(name)
-        for plan in volumes.plans():
-            plan.make(folder)
-            Extraction(comparison, dasd, folder, plan).compare()
-        compare_shared(comparison, dasd, folder / "shared.ckd")
-        compare_defective(comparison, dasd, folder / "defective.ckd")
-    return comparison.end()
+def compare_all(comparison: readings.Comparison, dasd: str, folder: pathlib.Path) -> None:
+    """Each volume."""
+    for plan in volumes.plans():
+        plan.make(folder)
+        Extraction(comparison, dasd, folder, plan).compare()
+    compare_shared(comparison, dasd, folder / "shared.ckd")
+    compare_defective(comparison, dasd, folder / "defective.ckd")
 
 
 if __name__ == "__main__":
-    sys.exit(main())
+    sys.exit(readings.compared(__doc__, compare_all))

@@ -15,6 +15,7 @@ import json
 import pathlib
 import sys
 import tempfile
+from typing import Any
 
 from tools import TOP
 from tools.common import hercules_readings as readings
@@ -25,22 +26,21 @@ from tools.gate.compare_extract import pieces_of
 from tools.make import hercules_volumes as volumes
 
 
-def line_of(said: Said, path: pathlib.Path) -> str:
-    """The line of a data set or of a member."""
-    kind = "data set" if said.member is None else "member"
-    name = said.name if said.member is None else f"{said.name}({said.member})"
-    return f"{said.digest}  {kind}{'' if said.is_whole else ' that is not whole'} {name} {path}"
-
-
-def object_of(said: Said, path: pathlib.Path) -> dict[str, object]:
-    """Its object."""
+def object_of(said: Said, path: pathlib.Path) -> dict[str, Any]:
+    """The object of a data set or of a member."""
     member = {} if said.member is None else {"member": said.member}
     return {"path": str(path), "name": said.name, **member, "hash": said.digest, "whole": said.is_whole}
 
 
-def object_name(found: dict[str, str]) -> str:
+def object_name(found: dict[str, Any]) -> str:
     """The name of what an object is of."""
-    return f"{found['name']}({found['member']})" if "member" in found else found["name"]
+    return f"{found['name']}({found['member']})" if "member" in found else str(found["name"])
+
+
+def line_of(found: dict[str, Any]) -> str:
+    """The line that says the same as an object."""
+    kind = "member" if "member" in found else "data set"
+    return f"{found['hash']}  {kind}{'' if found['whole'] else ' that is not whole'} {object_name(found)} {found['path']}"
 
 
 class Hashes:
@@ -61,19 +61,19 @@ class Hashes:
 
     def compare(self, image: pathlib.Path) -> None:
         """All that is compared of a volume."""
-        said = list(said_by(Image(image)))
-        status = 0 if all(it.is_whole for it in said) else 1
-        sets = [it for it in said if it.member is None]
+        said = [object_of(it, image) for it in said_by(Image(image))]
+        status = 0 if all(it["whole"] for it in said) else 1
+        sets = [it for it in said if "member" not in it]
         for options, wanted in ((("--members",), said), (("--sets",), sets), (("--sets", "--members"), said)):
             found, lines = self.hashes(image, *options)
             title = f"{image.name} {' '.join(options)}"
             self.comparison.same(f"{title} status", found, status, "Python")
             self.comparison.same(f"{title} number of lines", len(lines), len(wanted), "Python")
             for line, it in zip(lines, wanted):
-                self.comparison.same(title, line, line_of(it, image), "Python")
+                self.comparison.same(title, line, line_of(it), "Python")
             found, lines = self.hashes(image, *options, "--json")
             self.comparison.same(f"{title} --json status", found, status, "Python")
-            self.comparison.same(f"{title} --json", [json.loads(it) for it in lines], [object_of(it, image) for it in wanted], "Python")
+            self.comparison.same(f"{title} --json", [json.loads(it) for it in lines], wanted, "Python")
         self.compare_extracted(image, said)
 
     def compare_put(self, plan: volumes.Plan, folder: pathlib.Path) -> None:
@@ -87,36 +87,29 @@ class Hashes:
             wanted = blocks_hash(list(blocks), piece.is_whole)
             self.comparison.same(f"{image.name} {piece.file}", found.get(piece.file), wanted, "what was put there")
 
-    def compare_extracted(self, image: pathlib.Path, said: list[Said]) -> None:
-        """What has one hash is one thing to `dasd extract` too, and is told by it to be as whole."""
-        libraries = {it.name for it in said if it.member is not None}
+    def compare_extracted(self, image: pathlib.Path, said: list[dict[str, Any]]) -> None:
+        """What has one hash is one thing to `dasd extract` too. It takes no library out as one file."""
         with tempfile.TemporaryDirectory() as folder:
             readings.run(self.dasd, "extract", "--all", folder, image)
             for it in said:
-                if it.member is None and it.name in libraries:
-                    continue
-                taken = pathlib.Path(folder, it.name if it.member is None else f"{it.name}({it.member})")
+                taken = pathlib.Path(folder, object_name(it))
                 if taken.exists():
                     held = taken.read_bytes()
-                    self.comparison.same(f"{image.name} {taken.name} of one hash", held, self.raw.setdefault(it.digest, held), "another of it")
+                    self.comparison.same(f"{image.name} {taken.name} of one hash", held, self.raw.setdefault(it["hash"], held), "another of it")
 
 
-def main() -> int:
-    dasd = readings.program(__doc__)
-    comparison = readings.Comparison()
-    with tempfile.TemporaryDirectory() as name:
-        folder = pathlib.Path(name)
-        hashes = Hashes(comparison, dasd)
-        readings.run(sys.executable, TOP / "sample/make_sample.py", folder / "sample.ckd")
-        put_made(folder / "shared.ckd", "shared")
-        put_made(folder / "defective.ckd", "worn")
-        for plan in volumes.plans():
-            plan.make(folder)
-            hashes.compare_put(plan, folder)
-        for image in sorted(folder.glob("*.ckd")):
-            hashes.compare(image)
-    return comparison.end()
+def compare_all(comparison: readings.Comparison, dasd: str, folder: pathlib.Path) -> None:
+    """Each volume."""
+    hashes = Hashes(comparison, dasd)
+    readings.run(sys.executable, TOP / "sample/make_sample.py", folder / "sample.ckd")
+    put_made(folder / "shared.ckd", "shared")
+    put_made(folder / "defective.ckd", "worn")
+    for plan in volumes.plans():
+        plan.make(folder)
+        hashes.compare_put(plan, folder)
+    for image in sorted(folder.glob("*.ckd")):
+        hashes.compare(image)
 
 
 if __name__ == "__main__":
-    sys.exit(main())
+    sys.exit(readings.compared(__doc__, compare_all))

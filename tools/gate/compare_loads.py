@@ -19,10 +19,11 @@ from dataclasses import dataclass
 
 from tools import TOP
 from tools.common import hercules_readings as readings
+from tools.common.folder_texts import TEXT
 from tools.common.images import Image
+from tools.gate.compare_hashes import object_name
 from tools.make import hercules_volumes as volumes
 
-TEXT = "data_sets.txt"
 # So many tracks have the control blocks of each volume, and more than all tracks of its data sets are there.
 TABLE, CYLINDERS = 8, 60
 # A note that leads to no block of its member: its address, and the byte behind it.
@@ -31,14 +32,6 @@ NOTE = re.compile(r" @([0-9A-F]{6})/([0-9A-F]{2})( [0-9A-F]+)?$", re.M)
 LEFT_OUT = re.compile(r"data set \S+ ((DA|IS|X'[236-9A-F]...') |\S+ X'00' |.* extents X'..'$)", re.M)
 # The plans whose records are all cards in full blocks.
 CARDS_ALONE = ("SMALL1", "WIDE14")
-
-
-@dataclass
-class Hash:
-    """The hash of a data set or of a member, and whether it is whole."""
-
-    digest: str
-    is_whole: bool
 
 
 @dataclass(frozen=True)
@@ -60,11 +53,10 @@ class Loads:
     def __init__(self, comparison: readings.Comparison, dasd: str, folder: pathlib.Path):
         self.comparison, self.dasd, self.folder = comparison, dasd, folder
 
-    def hashes(self, image: pathlib.Path) -> dict[str, Hash]:
-        """The hashes of data sets and members by their names."""
-        lines = readings.run(self.dasd, "hash", "--members", "--json", image).stdout.decode().splitlines()[1:]
-        found = [json.loads(it) for it in lines]
-        return {it["name"] + (f"({it['member']})" if "member" in it else ""): Hash(it["hash"], it["whole"]) for it in found}
+    def hashes(self, image: pathlib.Path) -> dict[str, tuple[str, bool]]:
+        """The hashes of data sets and members by their names, and whether each is whole."""
+        lines = readings.run(self.dasd, "hash", "--members", "--json", image).stdout.splitlines()[1:]
+        return {object_name(it): (it["hash"], it["whole"]) for it in map(json.loads, lines)}
 
     def take(self, image: pathlib.Path, way: Way) -> pathlib.Path:
         """A folder with all of a volume, whose text says what can go onto another."""
@@ -75,8 +67,8 @@ class Loads:
         (taken / TEXT).write_text(NOTE.sub(lambda it: f" {it[1]}{it[2]}{(it[3] or '').strip()}", "".join(sets)), encoding="ascii")
         return taken
 
-    def put(self, taken: pathlib.Path, way: Way) -> pathlib.Path:
-        """A new volume with all of a folder."""
+    def put(self, taken: pathlib.Path, way: Way) -> tuple[pathlib.Path, list[str]]:
+        """A new volume with all of a folder, and the names of its data sets."""
         image = self.folder / f"{taken.name}.new"
         words = ["--model", way.model, "--cylinders", str(CYLINDERS), "--label", "AGAIN1", "--vtoc", str(TABLE)]
         readings.run(self.dasd, "format", image, *words)
@@ -84,19 +76,18 @@ class Loads:
         sets = [it.split()[2] for it in (taken / TEXT).read_text(encoding="ascii").splitlines() if it.startswith("data set ")]
         told = [it.split()[1] for it in done.stdout.decode().splitlines()]
         self.comparison.same(f"{taken} is loaded", (done.returncode, done.stderr, told), (0, b"", sets), "this script")
-        return image
+        return image, sets
 
     def compare(self, image: pathlib.Path, way: Way) -> None:
         """A volume and one that is made of it."""
         title = f"{image.name} {' '.join(way.words)} onto a {way.model}"
         taken = self.take(image, way)
-        new = self.put(taken, way)
-        loaded = {it.split()[2] for it in (taken / TEXT).read_text(encoding="ascii").splitlines() if it.startswith("data set ")}
+        new, loaded = self.put(taken, way)
         before, after = self.hashes(image), self.hashes(new)
         wanted = {name: it for name, it in before.items() if name.split("(")[0] in loaded}
         self.comparison.same(f"{title} names", list(after), list(wanted), "the volume before")
         for name, it in wanted.items():
-            if it.is_whole:
+            if it[1]:
                 self.comparison.same(f"{title} {name}", after.get(name), it, "the volume before")
         again = self.take(new, way)
         for file in sorted(taken.iterdir()):
@@ -106,7 +97,7 @@ class Loads:
         self.comparison.same(f"{title} vtoc", readings.run(self.dasd, "vtoc", new).returncode, 0, "this script")
         self.compare_by_hercules(title, image, new, loaded)
 
-    def compare_by_hercules(self, title: str, image: pathlib.Path, new: pathlib.Path, loaded: set[str]) -> None:
+    def compare_by_hercules(self, title: str, image: pathlib.Path, new: pathlib.Path, loaded: list[str]) -> None:
         """What Hercules' tools read of both."""
         _, before = readings.list_by_dasdls(image)
         serial, after = readings.list_by_dasdls(new)
@@ -131,24 +122,20 @@ class Loads:
                 self.comparison.same(f"{title}({name})", found, wanted, "dasdcat")
 
 
-def main() -> int:
-    dasd = readings.program(__doc__)
-    comparison = readings.Comparison()
-    with tempfile.TemporaryDirectory() as name:
-        folder = pathlib.Path(name)
-        loads = Loads(comparison, dasd, folder)
-        readings.run(sys.executable, TOP / "sample/make_sample.py", folder / "sample.ckd")
-        for plan in volumes.plans():
-            plan.make(folder)
-        for image in sorted(folder.glob("*.ckd")):
-            larger = [] if Image(image).volume.model.name == "2314" else ["2311"]
-            for model in [*larger, "2314"]:
-                loads.compare(image, Way(("--with-lengths",), model))
-            if image.stem in CARDS_ALONE:
-                loads.compare(image, Way(("--text",), "2314"))
-                loads.compare(image, Way((), "2314"))
-    return comparison.end()
+def compare_all(comparison: readings.Comparison, dasd: str, folder: pathlib.Path) -> None:
+    """Each volume."""
+    loads = Loads(comparison, dasd, folder)
+    readings.run(sys.executable, TOP / "sample/make_sample.py", folder / "sample.ckd")
+    for plan in volumes.plans():
+        plan.make(folder)
+    for image in sorted(folder.glob("*.ckd")):
+        larger = [] if Image(image).volume.model.name == "2314" else ["2311"]
+        for model in [*larger, "2314"]:
+            loads.compare(image, Way(("--with-lengths",), model))
+        if image.stem in CARDS_ALONE:
+            loads.compare(image, Way(("--text",), "2314"))
+            loads.compare(image, Way((), "2314"))
 
 
 if __name__ == "__main__":
-    sys.exit(main())
+    sys.exit(readings.compared(__doc__, compare_all))

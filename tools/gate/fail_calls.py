@@ -17,16 +17,15 @@ programs. Wanted is:
 - Where a file takes its place, it was synced before that. Its folder is synced right behind it, or behind the others of its save, where it replaces a file,
   before anything is written; and once behind all where files are new.
 - No command succeeds where a sync failed.
-- A file that keeps its place (`run`) has its old bytes until a mark stands in the place of its header. From then on it counts as new: what a reader
-  finds is whole, in its journal, `.dasd+` and its number, and the next run ends what was begun, says so and leaves no journal. A file without the mark is
-  whole, and the next run takes its journal away. The journal was synced before it got its name, its folder behind that and before the file is written,
-  the file before the journal goes, and the folder once more.
+- Files that keep their places (`run`) have their old bytes until the journal has its name, `.NAME.dasd-journal` beside the first. From then on they
+  count as new: what a reader finds is the files with what the journal says, and the next run ends what was begun, says so and leaves no journal and no
+  marker. The journal was synced before it got its name, its folder after that and before a file is written, the files before the journal goes, and the
+  folder once more.
 
 It runs crates/dasd_cmd/out/dasd_cmd, as `rt ci` leaves it; with --built FILE that program; with words behind, the commands whose names have one of them.
-The last line is 'N failures of N calls, M came out wrong', and the status 1 where M is not 0.
+The last line is 'N failures of N commands, M wrong', and the status 1 where M is not 0.
 """
 
-import argparse
 import errno
 import os
 import re
@@ -34,34 +33,27 @@ import shutil
 import subprocess
 import sys
 import tempfile
+from collections.abc import Callable, Iterable
 from concurrent.futures import ThreadPoolExecutor
 from dataclasses import dataclass, field
 from pathlib import Path
 from typing import NamedTuple
 
-from tools import TOP
+from conformance.suite.volumes import Volume
+from rows.player.started import deck_of
+from tools.gate import parser, told
+from tools.gate.lost_power import DRAFT
 from tools.gate.made_packs import put_made
-from tools.gate.scratch_files import WRITE, volume
 
 # How a call may fail, beside being killed there; with `on` behind it all calls of that name fail from there on, as those of a disk that has gone do: what
 # was read ahead in vain is read once more, just as much as is wanted.
 ERRORS = {
     "openat": ["EACCES", "EMFILE"],
-    "statx": ["EIO"],
-    "read": ["EIO", "EIO on", "EINTR"],
-    "pread64": ["EIO", "EIO on", "EINTR"],
-    "getdents64": ["EIO"],
     "write": ["EIO", "ENOSPC", "ENOSPC on", "EINTR"],
-    "ftruncate": ["EIO"],
-    "fsync": ["EIO"],
-    "fdatasync": ["EIO"],
-    "rename": ["EACCES"],
-    "link": ["EACCES"],
-    "unlink": ["EACCES"],
-    "flock": ["EIO"],
-    "fchmod": ["EPERM"],
-    "fchown": ["EPERM"],
-    "mkdir": ["EACCES"],
+    **dict.fromkeys(("read", "pread64"), ["EIO", "EIO on", "EINTR"]),
+    **dict.fromkeys(("statx", "getdents64", "ftruncate", "fsync", "fdatasync", "flock"), ["EIO"]),
+    **dict.fromkeys(("rename", "link", "unlink", "mkdir"), ["EACCES"]),
+    **dict.fromkeys(("fchmod", "fchown"), ["EPERM"]),
 }
 # What a fault of a read is called: that of a command's own file, that of a volume, and that of a file which a text loads.
 READ_FAULTS = ("read fault", "no file of this name could be read")
@@ -71,17 +63,12 @@ SAVE_FAULTS = ("write fault",)
 KILLED = "killed by "
 # The commands that change a volume.
 CHANGES = ("rename", "delete", "relabel", "load")
-KILL = ["KILL"]
-SIGNALS = [*KILL, "TERM", "INT", "HUP"]
+SIGNALS = ["KILL", "TERM", "INT", "HUP"]
 CALL = re.compile(r"^(?P<name>\w+)\((?P<words>.*)\)\s+= (?P<answer>-?\d+)")
 PATH = re.compile(r'"((?:[^"\\]|\\.)*)"')
-DRAFT = ".dasd-"
-JOURNAL = ".dasd+"
-# The record of a save of several files, and what it holds once that counts.
-RECORD = ".dasd="
-COUNTS = b"dasd=all"
-# What a file begins with while others of its bytes are written over: of a file that is saved alone, and of several.
-MARKS = (b"dasd+cut", b"dasd+all")
+# The end of the name of a journal, and of a marker that leads to one; and what a journal begins with.
+JOURNAL = ".dasd-journal"
+WHOLE = b"dasdsav\1"
 
 
 @dataclass
@@ -100,12 +87,12 @@ class Command:
     def signals(self) -> list[str]:
         """The signals by which it is ended at each call."""
         writes = self.words[0] in ("format", "run", *CHANGES) or "--to" in self.words or "--all" in self.words
-        return SIGNALS if writes else KILL
+        return SIGNALS if writes else SIGNALS[:1]
 
 
 def deck_for(unit: str) -> bytes:
     """A deck that writes a record of the volume of this unit."""
-    return str(WRITE.format(data="D5D6D7D8", unit=unit)).encode()
+    return deck_of("writes", f"D5D6D7D8 {unit}")
 
 
 # The words that say what a data set is loaded from.
@@ -123,11 +110,11 @@ COMMANDS = [
     Command("format over a file", ["format", "one.ckd", "--cylinders", "2"]),
     Command("format a new file with a label", ["format", "new.ckd", "--cylinders", "1", "--label", "ABC123"]),
     Command("format with a label", ["format", "one.ckd", "--cylinders", "1", "--label", "ABC123"]),
-    Command("run", ["run", "90=one.ckd", "91=two.ckd"], deck_for("190") + deck_for("191")),
+    Command("run over two volumes", ["run", "90=one.ckd", "91=two.ckd"], deck_for("190") + deck_for("191")),
     Command("run with a trace", ["run", "--trace-to", "trace", "90=one.ckd"], deck_for("190")),
-    Command("run --replace", ["run", "--replace", "90=one.ckd", "91=two.ckd"], deck_for("190") + deck_for("191")),
+    Command("run --replace over two volumes", ["run", "--replace", "90=one.ckd", "91=two.ckd"], deck_for("190") + deck_for("191")),
     Command("list", ["list", "pack.ckd"]),
-    Command("list a pipe", ["list", "/dev/stdin"], volume(cylinders=2)),
+    Command("list a pipe", ["list", "/dev/stdin"], Volume.new("2311", 2).bytes()),
     Command("check", ["check", "pack.ckd"]),
     Command("check --strict", ["check", "--strict", "pack.ckd"]),
     Command("dump", ["dump", "pack.ckd", "0", "2"]),
@@ -145,7 +132,7 @@ COMMANDS = [
     Command("load --replace", ["load", "--replace", "pack.ckd", "NEW.CARDS", *CARDS]),
     Command("load --member", ["load", "pack.ckd", "SYS1.MACLIB", "--member", "NEW", "--from", "cards"]),
     Command("load --all", ["load", "--all", "in", "--text", "pack.ckd"]),
-    Command("relabel", ["relabel", "pack.ckd", "--label", "ABC123", "--owner", "SIXAMBRA"]),
+    Command("relabel", ["relabel", "pack.ckd", "--label", "ABC124", "--owner", "SIXAMBRA"]),
     Command("explain", ["explain", "csw", "00000428", "0E000320"]),
     Command("assemble", ["assemble"], b" ORG X'48'\n DC A(START)\nSTART TIC START\n SIO 190\n"),
     Command("assemble with a file", ["assemble"], b" LOAD C'core'\n SHOW 0 4\n"),
@@ -185,9 +172,9 @@ class Failure(NamedTuple):
 
 def fill(folder: Path) -> None:
     """The files that each command begins with."""
-    (folder / "one.ckd").write_bytes(volume(data="C1C2C3C4"))
-    (folder / "same.ckd").write_bytes(volume(data="C1C2C3C4"))
-    (folder / "two.ckd").write_bytes(volume(cylinders=2))
+    put_made(folder / "one.ckd", "one record")
+    put_made(folder / "same.ckd", "one record")
+    (folder / "two.ckd").write_bytes(Volume.new("2311", 2).bytes())
     put_made(folder / "pack.ckd", "three data sets")  # those of which there is no finding
     with open(folder / "pack.ckd", "r+b") as pack:  # a reserved byte of the header, which a strict check tells
         pack.seek(20)
@@ -215,57 +202,65 @@ def kept_drafts(dasd: Path, folder: Path) -> list[str]:
     return kept
 
 
-def owner_of(journal: Path) -> Path:
-    """The file that a journal belongs to."""
-    number = int(journal.name.removeprefix(JOURNAL))
-    return next(it for it in journal.parent.iterdir() if it.stat().st_ino == number)
+def is_journal(path: str | Path) -> bool:
+    """Whether a name is a journal's, or a marker's."""
+    name = os.path.basename(path)
+    return name.startswith(".") and name.endswith(JOURNAL)
+
+
+def whole_files(journal: Path) -> dict[str, bytes]:
+    """The files that a journal names, each with what is saved of it."""
+    body = journal.read_bytes()[48:]
+
+    def number() -> int:
+        nonlocal body
+        first, body = body[:8], body[8:]
+        return int.from_bytes(first, "big")
+
+    def string() -> bytes:
+        nonlocal body
+        size = number()
+        first, body = body[:size], body[size:]
+        return first
+
+    names = []
+    for _ in range(number()):
+        names.append(string().decode())
+        for _ in range(4):
+            number()
+    held = {name: bytearray((journal.parent / name).read_bytes()) for name in names}
+    for _ in range(number()):
+        name, at, saved = names[number()], number(), string()
+        held[name][at : at + len(saved)] = saved
+    return {name: bytes(it) for name, it in held.items()}
 
 
 def ended_saves(dasd: Path, folder: Path) -> list[str]:
-    """Has the next commands read and write the files that have journals; what was wrong with that."""
+    """Has the next commands read and write the files of journals; what was wrong with that."""
     wrong = []
-    for journal in sorted(folder.glob(f"{JOURNAL}*")):
-        file = owner_of(journal)
-        held = file.read_bytes()
-        record = journal.with_name(RECORD + journal.name.removeprefix(JOURNAL))
-        if held.startswith(MARKS[1]) and not record.read_bytes().startswith(COUNTS):
-            wrong += taken_back(dasd, folder, file, journal)
-            continue
-        if not held.startswith(MARKS):
-            done = subprocess.run([str(dasd), "run", "--verbose", f"90={file.name}"], cwd=folder, input=b"", capture_output=True, timeout=60, check=False)
-            if done.returncode or b"the file is whole" not in done.stderr or journal.exists() or file.read_bytes() != held:
-                wrong.append(f"{file.name} has no mark: status {done.returncode}, {done.stderr!r}")
-            continue
-        (folder / "whole").write_bytes(journal.read_bytes()[: len(held)])
-        for words, status, said in (
-            (["compare", "--verbose", file.name, "whole"], 0, "is read in its place"),
-            (["run", "--verbose", "--no-save", f"90={file.name}"], 0, "is read in its place"),
-            (["run", "--verbose", f"90={file.name}"], 0, "a save of it was cut off, and is ended"),
-        ):
-            done = subprocess.run([str(dasd), *words], cwd=folder, input=b"", capture_output=True, timeout=60, check=False)
-            if done.returncode != status or said not in done.stderr.decode():
-                wrong.append(f"{words}: status {done.returncode}, {done.stdout!r}, {done.stderr!r}")
-        if journal.exists() or file.read_bytes() != (folder / "whole").read_bytes():
-            wrong.append(f"{file.name} is not what its journal held, or that stays")
-        (folder / "whole").unlink()
-    return wrong
+    left = [it for it in folder.iterdir() if is_journal(it)]
+    for journal in [it for it in left if it.read_bytes().startswith(WHOLE)]:
+        files = whole_files(journal)
+        for name, held in files.items():
+            (folder / "whole").write_bytes(held)
+            wrong += said_of(dasd, folder, ["compare", "--verbose", name, "whole"], "is read in its place")
+            wrong += said_of(dasd, folder, ["run", "--verbose", "--no-save", f"90={name}"], "is read in its place")
+            (folder / "whole").unlink()
+        last = list(files)[-1]
+        wrong += said_of(dasd, folder, ["run", "--verbose", f"90={last}"], "a save of it was cut off, and is ended")
+        wrong += [f"{name} is not what its journal held" for name, held in files.items() if (folder / name).read_bytes() != held]
+    for it in left:
+        if it.exists():
+            wrong += said_of(dasd, folder, ["run", f"90={it.name.removesuffix(JOURNAL)[1:]}"], "")
+    return wrong + [f"{it.name} stays" for it in left if it.exists()]
 
 
-def taken_back(dasd: Path, folder: Path, file: Path, journal: Path) -> list[str]:
-    """Has the next commands read and write a file whose save with others does not count; what was wrong with that."""
-    held = journal.read_bytes()
-    size = file.stat().st_size
-    old = bytes(one ^ other for one, other in zip(held[:size], held[size : 2 * size]))
-    (folder / "whole").write_bytes(old)
-    wrong = []
-    for words, said in ((["compare", file.name, "whole"], ""), (["run", "--verbose", f"90={file.name}"], "is taken back")):
-        done = subprocess.run([str(dasd), *words], cwd=folder, input=b"", capture_output=True, timeout=60, check=False)
-        if done.returncode or said not in done.stderr.decode():
-            wrong.append(f"{words}: status {done.returncode}, {done.stdout!r}, {done.stderr!r}")
-    if journal.exists() or file.read_bytes() != old:
-        wrong.append(f"{file.name} is not what it was, or its journal stays")
-    (folder / "whole").unlink()
-    return wrong
+def said_of(dasd: Path, folder: Path, words: list[str], said: str) -> list[str]:
+    """What is wrong with a command that should succeed, and say this."""
+    done = subprocess.run([str(dasd), *words], cwd=folder, input=b"", capture_output=True, timeout=60, check=False)
+    if done.returncode or said not in done.stderr.decode():
+        return [f"{words}: status {done.returncode}, {done.stdout!r}, {done.stderr!r}"]
+    return []
 
 
 def play(dasd: Path, command: Command, tracing: list[str]) -> Came:
@@ -275,7 +270,8 @@ def play(dasd: Path, command: Command, tracing: list[str]) -> Came:
         fill(folder)
         words = ["strace", "-qq", *tracing, str(dasd), *command.words, "--verbose"]
         done = subprocess.run(words, cwd=folder, input=command.given, capture_output=True, timeout=60, check=False)
-        unread = ["a journal stays, and no fault is told"] if done.returncode == 0 and any(folder.glob(f"{JOURNAL}*")) else ended_saves(dasd, folder)
+        stays = done.returncode == 0 and any(map(is_journal, folder.iterdir()))
+        unread = ["a journal stays, and no fault is told"] if stays else ended_saves(dasd, folder)
         return Came(done.returncode, done.stdout, done.stderr, files_in(folder), kept_drafts(dasd, folder), unread)
 
 
@@ -431,11 +427,11 @@ def unsynced(lines: list[str]) -> list[str]:
         elif name == "link" and os.path.basename(paths[1]).startswith(DRAFT):
             continue  # a second name of an old file, from which that is put back
         elif name in ("rename", "link"):
-            if name == "link" or os.path.basename(paths[1]).startswith(JOURNAL):  # several files replace others in a row
+            if name == "link" or is_journal(paths[1]):  # several files replace others in a row
                 seen.go_on()
             if call["answer"] == "0":
-                seen.place(paths[0], paths[1], name == "rename" or os.path.basename(paths[1]).startswith(RECORD))
-        elif name == "unlink" and os.path.basename(paths[0]).startswith((JOURNAL, RECORD)):
+                seen.place(paths[0], paths[1], name == "rename")
+        elif name == "unlink" and is_journal(paths[0]):
             seen.end(paths[0])
     return seen.wrong + [f"the folder of {file} is not synced behind it" for file in seen.owed]
 
@@ -458,29 +454,27 @@ def try_command(dasd: Path, command: Command, pool: ThreadPoolExecutor) -> tuple
     return len(failures), wrong
 
 
-def main() -> None:
-    """Reads the words, and tries each command."""
-    words = argparse.ArgumentParser(description=__doc__, formatter_class=argparse.RawDescriptionHelpFormatter)
-    words.add_argument("--built", type=Path, default=TOP / "crates" / "dasd_cmd" / "out" / "dasd_cmd")
+# Has a pool try commands of a program: of each how much was tried, and what came out wrong.
+Trying = Callable[[Path, list[Command], ThreadPoolExecutor], Iterable[tuple[int, list[str]]]]
+
+
+def try_all(doc: str | None, commands: list[Command], what: str, trying: Trying) -> int:
+    """Tries each command that the words of a tool ask for, and counts what was tried; the status."""
+    words = parser(doc)
     words.add_argument("--jobs", type=int, default=os.cpu_count() or 1)
     words.add_argument("names", nargs="*", metavar="COMMAND")
     given = words.parse_args()
-    if not shutil.which("strace") or not given.built.exists():
-        sys.exit("fail_calls.py: it wants strace, and the built program")
-    dasd = given.built.resolve()
-    count, wrong = 0, []
-    chosen = [it for it in COMMANDS if not given.names or any(name in it.name for name in given.names)]
+    if not shutil.which("strace"):
+        sys.exit("no strace here: apt-get install strace")
+    count, wrong = 0, list[str]()
+    chosen = [it for it in commands if not given.names or any(name in it.name for name in given.names)]
     with ThreadPoolExecutor(given.jobs) as pool:
-        for command in chosen:
-            tried, found = try_command(dasd, command, pool)
-            print(f"{command.name}: {tried} failures, {len(found)} wrong", flush=True)
+        for command, (tried, found) in zip(chosen, trying(given.built, chosen, pool)):
+            print(f"{command.name}: {tried} {what}, {len(found)} wrong", flush=True)
             count += tried
             wrong += found
-    for line in wrong:
-        print(line)
-    print(f"{count} failures of {len(chosen)} commands' calls, {len(wrong)} came out wrong")
-    sys.exit(1 if wrong else 0)
+    return told(wrong, f"{count} {what} of {len(chosen)} commands")
 
 
 if __name__ == "__main__":
-    main()
+    sys.exit(try_all(__doc__, COMMANDS, "failures", lambda dasd, chosen, pool: (try_command(dasd, it, pool) for it in chosen)))

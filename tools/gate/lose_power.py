@@ -11,19 +11,16 @@ must be wrong.
 It runs crates/dasd_cmd/out/dasd_cmd, as `rt ci` leaves it; with --built FILE that program; with words after these, the commands whose names have one
 of them. The last line is 'N disks of N commands, M wrong', and the status 1 where M is not 0."""
 
-import argparse
 import os
-import shutil
 import subprocess
 import sys
 import tempfile
 from collections.abc import Iterator
-from concurrent.futures import ThreadPoolExecutor
 from dataclasses import dataclass
 from pathlib import Path
 
 from tools import TOP
-from tools.gate.fail_calls import CARDS, deck_for, fill
+from tools.gate.fail_calls import CARDS, CHANGES, COMMANDS, Command, deck_for, fill, try_all
 from tools.gate.lost_power import TRACED, Call, Node, State, Sync, Traced, states
 
 # From how many of the disks of a command the next run is cut off too.
@@ -33,41 +30,25 @@ MANY = ["--from", "many", *CARDS[2:], "--text"]
 ASIDE = "aside"
 
 
-@dataclass(frozen=True)
-class Writer:
-    """A command by its words, the volumes that it writes, each by its files, and what it reads."""
-
-    name: str
-    words: list[str]
-    volumes: list[list[str]]
-    given: bytes = b""
-
-    def parts(self) -> bool:
-        """Whether it saves its files one by one."""
-        return "--replace" in self.words and len(sum(self.volumes, [])) > 1
-
-
-ONE, TWO, PACK, BIG = ["one.ckd"], ["two.ckd"], ["pack.ckd"], ["big_1.ckd", "big_2.ckd"]
-BOTH = deck_for("190") + deck_for("191")
+BIG = ["big_1.ckd", "big_2.ckd"]
+# Those of COMMANDS that write volumes.
+OTHERS = ["run over two volumes", "run --replace over two volumes", "format over a file", *CHANGES, "load --replace", "load --member", "load --all"]
 WRITERS = [
-    Writer("run", ["run", "90=one.ckd"], [ONE], deck_for("190")),
-    Writer("run over two volumes", ["run", "90=one.ckd", "91=two.ckd"], [ONE, TWO], BOTH),
-    Writer("run --replace", ["run", "--replace", "90=one.ckd"], [ONE], deck_for("190")),
-    Writer("run --replace over two volumes", ["run", "--replace", "90=one.ckd", "91=two.ckd"], [ONE, TWO], BOTH),
-    Writer("format over a file", ["format", "one.ckd", "--cylinders", "2"], [ONE]),
-    Writer("rename", ["rename", "pack.ckd", "PAY.CARDS", "PAY.OLD"], [PACK]),
-    Writer("delete", ["delete", "pack.ckd", "PAY.CARDS"], [PACK]),
-    Writer("relabel", ["relabel", "pack.ckd", "--label", "ABC124", "--owner", "SIXAMBRA"], [PACK]),
-    Writer("load", ["load", "pack.ckd", "NEW.CARDS", *CARDS], [PACK]),
-    Writer("load --replace", ["load", "--replace", "pack.ckd", "NEW.CARDS", *CARDS], [PACK]),
-    Writer("load --member", ["load", "pack.ckd", "SYS1.MACLIB", "--member", "NEW", "--from", "cards"], [PACK]),
-    Writer("load --all", ["load", "--all", "in", "--text", "pack.ckd"], [PACK]),
-    Writer("load onto two files", ["load", *BIG, "NEW.CARDS", *MANY], [BIG]),
-    Writer("load --replace onto two files", ["load", "--replace", *BIG, "NEW.CARDS", *MANY], [BIG]),
-    Writer("delete in two files", ["delete", *BIG, "SAMPLE.STOCK"], [BIG]),
+    Command("run", ["run", "90=one.ckd"], deck_for("190")),
+    Command("run --replace", ["run", "--replace", "90=one.ckd"], deck_for("190")),
+    *(it for it in COMMANDS if it.name in OTHERS),
+    Command("load onto two files", ["load", *BIG, "NEW.CARDS", *MANY]),
+    Command("load --replace onto two files", ["load", "--replace", *BIG, "NEW.CARDS", *MANY]),
+    Command("delete in two files", ["delete", *BIG, "SAMPLE.STOCK"]),
 ]
 
 Held = dict[str, bytes]
+
+
+def volumes_of(writer: Command) -> list[list[str]]:
+    """The volumes that a command writes, each by its files: a run's are of one file each."""
+    files = [it.split("=")[-1] for it in writer.words if it.endswith(".ckd")]
+    return [[it] for it in files] if writer.words[0] == "run" else [files]
 
 
 class Room:
@@ -120,13 +101,13 @@ class Room:
             lines = Path(trace.name).read_text(encoding="ascii").splitlines()
         return Traced(self.folder, dict(disk.names)).read(lines)
 
-    def held(self, writer: Writer) -> Held:
+    def held(self, writer: Command) -> Held:
         """What the files of a command's volumes hold."""
-        return {name: (self.folder / name).read_bytes() for volume in writer.volumes for name in volume}
+        return {name: (self.folder / name).read_bytes() for volume in volumes_of(writer) for name in volume}
 
-    def hashes(self, writer: Writer) -> list[bytes]:
+    def hashes(self, writer: Command) -> list[bytes]:
         """What a reader says of each volume."""
-        return [self.dasd_says("hash", *volume).stdout for volume in writer.volumes]
+        return [self.dasd_says("hash", *volume).stdout for volume in volumes_of(writer)]
 
 
 @dataclass
@@ -137,19 +118,19 @@ class Ends:
     hashes: tuple[list[bytes], list[bytes]]
 
 
-def next_run(writer: Writer) -> list[str]:
+def next_run(writer: Command) -> list[str]:
     """The words of a run that changes nothing, over the same volumes."""
-    return ["run", "--verbose", *(f"9{at}={name}" for at, volume in enumerate(writer.volumes) for name in volume)]
+    return ["run", "--verbose", *(f"9{at}={name}" for at, volume in enumerate(volumes_of(writer)) for name in volume)]
 
 
 def has_parted(found: Held, ends: tuple[Held, Held]) -> bool:
-    """Whether each file is its old or its new one, and not all are the same."""
+    """Whether each of several files is its old or its new one, and not all are the same."""
     return found not in ends and all(found[name] in (ends[0][name], ends[1][name]) for name in found)
 
 
-def wrong_with(room: Room, writer: Writer, ends: Ends) -> str | None:
+def wrong_with(room: Room, writer: Command, ends: Ends) -> str | None:
     """What is wrong with the disk that is laid out, if anything is."""
-    if writer.parts() and has_parted(room.held(writer), ends.held):
+    if "--replace" in writer.words and has_parted(room.held(writer), ends.held):
         return None
     hashes = room.hashes(writer)
     if hashes not in ends.hashes:
@@ -162,7 +143,7 @@ def wrong_with(room: Room, writer: Writer, ends: Ends) -> str | None:
     return None if room.hashes(writer) == hashes else "the next run leaves other volumes than a reader found before it"
 
 
-def disks(room: Room, writer: Writer, calls: list[Call]) -> Iterator[State]:
+def disks(room: Room, writer: Command, calls: list[Call]) -> Iterator[State]:
     """The disks that a loss of power leaves: in the command, and then in the next run after some of these."""
     left = list(states(room.begun, calls))
     yield from left
@@ -171,7 +152,7 @@ def disks(room: Room, writer: Writer, calls: list[Call]) -> Iterator[State]:
         yield from states(disk, room.trace(next_run(writer), b"", disk))
 
 
-def notices_no_sync(room: Room, writer: Writer, ends: Ends, calls: list[Call]) -> bool:
+def notices_no_sync(room: Room, writer: Command, ends: Ends, calls: list[Call]) -> bool:
     """Whether a disk is found wrong where the first sync of a command is left out."""
     first = next(at for at, call in enumerate(calls) if isinstance(call, Sync))
     for disk in states(room.begun, calls[:first] + calls[first + 1 :]):
@@ -181,7 +162,7 @@ def notices_no_sync(room: Room, writer: Writer, ends: Ends, calls: list[Call]) -
     return False
 
 
-def try_writer(dasd: Path, writer: Writer) -> tuple[int, list[str]]:
+def try_writer(dasd: Path, writer: Command) -> tuple[int, list[str]]:
     """How many disks of a command were looked at, and what was wrong with them."""
     with tempfile.TemporaryDirectory(prefix="lose_power-") as folder:
         room = Room(dasd, Path(folder))
@@ -201,27 +182,5 @@ def try_writer(dasd: Path, writer: Writer) -> tuple[int, list[str]]:
         return count, [f"{writer.name}: {number} times: {said}" for said, number in wrong.items()]
 
 
-def main() -> None:
-    """Reads the words, and tries each command."""
-    words = argparse.ArgumentParser(description=__doc__, formatter_class=argparse.RawDescriptionHelpFormatter)
-    words.add_argument("--built", type=Path, default=TOP / "crates" / "dasd_cmd" / "out" / "dasd_cmd")
-    words.add_argument("--jobs", type=int, default=os.cpu_count() or 1)
-    words.add_argument("names", nargs="*", metavar="COMMAND")
-    given = words.parse_args()
-    if not shutil.which("strace") or not given.built.exists():
-        sys.exit("lose_power.py: it wants strace, and the built program")
-    chosen = [it for it in WRITERS if not given.names or any(name in it.name for name in given.names)]
-    count, wrong = 0, list[str]()
-    with ThreadPoolExecutor(given.jobs) as pool:
-        for writer, (tried, found) in zip(chosen, pool.map(lambda it: try_writer(given.built.resolve(), it), chosen)):
-            print(f"{writer.name}: {tried} disks, {len(found)} kinds of faults", flush=True)
-            count += tried
-            wrong += found
-    for line in wrong:
-        print(line)
-    print(f"{count} disks of {len(chosen)} commands, {len(wrong)} wrong")
-    sys.exit(1 if wrong else 0)
-
-
 if __name__ == "__main__":
-    main()
+    sys.exit(try_all(__doc__, WRITERS, "disks", lambda dasd, chosen, pool: pool.map(lambda it: try_writer(dasd, it), chosen)))

@@ -83,29 +83,19 @@ class State:
     names: dict[str, Node]
     held: dict[Node, bytes]
 
-    def copy(self) -> "State":
-        """The same disk, to be changed."""
-        return State(dict(self.names), dict(self.held))
-
-    def do(self, part: Part) -> "State":
-        """Does a part of what was asked for."""
-        if isinstance(part, Lead):
-            if part.before is not None and self.names.get(part.before) == part.node:
-                del self.names[part.before]
-            if part.node is None:
-                self.names.pop(part.path, None)
-            else:
-                self.names[part.path] = part.node
-        else:
-            self.held[part.node] = part.on(self.held.get(part.node, b""))
-        return self
-
     def after(self, parts: list[Part]) -> "State":
         """The disk after these parts."""
-        new = self.copy()
+        names, held = dict(self.names), dict(self.held)
         for part in parts:
-            new.do(part)
-        return new
+            if not isinstance(part, Lead):
+                held[part.node] = part.on(held.get(part.node, b""))
+                continue
+            if part.before is not None and names.get(part.before) == part.node:
+                del names[part.before]
+            names.pop(part.path, None)
+            if part.node is not None:
+                names[part.path] = part.node
+        return State(names, held)
 
     def key(self) -> tuple[tuple[str, Node, int], ...]:
         """What tells it from another one. What is in a hidden draft nobody reads."""

@@ -9,7 +9,6 @@ Behind each, what was printed, the pack's bytes, and what `dasd extract` takes o
 shares no code with `dasd`: the layouts are those of System Control Blocks (GC28-6628), 'Data Set Control Block', and what goes on a track is by the
 capacities of the 2841 and the 2314."""
 
-import argparse
 import random
 import subprocess
 import sys
@@ -19,13 +18,11 @@ from dataclasses import dataclass
 from pathlib import Path
 
 from conformance.suite.volumes import Record
-from tools import TOP
 from tools.common.images import Image, Place
 from tools.common.said_sets import Block
 from tools.common.volume_layouts import Run, ebcdic
-from tools.gate.chance_files import FORMATS, Form, Refused, check, file_by_chance, form_by_chance
+from tools.gate.chance_files import FORMATS, Form, Refused, asked_for, check, file_by_chance, form_by_chance, same
 
-BUILT = TOP / "crates" / "dasd_cmd" / "out" / "dasd_cmd"
 # What a command did: its status, what it printed, and what it said on standard error.
 Ended = tuple[int, str, str]
 # How many changes a pack gets.
@@ -274,24 +271,12 @@ class Player:
         return self.chance.choice([*pack.taken, *pack.taken, "NOT.THERE"])
 
 
-def same(got: object, want: object, what: str) -> None:
-    """Ends where something is not as it must be."""
-    if got != want:
-        sys.exit(f"play_changes.py: {what}: {got}, and not {want}")
-
-
 def main() -> None:
     """Reads the words, and plays packs until so many loads were made."""
-    words = argparse.ArgumentParser(description=__doc__, formatter_class=argparse.RawDescriptionHelpFormatter)
-    words.add_argument("--built", type=Path, default=BUILT)
-    words.add_argument("--changes", type=int, default=500)
-    words.add_argument("--seed", type=int, default=1)
-    said = words.parse_args()
-    if not said.built.exists():
-        sys.exit(f"there is no {said.built}")
+    said = asked_for(__doc__, "changes", 500)
     with tempfile.TemporaryDirectory() as folder:
-        player = Player(said.built.resolve(), said.seed, Path(folder))
-        while player.changes < said.changes:
+        player = Player(said.built, said.seed, Path(folder))
+        while player.changes < said.number:
             player.pack()
     print(f"play_changes: {player.changes} changes, of which {player.done} were done, came out as the model says")
 

@@ -6,22 +6,18 @@ A folder has sequential data sets and libraries of forms by chance, with keys, a
 onto a new pack of either drive; then the pack must say the folder's text again, and have each data set and member block by block, as Python reads them
 (tools/common/folder_texts.py, tools/common/said_sets.py), `dasd vtoc` must find nothing, and `dasd extract --all` must give the same files."""
 
-import argparse
 import random
 import subprocess
-import sys
 import tempfile
 from dataclasses import dataclass, field
 from pathlib import Path
 
-from tools import TOP
 from tools.common.folder_texts import TEXT, folder_text
 from tools.common.images import Image
 from tools.common.record_forms import with_lengths
 from tools.common.said_sets import Block, blocks_hash, said_by
-from tools.gate.chance_files import Form, block_by_chance, records_by_chance
+from tools.gate.chance_files import Form, asked_for, block_by_chance, records_by_chance, same
 
-BUILT = TOP / "crates" / "dasd_cmd" / "out" / "dasd_cmd"
 CAPACITIES = {"2311": 3625, "2314": 7294}
 LETTERS, BEHIND = "$#@ABXZ", "$#@AZ059"
 DAYS = ("-", "1974-365", "2026-001")
@@ -147,25 +143,13 @@ class Player:
         return run.stdout
 
 
-def same(got: object, want: object, what: str) -> None:
-    """Ends where something is not as it must be."""
-    if got != want:
-        sys.exit(f"play_folders.py: {what}: {got}, and not {want}")
-
-
 def main() -> None:
     """Reads the words, and plays so many folders."""
-    words = argparse.ArgumentParser(description=__doc__, formatter_class=argparse.RawDescriptionHelpFormatter)
-    words.add_argument("--built", type=Path, default=BUILT)
-    words.add_argument("--folders", type=int, default=60)
-    words.add_argument("--seed", type=int, default=1)
-    said = words.parse_args()
-    if not said.built.exists():
-        sys.exit(f"there is no {said.built}")
-    player = Player(said.built.resolve(), said.seed)
-    for number in range(1, said.folders + 1):
+    said = asked_for(__doc__, "folders", 60)
+    player = Player(said.built, said.seed)
+    for number in range(1, said.number + 1):
         player.play(number)
-    print(f"play_folders: {said.folders} folders with {player.sets} data sets and {player.members} entries of libraries came out as they went in")
+    print(f"play_folders: {said.number} folders with {player.sets} data sets and {player.members} entries of libraries came out as they went in")
 
 
 if __name__ == "__main__":

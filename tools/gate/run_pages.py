@@ -12,7 +12,6 @@ The program is crates/dasd_cmd/out/dasd_cmd, or FILE. What an example needs besi
 an example whose need is not there, or is costly and not asked for by `--with`, is not run, and named. The last line is 'N examples of M
 pages run, K came out wrong, L not run', and the status 1 where K is not 0."""
 
-import argparse
 import functools
 import os
 import re
@@ -25,6 +24,7 @@ from dataclasses import dataclass
 from pathlib import Path
 
 from tools import TOP
+from tools.gate import parser
 from tools.gate.page_examples import BadPage, Example, is_printed, of_help, read
 
 HELP = "--help"
@@ -66,39 +66,19 @@ class Need:
     is_costly: bool = False
 
 
-def has(*commands: str) -> Callable[[], bool]:
-    """Whether there are such commands."""
-    return lambda: all(shutil.which(it) for it in commands)
-
-
-def has_library() -> bool:
-    """Whether a program of C can be linked with the library."""
-    return (TOP / "libdasd.a").exists() and bool(shutil.which("cc")) and bool(shutil.which("pkg-config"))
-
-
-def has_drive() -> bool:
-    """Whether a program of C can be linked with a drive alone."""
-    return (TOP / "libdasd_drive.a").exists() and bool(shutil.which("cc"))
-
-
-def has_module() -> bool:
-    """Whether the program's module for WebAssembly can be run."""
-    return (TOP / "web/out/program.wasm").exists() and bool(shutil.which("node"))
-
-
-def has_shared() -> bool:
-    """Whether there is the shared library."""
-    return (TOP / "libdasd.so.1").exists()
+def has(*names: str) -> Callable[[], bool]:
+    """Whether there are such commands, and such files of the repository: these have a period in their names."""
+    return lambda: all((TOP / it).exists() if "." in it else shutil.which(it) for it in names)
 
 
 NEEDS = {
     "kit": Need("the kit", has("rt"), True),
-    "library": Need("libdasd.a, which `make` makes, a C compiler and pkg-config", has_library),
-    "shared": Need("libdasd.so.1, which `make` makes", has_shared),
-    "drive": Need("libdasd_drive.a, which `make` makes, and a C compiler", has_drive),
-    "web": Need("web/out/program.wasm, which `make -C web` makes, and node", has_module),
+    "library": Need("libdasd.a, which `make` makes, a C compiler and pkg-config", has("libdasd.a", "cc", "pkg-config")),
+    "shared": Need("libdasd.so.1, which `make` makes", has("libdasd.so.1")),
+    "drive": Need("libdasd_drive.a, which `make` makes, and a C compiler", has("libdasd_drive.a", "cc")),
+    "web": Need("web/out/program.wasm, which `make -C web` makes, and node", has("web/out/program.wasm", "node")),
     "check": Need("half a minute, and not `make check`, which runs the other examples", has("make"), True),
-    "page": Need("compiled/dasd.wasm, which `release/check --write` makes", (TOP / "compiled/dasd.wasm").exists),
+    "page": Need("compiled/dasd.wasm, which `release/check --write` makes", has("compiled/dasd.wasm")),
     "hercules": Need("Hercules", has("hercules"), True),
     "sqlite3": Need("sqlite3", has("sqlite3")),
     "release": Need("the files of a release", lambda: False),
@@ -259,21 +239,18 @@ def forgotten() -> list[str]:
 
 def main() -> int:
     """Runs the pages that are named, or all."""
-    words = argparse.ArgumentParser(description="Runs the examples of the pages.")
-    words.add_argument("--built", default=str(TOP / "crates/dasd_cmd/out/dasd_cmd"), metavar="FILE", help="the program dasd")
+    words = parser(__doc__)
     words.add_argument("--with", action="append", default=[], dest="asked", metavar="WORD", help="runs examples with this costly need too")
     words.add_argument("pages", nargs="*", metavar="PAGE", help="pages, and 'help' for --help; without any, all")
     given = words.parse_args()
-    dasd, count = Path(given.built).resolve(), Count()
-    if not dasd.is_file():
-        sys.exit(f"there is no {dasd}")
+    count = Count()
     pages = [HELP if it == "help" else it for it in given.pages] or PAGES
     for page in [] if given.pages else forgotten():
         count.wrong += 1
         print(f"{page} has examples, and is not among the pages of tools/gate/run_pages.py")
     for page in pages:
         try:
-            run_page(page, dasd, given.asked, count)
+            run_page(page, given.built, given.asked, count)
         except BadPage as why:
             count.wrong += 1
             print(why)

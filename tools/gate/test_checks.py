@@ -1,84 +1,27 @@
-"""Tests of assumptions.py, check_crates.py, check_documents.py, check_messages.py, check_version.py, inline_marks.py, map.py and sharpness.py,
-over small repositories of their own:
-`tools/gate/test_checks.py`."""
+"""Tests of the checks: the rows of rows/data/checks, and what no row can say of check_crates.py, check_formats.py, check_messages.py,
+check_version.py, check_words.py, page_examples.py, lost_power.py, map.py, assumptions.py, inline_marks.py and sharpness.py;
+and the table of code page 037: `tools/run gate/test_checks`."""
 
 import contextlib
 import io
+import os
+import re
 import tempfile
 import unittest
 from collections.abc import Mapping
+from concurrent.futures import ThreadPoolExecutor
 from pathlib import Path
-from types import ModuleType
 from unittest import mock
 
-from tools.gate import check_crates, check_documents, check_messages, check_version
-from tools.make import assumptions, inline_marks, rules
+from rows.player.files import all_rows
+from rows.player.text import Skipped
+from tools import TOP
+from tools.gate import check_crates, check_formats, check_messages, check_version, check_words, page_examples, run_pages
+from tools.gate.lost_power import Call, Lead, State, Sync, Traced, Write, states
+from tools.make import assumptions, inline_marks
 from tools.make import map as crate_map
 from tools.measure import sharpness
 
-PAGES = {
-    "crates.txt": "# crates\nlow:\n",
-    "VERSION": "2.3.4\n",
-    "README.md": "Version 2.3.4.\n\n[the map](docs/MAP.md)\n",
-    "CHANGELOG.md": "# Changes\n\n## 2.3.4\n\n## 2.3.3\n",
-    "docs/MAP.md": "| Crate |\n|---|\n| `low` |\n\n## Which definitions live where\n\n| a word | `low/specs/Word.antt`, `Other.antt` |\n",
-    "crates/low/README.md": "# `low`\n\n| Proved | By |\n|---|---|\n| a word | `read`, `Word::read` in `src/lib.rt` |\n",
-    "crates/low/src/lib.rt": "pub fn read() {}\n",
-    "crates/low/specs/Word.antt": "",
-    "crates/low/specs/Other.antt": "",
-}
-# An index of two rules of a suite, a sentence and a law.
-RULES = {
-    "conformance/rules.txt": "rule seek\n  says    Seek takes a word\n  manual  2841 and 2314, Seek; Principles of Operation, Busy\n"
-    "rule units\n  says    Units are counted\n  profile  units\n",
-    "conformance/vectors/seeks.vectors": "vector seek-by-units\n  rule  seek\n  rule  units\nvector seek-outside\n  rule  seek\n",
-    "conformance/FORMAT.md": "",
-    "docs/CONFORMANCE.md": "",
-    "docs/DEFINITIONS.md": """# Definitions
-
-## Words (`low Word`)
-
-1. A word is a number (`word`), and it has
-   a sign. More is not said.
-
-## Laws (`crates/s360_laws/src/laws.rt`)
-
-**`all_end`.** Each word ends. *For you:* read it.
-
-## What no law says
-
-## What pins a rule that no law says
-
-| words | `low/src/worked.rt` |
-""",
-    "crates/low/specs/Word.antt": "abbrev pub word : Word\nword = 1\n",
-    "crates/low/src/lib.rt": "pub fn read() {}\n\nimpl Word {\n    pub fn new() {}\n}\n",
-    "crates/low/src/worked.rt": "",
-    "crates/s360_laws/specs/Laws.antt": "abbrev pub AllEnd : Type 0\n",
-    "crates/s360_laws/src/laws.rt": "pub fn all_end()\n    ensures { AllEnd }\n{}\n",
-    "tools/make/rule_places.txt": """# places
-subject Seeks
-rule seek
-  words   cylinder
-  defined low Word word
-  done    low lib.rt new
-  worked  low worked.rt
-rule units
-  defined low Word word
-  done    low lib.rt Word::new read
-says A word is
-  defined low Word word
-  done    low lib.rt read
-  rules   seek
-  vectors seek-outside
-law all_end
-  words   busy
-""",
-}
-# Whose the small repository is.
-PEOPLE = "MAINTAINER='A'\n"
-OWN: dict[str, str | None] = {"LICENSE": "Copyright (c) A\n", "CITATION.cff": '- name: "A"\n'}
-SENTENCE = "A word is a number (`word`), and it"
 COPIES = {"README.md": check_version.COPIES["README.md"], "CHANGELOG.md": check_version.COPIES["CHANGELOG.md"]}
 # A crate with wrong bodies of two functions, one of which reads as the other does, and three that can't stand beside a right one.
 BODIES = {
@@ -120,192 +63,36 @@ def write(top: str, files: Mapping[str, str | None]) -> None:
             page.write_text(text, encoding="utf-8")
 
 
-class Checks(unittest.TestCase):
-    """What each script prints of a repository in which one file is another."""
-
-    def run_check(self, script: ModuleType, changed: dict[str, str | None]) -> tuple[int, list[str]]:
-        """Its status, and its lines."""
-        with tempfile.TemporaryDirectory() as folder:
-            write(folder, {**PAGES, **changed})
-            printed = io.StringIO()
-            with mock.patch.object(script, "TOP", Path(folder)), contextlib.redirect_stdout(printed):
-                status = script.main()
-            return status, printed.getvalue().splitlines()
-
-    def finds(self, script: ModuleType, changed: dict[str, str | None], *lines: str) -> None:
-        """It prints these lines, and the last one counts them."""
-        status, printed = self.run_check(script, changed)
-        self.assertEqual(printed[:-1], list(lines))
-        self.assertTrue(printed[-1].endswith(f", {len(lines)} wrong"), printed[-1])
-        self.assertEqual(status, 1 if lines else 0)
-
-    def test_sound_documents(self) -> None:
-        self.finds(check_documents, {})
-
-    def test_crate_without_page_and_row(self) -> None:
-        self.finds(check_documents, {"crates.txt": "low:\nhigh: low\n"}, "crates/high: no README.md", "docs/MAP.md: no row of high")
-
-    def test_address_that_is_not_set(self) -> None:
-        names: dict[str, str | None] = {**OWN, "release/identity": f"{PEOPLE}REPOSITORY='https://example.invalid/dasd.git'\n"}
-        self.finds(check_documents, names, "README.md does not say that there is no public address yet")
-        names["README.md"] = "There is no public address yet: https://example.invalid/dasd.git\n"
-        self.finds(check_documents, names, "README.md: an address that is not set")
-
-    def test_address_that_the_page_lacks(self) -> None:
-        names: dict[str, str | None] = {**OWN, "release/identity": f"{PEOPLE}REPOSITORY='https://a.example/dasd.git'\n"}
-        self.finds(check_documents, names, "README.md has not the repository's address of release/identity")
-        names["README.md"] = "https://a.example/dasd.git\n"
-        self.finds(check_documents, names)
-        self.finds(check_documents, {**names, "LICENSE": "Copyright (c) B\n"}, "LICENSE does not name A, as release/identity does")
-        self.finds(
-            check_documents,
-            {**names, "rust/Cargo.toml": 'authors = ["B <b@b.example>"]\n'},
-            "rust/Cargo.toml has an address that is not taken from release/identity",
-        )
-
-    def test_link_to_nothing(self) -> None:
-        self.finds(check_documents, {"README.md": "[times](docs/TIMES.md)\n"}, "README.md: nothing at docs/TIMES.md")
-
-    def test_files_that_are_not_there(self) -> None:
-        self.finds(
-            check_documents,
-            {"crates/low/specs/Word.antt": None, "crates/low/specs/Other.antt": None},
-            "docs/MAP.md: no file crates/low/specs/Word.antt",
-            "docs/MAP.md: no file crates/low/specs/Other.antt",
-        )
-
-    def test_must_fail_edits(self) -> None:
-        edit = {"crates/low/must-fail/always_the_first.edit": "file: src/lib.rt\n"}
-        self.finds(check_documents, {**edit, "tools/edits/README.md": "| it answers the first | `low/always_the_first` |\n"})
-        self.finds(
-            check_documents,
-            {**edit, "tools/edits/README.md": "| it answers the last | `low/always_the_last` |\n"},
-            "tools/edits/README.md: no row of low/always_the_first",
-            "tools/edits/README.md: no must-fail edit low/always_the_last",
-        )
-
-    def test_name_that_is_not_the_crates(self) -> None:
-        self.finds(
-            check_documents,
-            {"crates/low/src/lib.rt": "pub fn write() {}\n"},
-            "crates/low/README.md: read is no name of the crate",
-            "crates/low/README.md: Word::read is no name of the crate",
-        )
-
-    def test_versions(self) -> None:
-        with mock.patch.object(check_version, "COPIES", COPIES):
-            self.finds(check_version, {})
-            self.finds(check_version, {"README.md": "Version 2.3.3.\n"}, "README.md: 2.3.3, and VERSION has 2.3.4")
-            self.finds(check_version, {"README.md": "\n"}, "README.md: no version, and VERSION has 2.3.4")
-
-
-class RuleIndex(unittest.TestCase):
-    """What `check_documents.py` says of the index of rules."""
-
-    def page(self, folder: str, changed: Mapping[str, str]) -> Path:
-        """The page of a repository that is made in a folder."""
-        write(folder, {**PAGES, **RULES, **changed})
-        page = Path(folder, "docs", "RULES.md")
-        page.write_text(rules.look_at(Path(folder))[2], encoding="utf-8")
-        return page
-
-    def finds(self, changed: Mapping[str, str], *lines: str, stale: str = "") -> None:
-        """It prints these lines of a repository in which files are others, with something behind the page."""
-        printed = io.StringIO()
-        with tempfile.TemporaryDirectory() as folder:
-            with self.page(folder, changed).open("a", encoding="utf-8") as page:
-                page.write(stale)
-            with mock.patch.object(check_documents, "TOP", Path(folder)), contextlib.redirect_stdout(printed):
-                self.assertEqual(check_documents.main(), 1 if lines else 0)
-        self.assertEqual(printed.getvalue().splitlines()[:-1], list(lines))
-
-    def finds_in(self, file: str, old: str, new: str, *lines: str) -> None:
-        """It prints these lines where a file has other words."""
-        self.assertEqual(RULES[file].count(old), 1)
-        self.finds({file: RULES[file].replace(old, new)}, *lines)
-
-    def test_page(self) -> None:
-        with tempfile.TemporaryDirectory() as folder:
-            lines = self.page(folder, {}).read_text(encoding="utf-8").splitlines()
-        word, new = "[`low Word.word`](../crates/low/specs/Word.antt)", "[`low::Word::new`](../crates/low/src/lib.rt)"
-        read, worked = "[`low::read`](../crates/low/src/lib.rt)", "[`low::worked`](../crates/low/src/worked.rt)"
-        law = ("[`s360_laws Laws.AllEnd`](../crates/s360_laws/specs/Laws.antt)", "[`s360_laws::laws::all_end`](../crates/s360_laws/src/laws.rt)")
-        two = "seek-outside (seeks), seek-by-units (seeks)"
-        manuals, first = "  - Topic: 2841 and 2314, Seek; PoO, Busy", f"  - Definition: {word}"
-        for entry in (
-            ["- **seek**: Seek takes a word", manuals, first, f"  - Function: {new}", f"  - Vectors: 2: {two}; by hand: {worked}"],
-            ["- **units**: Units are counted", "  - Topic: *profile*, `units`", first, f"  - Function: {new}, {read}", "  - Vectors: 1: seek-by-units (seeks)"],
-            [f"- {SENTENCE} has a sign.", manuals, first, f"  - Function: {read}", "  - Vectors: seek-outside (seeks); of [seek](#seeks)"],
-            ["- **`all_end`**: Each word ends.", "  - Topic: none", f"  - Definition: {law[0]}", f"  - Function: {law[1]}", "  - Vectors: none"],
-            ["- **B**", "  - Busy: [seek](#seeks), [all_end](#laws)", "- **C**", "  - cylinder: [seek](#seeks)"],
-            ["- **seek**, 2: [seeks](../conformance/vectors/seeks.vectors): seek-outside, seek-by-units"],
-        ):
-            place = lines.index(entry[0])
-            self.assertEqual(lines[place : place + len(entry)], entry)
-
-    def test_sound_index(self) -> None:
-        self.finds({})
-
-    def test_stale_page(self) -> None:
-        self.finds({}, "docs/RULES.md is not what tools/make/rules.py writes", stale="\n")
-
-    def test_definition_that_is_not_there(self) -> None:
-        lines = [f"{row}: no definition low Word.word" for row in ("seek", "units", SENTENCE)]
-        self.finds({"crates/low/specs/Word.antt": "abbrev pub number : Word\n"}, *lines)
+class Rows(unittest.TestCase):
+    """The rows of checks, each in a small repository of its own."""
 
     def test_rows(self) -> None:
-        file, places = "rows/player/seeks.py", "tools/make/rule_places.txt"
-        more = RULES[places].replace("  worked  low worked.rt\n", f"  worked  low worked.rt\n  rows    {file}\n", 1)
-        self.assertNotEqual(more, RULES[places])
-        self.finds({places: more}, f"seek: no file {file}", f"docs/RULES.md: nothing at ../{file}")
-        self.finds({places: more, file: ""})
+        with ThreadPoolExecutor() as pool:
+            playing = {name: pool.submit(play) for name, play in all_rows("", "checks")}
+        for name, it in playing.items():
+            with self.subTest(name):
+                why = it.exception()
+                if isinstance(why, Skipped):
+                    self.skipTest(str(why))
+                self.assertIsNone(why, f"{vars(why)}" if why else None)
 
-    def test_functions(self) -> None:
-        places = "tools/make/rule_places.txt"
-        self.finds_in(places, "Word::new read", "Word::old", "units: no function Word::old in crates/low/src/lib.rt")
-        twice = RULES["crates/low/src/lib.rt"] + "\nimpl Other {\n    fn new() {}\n}\n"
-        line = "seek: several functions new in crates/low/src/lib.rt: Word::new, Other::new"
-        self.finds({"crates/low/src/lib.rt": twice}, line)
 
-    def test_vectors(self) -> None:
-        self.finds_in("tools/make/rule_places.txt", "seek-outside", "seek-inside", f"{SENTENCE}: no vector seek-inside of seek")
-        self.finds_in("conformance/vectors/seeks.vectors", "  rule  units\n", "", "units: no vector pins it")
-        self.finds_in("conformance/vectors/seeks.vectors", "  rule  units\n", "  rule  units\n  rule  halt\n", "no rule halt in rules.txt, which vectors name")
+class Versions(unittest.TestCase):
+    """What is said of copies of the version."""
 
-    def test_rules_without_a_row(self) -> None:
-        more = RULES["conformance/rules.txt"] + "rule halt\n  says    Halt ends it\n  manual  Principles of Operation, Halt I/O\n"
-        self.finds({"conformance/rules.txt": more}, "the rule halt has no rows", "halt: no vector pins it")
+    def finds(self, page: str, *lines: str) -> None:
+        """It prints these lines of a repository with this page, and the last one counts them."""
+        printed = io.StringIO()
+        with tempfile.TemporaryDirectory() as folder, mock.patch.multiple(check_version, TOP=Path(folder), COPIES=COPIES):
+            write(folder, {"VERSION": "2.3.4\n", "README.md": page, "CHANGELOG.md": "# Changes\n\n## 2.3.4\n\n## 2.3.3\n"})
+            with contextlib.redirect_stdout(printed):
+                self.assertEqual(check_version.main(), 1 if lines else 0)
+        self.assertEqual(printed.getvalue().splitlines()[:-1], list(lines))
 
-    def test_rows_that_lack_something(self) -> None:
-        places = "tools/make/rule_places.txt"
-        self.finds_in(places, "  done    low lib.rt read\n", "", f"{SENTENCE}: no function")
-        self.finds_in(places, "  words   busy\n", "  other   busy\n", "rule_places.txt: no such word: other")
-        self.finds_in(places, "  worked  low worked.rt\n", "", "docs/DEFINITIONS.md: no row has low/src/worked.rt")
-
-    def test_definitions_without_a_row(self) -> None:
-        page = "docs/DEFINITIONS.md"
-        other = {page: RULES[page].replace("More is", "Or (`other`) more is")}
-        self.finds(other)
-        other["crates/low/specs/Other.antt"] = "abbrev pub other : Word\n"
-        self.finds(other, "docs/DEFINITIONS.md: no row has other")
-        line = "docs/DEFINITIONS.md: no row of the paragraph that begins with A byte is no word."
-        self.finds_in(page, "## Laws", "A byte is no word.\n\n## Laws", line)
-        self.finds_in(page, "(`low Word`)", "(`low Word`, `Other`)", "docs/DEFINITIONS.md: no row has a definition of low Other")
-
-    def test_sentences_and_laws_that_are_not_there(self) -> None:
-        page = "docs/DEFINITIONS.md"
-        self.finds_in(
-            page,
-            "A word is",
-            "Words are",
-            "rule_places.txt: no sentence of docs/DEFINITIONS.md begins with A word is",
-            "docs/DEFINITIONS.md: no row of the paragraph that begins with Words are a number (`word`), and it has",
-        )
-        law = "crates/s360_laws/src/laws.rt"
-        self.finds({law: RULES[law] + RULES[law].replace("all_end", "none_ends")}, "docs/DEFINITIONS.md: nothing of the law none_ends of s360_laws")
-
-    def test_headings_that_are_one(self) -> None:
-        self.finds_in("tools/make/rule_places.txt", "subject Seeks", "subject Words", "docs/RULES.md: several headings at #words")
+    def test_versions(self) -> None:
+        self.finds("Version 2.3.4.\n")
+        self.finds("Version 2.3.3.\n", "README.md: 2.3.3, and VERSION has 2.3.4")
+        self.finds("\n", "README.md: no version, and VERSION has 2.3.4")
 
 
 class WrongBodies(unittest.TestCase):
@@ -478,6 +265,133 @@ class Messages(unittest.TestCase):
         for folder in ("/" + "tmp/x", "/" + "home/me", "room" + "/x"):
             self.finds(f"Merge branch 'next' of {folder}", "It brings the rows.", "9f 8e", "folder")
             self.finds("rows: more", f"As in {folder} seen.", "9f", "folder")
+
+
+class CodePage(unittest.TestCase):
+    """The table of code page 037 in the definitions is Python's."""
+
+    def test_characters(self) -> None:
+        table = (TOP / "crates/volume_labels/specs/Ebcdic.antt").read_text(encoding="utf-8").split("code_page_037 =")[1].split("[]")[0]
+        self.assertEqual([int(it, 16) for it in re.findall(r"0x([0-9A-F]{2})", table)], [ord(it) for it in bytes(range(256)).decode("cp037")])
+
+
+class PageWords(unittest.TestCase):
+    """What is counted in a page, and what is wrong with it."""
+
+    PAGE = """# A page; its heading
+
+It is behind `behind`; "behind". Where
+it [is](behind.md), *it* is told.
+
+```sh
+echo behind; echo
+```
+
+| behind | a cell; `behind` |
+> behind
+<!-- tool: begin -->
+behind anew
+<!-- tool: end -->
+"""
+
+    def test_counts(self) -> None:
+        count = check_words.count_of(self.PAGE)
+        self.assertEqual(count.hits, ((3, "behind"), (3, "Where it"), (4, "is told"), (10, "behind")))
+        self.assertEqual((count.words, count.prose, count.sentences), (40, 11, 2))
+        self.assertEqual((count.written, round(count.semicolons * 23)), (30, 3000))
+        self.assertEqual(check_words.count_of(self.PAGE, "docs/HERCULES.md").written, 25)
+
+    def test_list(self) -> None:
+        count = check_words.count_of("word " * 150)
+        entries = {"crates/a/README.md": check_words.lowered("crates/a/README.md", count, check_words.Allowed(200, 3)), "b.md": check_words.Allowed(None, 2)}
+        self.assertEqual(check_words.written_list(entries), check_words.HEAD + "b.md - 2\n")
+
+
+class Pages(unittest.TestCase):
+    """What of pages no row says."""
+
+    def test_page_that_was_forgotten(self) -> None:
+        with tempfile.TemporaryDirectory() as folder:
+            pages = {"README.md": "```sh\nls\n```\n", "docs/NEW.md": "Text.\n\n```console\n$ ls\n```\n"}
+            write(folder, {**pages, "docs/DRAWN.md": "```text\nls\n```\n", "crate/low/README.md": "```sh needs=kit\nls\n```\n"})
+            with mock.patch.object(run_pages, "TOP", Path(folder)):
+                self.assertEqual(run_pages.forgotten(), ["crate/low/README.md", "docs/NEW.md"])
+
+    def test_quotes_of_a_manual_page(self) -> None:
+        manual = ".Dd January 1, 2026\n.Dt PAGE 1\n.Os\n.Sh NAME\n.Nm page\n.Nd a page\n"
+        manual += ".Sh EXAMPLES\n.Bd -literal -offset indent\ndasd list \\(aqpack.ckd\\(aq\n.Ed\n.Sh SEE ALSO\n"
+        self.assertEqual(page_examples.of_manual("page", manual)[0].script.splitlines()[0], "dasd list 'pack.ckd'")
+
+    def test_lines_that_are_cut(self) -> None:
+        for found, wanted, is_so in (
+            ("", "", True),
+            ("", "...", True),
+            ("a", "", False),
+            ("a b c", "... c", True),
+            ("a b c", "a ...", True),
+            ("a b c", "... b", False),
+            ("a b b c", "a ... b c", True),
+        ):
+            self.assertEqual(page_examples.is_printed(found.split(), wanted.split()), is_so, (found, wanted))
+
+
+class Power(unittest.TestCase):
+    """Which disks a loss of power leaves."""
+
+    begun = State({"old": 0}, {0: b"A" * 1024})
+
+    def held(self, *calls: Call) -> set[tuple[tuple[str, bytes], ...]]:
+        """What the files of these disks hold, each byte once."""
+        found = states(self.begun, list(calls))
+        return {tuple((name, bytes(sorted(set(it.held.get(node, b""))))) for name, node in sorted(it.names.items())) for it in found}
+
+    def test_write(self) -> None:
+        part = Write(0, 0, b"B" * 1024)
+        self.assertEqual(self.held(part), {(("old", b"A"),), (("old", b"B"),), (("old", b"AB"),)})
+
+    def test_synced_write_is_there(self) -> None:
+        part, other = Write(0, 0, b"B" * 1024), Lead("new", 1)
+        found = self.held(part, Sync(0), other)
+        self.assertEqual({it for it in found if len(it) == 2}, {(("new", b""), ("old", b"B"))})
+
+    def test_name_that_moved_is_here_or_there(self) -> None:
+        draft: list[Call] = [Lead("draft", 1), Write(1, 0, b"C"), Sync(1), Sync(".")]
+        found = self.held(*draft, Lead("old", 1, "draft"))
+        self.assertIn((("old", b"C"),), found)
+        self.assertIn((("draft", b"C"), ("old", b"A")), found)
+        self.assertNotIn((("draft", b"C"),), found)
+
+    def test_calls_of_a_program(self) -> None:
+        with tempfile.TemporaryDirectory() as folder:
+            lines = [
+                'openat(AT_FDCWD, "\\x6f\\x6c\\x64", O_RDWR) = 3',
+                'write(3, "\\x42\\x43", 2) = 1',
+                'pwrite64(3, "\\x44", 1, 7) = 1',
+                "fsync(3) = 0",
+                'unlink("\\x6f\\x6c\\x64") = 0',
+            ]
+            found = Traced(Path(folder), {"old": 0}).read(lines)
+        wanted = [Write(0, 0, b"B"), Write(0, 7, b"D"), Sync(0), Lead("old", None)]
+        self.assertEqual(found, wanted)
+
+
+class Formats(unittest.TestCase):
+    """Which files `rt fmt` would change: here a command of that name that takes doubled blanks out of src/lib.rt, and wants HANDLES."""
+
+    def test_crates(self) -> None:
+        with tempfile.TemporaryDirectory() as folder:
+            top, command = Path(folder), Path(folder) / "bin" / "rt"
+            for name, text in (("plain", "pub fn read() {}\n"), ("wide", "pub  fn read() {}\n")):
+                (top / "crates" / name / "src").mkdir(parents=True)
+                (top / "crates" / name / "src" / "lib.rt").write_text(text)
+            (top / "HANDLES").write_text("none\n")
+            (top / "crates.txt").write_text("plain:\nwide:\n")
+            command.parent.mkdir()
+            command.write_text("#!/bin/sh\n[ \"$1\" = fmt ] && [ -e ../../HANDLES ] && sed -i 's/  */ /g' src/lib.rt\n")
+            command.chmod(0o755)
+            with mock.patch.dict(os.environ, {"PATH": f"{command.parent}:{os.environ['PATH']}"}):
+                self.assertEqual(list(check_formats.all_differing(top, ["plain", "wide"])), ["crates/wide/src/lib.rt"])
+            self.assertEqual((top / "crates" / "wide" / "src" / "lib.rt").read_text(), "pub  fn read() {}\n")
 
 
 if __name__ == "__main__":

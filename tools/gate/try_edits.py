@@ -19,6 +19,7 @@ import tempfile
 from pathlib import Path
 
 from tools import TOP
+from tools.gate import told
 
 EDITS = TOP / "tools" / "edits"
 
@@ -39,14 +40,11 @@ def unfit(edit: Path, crate: Path) -> str | None:
 
 
 def look_at_texts() -> int:
-    """Prints each edit that does not fit; how many."""
+    """Prints each edit that does not fit; the status."""
     edits = [(it, TOP / "crates" / it.parent.name) for it in sorted(EDITS.glob("*/*.edit"))]
     edits += [(it, it.parent.parent) for it in sorted((TOP / "crates").glob("*/must-fail/*.edit"))]
-    wrong = [(edit, why) for edit, crate in edits if (why := unfit(edit, crate))]
-    for edit, why in wrong:
-        print(f"{edit.relative_to(TOP)}: {why}")
-    print(f"{len(edits)} edits looked at, {len(wrong)} wrong")
-    return len(wrong)
+    faults = (f"{edit.relative_to(TOP)}: {why}" for edit, crate in edits if (why := unfit(edit, crate)))
+    return told(faults, f"{len(edits)} edits looked at")
 
 
 def copy_of(top: Path, room: Path) -> None:
@@ -90,7 +88,7 @@ def put_edits(room: Path, crates: list[str]) -> int:
 def main() -> None:
     """Reads the words, and tries the edits in a copy."""
     if sys.argv[1:] == ["--texts"]:
-        sys.exit(1 if look_at_texts() else 0)
+        sys.exit(look_at_texts())
     crates = sys.argv[1:] or sorted(it.name for it in EDITS.iterdir())
     if any(it.startswith("-") for it in crates):
         sys.exit(__doc__)

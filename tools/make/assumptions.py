@@ -27,7 +27,7 @@ Every function of every crate is proved safe and total: no overflow, no bad inde
 - **Two C files of a release**, `heap.c` and `system.c`, in place of the kit's; the C library and the operating system.
 - **The host's files**: that a read gives what the file holds, that a write changes those bytes alone, and what `fsync`, `rename`, `link` and `flock` promise. `host_files` and `file_journals` call them; `gate/fail_calls` lets each call fail.
 - **The definitions**: that they are what the machine did. They cite the Principles of Operation and the component descriptions of 2841 and 2314, and claim nothing of an IBM machine where they say *(profile)*.
-- **Memory**: a call may answer that there is none. The kit's allocator has no ghost, so no clause says that memory was refused when a call says so; tests refuse each taking in turn.
+- **Memory**: a call may answer that there is none. The kit's allocator has no ghost, so no clause says that memory was refused when a call says so, nor that memory is found while there is some. Tests refuse each taking in turn.
 
 ## Functions without a clause
 

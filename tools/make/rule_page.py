@@ -3,12 +3,12 @@
 import re
 from itertools import groupby
 
-from tools.make.rule_rows import Index, Place, Row
+from tools.make.rule_rows import DEFINITIONS, SUITE, VOLUMES, Index, Place, Row
 
 HEAD = """# The index of rules
 
-Look for a word in the list from A to Z, or go to the subject. Each rule of the [conformance suite](CONFORMANCE.md) and of
-[the definitions](DEFINITIONS.md) has
+Look for a word in the list from A to Z, or go to the subject. Each rule of the [conformance suite](CONFORMANCE.md), of
+[the definitions](DEFINITIONS.md) and of [volumes](LABELS.md) has
 
 - its topic in the manual. *PoO* is *IBM System/360 Principles of Operation*, GA22-6821. *2841 and 2314* are the component descriptions GA26-5988 and
   GA26-3599. *profile* is a choice of this project, listed in [FORMAT.md](../conformance/FORMAT.md)
@@ -22,7 +22,7 @@ Look for a word in the list from A to Z, or go to the subject. Each rule of the 
 ## Subjects
 
 """
-SUITE, DEFINITIONS, ALL = "The rules of the suite", "The rules of the definitions", "The vectors of each rule"
+ALL = "The vectors of each rule"
 MANUALS = ("Principles of Operation", "2841 and 2314")
 # How many vectors a row shows.
 SHOWN = 3
@@ -53,6 +53,8 @@ class Page:
 
     def topics(self, row: Row) -> str:
         """The topics of a rule's manuals; those of a definition are those of the rules that it is about."""
+        if row.part == VOLUMES:
+            return "; ".join(row.manuals)
         by_manual: dict[str, list[str]] = {}
         for rule in [row.name] if row.is_of_suite else row.rules:
             for kind, source in self.index.sources.get(rule, []):
@@ -92,18 +94,19 @@ class Page:
             links = ", ".join(f"[`{crate}::{file.removesuffix('.rt')}`](../crates/{crate}/src/{file})" for crate, file in row.worked)
             parts.append(f"by hand: {links}")
         if row.pinned_by:
-            parts.append("rows: " + ", ".join(f"[`{file}`](../{file})" for file in row.pinned_by))
+            parts.append(("" if row.part == VOLUMES else "rows: ") + ", ".join(f"[`{file}`](../{file})" for file in row.pinned_by))
         return "; ".join(parts) or "none"
 
     def entry(self, row: Row) -> str:
         """A rule with its places, a line each."""
-        says = f"**{row.name}**: {row.says}" if row.is_of_suite else ", ".join(f"**`{name}`**" for name in row.names) + row.says
-        places = {"Topic": self.topics(row), "Definition": self.definitions(row.defined), "Function": self.functions(row.done), "Vectors": self.vectors(row)}
+        says = f"**{row.name}**: {row.says}" if row.part != DEFINITIONS else ", ".join(f"**`{name}`**" for name in row.names) + row.says
+        places = {"Topic": self.topics(row), "Definition": self.definitions(row.defined), "Function": self.functions(row.done)}
+        places["Rows" if row.part == VOLUMES else "Vectors"] = self.vectors(row)
         return f"- {says}\n" + "".join(f"  - {kind}: {place}\n" for kind, place in places.items())
 
-    def entries(self, is_of_suite: bool) -> str:
-        """All subjects of the suite's rules, or of the others, with their rules."""
-        rows = [row for row in self.index.rows if row.is_of_suite == is_of_suite]
+    def entries(self, part: str) -> str:
+        """All subjects of a part's rules, with their rules."""
+        rows = [row for row in self.index.rows if row.part == part]
         parts = []
         for section, found in groupby(rows, lambda row: row.section):
             parts.append(f"### {section}\n\n{''.join(map(self.entry, found))}")
@@ -112,8 +115,8 @@ class Page:
     def subjects(self) -> str:
         """The list of subjects."""
         lines = []
-        for title, is_of_suite in ((SUITE, True), (DEFINITIONS, False)):
-            sections = dict.fromkeys(row.section for row in self.index.rows if row.is_of_suite == is_of_suite)
+        for title in (SUITE, DEFINITIONS, VOLUMES):
+            sections = dict.fromkeys(row.section for row in self.index.rows if row.part == title)
             links = "; ".join(f"[{section}]({link_to(section)})" for section in sections)
             lines.append(f"- [{title}]({link_to(title)}): {links}\n")
         return "".join(lines)
@@ -146,12 +149,14 @@ class Page:
 def page_of(index: Index) -> str:
     """The page's text."""
     page = Page(index)
-    suite = sum(row.is_of_suite for row in index.rows)
+    suite, volumes = (sum(row.part == part for row in index.rows) for part in (SUITE, VOLUMES))
     vectors = {vector for pinned in index.vectors.values() for vector in pinned}
     parts = [HEAD, page.subjects(), "\n## From A to Z\n\n", page.words()]
-    parts += [f"\n## {SUITE}\n\n", page.entries(True), f"\n## {DEFINITIONS}\n\n"]
+    parts += [f"\n## {SUITE}\n\n", page.entries(SUITE), f"\n## {DEFINITIONS}\n\n"]
     parts += ["The words are those of [DEFINITIONS.md](DEFINITIONS.md), which also says of each law what it gives you and what it does not say. ",
-              "The topics and the vectors are those of the suite's rules that the rule is about.\n\n", page.entries(False)]
+              "The topics and the vectors are those of the suite's rules that the rule is about.\n\n", page.entries(DEFINITIONS)]
+    parts += [f"\n## {VOLUMES}\n\n", page.entries(VOLUMES)] if volumes else []
     parts += [f"\n## {ALL}\n\n", page.all_vectors()]
-    parts.append(f"\n{suite} rules of the suite, {len(index.rows) - suite} of the definitions, {len(vectors)} vectors.\n")
+    definitions = len(index.rows) - suite - volumes
+    parts.append(f"\n{suite} rules of the suite, {definitions} of the definitions, {volumes} of volumes, {len(vectors)} vectors.\n")
     return "".join(parts)

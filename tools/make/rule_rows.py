@@ -8,9 +8,10 @@ from pathlib import Path
 
 # The crates and the files of their src that have the laws of docs/DEFINITIONS.md.
 LAWS = (("s360_laws", "run_laws.rt"), ("s360_laws", "laws.rt"))
+# The parts of the index.
+SUITE, DEFINITIONS, VOLUMES = "The rules of the suite", "The rules of the definitions", "The rules of volumes"
 # What ends the definitions and laws of that page.
 LAST = "## What no law says"
-PINS = "## What pins a rule that no law says"
 
 CODE = re.compile(r"`([A-Za-z_]\w*)`")
 DEFINITION = re.compile(r"^(?:(?:abbrev|pub|record|data|unfoldable) )*([A-Za-z_]\w*)", re.M)
@@ -54,14 +55,16 @@ class Section:
 
 @dataclass
 class Row:
-    """A rule: of the suite, with its name; a law, with the names that are before it; or a sentence of the definitions."""
+    """A rule: of the suite or of volumes, with its name; a law, with the names that are before it; or a sentence of the definitions."""
 
+    part: str
     section: str
     name: str = ""
     names: list[str] = field(default_factory=list)
     says: str = ""
     paragraph: str = ""
-    is_of_suite: bool = False
+    # Of a rule of volumes its sources.
+    manuals: list[str] = field(default_factory=list)
     words: list[str] = field(default_factory=list)
     defined: list[Place] = field(default_factory=list)
     done: list[Place] = field(default_factory=list)
@@ -69,6 +72,11 @@ class Row:
     pinned_by: list[str] = field(default_factory=list)
     rules: list[str] = field(default_factory=list)
     vectors: list[str] = field(default_factory=list)
+
+    @property
+    def is_of_suite(self) -> bool:
+        """Whether the suite has it."""
+        return self.part == SUITE
 
     def title(self) -> str:
         """What it is called where something is wrong with it."""
@@ -159,8 +167,7 @@ class Index:
         self.said: dict[str, str] = {}
         self.sources: dict[str, list[tuple[str, str]]] = {}
         self._read_rules()
-        page = self.tree.text("docs", "DEFINITIONS.md")
-        self.sections, self.pins = sections_of(page), page.partition(PINS)[2]
+        self.sections = sections_of(self.tree.text("docs", "DEFINITIONS.md"))
         self._read_places()
         self.vectors = self._read_vectors()
 
@@ -185,9 +192,11 @@ class Index:
             if word == "subject":
                 subject = rest
             elif word == "rule":
-                self.rows.append(Row(subject, rest, says=self.said.get(rest, ""), is_of_suite=True))
+                self.rows.append(Row(SUITE, subject, rest, says=self.said.get(rest, "")))
                 if rest not in self.said:
                     self.wrong.append(f"rule_places.txt: no rule {rest} in rules.txt")
+            elif word == "volume":
+                self.rows.append(Row(VOLUMES, subject, rest, words=[rest]))
             elif word in ("law", "says"):
                 self.rows.append(self._law(rest) if word == "law" else self._sentence(rest))
             else:
@@ -198,6 +207,10 @@ class Index:
     def _read_field(self, row: Row, word: str, rest: str) -> None:
         if word == "words":
             row.words += rest.split("; ")
+        elif word == "text":
+            row.says = rest
+        elif word == "manual":
+            row.manuals.append(rest)
         elif word == "rows":
             row.pinned_by += rest.split()
         elif word in ("rules", "vectors"):
@@ -216,14 +229,14 @@ class Index:
         for section in self.sections:
             for paragraph in section.paragraphs:
                 if paragraph.names and paragraph.names[0] == name:
-                    row = Row(section.title(), name, paragraph.names, paragraph.words, paragraph.text)
+                    row = Row(DEFINITIONS, section.title(), name, paragraph.names, paragraph.words, paragraph.text)
                     for crate, file in LAWS:
                         if f"crates/{crate}/src/{file}" in section.heading:
                             row.defined = [place for law in row.names for place in self.tree.law(crate, file, law)]
                             row.done = [Place(crate, file, law) for law in row.names]
                     return row
         self.wrong.append(f"rule_places.txt: no paragraph of docs/DEFINITIONS.md begins with {name}")
-        return Row("", name)
+        return Row(DEFINITIONS, "", name)
 
     def _sentence(self, begin: str) -> Row:
         """The sentence that begins with some words."""
@@ -231,9 +244,9 @@ class Index:
             for paragraph in section.paragraphs:
                 for sentence in SENTENCE.split(paragraph.words):
                     if sentence.startswith(begin):
-                        return Row(section.title(), says=sentence, paragraph=paragraph.text)
+                        return Row(DEFINITIONS, section.title(), says=sentence, paragraph=paragraph.text)
         self.wrong.append(f"rule_places.txt: no sentence of docs/DEFINITIONS.md begins with {begin}")
-        return Row("", says=begin)
+        return Row(DEFINITIONS, "", says=begin)
 
     def _read_vectors(self) -> dict[str, list[tuple[str, str]]]:
         """Of each rule the file and the name of each vector that pins it; first those that name the fewest rules."""

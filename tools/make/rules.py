@@ -4,9 +4,10 @@ vectors that pin it.
     tools/run make/rules           writes the page
     tools/run make/rules --check   looks whether the page is what would be written
 
-The suite's rules are in conformance/rules.txt, those of the definitions in docs/DEFINITIONS.md, and where each is in tools/make/rule_places.txt.
+The suite's rules are in conformance/rules.txt, those of the definitions in docs/DEFINITIONS.md, those of volumes and where each rule is in
+tools/make/rule_places.txt.
 What is wrong is reported, with status 1: a definition, a function or a file that is not there, a rule without a place, a rule of the suite that no vector
-pins, a paragraph, a name, a module or a file of worked vectors of docs/DEFINITIONS.md that no row has, and a law without a paragraph there.
+pins, a file of worked vectors, a paragraph, a name or a module of docs/DEFINITIONS.md that no row has, and a law without a paragraph there.
 """
 
 import re
@@ -16,10 +17,9 @@ from pathlib import Path
 
 from tools import TOP
 from tools.make.rule_page import link_to, page_of
-from tools.make.rule_rows import CODE, LAWS, Index, Row
+from tools.make.rule_rows import CODE, DEFINITIONS, LAWS, VOLUMES, Index, Row
 
 HEADINGS = re.compile(r"`([a-z0-9_]+) ([A-Z]\w*)`|`([A-Z]\w*)`")
-WORKED = re.compile(r"`(?:(\w+)/src/)?(\w+\.rt)`")
 
 
 def wrong_places(index: Index, row: Row) -> Iterator[str]:
@@ -62,9 +62,16 @@ def wrong_rules(index: Index) -> Iterator[str]:
             yield f"no rule {name} in rules.txt, which vectors name"
 
 
+def wrong_volumes(index: Index) -> Iterator[str]:
+    """Rules of volumes that lack something."""
+    for row in index.rows:
+        if row.part == VOLUMES and not (row.says and row.manuals and row.pinned_by):
+            yield f"{row.title()}: no text, manual or rows"
+
+
 def wrong_definitions(index: Index) -> Iterator[str]:
     """What of docs/DEFINITIONS.md no row has."""
-    rows = [row for row in index.rows if not row.is_of_suite]
+    rows = [row for row in index.rows if row.part == DEFINITIONS]
     named = {place.name for row in rows for place in row.defined + row.done}
     modules = {(place.crate, place.file) for row in index.rows for place in row.defined}
     for section in index.sections:
@@ -80,11 +87,9 @@ def wrong_definitions(index: Index) -> Iterator[str]:
                 if name not in named and (name in paragraph.names or index.tree.is_definition(name)):
                     yield f"docs/DEFINITIONS.md: no row has {name}"
     worked = {place for row in index.rows for place in row.worked}
-    crate = ""
-    for first, file in WORKED.findall(index.pins):
-        crate = first or crate
-        if (crate, file) not in worked:
-            yield f"docs/DEFINITIONS.md: no row has {crate}/src/{file}"
+    for path in sorted(index.tree.top.glob("crates/*_worked/src/*.rt")):
+        if path.stem != "lib" and (path.parts[-3], path.name) not in worked:
+            yield f"no row has {path.parts[-3]}/src/{path.name}"
 
 
 def wrong_laws(index: Index) -> Iterator[str]:
@@ -108,7 +113,7 @@ def look_at(top: Path) -> tuple[int, list[str], str]:
     """How many rows there are, what is wrong with them, and the page's text."""
     index = Index(top)
     wrong = [*index.wrong, *(line for row in index.rows for line in wrong_places(index, row))]
-    wrong += [*wrong_rules(index), *wrong_definitions(index), *wrong_laws(index)]
+    wrong += [*wrong_rules(index), *wrong_volumes(index), *wrong_definitions(index), *wrong_laws(index)]
     text = page_of(index)
     return len(index.rows), [*wrong, *wrong_headings(text)], text
 
