@@ -5129,6 +5129,7 @@ dasd_files_volume_file_VolumeFileImageStore_write_at.fa93a83:
 .LBB940d290_52:
 	cmn	x8, #1
 	mov	w10, #1
+	strb	wzr, [x0, #32]
 	csinc	x8, x10, x8, eq
 	str	x8, [x0, #24]
 	mov	w0, wzr
@@ -33447,7 +33448,7 @@ trace_words_remarks_RemarkDisplay_fmt_405ebcea289fdfd7_.4ec7282:
 	b.eq	.LBBf1309d2_510
 	adrp	x1, .Lstatic.145
 	add	x1, x1, :lo12:.Lstatic.145
-	mov	w20, #42
+	mov	w20, #34
 	b	.LBBf1309d2_722
 .LBBf1309d2_122:
 	adrp	x1, .Lstatic.25
@@ -36137,7 +36138,7 @@ trace_words_remarks_RemarkDisplay_fmt_405ebcea289fdfd7_.4ec7282:
 	b.ne	.LBBf1309d2_644
 	adrp	x1, .Lstatic.147
 	add	x1, x1, :lo12:.Lstatic.147
-	mov	w20, #65
+	mov	w20, #64
 	b	.LBBf1309d2_722
 .LBBf1309d2_513:
 	ldr	q0, [x11]
@@ -37394,7 +37395,7 @@ trace_words_remarks_RemarkDisplay_fmt_405ebcea289fdfd7_.4ec7282:
 	b.ne	.LBBf1309d2_772
 	adrp	x1, .Lstatic.108
 	add	x1, x1, :lo12:.Lstatic.108
-	mov	w20, #133
+	mov	w20, #132
 	b	.LBBf1309d2_773
 .LBBf1309d2_715:
 	adrp	x1, .Lstatic.119
@@ -51375,7 +51376,7 @@ dasd_interface:
 	.p2align	2
 	.type	dasd_version,@function
 dasd_version:
-	mov	w0, #256
+	mov	w0, #512
 	movk	w0, #1, lsl #16
 	ret
 .Lfunc_end510e0a5:
@@ -63180,26 +63181,26 @@ dasd_trace_look:
 	.type	.Lstatic.105,@object
 	.section	.rodata..Lstatic.105,"a",@progbits
 .Lstatic.105:
-	.ascii	"no Search ID Equal or Search Key Equal that compared all bytes and was equal stands right before it"
-	.size	.Lstatic.105, 99
+	.ascii	"no Search ID Equal or Search Key Equal that compared all bytes and was equal comes right before it"
+	.size	.Lstatic.105, 98
 
 	.type	.Lstatic.106,@object
 	.section	.rodata..Lstatic.106,"a",@progbits
 .Lstatic.106:
-	.ascii	"no Search ID Equal that compared all bytes and was equal stands right before it"
-	.size	.Lstatic.106, 79
+	.ascii	"no Search ID Equal that compared all bytes and was equal comes right before it"
+	.size	.Lstatic.106, 78
 
 	.type	.Lstatic.107,@object
 	.section	.rodata..Lstatic.107,"a",@progbits
 .Lstatic.107:
-	.ascii	"no Search HA Equal that compared all bytes and was equal, and no Write Home Address, stands right before it"
-	.size	.Lstatic.107, 107
+	.ascii	"no Search HA Equal that compared all bytes and was equal, and no Write Home Address, comes right before it"
+	.size	.Lstatic.107, 106
 
 	.type	.Lstatic.108,@object
 	.section	.rodata..Lstatic.108,"a",@progbits
 .Lstatic.108:
-	.ascii	"no Search ID Equal or Search Key Equal that compared all bytes and was equal, and no write that made a record, stands right before it"
-	.size	.Lstatic.108, 133
+	.ascii	"no Search ID Equal or Search Key Equal that compared all bytes and was equal, and no write that made a record, comes right before it"
+	.size	.Lstatic.108, 132
 
 	.type	.Lstatic.109,@object
 	.section	.rodata..Lstatic.109,"a",@progbits
@@ -63366,8 +63367,8 @@ dasd_trace_look:
 	.type	.Lstatic.139,@object
 	.section	.rodata..Lstatic.139,"a",@progbits
 .Lstatic.139:
-	.ascii	"no record behind R0 has a key"
-	.size	.Lstatic.139, 29
+	.ascii	"no record after R0 has a key"
+	.size	.Lstatic.139, 28
 
 	.type	.Lstatic.140,@object
 	.section	.rodata..Lstatic.140,"a",@progbits
@@ -63376,10 +63377,10 @@ dasd_trace_look:
 	.size	.Lstatic.140, 26
 
 	.type	.Lstatic.141,@object
-	.section	.rodata..Lstatic.141,"a",@progbits
+	.section	.rodata.cst32,"aM",@progbits,32
 .Lstatic.141:
-	.ascii	"the track has no record behind R0"
-	.size	.Lstatic.141, 33
+	.ascii	"the track has no record after R0"
+	.size	.Lstatic.141, 32
 
 	.type	.Lstatic.142,@object
 	.section	.rodata..Lstatic.142,"a",@progbits
@@ -63402,8 +63403,8 @@ dasd_trace_look:
 	.type	.Lstatic.145,@object
 	.section	.rodata..Lstatic.145,"a",@progbits
 .Lstatic.145:
-	.ascii	"the word does not stand at a multiple of 8"
-	.size	.Lstatic.145, 42
+	.ascii	"the word is not at a multiple of 8"
+	.size	.Lstatic.145, 34
 
 	.type	.Lstatic.146,@object
 	.section	.rodata..Lstatic.146,"a",@progbits
@@ -63414,8 +63415,8 @@ dasd_trace_look:
 	.type	.Lstatic.147,@object
 	.section	.rodata..Lstatic.147,"a",@progbits
 .Lstatic.147:
-	.ascii	"a Transfer In Channel may not come first, or right behind another"
-	.size	.Lstatic.147, 65
+	.ascii	"a Transfer In Channel may not come first, or right after another"
+	.size	.Lstatic.147, 64
 
 	.type	.Lstatic.148,@object
 	.section	.rodata..Lstatic.148,"a",@progbits
@@ -64194,32 +64195,32 @@ dasd_trace_look:
 	.section	".rodata..Lswitch.table.trace_words::remarks::RemarkDisplay::fmt::<#405ebcea289fdfd7>","a",@progbits
 	.p2align	3, 0x0
 .Lswitch.table.trace_words_remarks_RemarkDisplay_fmt_405ebcea289fdfd7_.83b05f8:
-	.xword	133
-	.xword	133
-	.xword	133
-	.xword	133
-	.xword	133
+	.xword	132
+	.xword	132
+	.xword	132
+	.xword	132
+	.xword	132
 	.xword	37
-	.xword	133
-	.xword	133
-	.xword	133
-	.xword	133
-	.xword	133
-	.xword	133
-	.xword	133
-	.xword	133
-	.xword	133
-	.xword	133
-	.xword	133
-	.xword	133
-	.xword	133
-	.xword	133
-	.xword	133
-	.xword	133
-	.xword	107
-	.xword	133
-	.xword	99
-	.xword	79
+	.xword	132
+	.xword	132
+	.xword	132
+	.xword	132
+	.xword	132
+	.xword	132
+	.xword	132
+	.xword	132
+	.xword	132
+	.xword	132
+	.xword	132
+	.xword	132
+	.xword	132
+	.xword	132
+	.xword	132
+	.xword	132
+	.xword	106
+	.xword	132
+	.xword	98
+	.xword	78
 	.size	.Lswitch.table.trace_words_remarks_RemarkDisplay_fmt_405ebcea289fdfd7_.83b05f8, 208
 
 	.type	.Lswitch.table.trace_words_remarks_RemarkDisplay_fmt_405ebcea289fdfd7_.499.rel.5f9dbfa,@object
@@ -64322,9 +64323,9 @@ dasd_trace_look:
 	.section	.rodata.cst32,"aM",@progbits,32
 	.p2align	3, 0x0
 .Lswitch.table.trace_words_remarks_RemarkDisplay_fmt_405ebcea289fdfd7_.502.a79792f:
-	.xword	29
+	.xword	28
 	.xword	26
-	.xword	33
+	.xword	32
 	.xword	23
 	.size	.Lswitch.table.trace_words_remarks_RemarkDisplay_fmt_405ebcea289fdfd7_.502.a79792f, 32
 

@@ -31,12 +31,14 @@ class Failed(Exception):
     """What was tried and did not come out as it must."""
 
 
-def make_root(place: Path, variant: str, *words: str) -> None:
+def make_root(place: Path, variant: str, *words: str, suite: str = SUITE) -> None:
     """Makes a root, as a folder or a tar; variant and words are mmdebstrap's. `minbase` is what Debian calls essential, and apt."""
-    asked = ["mmdebstrap", "--quiet", f"--variant={variant}", *words, SUITE, str(place), MIRROR]
+    new = place.with_name(f"new-{place.name}")
+    asked = ["mmdebstrap", "--quiet", f"--variant={variant}", *words, suite, str(new), MIRROR]
     made = subprocess.run(asked, capture_output=True, text=True, check=False)
     if made.returncode:
         raise Failed(f"mmdebstrap: {made.stderr.strip()}")
+    new.rename(place)
 
 
 class Root:

@@ -48,7 +48,7 @@ def pack(made: Path, name: str, *added: Path) -> None:
     """Packs the commit, in a folder of this name, with files added to it. The same commit and files give the same bytes."""
     words = [f"--add-file={it}" for it in added]
     packed = git("archive", "--format=tar", f"--prefix={name}/", *words, "HEAD")
-    made.write_bytes(lzma.compress(packed, preset=9 | lzma.PRESET_EXTREME))
+    made.write_bytes(lzma.compress(packed, preset=9))
 
 
 def unpack(packed: Path, folder: Path) -> None:
