@@ -9,4 +9,4 @@ came; `queries` and `taking` answer; `layout`, `owners` and `picture` draw a vol
 `markup`, `pages`, `sides`, `serving` and `report` show it all in a browser; `command` is the command.
 """
 
-__version__ = "1.1.0"
+__version__ = "1.2.0"

@@ -51,7 +51,7 @@ from ._words import (
     fault_text,
 )
 
-__version__ = "1.1.0"
+__version__ = "1.2.0"
 __all__ = [
     "ALL_CHANNELS",
     "INTERFACE",
