@@ -84,13 +84,13 @@ program by SIO and asks by TIO. Between brackets is the ratio to Hercules alone:
 
 | Program | Hercules alone | With `hdtdasd` | With `hdtchan` |
 |---|---|---|---|
-| Search ID for the last of 20 records, read it | 19,844 | 20,417 (1.03) | 5,918 (0.30) |
-| Search Key over the 400 of a cylinder, read the last | 383,230 | 453,275 (1.18) | 78,819 (0.21) |
-| the first record, read | 4,892 | 4,381 (0.90) | 5,027 (1.03) |
-| a record of each of two cylinders | 8,507 | 10,082 (1.19) | 9,463 (1.11) |
-| 20 times Read Count, Key and Data | 21,431 | 17,460 (0.81) | 11,685 (0.55) |
-| the first record, updated | 5,069 | 5,678 (1.12) | 6,497 (1.28) |
-| 20 records formatted | 20,289 | 29,673 (1.46) | 22,048 (1.09) |
+| Search ID for the last of 20 records, read it | 19,844 | 19,381 (0.98) | 5,918 (0.30) |
+| Search Key over the 400 of a cylinder, read the last | 383,217 | 426,258 (1.11) | 78,819 (0.21) |
+| the first record, read | 4,892 | 4,447 (0.91) | 5,027 (1.03) |
+| a record of each of two cylinders | 8,508 | 9,894 (1.16) | 9,463 (1.11) |
+| 20 times Read Count, Key and Data | 21,432 | 16,235 (0.76) | 11,685 (0.55) |
+| the first record, updated | 5,067 | 5,771 (1.14) | 6,506 (1.28) |
+| 20 records formatted | 20,287 | 23,238 (1.15) | 22,049 (1.09) |
 
 <!-- adapters/hercules/tests/measure: end -->
 """
