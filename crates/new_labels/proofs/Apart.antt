@@ -54,7 +54,8 @@ split_order heads e is run =
     let last = (both (nat_lt e.first.head heads) (nat_lt e.last.head heads) heads_are.0).1 in
     (grind (arith, nat_tests), grind (arith, nat_tests))
 
-has_it : (heads : ℕ) (e : Extent) (m : ℕ) → is_run heads e ≡ true → m < tracks_of_extent heads e
+-- the track that an address leads to is one of its extent's
+pub has_it : (heads : ℕ) (e : Extent) (m : ℕ) → is_run heads e ≡ true → m < tracks_of_extent heads e
     → (b : Bool) → is_split e ≡ b → has_track heads (track_in heads e m) e ≡ true
 has_it heads e m run there false is = in_run heads e m is there
 has_it heads e m run there true is =
