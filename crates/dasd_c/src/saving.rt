@@ -5,7 +5,7 @@ ghost use Rattle.subsystem_calls.specs.Saving.{TellsNextOf};
 ghost use Rattle.dasd_c.specs.Calls.{CallsAny};
 
 use crate::handle::{Handle, put, take};
-use dasd_subsystem::ShownTrack;
+use dasd_files::ShownTrack;
 use std::alloc::Global;
 use subsystem_calls::show_next_changed;
 use subsystem_calls::tell::NOTHING_HELD;

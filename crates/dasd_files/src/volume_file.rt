@@ -85,16 +85,6 @@ impl VolumeFile {
         self
     }
 
-    /// The same file, which from now on keeps when each of its parts was written last, as with `watch`; where that is refused it is let
-    /// go. The only error is that memory was refused.
-    pub fn watched(mut self, alloc: Global, lead: u32, size: u32) -> Result<VolumeFile, AllocError>
-        requires { 0 < size }
-        ensures { IfOk result (λ f. f ≡ record self { parts = Some (parts_of lead size (length self.content) self.changes) }) }
-    {
-        self.watch(alloc, lead, size)?;
-        Ok(self)
-    }
-
     /// Keeps from now on when each part of the file was written last: parts of so many bytes, the first one of as many fewer as `lead`
     /// says. It takes the memory for that, eight bytes a part, here and at once. The only error is that it was refused, and the file
     /// is as it was.

@@ -3,7 +3,6 @@ pub mod Making
 pub mod Attaching
 pub mod Shown
 pub mod Watched
-pub mod Changed
 pub mod Glances
 pub mod Until
 pub mod Saving

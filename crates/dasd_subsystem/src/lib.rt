@@ -3,7 +3,6 @@
 #![tactic(auto)]
 
 mod attaching;
-mod changed;
 mod copying;
 mod files;
 mod glances;
@@ -16,7 +15,6 @@ mod subsystem;
 mod until;
 mod watched;
 
-pub use crate::changed::{ShownTrack, next_changed};
 pub use crate::files::Files;
 pub use crate::glances::Glance;
 pub use crate::mounting::check;

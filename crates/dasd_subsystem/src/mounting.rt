@@ -6,15 +6,14 @@ ghost use Rattle.ckd_image.specs.Files.{each, file_at, held};
 ghost use Rattle.ckd_image.specs.Image.{HoldsImage};
 ghost use Rattle.ckd_image.specs.Layout.{image_length};
 ghost use Rattle.dasd_files.specs.Files.{file_of};
-ghost use Rattle.dasd_subsystem.specs.Changed.{by_slots, slot_size};
+ghost use Rattle.dasd_files.specs.Tracks.{by_slots, slot_size};
 ghost use Rattle.dasd_subsystem.specs.Attaching.{AreFew, AreImage, NotFormatted, NotMounted, new_volume};
 
-use crate::changed::{slot_size, watch};
 use crate::files::{Files, few};
 use crate::refusal::Refusal;
 use ckd_image::{Image, image_len};
 use ckd_track::{DriveModel, Geometry};
-use dasd_files::VolumeFile;
+use dasd_files::{VolumeFile, slot_size, watch_slots};
 use std::alloc::{AllocError, Global};
 
 /// Whether these files, in their order, are an image.
@@ -86,7 +85,7 @@ fn anew(alloc: Global, file: &mut VolumeFile) -> Result<(), AllocError>
 {
     file.begin_anew();
     let size = slot_size(file.bytes());
-    watch(alloc, file, size)
+    watch_slots(alloc, file, size)
 }
 
 /// The image of a new volume of so many cylinders.
@@ -120,6 +119,6 @@ fn zeros(alloc: Global, model: DriveModel, cylinders: u16) -> Result<VolumeFile,
 {
     let file = VolumeFile::zeros(alloc, image_len(model, cylinders))?;
     let mut file = file.counting_all_writes();
-    watch(alloc, &mut file, Geometry::new(model, cylinders).track_size)?;
+    watch_slots(alloc, &mut file, Geometry::new(model, cylinders).track_size)?;
     Ok(file)
 }

@@ -4,12 +4,11 @@ ghost use Rattle.std.specs.Prelude.{◌≡◌, ◌<◌, IfOk, IfErr, OnOk};
 ghost use Rattle.ckd_drive.specs.Work.{new_drive};
 ghost use Rattle.lone_drive_c.specs.Making.{IsOver, NotMounted, NotFormatted, new_volume};
 
-use crate::changed::{slot_size, watched};
 use crate::refusal::NotMade;
 use ckd_drive::Drive;
 use ckd_image::{Image, image_len};
 use ckd_track::{DriveModel, Geometry};
-use dasd_files::VolumeFile;
+use dasd_files::{VolumeFile, slot_size, watch_slots};
 use std::alloc::Global;
 
 /// A drive over a volume in one file, which is in memory.
@@ -29,12 +28,12 @@ impl LoneDrive {
         ensures made { IfOk result (λ d. IsOver file.now d.drive) }
         ensures refused { IfErr result (λ e. NotMounted file.now e) }
     {
-        let Ok(copy) = VolumeFile::copy_of(alloc, file) else {
+        let Ok(mut copy) = VolumeFile::copy_of(alloc, file) else {
             return Err(NotMade::OutOfMemory);
         };
-        let Ok(copy) = watched(alloc, copy, slot_size(file)) else {
+        if watch_slots(alloc, &mut copy, slot_size(file)).is_err() {
             return Err(NotMade::OutOfMemory);
-        };
+        }
         match Image::mount(copy.counting_all_writes()) {
             Ok(image) => over(alloc, image),
             Err((fault, _)) => Err(NotMade::Mount(fault)),
@@ -54,13 +53,13 @@ impl LoneDrive {
         if cylinders == 0 {
             return Err(NotMade::NoCylinders);
         }
-        let Ok(file) = VolumeFile::zeros(alloc, image_len(model, cylinders)) else {
+        let Ok(mut file) = VolumeFile::zeros(alloc, image_len(model, cylinders)) else {
             return Err(NotMade::OutOfMemory);
         };
         let size = Geometry::new(model, cylinders).track_size;
-        let Ok(file) = watched(alloc, file, size) else {
+        if watch_slots(alloc, &mut file, size).is_err() {
             return Err(NotMade::OutOfMemory);
-        };
+        }
         match Image::format(file.counting_all_writes(), model, cylinders) {
             Ok(image) => over(alloc, image),
             Err((fault, _)) => Err(NotMade::Mount(fault)),

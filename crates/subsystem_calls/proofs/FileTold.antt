@@ -2,7 +2,7 @@
 use Rattle.std.proofs.Common.{◌≡◌, ℤ, ℕ, Some, subst}
 use Rattle.ckd_image.specs.Image.{ImageState, IsFileAt}
 use Rattle.dasd_files.specs.Files.{FileState, IsFile}
-use Rattle.dasd_subsystem.specs.declared.changed.ShownTrack.{ShownTrack}
+use Rattle.dasd_files.specs.declared.tracks.ShownTrack.{ShownTrack}
 use Rattle.subsystem_calls.specs.Saving.{TellsNext, TellsNextAmong}
 
 -- its slots are as long as the image's geometry says

@@ -1,23 +1,16 @@
 -- What C is told of tracks that were written.
-use Rattle.std.specs.Prelude.{◌≡◌, ◌⊎◌, ◌/◌, ◌%◌, ℤ, pos, ℕ, Bool, true, false, Option, Some, None, option_map}
+use Rattle.std.specs.Prelude.{◌≡◌, ◌/◌, ◌%◌, ℤ, ℕ, Bool, true, false, Option, Some, None, option_map}
 use Rattle.ckd_image.specs.Image.{ImageState, IsFileAt}
 use Rattle.s360_channels.specs.Channels.{ChannelsState, channel_at}
 use Rattle.s360_channels.specs.Asked.{image_at}
 use Rattle.s360_channel.specs.Channel.{ChannelState}
 use Rattle.dasd_files.specs.Files.{FileState, IsFile}
-use Rattle.dasd_subsystem.specs.Changed.{AreKept, IsNext, tracks_in}
-use Rattle.dasd_subsystem.specs.declared.changed.ShownTrack.{ShownTrack}
+use Rattle.dasd_files.specs.Tracks.{TellsNext}
+use Rattle.dasd_files.specs.declared.tracks.ShownTrack.{ShownTrack}
 use Rattle.subsystem_calls.specs.Codes.{no_channel, no_drive, no_file, program_runs}
 use Rattle.subsystem_calls.specs.Shown.{WorksAt}
 
--- The next track is shown that may have been written since a number of changes; those that are passed over hold what they held then. Or
--- there is none, all that are left hold what they held, and nothing is shown.
-abbrev pub TellsNext : FileState → (size since : ℕ) → (code : ℤ) → (before shown : ShownTrack) → Type 0
-TellsNext f size since code before shown =
-    ((code ≡ pos 1) × IsNext f size since before.next shown)
-    ⊎ ((code ≡ pos 0) × AreKept f size since before.next (tracks_in f size) × (shown ≡ before))
-
--- It is one of this file; or there is no such file, and nothing is shown.
+-- The next track is one of this file; or there is no such file, and nothing is shown.
 abbrev pub TellsNextOfFile : Option FileState → (size since : ℕ) → (code : ℤ) → (before shown : ShownTrack) → Type 0
 TellsNextOfFile (Some f) size since code before shown = IsFile f × TellsNext f size since code before shown
 TellsNextOfFile None size since code before shown = (code ≡ no_file) × (shown ≡ before)

@@ -3,14 +3,12 @@
 ghost use Rattle.std.specs.Prelude.{◌≡◌, ◌/◌, ◌%◌, Some};
 ghost use Rattle.s360_words.specs.Storage.{Storage as StorageState};
 ghost use Rattle.s360_channels.specs.Selectors.{across};
-ghost use Rattle.dasd_files.specs.Files.{IsFile};
-ghost use Rattle.subsystem_calls.specs.Saving.{TellsNext, TellsNextIn, TellsNextOf};
+ghost use Rattle.subsystem_calls.specs.Saving.{TellsNextIn, TellsNextOf};
 
 use crate::showing::is_at_work;
-use crate::tell::{DONE, NO_CHANNEL, NO_DRIVE, NO_FILE, PROGRAM_RUNS};
+use crate::tell::{NO_CHANNEL, NO_DRIVE, NO_FILE, PROGRAM_RUNS};
 use ckd_image::Image;
-use dasd_files::VolumeFile;
-use dasd_subsystem::{ShownTrack, next_changed};
+use dasd_files::{ShownTrack, VolumeFile, tell_next};
 use s360_channels::Selectors;
 
 /// Shows the next track of a file of a drive's volume, from the one that `track.next` names on, that may have been written since the file's
@@ -42,18 +40,5 @@ fn next_in(image: &Image<VolumeFile>, file: u8, since: u64, track: &mut ShownTra
     match image.store(file as usize) {
         Some(store) => tell_next(store, image.geometry().track_size, since, track),
         None => NO_FILE,
-    }
-}
-
-fn tell_next(file: &VolumeFile, size: u32, since: u64, track: &mut ShownTrack) -> i32
-    ensures next { TellsNext file.now size since result track.old track.new }
-    ensures file { IsFile file.now }
-{
-    match next_changed(file, size, since, track.next) {
-        Some(told) => {
-            *track = told;
-            1
-        }
-        None => DONE,
     }
 }

@@ -2,11 +2,11 @@
 
 ghost use Rattle.std.specs.Prelude.{◌≡◌, ◌+◌, ◌*◌, ◌≤◌, length, OnOk};
 ghost use Rattle.dasd_files.specs.Files.{IsFile};
-ghost use Rattle.dasd_subsystem.specs.Changed.{ShowsNext, by_slots, slot_size, tracks_in};
+ghost use Rattle.dasd_files.specs.Tracks.{ShowsNext, TellsNext, by_slots, slot_size, tracks_in};
 
+use crate::volume_file::VolumeFile;
 use byteorder::{ByteOrder, LittleEndian};
 use ckd_image::HEADER_LENGTH;
-use dasd_files::VolumeFile;
 use std::alloc::{AllocError, Global};
 
 /// A track that may have been written, and where its slot lies in the file.
@@ -23,9 +23,9 @@ pub struct ShownTrack {
     pub next: usize,
 }
 
-/// The first track of a file, whose slots have so many bytes, at this one or behind it, that may have been written since the file's
-/// number of changes was this one. Each track that is passed over holds what it held then.
-pub fn next_changed(file: &VolumeFile, size: u32, since: u64, from: usize) -> Option<ShownTrack>
+// The first track of a file, whose slots have so many bytes, at this one or after it, that may have been written since the file's
+// number of changes was this one. Each track that is passed over holds what it held then.
+fn next_changed(file: &VolumeFile, size: u32, since: u64, from: usize) -> Option<ShownTrack>
     ensures next { ShowsNext file.now size since from result }
     ensures file { IsFile file.now }
 {
@@ -48,8 +48,23 @@ pub fn next_changed(file: &VolumeFile, size: u32, since: u64, from: usize) -> Op
     None
 }
 
+/// Shows the next track of a file, from the one that `track.next` names on, that may have been written since the file's number of changes was
+/// this one: 1, or 0 where there is none, and `track` stays.
+pub fn tell_next(file: &VolumeFile, size: u32, since: u64, track: &mut ShownTrack) -> i32
+    ensures next { TellsNext file.now size since result track.old track.new }
+    ensures file { IsFile file.now }
+{
+    match next_changed(file, size, since, track.next) {
+        Some(told) => {
+            *track = told;
+            1
+        }
+        None => 0,
+    }
+}
+
 /// The slots of a file, of so many bytes, are watched from now on. The only error is that memory was refused.
-pub(crate) fn watch(alloc: Global, file: &mut VolumeFile, size: u32) -> Result<(), AllocError>
+pub fn watch_slots(alloc: Global, file: &mut VolumeFile, size: u32) -> Result<(), AllocError>
     ensures slots { OnOk result (file.new ≡ by_slots size file.old) }
     ensures same { file.new ≡ record file.old { parts = file.new.parts } }
 {
@@ -61,7 +76,7 @@ pub(crate) fn watch(alloc: Global, file: &mut VolumeFile, size: u32) -> Result<(
 }
 
 /// The size of a slot, as the header says it with which these bytes begin; 0 where they are fewer than it has.
-pub(crate) fn slot_size(bytes: &[u8]) -> u32
+pub fn slot_size(bytes: &[u8]) -> u32
     ensures { result ≡ slot_size bytes.now }
 {
     if bytes.len() < 16 {

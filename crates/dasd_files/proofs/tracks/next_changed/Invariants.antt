@@ -1,5 +1,5 @@
-use Rattle.dasd_subsystem.specs.Changed.{AreKept}
-use Rattle.dasd_subsystem.proofs.changed.next_changed.Given as goal
+use Rattle.dasd_files.specs.Tracks.{AreKept}
+use Rattle.dasd_files.proofs.tracks.next_changed.Given as goal
 
 -- the tracks that were looked at hold what they held
 abbrev pub invariant-loop-track : goal.invariant-loop-track

@@ -1,6 +1,0 @@
-use Rattle.lone_drive_c.specs.Changed.{AreKept}
-use Rattle.lone_drive_c.proofs.changed.next_changed.Given as goal
-
--- the tracks that were looked at hold what they held
-abbrev pub invariant-loop-track : goal.invariant-loop-track
-invariant-loop-track l = AreKept l.fn.file l.fn.size l.fn.since l.fn.from l.track
