@@ -11,7 +11,7 @@ from tools.make.interface import TABLE, with_parts
 from tools.make.interface_rattle import differences
 from tools.make.interface_table import Interface, Struct, TableFault, read
 
-CRATES = ("dasd_c", "lone_drive_c", "subsystem_calls", "dasd_subsystem", "ckd_track")
+CRATES = ("dasd_c", "lone_drive_c", "subsystem_calls", "dasd_subsystem", "dasd_files", "ckd_track")
 
 
 def changed(path: Path, old: str, new: str) -> None:

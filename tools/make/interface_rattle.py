@@ -141,8 +141,9 @@ def differences(interface: Interface, crates: Path) -> list[str]:
     calls = crates / "subsystem_calls"
     library = Side(interface.library, structs, crates / "dasd_c", [calls / "src/tell.rt", calls / "src/states.rt"])
     drive = Side(interface.drive, structs, crates / "lone_drive_c", [crates / "lone_drive_c/src/tell.rt"])
-    of_library = texts(crates / "dasd_c", calls, crates / "dasd_subsystem")
+    files = crates / "dasd_files"
+    of_library = texts(crates / "dasd_c", calls, crates / "dasd_subsystem", files)
     found = [*wrong_calls(library), *wrong_calls(drive)]
-    found += [*wrong_structs(library, of_library), *wrong_structs(drive, texts(drive.exports))]
+    found += [*wrong_structs(library, of_library), *wrong_structs(drive, texts(drive.exports, files))]
     found += [*wrong_faults(library, library.header), *wrong_faults(drive, library.header)]
     return found + [*wrong_models(interface.models, texts(crates / "ckd_track/src/model.rt"))]

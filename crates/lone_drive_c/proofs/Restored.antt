@@ -161,18 +161,20 @@ same : (i : ImageState) (v : Volume) (r : Registers) (m : Mark) (w u : Work) →
 same i v r m w u e f g = cc
 
 pub saved_is_restored : SavedIsRestored
-saved_is_restored d e f before into was written code save idle_e saved_e has restore =
+saved_is_restored d e f bytes code by can restore =
     let r = d.state.registers in
-    let k = told (is_idle d.work) (not (is_written d.state)) (is_between d.state) (nat_le 15 (length before))
-    ((pos 0 ≡ pos 0) × (into ≡ saved_bytes r ++ drop 15 before) × (written ≡ 15)) ((into ≡ before) × (written ≡ was)) save in
+    let k = told (is_idle d.work) (not (is_written d.state)) (is_between d.state) (nat_le 15 (length by.before))
+    ((pos 0 ≡ pos 0) × (by.into ≡ saved_bytes r ++ drop 15 by.before) × (by.written ≡ 15))
+    ((by.into ≡ by.before) × (by.written ≡ by.was)) by.told in
     let z = both (are_first r) (is_none (unsaved d.state)) k.1.0 in
-    let t = subst (λ b. TellsRestored code b e f) (written_first r (drop 15 before) into written k.1.1.1 k.1.1.2) restore in
+    let all : bytes ≡ saved_bytes r = by.are ∙ written_first r (drop 15 by.before) by.into by.written k.1.1.1 k.1.1.2 in
+    let t = subst (λ b. TellsRestored code b e f) all restore in
     let p = done (is_idle e.work) (not (is_written e.state))
     (has_track e.state.volume.geometry (cylinder_in (saved_bytes r)) (head_in (saved_bytes r)))
     ((code ≡ pos 0) × (f ≡ restored (cylinder_in (saved_bytes r)) (head_in (saved_bytes r)) (sense_in (saved_bytes r)) e)) code (f ≡ e)
-    idle_e (ap not saved_e) (has_place e.state.volume.geometry r has) t in (
+    can.idle (ap not can.saved) (has_place e.state.volume.geometry r can.track) t in (
       p.0,
       p.1
           ∙ (back r e z.0 ∙ same e.image e.state.volume r d.state.mark d.work e.work
-          (saved d.state.mark r (unset (is_written d.state) k.0.1) z.1) (idle d.work k.0.0) (idle e.work idle_e)),
+          (saved d.state.mark r (unset (is_written d.state) k.0.1) z.1) (idle d.work k.0.0) (idle e.work can.idle)),
     )

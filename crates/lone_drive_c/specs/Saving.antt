@@ -100,12 +100,25 @@ TellsRestored code bytes old new = AllowsFile old (RestoresUnless (why_none byte
 abbrev pub over_volume_of : DriveState → DriveState → DriveState
 over_volume_of e d = record d { image = e.image; state = record d.state { volume = e.state.volume } }
 
--- What a save wrote makes a drive whose volume has the track the one that was saved, over its own volume.
+-- these bytes were written by a save of a drive
+pub record AreSavedOf (d : DriveState) (bytes : List ℕ) : Type 0 where
+  pub before : List ℕ
+  pub into : List ℕ
+  pub was : ℕ
+  pub written : ℕ
+  pub told : TellsSaved (pos 0) before into was written d
+  pub are : bytes ≡ take written into
+
+-- a drive can become another one: no command is open, no track waits to be saved, and its volume has the other one's track
+pub record CanBecome (d e : DriveState) : Type 0 where
+  pub idle : is_idle e.work ≡ true
+  pub saved : is_written e.state ≡ false
+  pub track : has_track e.state.volume.geometry d.state.registers.cylinder d.state.registers.head ≡ true
+
+-- What a save wrote makes a drive that can become the saved one that one, over its own volume.
 abbrev pub SavedIsRestored : Type 0
-SavedIsRestored = (d e f : DriveState) (before into : List ℕ) (was written : ℕ) (code : ℤ) → TellsSaved (pos 0) before into was written d
-    → is_idle e.work ≡ true → is_written e.state ≡ false
-    → has_track e.state.volume.geometry d.state.registers.cylinder d.state.registers.head ≡ true
-    → TellsRestored code (take written into) e f → (code ≡ pos 0) × (f ≡ over_volume_of e d)
+SavedIsRestored = (d e f : DriveState) (bytes : List ℕ) (code : ℤ) → AreSavedOf d bytes → CanBecome d e → TellsRestored code bytes e f
+    → (code ≡ pos 0) × (f ≡ over_volume_of e d)
 
 -- A drive remembers nothing of a program as the next one begins.
 abbrev pub BeginsBetween : Type 0

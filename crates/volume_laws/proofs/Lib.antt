@@ -8,3 +8,4 @@ pub mod Loads
 pub mod Blocks
 pub mod Deletions
 pub mod Relabelled
+pub mod Small

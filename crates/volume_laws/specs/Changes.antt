@@ -23,9 +23,8 @@ use Rattle.volume_laws.specs.Frame.{is_alternate_of}
 abbrev pub is_kept_back : Labelled → (n : ℕ) → Bool
 is_kept_back v n = (n == 0) || has_track (heads_of v.geometry.model) n v.table.extent
 
--- What no finding says yet: the table of contents shares no cylinder, no data set has the label's track, and no track of a data set
--- names as
--- its alternate the label's track or one of the table.
+-- What no finding says yet: the table of contents shares no cylinder, no data set has the label's track, and no track of a data set names
+-- as its alternate the label's track or one of the table.
 pub record IsClear (v : Labelled) (slots : List (List ℕ)) : Type 0 where
   pub whole : is_split v.table.extent ≡ false
   pub label : is_taken v.geometry (set_extents v) 0 ≡ false

@@ -1,3 +1,4 @@
 pub mod Space
 pub mod Frame
 pub mod Changes
+pub mod Small

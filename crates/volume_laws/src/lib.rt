@@ -5,6 +5,7 @@
 ghost use Rattle.volume_laws.specs.Space.{NothingShared};
 ghost use Rattle.volume_laws.specs.Frame.{SourceStays};
 ghost use Rattle.volume_laws.specs.Changes.{OwnWritesKeep, BlockChangesKeep, LoadKeeps, RenameKeeps, RelabelKeeps, DeletionKeeps};
+ghost use Rattle.volume_laws.specs.Small.{SmallIsRight};
 
 /// Where nothing is found wrong, no track has two holders, and none that has one is off the volume.
 #[tactic(auto, using(crate::proofs::Shared::nothing_shared))]
@@ -52,4 +53,10 @@ pub fn deletion_keeps()
 #[tactic(auto, using(crate::proofs::Relabelled::relabel_keeps))]
 pub fn relabel_keeps()
     ensures { RelabelKeeps }
+{}
+
+/// A small volume is as these laws ask for, and its data set can be renamed.
+#[tactic(auto, using(crate::proofs::Small::small_is_right))]
+pub fn small_volume_is_right()
+    ensures { SmallIsRight }
 {}
