@@ -243,8 +243,8 @@ def ended_saves(dasd: Path, folder: Path) -> list[str]:
         files = whole_files(journal)
         for name, held in files.items():
             (folder / "whole").write_bytes(held)
-            wrong += said_of(dasd, folder, ["compare", "--verbose", name, "whole"], "is read in its place")
-            wrong += said_of(dasd, folder, ["run", "--verbose", "--no-save", f"90={name}"], "is read in its place")
+            wrong += said_of(dasd, folder, ["compare", "--verbose", name, "whole"], "is read over it")
+            wrong += said_of(dasd, folder, ["run", "--verbose", "--no-save", f"90={name}"], "is read over it")
             (folder / "whole").unlink()
         last = list(files)[-1]
         wrong += said_of(dasd, folder, ["run", "--verbose", f"90={last}"], "a save of it was cut off, and is ended")

@@ -66,7 +66,7 @@ pub struct NewFile<'a, D> {
 
 /// Files that are read in place, and are made or replaced whole: what is new is written beside the old file and takes its place
 /// at the end, so that whatever fails leaves the old file as it was. A file that keeps its place has other bytes whole, or as before:
-/// what is new stands beside it until then, and is read in its place.
+/// what is new stands beside it until then, and is read over it.
 pub trait ImageFiles {
     /// A file that was opened to be read.
     type Opened: OpenedFile;

@@ -77,7 +77,7 @@ impl fmt::Display for Told<'_> {
             ),
             Told::Instead(path, journal) => write!(
                 f,
-                "{path}: a save of it was cut off, and {journal} is read in its place"
+                "{path}: a save of it was cut off, and {journal} is read over it"
             ),
             Told::Changed(path, journal) => write!(
                 f,
@@ -101,7 +101,7 @@ impl fmt::Display for Told<'_> {
             ),
             Told::Unreleased(path) => write!(
                 f,
-                "{path}: an unreleased dasd between 1.1.0 and 1.2.0 was cut off as it saved it: the same program (commit 57949ba) ends that"
+                "{path}: an unreleased dasd between 1.1.0 and 1.2.0 was cut off as it saved it: the same program (commit e91d4aec) ends that"
             ),
             Told::Unsynced(path) => write!(
                 f,

@@ -5,6 +5,7 @@ ghost use Rattle.std.specs.IoError.{error_kind};
 ghost use Rattle.atomic_save.specs.Changes.{notes};
 ghost use Rattle.atomic_save.specs.Calls.{shown};
 ghost use Rattle.atomic_save.specs.Saves.{SafeThroughout, SavedFor, NoJournal};
+ghost use Rattle.file_journals.specs.Told.{TellsOf, Settles};
 
 use crate::changes::{Changes, Looked};
 use crate::hosts::{OpenedFile, SaveHost, id_of};
@@ -138,7 +139,8 @@ pub(crate) fn told(
     saved: Result<(), atomic_save::SaveFault>,
     fault: Option<(usize, io::Error)>,
 ) -> Result<(), (usize, SaveFault)>
-    ensures { OnOk result (saved ≡ Ok tt) }
+    ensures done { OnOk result (saved ≡ Ok tt) }
+    ensures kind { TellsOf saved result }
 {
     let Err(outcome) = saved else {
         return Ok(());
@@ -161,7 +163,8 @@ pub(crate) fn settle<N: Notes>(
     saved: Result<(), (usize, SaveFault)>,
     is_new: bool,
 ) -> Result<(), (usize, SaveFault)>
-    ensures { OnOk result (saved ≡ Ok tt) }
+    ensures done { OnOk result (saved ≡ Ok tt) }
+    ensures settles { Settles saved result }
 {
     if let (false, Some(it)) = (host.has_sync, host.files.first()) {
         notes.note_once(&Told::NoSync(folder_of(it.beside.as_path()).as_str()));
