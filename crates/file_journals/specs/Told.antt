@@ -1,7 +1,11 @@
 -- What is told of saves that did not come to their end.
-use Rattle.std.specs.Prelude.{◌≡◌, ℕ, Result, Ok, Err, ⊤}
+use Rattle.std.specs.Prelude.{◌≡◌, ℕ, List, Some, Result, Ok, Err, ⊤}
+use Rattle.atomic_save.specs.declared.changes.Change.{Change}
 use Rattle.atomic_save.specs.declared.faults.SaveFault as atomic
 use Rattle.atomic_save.specs.declared.faults.SaveFault.TheVariants as ended
+use Rattle.atomic_save.specs.Changes.{notes}
+use Rattle.atomic_save.specs.Calls.{Event, shown}
+use Rattle.atomic_save.specs.Saves.{Untouched, SavedFor}
 use Rattle.file_journals.specs.declared.saves.SaveFault.{SaveFault}
 use Rattle.file_journals.specs.declared.saves.SaveFault.TheVariants.{Kept, Begun, Saved}
 
@@ -37,6 +41,12 @@ TellsOf (Ok done) (Ok said) = ⊤
 TellsOf (Ok done) (Err it) = ⊥
 TellsOf (Err fault) (Ok said) = ⊥
 TellsOf (Err fault) (Err it) = IsToldAs fault it.1
+
+-- Each fault says how it left the files and the journal.
+abbrev pub Tells : List Change → (old new : List Event) → SaveFault → Type 0
+Tells cs old new (Kept fault) = Untouched old new
+Tells cs old new (Begun fault) = shown new ≡ Some (notes cs)
+Tells cs old new (Saved fault) = SavedFor (notes cs) old new
 
 -- What is left after a save is cleared away: a save that is done may still fail in that, and is told as saved; what else was told stays.
 abbrev pub Settles : Result ⊤ (ℕ × SaveFault) → Result ⊤ (ℕ × SaveFault) → Type 0

@@ -1,9 +1,10 @@
 //! Saves that were cut off: they are completed, or read through their journals.
 
-ghost use Rattle.std.specs.Prelude.{◌≡◌, ◌-◌, length, slice_index_or, Some, OnOk};
+ghost use Rattle.std.specs.Prelude.{◌≡◌, ◌-◌, length, slice_index_or, Some, IfErr, OnOk};
 ghost use Rattle.atomic_save.specs.Changes.{notes};
 ghost use Rattle.atomic_save.specs.Calls.{shown};
 ghost use Rattle.atomic_save.specs.Saves.{SafeThroughout, SameThroughout, SavedFor, NoJournal};
+ghost use Rattle.file_journals.specs.Told.{Tells};
 
 use crate::changes::Looked;
 use crate::hosts::{OpenedFile, SaveHost, id_of};
@@ -281,6 +282,7 @@ fn complete<N: Notes>(
     }
 }
 
+#[tactic(auto, using(crate::proofs::Telling::finish_tells))]
 // Writes all that a journal says, as one.
 fn finish_all(host: &mut SaveHost<'_>, journal: &Journal) -> Result<(), (usize, SaveFault)>
     requires shown { shown host.old.log.events ≡ Some (notes journal.now.changes.items) }
@@ -288,6 +290,7 @@ fn finish_all(host: &mut SaveHost<'_>, journal: &Journal) -> Result<(), (usize, 
     ensures same { SameThroughout host.old.log.events host.new.log.events }
     ensures saved { OnOk result (SavedFor (notes journal.now.changes.items) host.old.log.events host.new.log.events) }
     ensures gone { OnOk result (NoJournal host.new.log.events) }
+    ensures told { IfErr result (λ it. Tells journal.now.changes.items host.old.log.events host.new.log.events it.1) }
 {
     let saved = finish(host, journal);
     let fault = host.fault.take();

@@ -1,11 +1,11 @@
 //! Saves of files in their places.
 
-ghost use Rattle.std.specs.Prelude.{◌≡◌, None, Ok, IfOk, OnOk};
+ghost use Rattle.std.specs.Prelude.{◌≡◌, None, Ok, IfOk, IfErr, OnOk};
 ghost use Rattle.std.specs.IoError.{error_kind};
 ghost use Rattle.atomic_save.specs.Changes.{notes};
 ghost use Rattle.atomic_save.specs.Calls.{shown};
 ghost use Rattle.atomic_save.specs.Saves.{SafeThroughout, SavedFor, NoJournal};
-ghost use Rattle.file_journals.specs.Told.{TellsOf, Settles};
+ghost use Rattle.file_journals.specs.Told.{TellsOf, Tells, Settles};
 
 use crate::changes::{Changes, Looked};
 use crate::hosts::{OpenedFile, SaveHost, id_of};
@@ -122,12 +122,14 @@ fn open_part(host: &HostRuntime, part: &Part<'_>) -> io::Result<OpenedFile> {
     })
 }
 
+#[tactic(auto, using(crate::proofs::Telling::tells))]
 // Saves all changes as one.
 fn save_all(host: &mut SaveHost<'_>, changes: &[Change]) -> Result<(), (usize, SaveFault)>
     requires free { shown host.old.log.events ≡ None }
     ensures any_moment { SafeThroughout (notes changes.now) host.old.log.events host.new.log.events }
     ensures saved { OnOk result (SavedFor (notes changes.now) host.old.log.events host.new.log.events) }
     ensures gone { OnOk result (NoJournal host.new.log.events) }
+    ensures told { IfErr result (λ it. Tells changes.now host.old.log.events host.new.log.events it.1) }
 {
     let saved = save(host, changes);
     let fault = host.fault.take();
